@@ -1,0 +1,52 @@
+-- The lent case, and d, ℓ and u of (2.4). Sources and terminals are counted from 0 here and from 1 in the report: sources 0 and 1 are the plants,
+-- the others the depots. Assumes nothing.
+use mathlib.Core.List.{List}
+use Prim.Native.Nat.{ℕ, _+_, _-_, min}
+use lib.ListN.{getD}
+use Rattle.transport.specs.Sum.{sum}
+
+-- what is lent: m and n, the four slices that are read, and how many cells the three slices to be written have
+pub record Case : Type 0 where
+  pub m : ℕ
+  pub n : ℕ
+  pub costs : List ℕ
+  pub supplies : List ℕ
+  pub demands : List ℕ
+  pub table : List ℕ
+  pub planCells : ℕ
+  pub splitCells : ℕ
+  pub freightCells : ℕ
+
+-- supply a_i: for a plant the most it can make, for a depot the stock that must all leave
+abbrev pub supply : Case → ℕ → ℕ
+supply c i = getD (c .supplies) i 0
+
+-- demand b_j
+abbrev pub demand : Case → ℕ → ℕ
+demand c j = getD (c .demands) j 0
+
+-- entry y of the production table: the cost of both plants together when plant 1 makes y and plant 2 the rest
+abbrev pub entry : Case → ℕ → ℕ
+entry c y = getD (c .table) y 0
+
+unfoldable pub allDemand : Case → ℕ
+allDemand c = sum (c .n) (λ j. demand c j)
+
+unfoldable pub depotStock : Case → ℕ
+depotStock c = sum (c .m - 2) (λ k. supply c (2 + k))
+
+-- d of (2.4), all demands minus all depot stock. A difference below 0 is 0 here; refusal 7 is judged before d is used.
+unfoldable pub made : Case → ℕ
+made c = allDemand c - depotStock c
+
+-- ℓ of (2.4), the larger of 0 and d - a_2
+unfoldable pub leastSplit : Case → ℕ
+leastSplit c = made c - supply c 1
+
+-- u of (2.4), the smaller of a_1 and d
+unfoldable pub greatestSplit : Case → ℕ
+greatestSplit c = min (supply c 0) (made c)
+
+-- how many steps lead from ℓ to u: there is one split more
+unfoldable pub steps : Case → ℕ
+steps c = greatestSplit c - leastSplit c

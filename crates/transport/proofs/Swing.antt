@@ -1,0 +1,86 @@
+-- One shift from plant 1 to plant 0, and why a search is not stuck. Assumes nothing.
+use mathlib.Core.Path.{_≡_, refl, sym, ap, _∙_}
+use mathlib.Core.Logic.{_≢_}
+use mathlib.Core.List.{List}
+use Prim.Native.Nat.{ℕ, suc, min, _+_, _-_, _*_, _≤_, _<_}
+use native.Mathlib.Decide.{ℕ-discrete}
+use native.Mathlib.Omega.{arith}
+use lib.ListN.{length, getD, set}
+use Rattle.transport.specs.engine.Walk.{Flow}
+use Rattle.transport.specs.engine.Cells.{cells}
+use Rattle.transport.specs.engine.Path.{Net, Book, get, far, Arc}
+use Rattle.transport.specs.engine.Path.Arc.{ahead, back}
+use Rattle.transport.specs.engine.Search.{Sound, Stuck}
+use Rattle.transport.specs.engine.Send.{SendReady, Delivered, NoPath, SendDone}
+use Rattle.transport.specs.engine.Ship.{again}
+use Rattle.transport.specs.engine.Sweep.{Swinging, Over, ShiftDone}
+
+-- only node 1 has room
+pub record Only (room : List ℕ) (limit : ℕ) : Type 0 where
+  pub one : get room 1 ≡ limit
+  pub off : (v : ℕ) → v < 96 → v ≢ 1 → get room v ≡ 0
+
+pub swing-ready : {N : Net} {P : ℕ} {p room x : List ℕ} {limit : ℕ} → Swinging N P p x → Only room limit → 0 < limit → SendReady N p room 0 limit x
+swing-ready {p = p} {room = room} k o l = record {
+  sound = k .sound;
+  under = k .under;
+  ceilings = k .ceilings;
+  long-x = k .long-x;
+  long-p = k .long-p;
+  start = omega (arith, k .plants);
+  positive = l;
+  floor = λ v hv h. elim (ℕ-discrete v 1) [ yes z ↦ rw z (omega (arith, k .one, k .high)) | no z ↦ absurd (omega (arith, o .off v hv z)) ];
+}
+
+pub swing-over : {N : Net} {P : ℕ} {p room x : List ℕ} {limit : ℕ} {x' p' : List ℕ} {g d : ℕ} → Swinging N P p x → Only room limit → g < 96
+    → Delivered N p room 0 limit x' p' g d → Over N P limit p' x' d
+swing-over {N} {P} {p} {room} {x} {limit} {x'} {p'} {g} {d} k o hg t = record {
+  swinging = record {
+    sound = record {
+      sources = k .sound .sources;
+      terminals = k .sound .terminals;
+      costs = k .sound .costs;
+      slack = t .new;
+      high = λ v h. omega (arith, t .fall v h, k .sound .high v h);
+    };
+    under = t .under;
+    ceilings = k .ceilings;
+    long-x = t .long-x;
+    long-p = t .long-p;
+    plants = k .plants;
+    one = t .keep 1 (omega arith) (omega (arith, t .has-room, ap (λ z. get room z) goal)) ∙ k .one;
+    high = k .high;
+    floor = λ v h. t .floor v 32000000 h (k .floor v h) (omega (arith, ap (λ z. get p z) goal, k .one, k .high));
+  };
+  most = t .most;
+  flow = rw goal at (t .flow);
+  steps = t .steps;
+  old = t .old;
+  new = t .new;
+}
+  where
+    goal : g ≡ 1
+    goal = elim (ℕ-discrete g 1) [ yes z ↦ z | no z ↦ absurd (omega (arith, o .off g hg z, t .has-room)) ]
+
+-- ---- a search is not stuck
+
+module _ {N : Net} {room : List ℕ} {s : ℕ} {B : Book} (sources : N .m ≤ 32) (terminals : N .n ≤ 64) (k : Stuck N room s B) where
+  -- a lane with room leads to a terminal with a label
+  reach : (j : ℕ) → s < N .m → j < N .n → N .x s j < N .u s j → get (B .tent) (32 + j) < far
+  reach j hs hj l =
+      k .closed s (32 + j) (get (B .tent) s + N .c s j) (N .u s j - N .x s j) (omega arith) (omega arith) (k .start) (ahead j hs hj refl l refl refl)
+
+  -- where a terminal has room, and the lane to it
+  pub not-stuck : (j : ℕ) → s < N .m → j < N .n → N .x s j < N .u s j → 0 < get room (32 + j) → ⊥
+  not-stuck j hs hj l o = omega (arith, k .empty (32 + j) (omega arith) (reach j hs hj l))
+
+  -- where another source with room serves a terminal, and the lane to that has room (its label is no less than the unit cost)
+  pub not-stuck-over : (j i : ℕ) → s < N .m → i < N .m → j < N .n → N .x s j < N .u s j → 0 < N .x i j → N .c i j ≤ get (B .tent) (32 + j)
+      → 0 < get room i → ⊥
+  not-stuck-over j i hs hi hj l o e r =
+      omega (
+        arith,
+        k .empty i (omega arith)
+            (k .closed (32 + j) i (get (B .tent) (32 + j) - N .c i j) (N .x i j) (omega arith) (omega arith) (reach j hs hj l)
+            (back j hi hj refl o (omega arith) refl)),
+      )

@@ -1,0 +1,5 @@
+pub mod Sum
+pub mod Plan
+pub mod Listing
+pub mod Curve
+pub mod engine

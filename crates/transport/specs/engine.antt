@@ -1,0 +1,9 @@
+pub mod Slack
+pub mod Cells
+pub mod Walk
+pub mod Path
+pub mod Search
+pub mod Send
+pub mod Ship
+pub mod Sweep
+pub mod Scan

@@ -1,0 +1,123 @@
+-- What a path search keeps: the arcs of a plan, the labels of the nodes, and one pass over the arcs out of a node. Source i is node i,
+-- terminal j is node 32 + j. Assumes nothing.
+use mathlib.Core.Path.{_≡_}
+use mathlib.Core.List.{List}
+use Prim.Native.Nat.{ℕ, suc, min, _+_, _-_, _*_, _≤_, _<_}
+use lib.ListN.{length, getD, set}
+use Rattle.transport.specs.Plan.{Table}
+use Rattle.transport.specs.engine.Cells.{cells}
+
+-- a plan x on m by n lanes of unit costs c and ceilings u
+pub record Net : Type 0 where
+  pub m : ℕ
+  pub n : ℕ
+  pub c : Table
+  pub u : Table
+  pub x : Table
+
+abbrev pub net : ℕ → ℕ → List ℕ → List ℕ → List ℕ → Net
+net m n cost cap x = record { m = m; n = n; c = cells cost; u = cells cap; x = cells x }
+
+-- the labels: distance plus potential, the node before, the arcs to it, the smallest ceiling on the way
+pub record Book : Type 0 where
+  pub tent : List ℕ
+  pub prev : List ℕ
+  pub hops : List ℕ
+  pub width : List ℕ
+
+abbrev pub book : List ℕ → List ℕ → List ℕ → List ℕ → Book
+book t p h w = record { tent = t; prev = p; hops = h; width = w }
+
+abbrev pub get : List ℕ → ℕ → ℕ
+get l v = getD l v 0
+
+pub record Long (B : Book) : Type 0 where
+  pub tents : length (B .tent) ≡ 96
+  pub prevs : length (B .prev) ≡ 96
+  pub hopss : length (B .hops) ≡ 96
+  pub widths : length (B .width) ≡ 96
+
+-- an open arc from v to w of ceiling k, that takes the label b to t: a lane with room, or a lane in use backwards
+pub data Arc (N : Net) (v w b t k : ℕ) : Type 0 where
+  ahead : (j : ℕ) → v < N .m → j < N .n → w ≡ 32 + j → N .x v j < N .u v j → t ≡ b + N .c v j → k ≡ N .u v j - N .x v j → Arc N v w b t k
+  back : (j : ℕ) → w < N .m → j < N .n → v ≡ 32 + j → 0 < N .x w j → t + N .c w j ≡ b → k ≡ N .x w j → Arc N v w b t k
+
+-- one offer of the label t to w
+pub data Offered (w t from hop k : ℕ) (B B' : Book) : Type 0 where
+  kept : get (B .tent) w ≤ t → B' ≡ B → Offered w t from hop k B B'
+  won : t < get (B .tent) w → B' ≡ book (set (B .tent) w t) (set (B .prev) w from) (set (B .hops) w hop) (set (B .width) w k)
+      → Offered w t from hop k B B'
+
+-- what became of the label of w in a pass over the arcs out of v
+pub data Touched (N : Net) (v b hop wide : ℕ) (B B' : Book) (w : ℕ) : Type 0 where
+  stays : get (B' .tent) w ≡ get (B .tent) w → get (B' .prev) w ≡ get (B .prev) w → get (B' .hops) w ≡ get (B .hops) w
+      → get (B' .width) w ≡ get (B .width) w → Touched N v b hop wide B B' w
+  gains : (t k : ℕ) → Arc N v w b t k → t < get (B .tent) w → get (B' .tent) w ≡ t → get (B' .prev) w ≡ v → get (B' .hops) w ≡ hop
+      → get (B' .width) w ≡ min wide k → Touched N v b hop wide B B' w
+
+-- a pass that has reached the nodes from lo up to hi
+pub record Passing (N : Net) (v b hop wide lo hi : ℕ) (B B' : Book) : Type 0 where
+  pub long : Long B'
+  pub each : (w : ℕ) → Touched N v b hop wide B B' w
+  pub rest : (w : ℕ) → hi ≤ w → get (B' .tent) w ≡ get (B .tent) w
+  pub offers : (w t k : ℕ) → lo ≤ w → w < hi → Arc N v w b t k → get (B' .tent) w ≤ t
+
+-- a whole pass
+pub record Passed (N : Net) (v b hop wide : ℕ) (B B' : Book) : Type 0 where
+  pub long : Long B'
+  pub each : (w : ℕ) → Touched N v b hop wide B B' w
+  pub offers : (w t k : ℕ) → Arc N v w b t k → get (B' .tent) w ≤ t
+
+-- what a pass asks
+pub record RowReady (N : Net) (v b : ℕ) (B : Book) : Type 0 where
+  pub long : Long B
+  pub sources : N .m ≤ 32
+  pub terminals : N .n ≤ 64
+  pub source : v < N .m
+  pub near : b ≤ 1000000000
+  pub costs : (i j : ℕ) → i < N .m → j < N .n → N .c i j ≤ 2000000
+
+pub record ColumnReady (N : Net) (v b : ℕ) (B : Book) : Type 0 where
+  pub long : Long B
+  pub sources : N .m ≤ 32
+  pub terminals : N .n ≤ 64
+  pub low : 32 ≤ v
+  pub high : v < 32 + N .n
+  pub back : (i j : ℕ) → i < N .m → j < N .n → v ≡ 32 + j → 0 < N .x i j → N .c i j ≤ b
+
+-- what a pass asks, at a source or a terminal
+pub record RelaxReady (N : Net) (v b : ℕ) (B : Book) : Type 0 where
+  pub long : Long B
+  pub sources : N .m ≤ 32
+  pub terminals : N .n ≤ 64
+  pub source : v < 32 → v < N .m
+  pub terminal : 32 ≤ v → v < 32 + N .n
+  pub near : b ≤ 1000000000
+  pub costs : (i j : ℕ) → i < N .m → j < N .n → N .c i j ≤ 2000000
+  pub back : (i j : ℕ) → i < N .m → j < N .n → v ≡ 32 + j → 0 < N .x i j → N .c i j ≤ b
+
+-- above every label
+abbrev pub far : ℕ
+far = 1000000000000000
+
+-- r is the distance of a node that has a label and is not settled, else far
+pub record Gap (d t p r : ℕ) : Type 0 where
+  pub fresh : d ≡ 0 → t < far → r + p ≡ t
+  pub shut : r < far → (d ≡ 0) × (t < far) × (r + p ≡ t)
+
+-- r is the nearest node that is not settled (96: none)
+pub record Nearest (p T D : List ℕ) (r : ℕ) : Type 0 where
+  pub bound : r ≤ 96
+  pub fresh : r < 96 → (get D r ≡ 0) × (get T r < far)
+  pub least : (v : ℕ) → v < 96 → get D v ≡ 0 → get T v < far → (r < 96) × (get T r + get p v ≤ get T v + get p r)
+
+-- the same of the nodes below k, with its distance
+pub record Nearing (p T D : List ℕ) (k r least : ℕ) : Type 0 where
+  pub bound : r ≤ 96
+  pub fresh : r < 96 → (get D r ≡ 0) × (get T r < far) × (least + get p r ≡ get T r)
+  pub some : least < far → r < 96
+  pub most : least ≤ far
+  pub all : (v : ℕ) → v < k → get D v ≡ 0 → get T v < far → (r < 96) × (least + get p v ≤ get T v)
+
+abbrev pub Low : List ℕ → List ℕ → Type 0
+Low p T = (v : ℕ) → v < 96 → get p v ≤ get T v

@@ -1,0 +1,86 @@
+-- What a path search keeps and what it finds. Assumes nothing.
+use mathlib.Core.Path.{_≡_}
+use mathlib.Core.List.{List}
+use Prim.Native.Nat.{ℕ, suc, min, _+_, _-_, _*_, _≤_, _<_}
+use lib.ListN.{length, getD, set}
+use Rattle.transport.specs.Sum.{sum}
+use Rattle.transport.specs.Plan.{Table}
+use Rattle.transport.specs.engine.Slack.{Slack}
+use Rattle.transport.specs.engine.Path.{Net, Book, get, Long, Arc, far, Low}
+
+-- a slack plan of the size that the engine admits, and potentials of at most 800,000,000
+pub record Sound (N : Net) (p : List ℕ) : Type 0 where
+  pub sources : N .m ≤ 32
+  pub terminals : N .n ≤ 64
+  pub costs : (i j : ℕ) → i < N .m → j < N .n → N .c i j ≤ 2000000
+  pub slack : Slack (N .m) (N .n) (N .c) (N .u) (N .x) (λ i. get p i) (λ j. get p (32 + j))
+  pub high : (v : ℕ) → v < 96 → get p v ≤ 800000000
+
+-- how the path to v came there: v is the start, or it came over an arc from a node of S
+pub data Prev (N : Net) (s : ℕ) (S : ℕ → Type 0) (B : Book) (v : ℕ) : Type 0 where
+  root : v ≡ s → Prev N s S B v
+  step : (k : ℕ) → get (B .prev) v < 96 → S (get (B .prev) v)
+      → Arc N (get (B .prev) v) v (get (B .tent) (get (B .prev) v)) (get (B .tent) v) k
+      → get (B .hops) v ≡ get (B .hops) (get (B .prev) v) + 1
+      → get (B .width) v ≤ get (B .width) (get (B .prev) v) → get (B .width) v ≤ k → Prev N s S B v
+
+-- the label of v
+pub record Label (N : Net) (s : ℕ) (S : ℕ → Type 0) (p : List ℕ) (cnt limit : ℕ) (B : Book) (v : ℕ) : Type 0 where
+  pub source : v < 32 → v < N .m
+  pub terminal : 32 ≤ v → v < 32 + N .n
+  pub up : get (B .tent) v ≤ get p s + get (B .hops) v * 2000000
+  pub down : get p s ≤ get (B .tent) v + get (B .hops) v * 2000000
+  pub count : get (B .hops) v ≤ cnt
+  pub some : 0 < get (B .width) v
+  pub most : get (B .width) v ≤ limit
+  pub prev : Prev N s S B v
+
+-- the search goes on; D marks the settled nodes by 1
+pub record Searching (N : Net) (p room : List ℕ) (s limit : ℕ) (B : Book) (D : List ℕ) : Type 0 where
+  pub long : Long B
+  pub marks : length D ≡ 96
+  pub zero-one : (v : ℕ) → v < 96 → get D v ≤ 1
+  pub low : Low p (B .tent)
+  pub start : s < 96
+  pub root-tent : get (B .tent) s ≡ get p s
+  pub root-hops : get (B .hops) s ≡ 0
+  pub label : (v : ℕ) → v < 96 → get (B .tent) v < far → Label N s (λ w. get D w ≡ 1) p (sum 96 (λ w. get D w)) limit B v
+  pub settled : (v : ℕ) → v < 96 → get D v ≡ 1 → (get (B .tent) v < far) × (get room v ≡ 0)
+  pub order : (v w : ℕ) → v < 96 → w < 96 → get D v ≡ 1 → get D w ≡ 0 → get (B .tent) v + get p w ≤ get (B .tent) w + get p v
+  pub relaxed : (v w t k : ℕ) → v < 96 → w < 96 → get D v ≡ 1 → Arc N v w (get (B .tent) v) t k → get (B .tent) w ≤ t
+
+-- w has a label and is no farther than g
+abbrev pub Near : List ℕ → List ℕ → ℕ → ℕ → Type 0
+Near p T g w = (get T w < far) × (get T w + get p g ≤ get T g + get p w)
+
+-- a path to g, a node with room
+pub record Found (N : Net) (p room : List ℕ) (s limit : ℕ) (B : Book) (g : ℕ) : Type 0 where
+  pub goal : get (B .tent) g < far
+  pub has-room : 0 < get room g
+  pub label : (v : ℕ) → v < 96 → get (B .tent) v < far → Label N s (Near p (B .tent) g) p 96 limit B v
+  pub relaxed : (v w t k : ℕ) → v < 96 → w < 96 → get (B .tent) v + get p g < get (B .tent) g + get p v → Arc N v w (get (B .tent) v) t k
+      → get (B .tent) w ≤ t
+  pub empty : (v : ℕ) → v < 96 → get (B .tent) v + get p g < get (B .tent) g + get p v → get room v ≡ 0
+
+-- no path: the nodes with a label have no room, and no open arc leaves them
+pub record Stuck (N : Net) (room : List ℕ) (s : ℕ) (B : Book) : Type 0 where
+  pub start : get (B .tent) s < far
+  pub empty : (v : ℕ) → v < 96 → get (B .tent) v < far → get room v ≡ 0
+  pub closed : (v w t k : ℕ) → v < 96 → w < 96 → get (B .tent) v < far → Arc N v w (get (B .tent) v) t k → get (B .tent) w < far
+
+-- the answer of the search: the goal, or 96
+pub record Searched (N : Net) (p room : List ℕ) (s limit : ℕ) (B : Book) (r : ℕ) : Type 0 where
+  pub long : Long B
+  pub low : Low p (B .tent)
+  pub root-tent : get (B .tent) s ≡ get p s
+  pub root-hops : get (B .hops) s ≡ 0
+  pub bound : r ≤ 96
+  pub found : r < 96 → Found N p room s limit B r
+  pub stuck : r ≡ 96 → Stuck N room s B
+
+pub record SearchReady (N : Net) (p room : List ℕ) (s limit : ℕ) (B : Book) : Type 0 where
+  pub sound : Sound N p
+  pub long : Long B
+  pub blank : (v : ℕ) → v < 96 → far ≤ get (B .tent) v
+  pub start : s < N .m
+  pub positive : 0 < limit
