@@ -1,3 +1,5 @@
 pub mod Case
 pub mod Plans
 pub mod Outcome
+pub mod Size
+pub mod Verdict

@@ -1,3 +1,3 @@
-pub fn two() -> u64 {
-    2
-}
+// The two-plant production and freight planner.
+pub mod limits;
+mod tests;
