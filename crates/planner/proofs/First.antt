@@ -6,7 +6,7 @@ use mathlib.Core.Option.{Option, none, some}
 use Prim.Native.Nat.{ℕ, zero, suc, _+_, _-_, _*_, _≤_, _<_}
 use mathlib.Core.Logic.{_⊎_, inl, inr}
 use native.Mathlib.Nat.{eq-or-lt-of-le}
-use native.Mathlib.Decide.{ℕ-discrete}
+use native.Mathlib.Decide.{ℕ-discrete, decLt}
 use native.Mathlib.Omega.{arith}
 use borrow.Author.Tests.{lt-ltb, le-ltb}
 use mathlib.Core.List.{List}
@@ -81,3 +81,80 @@ sagging-at l k h b all t =
     let e1 : getD l (k - 1 - 1) 0 ≡ getD l (k - 2) 0 = ap (λ (i : ℕ). getD l i 0) (omega arith) in
     let e2 : getD l (k - 1 + 1) 0 ≡ getD l k 0 = ap (λ (i : ℕ). getD l i 0) (omega arith) in
     sagging-some l (k - 1) (omega arith) (omega arith) (λ j a s. all j a (omega arith)) (omega arith)
+
+-- ---- what an answer says
+
+pub record FirstAt (p : ℕ → Bool) (i k a : ℕ) : Type 0 where
+  pub low : i ≤ a
+  pub high : a < i + k
+  pub before : (j : ℕ) → i ≤ j → j < a → p j ≡ false
+  pub here : p a ≡ true
+
+pub none-first : (p : ℕ → Bool) (i k : ℕ) → firstFrom p i k ≡ none → (j : ℕ) → i ≤ j → j < i + k → p j ≡ false
+unfolding firstFrom
+none-first p i zero e j a b = absurd (omega arith)
+none-first p i (suc k) e j a b = step (none-first p (suc i) k) (p i) refl e
+  where
+    step : (firstFrom p (suc i) k ≡ none → (j : ℕ) → suc i ≤ j → j < suc i + k → p j ≡ false) → (t : Bool) → p i ≡ t
+        → (let r : Option ℕ = elim t [ true ↦ some i | false ↦ firstFrom p (suc i) k ] in r) ≡ none → p j ≡ false
+    step below true q e = let z : _≡_ {A = ℕ} 0 1 = cc in absurd (omega arith)
+    step below false q e = elim (ℕ-discrete j i) [ yes z ↦ ap p z ∙ q | no d ↦ below e j (omega arith) (omega arith) ]
+
+pub some-first : (p : ℕ → Bool) (i k a : ℕ) → firstFrom p i k ≡ some a → FirstAt p i k a
+unfolding firstFrom
+some-first p i zero a e = let z : _≡_ {A = ℕ} 0 1 = cc in absurd (omega arith)
+some-first p i (suc k) a e = step (some-first p (suc i) k a) (p i) refl e
+  where
+    step : (firstFrom p (suc i) k ≡ some a → FirstAt p (suc i) k a) → (t : Bool) → p i ≡ t
+        → (let r : Option ℕ = elim t [ true ↦ some i | false ↦ firstFrom p (suc i) k ] in r) ≡ some a → FirstAt p i (suc k) a
+    step below true q e =
+        let z : i ≡ a = cc in
+        record { low = omega arith; high = omega arith; before = λ j b l. absurd (omega arith); here = ap p (sym z) ∙ q }
+    step below false q e =
+        let h = below e in
+        record {
+          low = omega (arith, h .low);
+          high = omega (arith, h .high);
+          before = λ j b l. elim (ℕ-discrete j i) [ yes z ↦ ap p z ∙ q | no d ↦ h .before j (omega arith) l ];
+          here = h .here;
+        }
+
+-- the answer over another range of as many numbers
+unfoldable pub moved : ℕ → ℕ → Option ℕ → Option ℕ
+moved i j none = none
+moved i j (some a) = some (a - j + i)
+
+pub first-moved : (p q : ℕ → Bool) (i j k : ℕ) → ((t : ℕ) → t < k → p (i + t) ≡ q (j + t)) → firstFrom p i k ≡ moved i j (firstFrom q j k)
+unfolding moved
+first-moved p q i j k h = go (firstFrom q j k) refl
+  where
+    at : (a : ℕ) → i ≤ a → a < i + k → p a ≡ q (a - i + j)
+    at a l b =
+        ap p (let z : a ≡ i + (a - i) = omega arith in z) ∙ h (a - i) (omega arith) ∙ ap q (let z : j + (a - i) ≡ a - i + j = omega arith in z)
+
+    go : (r : Option ℕ) → firstFrom q j k ≡ r → firstFrom p i k ≡ moved i j r
+    go none e = first-none p i k (λ a l b. at a l b ∙ none-first q j k e (a - i + j) (omega arith) (omega arith))
+    go (some a) e =
+        let f = some-first q j k a e in
+        first-some p i k (a - j + i) (omega arith) (omega (arith, f .low, f .high))
+        (λ b l s. at b l (omega (arith, f .low, f .high)) ∙ f .before (b - i + j) (omega arith) (omega (arith, f .low)))
+        (at (a - j + i) (omega arith) (omega (arith, f .low, f .high)) ∙ ap q (let z : a - j + i - i + j ≡ a = omega (arith, f .low) in z) ∙ f .here)
+
+-- one range after another
+pub first-then : (p : ℕ → Bool) (i a b : ℕ) → firstFrom p i a ≡ none → firstFrom p i (a + b) ≡ firstFrom p (i + a) b
+first-then p i a b e = go (firstFrom p (i + a) b) refl
+  where
+    n : (j : ℕ) → i ≤ j → j < i + a → p j ≡ false
+    n = none-first p i a e
+
+    go : (r : Option ℕ) → firstFrom p (i + a) b ≡ r → firstFrom p i (a + b) ≡ r
+    go none q =
+        first-none p i (a + b)
+        (λ j l s. elim (decLt j (i + a)) [ yes u ↦ n j l u | no u ↦ none-first p (i + a) b q j (omega arith) (omega arith) ])
+    go (some c) q =
+        let f = some-first p (i + a) b c q in
+        first-some p i (a + b) c (omega (arith, f .low)) (omega (arith, f .high))
+        (λ j l s. elim (decLt j (i + a)) [ yes u ↦ n j l u | no u ↦ f .before j (omega arith) s ]) (f .here)
+
+pub first-within : (p : ℕ → Bool) (i a b c : ℕ) → firstFrom p i a ≡ some c → firstFrom p i (a + b) ≡ some c
+first-within p i a b c e = let f = some-first p i a c e in first-some p i (a + b) c (f .low) (omega (arith, f .high)) (f .before) (f .here)

@@ -1,2 +1,4 @@
 pub mod First
 pub mod Rows
+pub mod TestLaws
+pub mod FormLaws

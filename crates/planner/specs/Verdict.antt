@@ -1,14 +1,20 @@
 -- What the answers of the tests' functions stand for. Assumes nothing.
 use mathlib.Core.Option.{Option, none, some}
-use mathlib.Core.List.{List}
-use Prim.Native.Nat.{ℕ, _+_, _-_, _*_, _≤_, _<_}
+use mathlib.Core.Bool.{Bool, true, false, cond}
+use mathlib.Core.List.{List, _++_}
+use mathlib.Core.Path.{_≡_}
+use Prim.Native.Nat.{ℕ, min, _+_, _-_, _*_, _≤_, _<_}
 use lib.Dec.{ltb}
 use lib.ListN.{length, getD}
-use Rattle.planner.specs.Outcome.{Outcome, refused, firstFrom}
+use Rattle.transport.specs.Sum.{sum}
+use Rattle.planner.specs.Case.{Case}
+use Rattle.planner.specs.Outcome.{Outcome, refused, firstFrom, refuseAt, _orElse_, formRefusal}
 use Rattle.planner.specs.declared.tests.Found.{Found}
 use Rattle.planner.specs.declared.tests.Found.the-variants.{At, Nowhere}
 use Rattle.planner.specs.declared.tests.Verdict.{Verdict}
 use Rattle.planner.specs.declared.tests.Verdict.the-variants.{Passed, Refused}
+use Rattle.planner.specs.declared.tests.Splits.{Splits}
+use Rattle.planner.specs.declared.tests.Splits.the-variants.{Between, Unbalanced}
 
 -- the index found, if any
 abbrev pub found : Found → Option ℕ
@@ -31,3 +37,50 @@ firstSagging l = firstFrom (λ k. ltb (2 * getD l k 0) (getD l (k - 1) 0 + getD 
 -- no number is above the limit
 abbrev pub AtMost : ℕ → List ℕ → Type 0
 AtMost limit l = (k : ℕ) → k < length l → getD l k 0 ≤ limit
+
+-- test 4 of the supplies and the demands as they are lent
+unfoldable pub amountsRefusal : List ℕ → List ℕ → Option Outcome
+amountsRefusal s d = refuseAt 4 (firstFrom (λ p. ltb 4000 (getD (s ++ d) (p - 1) 0)) 1 (length s + length d))
+
+-- ℓ and u, or the balance refusal that bars them
+unfoldable pub splitsOf : List ℕ → List ℕ → Splits
+splitsOf s d =
+    let all = sum (length d) (λ j. getD d j 0) in
+    let stock = sum (length s - 2) (λ k. getD s (2 + k) 0) in
+    cond (ltb all stock) (Unbalanced 7)
+    (cond (ltb (getD s 0 0 + getD s 1 0) (all - stock)) (Unbalanced 8)
+    (Between (all - stock - getD s 1 0) (min (getD s 0 0) (all - stock))))
+
+-- tests 9 and 10 of the entries at the splits lo to hi
+unfoldable pub entriesRefusal : List ℕ → ℕ → ℕ → Option Outcome
+entriesRefusal t lo hi =
+    refuseAt 9 (firstFrom (λ y. ltb 1000000000 (getD t y 0)) lo (hi - lo + 1))
+    orElse refuseAt 10
+    (firstFrom (λ y. ltb (2 * getD t y 0) (getD t (y - 1) 0 + getD t (y + 1) 0)) (lo + 1) (hi - lo - 1))
+
+-- the case that is lent by these numbers and slices
+abbrev pub lent : ℕ → ℕ → List ℕ → List ℕ → List ℕ → List ℕ → ℕ → ℕ → ℕ → Case
+lent m n costs supplies demands table plan splits freights = record {
+  m = m;
+  n = n;
+  costs = costs;
+  supplies = supplies;
+  demands = demands;
+  table = table;
+  planCells = plan;
+  splitCells = splits;
+  freightCells = freights;
+}
+
+-- the two lists hold amounts of a size that the planner admits
+pub record Amounts (s d : List ℕ) : Type 0 where
+  pub two : 2 ≤ length s
+  pub sources : length s ≤ 32
+  pub terminals : length d ≤ 64
+  pub supplies : AtMost 4000 s
+  pub demands : AtMost 4000 d
+
+-- a range of splits within the table
+pub record Within (t : List ℕ) (lo hi : ℕ) : Type 0 where
+  pub order : lo ≤ hi
+  pub long : hi < length t

@@ -1,9 +1,13 @@
 // The tests of a case, in the order of the refusals.
 ghost use mathlib.Core.Path.{_≡_};
-ghost use Prim.Native.Nat.{ℕ, _+_, _*_, _≤_, _<_};
+ghost use Prim.Native.Nat.{ℕ, min, _+_, _-_, _*_, _≤_, _<_};
+ghost use mathlib.Core.List.{List};
 ghost use lib.ListN.{length, getD};
 ghost use Rattle.transport.specs.Sum.{sum};
-ghost use Rattle.planner.specs.Verdict.{found, verdict, firstAbove, firstSagging, AtMost};
+ghost use Rattle.planner.specs.Outcome.{formRefusal};
+ghost use Rattle.planner.specs.Verdict.{found, verdict, firstAbove, firstSagging, amountsRefusal, splitsOf, entriesRefusal, lent, AtMost, Amounts, Within};
+use crate::limits::Checked;
+use crate::limits::Size;
 
 // What a test says of a case: it passes, or the refusal's number and place.
 pub enum Verdict {
@@ -82,4 +86,107 @@ pub fn sum_of(s: &[u64]) -> u64
         i += 1;
     }
     total
+}
+
+// ℓ and u, or the number of the refusal for balance.
+pub enum Splits {
+    Between(u64, u64),
+    Unbalanced(u64),
+}
+
+// Test 4: a supply or a demand above 4,000.
+pub fn amounts_test(supplies: &[u64], demands: &[u64]) -> Verdict
+    ensures { λ r. ⌜ verdict r ≡ amountsRefusal (now (supplies .entry)) (now (demands .entry)) ⌝ }
+{
+    if let Found::At(k) = first_above(supplies, 4_000) {
+        return Verdict::Refused(4, k as u64 + 1);
+    }
+    if let Found::At(k) = first_above(demands, 4_000) {
+        return Verdict::Refused(4, (supplies.len() + k) as u64 + 1);
+    }
+    Verdict::Passed
+}
+
+// Tests 1 to 6.
+pub fn form_test(
+    m: usize,
+    n: usize,
+    costs: &[u64],
+    supplies: &[u64],
+    demands: &[u64],
+    table: &[u64],
+) -> Verdict
+    ensures { λ r. ⌜ ((p s f : ℕ) → verdict r ≡ formRefusal (lent m n (now (costs .entry)) (now (supplies .entry)) (now (demands .entry)) (now (table .entry)) p s f)) ⌝ }
+{
+    if let Checked::Refused(number) = Size::checked(m, n) {
+        return Verdict::Refused(number, 0);
+    }
+    if costs.len() != m * n {
+        return Verdict::Refused(3, 0);
+    }
+    if supplies.len() != m {
+        return Verdict::Refused(3, 0);
+    }
+    if demands.len() != n {
+        return Verdict::Refused(3, 0);
+    }
+    if let Verdict::Refused(number, place) = amounts_test(supplies, demands) {
+        return Verdict::Refused(number, place);
+    }
+    if let Found::At(k) = first_dear(m, n, costs) {
+        return Verdict::Refused(5, k as u64 + 1);
+    }
+    if table.len() as u64 != supplies[0] + 1 {
+        return Verdict::Refused(6, 0);
+    }
+    Verdict::Passed
+}
+
+fn smaller(a: u64, b: u64) -> u64
+    ensures { λ r. ⌜ r ≡ min a b ⌝ }
+{
+    if a < b { a } else { b }
+}
+
+// What a is above b, or 0.
+fn excess(a: u64, b: u64) -> u64
+    ensures { λ r. ⌜ r ≡ a - b ⌝ }
+{
+    if b < a { a - b } else { 0 }
+}
+
+// Tests 7 and 8, and the first and the last split.
+pub fn splits_of(supplies: &[u64], demands: &[u64]) -> Splits
+    requires { ⌜ Amounts (now supplies) (now demands) ⌝ }
+    ensures { λ r. ⌜ r ≡ splitsOf (now (supplies .entry)) (now (demands .entry)) ⌝ }
+{
+    let all = sum_of(demands);
+    let stock = sum_of(&supplies[2..]);
+    if all < stock {
+        return Splits::Unbalanced(7);
+    }
+    let made = all - stock;
+    let first = supplies[0];
+    let second = supplies[1];
+    if first + second < made {
+        return Splits::Unbalanced(8);
+    }
+    Splits::Between(excess(made, second), smaller(first, made))
+}
+
+// Tests 9 and 10, at the splits lo to hi.
+pub fn entries_test(table: &[u64], lo: u64, hi: u64) -> Verdict
+    requires { ⌜ Within (now table) lo hi ⌝ }
+    ensures { λ r. ⌜ verdict r ≡ entriesRefusal (now (table .entry)) lo hi ⌝ }
+{
+    let start = lo as usize;
+    let end = hi as usize + 1;
+    let part = &table[start..end];
+    if let Found::At(k) = first_above(part, 1_000_000_000) {
+        return Verdict::Refused(9, lo + k as u64);
+    }
+    if let Found::At(k) = first_sagging(part) {
+        return Verdict::Refused(10, lo + k as u64);
+    }
+    Verdict::Passed
 }

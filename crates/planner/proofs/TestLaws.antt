@@ -1,0 +1,210 @@
+-- What the tests' parts say of the tests. Assumes nothing.
+use mathlib.Core.Path.{_≡_, refl, sym, ap, ap₂, _∙_, subst}
+use mathlib.Core.Bool.{Bool, true, false, not, _||_, cond}
+use mathlib.Core.Option.{Option, none, some}
+use mathlib.Core.List.{List, _++_}
+use Prim.Native.Nat.{ℕ, suc, min, _+_, _-_, _*_, _≤_, _<_}
+use native.Mathlib.Nat.{mul-le-mul}
+use native.Mathlib.Omega.{arith}
+use lib.Dec.{ltb, eqb}
+use lib.ListN.{length, getD, take, drop, length-append, List·getD-append, length-take, length-drop}
+use lib.Seq.{getD-append-add, getD-take, getD-drop}
+use borrow.Author.Tests.{lt-ltb, le-ltb, eq-eqb, ne-eqb, ltb-false, eqb-true, not-false}
+use Rattle.planner.specs.Case.{Case, supply}
+use Rattle.planner.specs.Outcome.{Outcome, refused, firstFrom, refuseIf, refuseAt, _orElse_, formRefusal, test1, test2, test3, test4, test5, test6}
+use Rattle.planner.specs.Verdict.{firstAbove, firstSagging, amountsRefusal, entriesRefusal, splitsOf, AtMost}
+use Rattle.planner.specs.declared.tests.Splits.the-variants.{Between, Unbalanced}
+use Rattle.transport.specs.Sum.{sum}
+use Rattle.transport.proofs.Sums.{sum-ext}
+use Rattle.planner.proofs.First.{moved, first-moved, first-then, first-within, none-first, some-first}
+
+-- ---- one test after another
+
+pub pass : (a b : Option Outcome) → a ≡ none → (a orElse b) ≡ b
+unfolding _orElse_
+pass none b e = refl
+pass (some r) b e = let z : _≡_ {A = ℕ} 0 1 = cc in absurd (omega arith)
+
+pub stop : (a b : Option Outcome) (r : Outcome) → a ≡ some r → (a orElse b) ≡ some r
+unfolding _orElse_
+stop none b r e = let z : _≡_ {A = ℕ} 0 1 = cc in absurd (omega arith)
+stop (some q) b r e = e
+
+pub both-pass : (a b : Option Outcome) → (a orElse b) ≡ none → (a ≡ none) × (b ≡ none)
+unfolding _orElse_
+both-pass none b e = (refl, e)
+both-pass (some r) b e = let z : _≡_ {A = ℕ} 0 1 = cc in absurd (omega arith)
+
+-- ---- a condition, a place
+
+pub met : (k : ℕ) (t : Bool) → t ≡ true → refuseIf k t ≡ some (refused k 0)
+unfolding refuseIf
+met k t e = rw e refl
+
+pub unmet : (k : ℕ) (t : Bool) → t ≡ false → refuseIf k t ≡ none
+unfolding refuseIf
+unmet k t e = rw e refl
+
+pub at-place : (k p : ℕ) (t : Option ℕ) → t ≡ some p → refuseAt k t ≡ some (refused k p)
+unfolding refuseAt
+at-place k p t e = rw e refl
+
+pub no-place : (k : ℕ) (t : Option ℕ) → t ≡ none → refuseAt k t ≡ none
+unfolding refuseAt
+no-place k t e = rw e refl
+
+pub moved-some : (i j a p : ℕ) (t : Option ℕ) → t ≡ some a → a - j + i ≡ p → moved i j t ≡ some p
+unfolding moved
+moved-some i j a p t e h = rw e (ap some h)
+
+pub moved-none : (i j : ℕ) (t : Option ℕ) → t ≡ none → moved i j t ≡ none
+unfolding moved
+moved-none i j t e = rw e refl
+
+-- ---- test 4
+
+module _ (s d : List ℕ) where
+  big : ℕ → Bool
+  big p = ltb 4000 (getD (s ++ d) (p - 1) 0)
+
+  of-supplies : firstFrom big 1 (length s) ≡ moved 1 0 (firstAbove 4000 s)
+  unfolding firstAbove big
+  of-supplies =
+      first-moved big _ 1 0 (length s)
+      (λ t h. ap (λ (v : ℕ). ltb 4000 v) (ap (λ (k : ℕ). getD (s ++ d) k 0) (let z : 1 + t - 1 ≡ t = omega arith in z) ∙ List·getD-append s d 0 t h ∙ ap (λ (k : ℕ). getD s k 0) (let z : t ≡ 0 + t = omega arith in z)))
+
+  of-demands : firstFrom big (1 + length s) (length d) ≡ moved (1 + length s) 0 (firstAbove 4000 d)
+  unfolding firstAbove big
+  of-demands =
+      first-moved big _ (1 + length s) 0 (length d)
+      (λ t h. ap (λ (v : ℕ). ltb 4000 v) (ap (λ (k : ℕ). getD (s ++ d) k 0) (let z : 1 + length s + t - 1 ≡ length s + t = omega arith in z) ∙ getD-append-add s d t 0 ∙ ap (λ (k : ℕ). getD d k 0) (let z : t ≡ 0 + t = omega arith in z)))
+
+  pub amounts-supply : (k : ℕ) → firstAbove 4000 s ≡ some k → amountsRefusal s d ≡ some (refused 4 (k + 1))
+  unfolding amountsRefusal big
+  amounts-supply k e =
+      at-place 4 (k + 1) _ (first-within big 1 (length s) (length d) (k + 1) (of-supplies ∙ moved-some 1 0 k (k + 1) _ e (omega arith)))
+
+  pub amounts-demand : (k : ℕ) → firstAbove 4000 s ≡ none → firstAbove 4000 d ≡ some k
+      → amountsRefusal s d ≡ some (refused 4 (length s + k + 1))
+  unfolding amountsRefusal big
+  amounts-demand k n e =
+      at-place 4 (length s + k + 1) _
+      (first-then big 1 (length s) (length d) (of-supplies ∙ moved-none 1 0 _ n) ∙ of-demands
+      ∙ moved-some (1 + length s) 0 k (length s + k + 1) _ e (omega arith))
+
+  pub amounts-pass : firstAbove 4000 s ≡ none → firstAbove 4000 d ≡ none → amountsRefusal s d ≡ none
+  unfolding amountsRefusal big
+  amounts-pass n e =
+      no-place 4 _
+      (first-then big 1 (length s) (length d) (of-supplies ∙ moved-none 1 0 _ n) ∙ of-demands ∙ moved-none (1 + length s) 0 _ e)
+
+-- ---- tests 9 and 10
+
+module _ (t : List ℕ) (lo hi : ℕ) (order : lo ≤ hi) (long : hi < length t) where
+  part : List ℕ
+  part = take (hi + 1 - lo) (drop lo t)
+
+  pub part-length : length (take (hi + 1 - lo) (drop lo t)) ≡ hi - lo + 1
+  part-length = simp (length-take, length-drop) (omega arith)
+
+  pub part-at : (k : ℕ) → k < hi - lo + 1 → getD (take (hi + 1 - lo) (drop lo t)) k 0 ≡ getD t (lo + k) 0
+  part-at k h = getD-take (hi + 1 - lo) (drop lo t) k 0 (omega arith) ∙ getD-drop lo t k 0
+
+  cell : (k y : ℕ) → k < hi - lo + 1 → lo + k ≡ y → getD t y 0 ≡ getD (take (hi + 1 - lo) (drop lo t)) k 0
+  cell k y h e = ap (λ (v : ℕ). getD t v 0) (sym e) ∙ sym (part-at k h)
+
+  high : firstFrom (λ y. ltb 1000000000 (getD t y 0)) lo (hi - lo + 1) ≡ moved lo 0 (firstAbove 1000000000 (take (hi + 1 - lo) (drop lo t)))
+  unfolding firstAbove
+  high =
+      first-moved (λ y. ltb 1000000000 (getD t y 0)) (λ k. ltb 1000000000 (getD (take (hi + 1 - lo) (drop lo t)) k 0)) lo 0 (hi - lo + 1)
+      (λ k h. ap (λ (v : ℕ). ltb 1000000000 v) (cell (0 + k) (lo + k) (omega arith) (omega arith)))
+      ∙ ap (λ (n : ℕ). moved lo 0 (firstFrom (λ k. ltb 1000000000 (getD (take (hi + 1 - lo) (drop lo t)) k 0)) 0 n)) (sym part-length)
+
+  sags : List ℕ → ℕ → Bool
+  sags l y = ltb (2 * getD l y 0) (getD l (y - 1) 0 + getD l (y + 1) 0)
+
+  low : firstFrom (sags t) (lo + 1) (hi - lo - 1) ≡ moved (lo + 1) 1 (firstSagging (take (hi + 1 - lo) (drop lo t)))
+  unfolding firstSagging sags
+  low =
+      first-moved (sags t) (sags (take (hi + 1 - lo) (drop lo t))) (lo + 1) 1 (hi - lo - 1)
+      (λ k h. ap₂ (λ (a b : ℕ). ltb a b) (ap (λ (v : ℕ). 2 * v) (cell (1 + k) (lo + 1 + k) (omega arith) (omega arith)))
+      (ap₂ (λ (a b : ℕ). a + b) (cell (1 + k - 1) (lo + 1 + k - 1) (omega arith) (omega arith)) (cell (1 + k + 1) (lo + 1 + k + 1) (omega arith) (omega arith))))
+      ∙ ap (λ (n : ℕ). moved (lo + 1) 1 (firstFrom (sags (take (hi + 1 - lo) (drop lo t))) 1 n)) (let z : hi - lo - 1 ≡ length (take (hi + 1 - lo) (drop lo t)) - 2 = omega (arith, part-length) in z)
+
+  pub entries-high : (k : ℕ) → firstAbove 1000000000 (take (hi + 1 - lo) (drop lo t)) ≡ some k → entriesRefusal t lo hi ≡ some (refused 9 (lo + k))
+  unfolding entriesRefusal
+  entries-high k e = stop _ _ _ (at-place 9 (lo + k) _ (high ∙ moved-some lo 0 k (lo + k) _ e (omega arith)))
+
+  pub entries-low : (k : ℕ) → 1 ≤ k → firstAbove 1000000000 (take (hi + 1 - lo) (drop lo t)) ≡ none → firstSagging (take (hi + 1 - lo) (drop lo t)) ≡ some k
+      → entriesRefusal t lo hi ≡ some (refused 10 (lo + k))
+  unfolding entriesRefusal sags
+  entries-low k h n e =
+      pass _ _ (no-place 9 _ (high ∙ moved-none lo 0 _ n)) ∙ at-place 10 (lo + k) _ (low ∙ moved-some (lo + 1) 1 k (lo + k) _ e (omega arith))
+
+  pub entries-pass : firstAbove 1000000000 (take (hi + 1 - lo) (drop lo t)) ≡ none → firstSagging (take (hi + 1 - lo) (drop lo t)) ≡ none
+      → entriesRefusal t lo hi ≡ none
+  unfolding entriesRefusal sags
+  entries-pass n e = pass _ _ (no-place 9 _ (high ∙ moved-none lo 0 _ n)) ∙ no-place 10 _ (low ∙ moved-none (lo + 1) 1 _ e)
+
+-- ---- what an answer of the search for a number above a limit says
+
+pub above-all : (limit : ℕ) (l : List ℕ) → firstAbove limit l ≡ none → AtMost limit l
+unfolding firstAbove
+above-all limit l e k h = ltb-false limit (getD l k 0) (none-first _ 0 (length l) e k (omega arith) (omega arith))
+
+pub above-within : (limit : ℕ) (l : List ℕ) (k : ℕ) → firstAbove limit l ≡ some k → k < length l
+unfolding firstAbove
+above-within limit l k e = let f = some-first _ 0 (length l) k e in omega (arith, f .high)
+
+pub sagging-within : (l : List ℕ) (k : ℕ) → firstSagging l ≡ some k → (1 ≤ k) × (k + 1 < length l)
+unfolding firstSagging
+sagging-within l k e = let f = some-first _ 1 (length l - 2) k e in (f .low, omega (arith, f .low, f .high))
+
+module _ (t : List ℕ) (lo hi : ℕ) (order : lo ≤ hi) (long : hi < length t) where
+  pub high-within : (k : ℕ) → firstAbove 1000000000 (take (hi + 1 - lo) (drop lo t)) ≡ some k → lo + k ≤ hi
+  high-within k e = omega (arith, above-within 1000000000 (take (hi + 1 - lo) (drop lo t)) k e, part-length t lo hi order long)
+
+  pub low-within : (k : ℕ) → firstSagging (take (hi + 1 - lo) (drop lo t)) ≡ some k → lo + k ≤ hi
+  low-within k e = omega (arith, sagging-within (take (hi + 1 - lo) (drop lo t)) k e, part-length t lo hi order long)
+
+-- ---- tests 7 and 8
+
+module _ (s : List ℕ) (two : 2 ≤ length s) where
+  depots : List ℕ
+  depots = take (length s - 2) (drop 2 s)
+
+  pub depots-length : length (take (length s - 2) (drop 2 s)) ≡ length s - 2
+  depots-length = simp (length-take, length-drop) (omega arith)
+
+  pub depot-at : (k : ℕ) → k < length s - 2 → getD (take (length s - 2) (drop 2 s)) k 0 ≡ getD s (2 + k) 0
+  depot-at k h = getD-take (length s - 2) (drop 2 s) k 0 h ∙ getD-drop 2 s k 0
+
+  pub depots-most : AtMost 4000 s → AtMost 4000 (take (length s - 2) (drop 2 s))
+  depots-most h k l = let z : k < length s - 2 = omega (arith, depots-length) in omega (arith, depot-at k z, h (2 + k) (omega arith))
+
+  pub depots-sum : sum (length (take (length s - 2) (drop 2 s))) (λ j. getD (take (length s - 2) (drop 2 s)) j 0) ≡ sum (length s - 2) (λ k. getD s (2 + k) 0)
+  depots-sum =
+      ap (λ (n : ℕ). sum n (λ j. getD (take (length s - 2) (drop 2 s)) j 0)) depots-length ∙ sum-ext (length s - 2) _ _ (λ k h. depot-at k h)
+
+module _ (s d : List ℕ) (all stock : ℕ) (ea : all ≡ sum (length d) (λ j. getD d j 0)) (es : stock ≡ sum (length s - 2) (λ k. getD s (2 + k) 0)) where
+  pub splits-below : all < stock → splitsOf s d ≡ Unbalanced 7
+  unfolding splitsOf
+  splits-below h = rw (← ea, ← es, lt-ltb all stock h) refl
+
+  pub splits-above : stock ≤ all → getD s 0 0 + getD s 1 0 < all - stock → splitsOf s d ≡ Unbalanced 8
+  unfolding splitsOf
+  splits-above h l = rw (← ea, ← es, le-ltb all stock h, lt-ltb (getD s 0 0 + getD s 1 0) (all - stock) l) refl
+
+  pub splits-between : stock ≤ all → all - stock ≤ getD s 0 0 + getD s 1 0
+      → splitsOf s d ≡ Between (all - stock - getD s 1 0) (min (getD s 0 0) (all - stock))
+  unfolding splitsOf
+  splits-between h l = rw (← ea, ← es, le-ltb all stock h, le-ltb (getD s 0 0 + getD s 1 0) (all - stock) l) refl
+
+-- what the pass of test 4 says
+pub amounts-none : (s d : List ℕ) → amountsRefusal s d ≡ none → AtMost 4000 s × AtMost 4000 d
+amounts-none s d e = go (firstAbove 4000 s) refl (firstAbove 4000 d) refl
+  where
+    go : (a : Option ℕ) → firstAbove 4000 s ≡ a → (b : Option ℕ) → firstAbove 4000 d ≡ b → AtMost 4000 s × AtMost 4000 d
+    go (some k) x b y = let f = amounts-supply s d k x in let z : _≡_ {A = ℕ} 0 1 = cc in absurd (omega arith)
+    go none x (some k) y = let f = amounts-demand s d k x y in let z : _≡_ {A = ℕ} 0 1 = cc in absurd (omega arith)
+    go none x none y = (above-all 4000 s x, above-all 4000 d y)
