@@ -20,3 +20,5 @@ pub mod Worth
 pub mod Members
 pub mod Listing
 pub mod Tables
+pub mod Best
+pub mod Exists

@@ -1,0 +1,5 @@
+pub mod First
+pub mod Passed
+pub mod Splits
+pub mod Promise
+pub mod Never
