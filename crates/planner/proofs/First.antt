@@ -90,10 +90,10 @@ pub record FirstAt (p : ℕ → Bool) (i k a : ℕ) : Type 0 where
   pub before : (j : ℕ) → i ≤ j → j < a → p j ≡ false
   pub here : p a ≡ true
 
-pub none-first : (p : ℕ → Bool) (i k : ℕ) → firstFrom p i k ≡ none → (j : ℕ) → i ≤ j → j < i + k → p j ≡ false
+pub none-passes : (p : ℕ → Bool) (i k : ℕ) → firstFrom p i k ≡ none → (j : ℕ) → i ≤ j → j < i + k → p j ≡ false
 unfolding firstFrom
-none-first p i zero e j a b = absurd (omega arith)
-none-first p i (suc k) e j a b = step (none-first p (suc i) k) (p i) refl e
+none-passes p i zero e j a b = absurd (omega arith)
+none-passes p i (suc k) e j a b = step (none-passes p (suc i) k) (p i) refl e
   where
     step : (firstFrom p (suc i) k ≡ none → (j : ℕ) → suc i ≤ j → j < suc i + k → p j ≡ false) → (t : Bool) → p i ≡ t
         → (let r : Option ℕ = elim t [ true ↦ some i | false ↦ firstFrom p (suc i) k ] in r) ≡ none → p j ≡ false
@@ -133,7 +133,7 @@ first-moved p q i j k h = go (firstFrom q j k) refl
         ap p (let z : a ≡ i + (a - i) = omega arith in z) ∙ h (a - i) (omega arith) ∙ ap q (let z : j + (a - i) ≡ a - i + j = omega arith in z)
 
     go : (r : Option ℕ) → firstFrom q j k ≡ r → firstFrom p i k ≡ moved i j r
-    go none e = first-none p i k (λ a l b. at a l b ∙ none-first q j k e (a - i + j) (omega arith) (omega arith))
+    go none e = first-none p i k (λ a l b. at a l b ∙ none-passes q j k e (a - i + j) (omega arith) (omega arith))
     go (some a) e =
         let f = some-first q j k a e in
         first-some p i k (a - j + i) (omega arith) (omega (arith, f .low, f .high))
@@ -145,12 +145,12 @@ pub first-then : (p : ℕ → Bool) (i a b : ℕ) → firstFrom p i a ≡ none �
 first-then p i a b e = go (firstFrom p (i + a) b) refl
   where
     n : (j : ℕ) → i ≤ j → j < i + a → p j ≡ false
-    n = none-first p i a e
+    n = none-passes p i a e
 
     go : (r : Option ℕ) → firstFrom p (i + a) b ≡ r → firstFrom p i (a + b) ≡ r
     go none q =
         first-none p i (a + b)
-        (λ j l s. elim (decLt j (i + a)) [ yes u ↦ n j l u | no u ↦ none-first p (i + a) b q j (omega arith) (omega arith) ])
+        (λ j l s. elim (decLt j (i + a)) [ yes u ↦ n j l u | no u ↦ none-passes p (i + a) b q j (omega arith) (omega arith) ])
     go (some c) q =
         let f = some-first p (i + a) b c q in
         first-some p i (a + b) c (omega (arith, f .low)) (omega (arith, f .high))

@@ -1,4 +1,4 @@
--- Tests 1 to 6: what each step of the tests' function says of all six, and what a case that passes them is. Assumes nothing.
+-- Tests 1 to 6: what each step of the tests' function says of all six. Assumes nothing.
 use mathlib.Core.Path.{_≡_, refl, sym, ap, ap₂, _∙_, subst}
 use mathlib.Core.Bool.{Bool, true, false, not, _||_, cond}
 use mathlib.Core.Option.{Option, none, some}
@@ -16,8 +16,9 @@ use Rattle.planner.specs.Size.{checkedOf}
 use Rattle.planner.specs.declared.limits.Size.{Size}
 use Rattle.planner.specs.declared.limits.Checked.the-variants.{Fits, Refused}
 use Rattle.planner.specs.Verdict.{lent, firstAbove, amountsRefusal, AtMost}
-use Rattle.planner.proofs.First.{moved, first-moved, none-first}
-use Rattle.planner.proofs.TestLaws.{pass, stop, both-pass, met, unmet, at-place, no-place, moved-some, moved-none, above-all, amounts-none}
+use Rattle.planner.proofs.First.{moved, first-moved}
+use Rattle.planner.proofs.Passed.{first-decides, second-decides, either-first, either-second}
+use Rattle.planner.proofs.TestLaws.{met, unmet, at-place, no-place, moved-some, moved-none}
 
 pub record Limits (m n : ℕ) : Type 0 where
   pub two : 2 ≤ m
@@ -29,34 +30,9 @@ pub record Limits (m n : ℕ) : Type 0 where
 pub lanes : {m n : ℕ} → Limits m n → m * n ≤ 2048
 lanes h = mul-le-mul (h .sources) (h .terminals)
 
--- a case that passes tests 1 to 6
-pub record Formed (c : Case) : Type 0 where
-  pub limits : Limits (c .m) (c .n)
-  pub costs-long : length (c .costs) ≡ c .m * c .n
-  pub supplies-long : length (c .supplies) ≡ c .m
-  pub demands-long : length (c .demands) ≡ c .n
-  pub supplies-most : AtMost 4000 (c .supplies)
-  pub demands-most : AtMost 4000 (c .demands)
-  pub costs-most : AtMost 1000000 (c .costs)
-  pub table-long : length (c .table) ≡ supply c 0 + 1
-
 or-true : (a : Bool) → (a || true) ≡ true
 or-true true = refl
 or-true false = refl
-
-or-false : (a b : Bool) → (a || b) ≡ false → (a ≡ false) × (b ≡ false)
-or-false true b e = let z : _≡_ {A = Bool} true false = e in absurd (let w : _≡_ {A = ℕ} 0 1 = cc in omega arith)
-or-false false b e = (refl, e)
-
-unrefused : (k : ℕ) (t : Bool) → refuseIf k t ≡ none → t ≡ false
-unfolding refuseIf
-unrefused k true e = let z : _≡_ {A = ℕ} 0 1 = cc in absurd (omega arith)
-unrefused k false e = refl
-
-unplaced : (k : ℕ) (t : Option ℕ) → refuseAt k t ≡ none → t ≡ none
-unfolding refuseAt
-unplaced k none e = refl
-unplaced k (some p) e = let z : _≡_ {A = ℕ} 0 1 = cc in absurd (omega arith)
 
 -- ---- the size
 
@@ -68,9 +44,6 @@ module _ (c : Case) where
   pub sized-2 : 1 ≤ c .n → c .n ≤ 64 → test2 c ≡ none
   unfolding test2
   sized-2 a b = unmet 2 _ (simp (le-ltb (c .n) 1 a, le-ltb 64 (c .n) b))
-
-  dear : ℕ → Bool
-  dear p = ltb 1000000 (getD (c .costs) (p - 1) 0)
 
   -- test 5 by the list's own indices
   pub fifth : length (c .costs) ≡ c .m * c .n → firstFrom (λ p. ltb 1000000 (getD (c .costs) (p - 1) 0)) 1 (c .m * c .n) ≡ moved 1 0 (firstAbove 1000000 (c .costs))
@@ -84,42 +57,6 @@ module _ (c : Case) where
   unfolding test4 amountsRefusal
   fourth a b = rw (← a, ← b) refl
 
-  -- ---- inversion
-
-  pub formed : formRefusal c ≡ none → Formed c
-  unfolding formRefusal test1 test2 test3 test5 test6
-  formed e =
-      let e1 = both-pass (test1 c) _ e in
-      let e2 = both-pass (test2 c) _ (e1 .1) in
-      let e3 = both-pass (test3 c) _ (e2 .1) in
-      let e4 = both-pass (test4 c) _ (e3 .1) in
-      let e5 = both-pass (test5 c) (test6 c) (e4 .1) in
-      let m = or-false _ _ (unrefused 1 _ (e1 .0)) in
-      let n = or-false _ _ (unrefused 2 _ (e2 .0)) in
-      let l = or-false _ _ (unrefused 3 _ (e3 .0)) in
-      let k = or-false _ _ (l .1) in
-      let lc : length (c .costs) ≡ c .m * c .n = eqb-true _ _ (not-false _ (l .0)) in
-      let ls : length (c .supplies) ≡ c .m = eqb-true _ _ (not-false _ (k .0)) in
-      let ld : length (c .demands) ≡ c .n = eqb-true _ _ (not-false _ (k .1)) in
-      let am = amounts-none (c .supplies) (c .demands) (sym (fourth ls ld) ∙ e4 .0) in
-      record {
-        limits = record {
-          two = ltb-false (c .m) 2 (m .0);
-          sources = ltb-false 32 (c .m) (m .1);
-          one = ltb-false (c .n) 1 (n .0);
-          terminals = ltb-false 64 (c .n) (n .1);
-        };
-        costs-long = lc;
-        supplies-long = ls;
-        demands-long = ld;
-        supplies-most = am .0;
-        demands-most = am .1;
-        costs-most = λ i h. ltb-false 1000000 (getD (c .costs) i 0)
-            (ap (λ (k : ℕ). ltb 1000000 (getD (c .costs) k 0)) (let z : i ≡ i + 1 - 1 = omega arith in z)
-            ∙ none-first (λ p. ltb 1000000 (getD (c .costs) (p - 1) 0)) 1 (c .m * c .n) (unplaced 5 _ (e5 .0)) (i + 1) (omega arith) (omega arith));
-        table-long = eqb-true _ _ (not-false _ (unrefused 6 _ (e5 .1)));
-      }
-
 module _ (m n : ℕ) where
   pub in-limits : (z : Size) → checkedOf m n ≡ Fits z → Limits m n
   unfolding checkedOf
@@ -130,9 +67,12 @@ module _ (m n : ℕ) where
       go true ea b eb e = let z : _≡_ {A = ℕ} 0 1 = cc in absurd (omega arith)
       go false ea true eb e = let z : _≡_ {A = ℕ} 0 1 = cc in absurd (omega arith)
       go false ea false eb e =
-          let x = or-false _ _ ea in
-          let y = or-false _ _ eb in
-          record { two = ltb-false m 2 (x .0); sources = ltb-false 32 m (x .1); one = ltb-false n 1 (y .0); terminals = ltb-false 64 n (y .1) }
+          record {
+            two = ltb-false m 2 (either-first (ltb m 2) (ltb 32 m) ea);
+            sources = ltb-false 32 m (either-second (ltb m 2) (ltb 32 m) ea);
+            one = ltb-false n 1 (either-first (ltb n 1) (ltb 64 n) eb);
+            terminals = ltb-false 64 n (either-second (ltb n 1) (ltb 64 n) eb);
+          }
 
 -- ---- the steps of the function, at a lent case
 
@@ -147,18 +87,18 @@ module _ (m n : ℕ) (costs s d t : List ℕ) (p q r : ℕ) where
       go : (a : Bool) → (ltb m 2 || ltb 32 m) ≡ a → (b : Bool) → (ltb n 1 || ltb 64 n) ≡ b
           → cond a (Refused 1) (cond b (Refused 2) (Fits (record { sources = m; terminals = n }))) ≡ Refused k
           → (test1 C orElse test2 C orElse test3 C orElse test4 C orElse test5 C orElse test6 C) ≡ some (refused k 0)
-      go true ea b eb e = let z : 1 ≡ k = cc in stop _ _ _ (met 1 _ ea ∙ ap (λ (i : ℕ). some (refused i 0)) z)
-      go false ea true eb e = let z : 2 ≡ k = cc in pass _ _ (unmet 1 _ ea) ∙ stop _ _ _ (met 2 _ eb ∙ ap (λ (i : ℕ). some (refused i 0)) z)
+      go true ea b eb e = let z : 1 ≡ k = cc in first-decides _ _ _ (met 1 _ ea ∙ ap (λ (i : ℕ). some (refused i 0)) z)
+      go false ea true eb e = let z : 2 ≡ k = cc in second-decides _ _ (unmet 1 _ ea) ∙ first-decides _ _ _ (met 2 _ eb ∙ ap (λ (i : ℕ). some (refused i 0)) z)
       go false ea false eb e = let z : _≡_ {A = ℕ} 0 1 = cc in absurd (omega arith)
 
   module _ (h : Limits m n) where
     past-2 : (r : Option Outcome) → (test3 C orElse test4 C orElse test5 C orElse test6 C) ≡ r → formRefusal C ≡ r
     unfolding formRefusal
-    past-2 r e = pass _ _ (sized-1 C (h .two) (h .sources)) ∙ pass _ _ (sized-2 C (h .one) (h .terminals)) ∙ e
+    past-2 r e = second-decides _ _ (sized-1 C (h .two) (h .sources)) ∙ second-decides _ _ (sized-2 C (h .one) (h .terminals)) ∙ e
 
     third-true : (not (eqb (length costs) (m * n)) || (not (eqb (length s) m) || not (eqb (length d) n))) ≡ true → formRefusal C ≡ some (refused 3 0)
     unfolding test3
-    third-true e = past-2 (some (refused 3 0)) (stop _ _ _ (met 3 _ e))
+    third-true e = past-2 (some (refused 3 0)) (first-decides _ _ _ (met 3 _ e))
 
     pub by-costs : (length costs ≡ m * n → ⊥) → formRefusal C ≡ some (refused 3 0)
     by-costs e = third-true (simp (ne-eqb (length costs) (m * n) e))
@@ -172,23 +112,23 @@ module _ (m n : ℕ) (costs s d t : List ℕ) (p q r : ℕ) where
     module _ (lc : length costs ≡ m * n) (ls : length s ≡ m) (ld : length d ≡ n) where
       past-3 : (r : Option Outcome) → (test4 C orElse test5 C orElse test6 C) ≡ r → formRefusal C ≡ r
       unfolding test3
-      past-3 r e = past-2 r (pass _ _ (unmet 3 _ (simp (eq-eqb (length costs) (m * n) lc, eq-eqb (length s) m ls, eq-eqb (length d) n ld))) ∙ e)
+      past-3 r e = past-2 r (second-decides _ _ (unmet 3 _ (simp (eq-eqb (length costs) (m * n) lc, eq-eqb (length s) m ls, eq-eqb (length d) n ld))) ∙ e)
 
       pub by-amounts : (r : Outcome) → amountsRefusal s d ≡ some r → formRefusal C ≡ some r
-      by-amounts r e = past-3 (some r) (stop _ _ _ (fourth C ls ld ∙ e))
+      by-amounts r e = past-3 (some r) (first-decides _ _ _ (fourth C ls ld ∙ e))
 
       module _ (am : amountsRefusal s d ≡ none) where
         past-4 : (r : Option Outcome) → (test5 C orElse test6 C) ≡ r → formRefusal C ≡ r
-        past-4 r e = past-3 r (pass _ _ (fourth C ls ld ∙ am) ∙ e)
+        past-4 r e = past-3 r (second-decides _ _ (fourth C ls ld ∙ am) ∙ e)
 
         pub by-cost : (k : ℕ) → firstAbove 1000000 costs ≡ some k → formRefusal C ≡ some (refused 5 (k + 1))
         unfolding test5
-        by-cost k e = past-4 (some (refused 5 (k + 1))) (stop _ _ _ (at-place 5 (k + 1) _ (fifth C lc ∙ moved-some 1 0 k (k + 1) _ e (omega arith))))
+        by-cost k e = past-4 (some (refused 5 (k + 1))) (first-decides _ _ _ (at-place 5 (k + 1) _ (fifth C lc ∙ moved-some 1 0 k (k + 1) _ e (omega arith))))
 
         module _ (cheap : firstAbove 1000000 costs ≡ none) where
           past-5 : (r : Option Outcome) → test6 C ≡ r → formRefusal C ≡ r
           unfolding test5
-          past-5 r e = past-4 r (pass _ _ (no-place 5 _ (fifth C lc ∙ moved-none 1 0 _ cheap)) ∙ e)
+          past-5 r e = past-4 r (second-decides _ _ (no-place 5 _ (fifth C lc ∙ moved-none 1 0 _ cheap)) ∙ e)
 
           pub by-table : (length t ≡ getD s 0 0 + 1 → ⊥) → formRefusal C ≡ some (refused 6 0)
           unfolding test6

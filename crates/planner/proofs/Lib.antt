@@ -1,4 +1,8 @@
 pub mod First
+pub mod Passed
+pub mod Splits
+pub mod Promise
+pub mod Never
 pub mod Rows
 pub mod TestLaws
 pub mod FormLaws

@@ -16,24 +16,8 @@ use Rattle.planner.specs.Verdict.{firstAbove, firstSagging, amountsRefus
 use Rattle.planner.specs.declared.tests.Splits.the-variants.{Between, Unbalanced}
 use Rattle.transport.specs.Sum.{sum}
 use Rattle.transport.proofs.Sums.{sum-ext}
-use Rattle.planner.proofs.First.{moved, first-moved, first-then, first-within, none-first, some-first}
-
--- ---- one test after another
-
-pub pass : (a b : Option Outcome) → a ≡ none → (a orElse b) ≡ b
-unfolding _orElse_
-pass none b e = refl
-pass (some r) b e = let z : _≡_ {A = ℕ} 0 1 = cc in absurd (omega arith)
-
-pub stop : (a b : Option Outcome) (r : Outcome) → a ≡ some r → (a orElse b) ≡ some r
-unfolding _orElse_
-stop none b r e = let z : _≡_ {A = ℕ} 0 1 = cc in absurd (omega arith)
-stop (some q) b r e = e
-
-pub both-pass : (a b : Option Outcome) → (a orElse b) ≡ none → (a ≡ none) × (b ≡ none)
-unfolding _orElse_
-both-pass none b e = (refl, e)
-both-pass (some r) b e = let z : _≡_ {A = ℕ} 0 1 = cc in absurd (omega arith)
+use Rattle.planner.proofs.Passed.{first-decides, second-decides}
+use Rattle.planner.proofs.First.{moved, first-moved, first-then, first-within, none-passes, some-first}
 
 -- ---- a condition, a place
 
@@ -133,24 +117,24 @@ module _ (t : List ℕ) (lo hi : ℕ) (order : lo ≤ hi) (long : hi < length t)
 
   pub entries-high : (k : ℕ) → firstAbove 1000000000 (take (hi + 1 - lo) (drop lo t)) ≡ some k → entriesRefusal t lo hi ≡ some (refused 9 (lo + k))
   unfolding entriesRefusal
-  entries-high k e = stop _ _ _ (at-place 9 (lo + k) _ (high ∙ moved-some lo 0 k (lo + k) _ e (omega arith)))
+  entries-high k e = first-decides _ _ _ (at-place 9 (lo + k) _ (high ∙ moved-some lo 0 k (lo + k) _ e (omega arith)))
 
   pub entries-low : (k : ℕ) → 1 ≤ k → firstAbove 1000000000 (take (hi + 1 - lo) (drop lo t)) ≡ none → firstSagging (take (hi + 1 - lo) (drop lo t)) ≡ some k
       → entriesRefusal t lo hi ≡ some (refused 10 (lo + k))
   unfolding entriesRefusal sags
   entries-low k h n e =
-      pass _ _ (no-place 9 _ (high ∙ moved-none lo 0 _ n)) ∙ at-place 10 (lo + k) _ (low ∙ moved-some (lo + 1) 1 k (lo + k) _ e (omega arith))
+      second-decides _ _ (no-place 9 _ (high ∙ moved-none lo 0 _ n)) ∙ at-place 10 (lo + k) _ (low ∙ moved-some (lo + 1) 1 k (lo + k) _ e (omega arith))
 
   pub entries-pass : firstAbove 1000000000 (take (hi + 1 - lo) (drop lo t)) ≡ none → firstSagging (take (hi + 1 - lo) (drop lo t)) ≡ none
       → entriesRefusal t lo hi ≡ none
   unfolding entriesRefusal sags
-  entries-pass n e = pass _ _ (no-place 9 _ (high ∙ moved-none lo 0 _ n)) ∙ no-place 10 _ (low ∙ moved-none (lo + 1) 1 _ e)
+  entries-pass n e = second-decides _ _ (no-place 9 _ (high ∙ moved-none lo 0 _ n)) ∙ no-place 10 _ (low ∙ moved-none (lo + 1) 1 _ e)
 
 -- ---- what an answer of the search for a number above a limit says
 
 pub above-all : (limit : ℕ) (l : List ℕ) → firstAbove limit l ≡ none → AtMost limit l
 unfolding firstAbove
-above-all limit l e k h = ltb-false limit (getD l k 0) (none-first _ 0 (length l) e k (omega arith) (omega arith))
+above-all limit l e k h = ltb-false limit (getD l k 0) (none-passes _ 0 (length l) e k (omega arith) (omega arith))
 
 pub above-within : (limit : ℕ) (l : List ℕ) (k : ℕ) → firstAbove limit l ≡ some k → k < length l
 unfolding firstAbove

@@ -1,5 +1,6 @@
 pub mod Case
 pub mod Plans
 pub mod Outcome
+pub mod Promise
 pub mod Size
 pub mod Verdict

@@ -17,3 +17,8 @@ pub mod Load
 pub mod Base
 pub mod Swing
 pub mod Worth
+pub mod Members
+pub mod Listing
+pub mod Tables
+pub mod Best
+pub mod Exists
