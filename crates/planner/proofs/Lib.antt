@@ -6,3 +6,4 @@ pub mod Never
 pub mod Rows
 pub mod TestLaws
 pub mod FormLaws
+pub mod Copies

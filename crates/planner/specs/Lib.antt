@@ -4,3 +4,4 @@ pub mod Outcome
 pub mod Promise
 pub mod Size
 pub mod Verdict
+pub mod Copy

@@ -1,3 +1,4 @@
 // The two-plant production and freight planner.
 pub mod limits;
 mod tests;
+mod work;

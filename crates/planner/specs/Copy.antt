@@ -1,0 +1,16 @@
+-- Copies between the lent slices and the working arrays. Assumes nothing.
+use mathlib.Core.Path.{_≡_}
+use mathlib.Core.List.{List}
+use Prim.Native.Nat.{ℕ, _+_, _*_, _≤_, _<_}
+use lib.ListN.{length, getD}
+
+-- the cells of `from` stand in `after` from `at` on, the other cells are those of `before`
+pub record Copied (source : List ℕ) (at : ℕ) (before after : List ℕ) : Type 0 where
+  pub long : length after ≡ length before
+  pub here : (k : ℕ) → k < length source → getD after (at + k) 0 ≡ getD source k 0
+  pub below : (k : ℕ) → k < at → getD after k 0 ≡ getD before k 0
+  pub above : (k : ℕ) → at + length source ≤ k → getD after k 0 ≡ getD before k 0
+
+-- m rows of n cells, row i of one list at i × p and of the other at i × q
+pub record RowsMoved (m n p q : ℕ) (source after : List ℕ) : Type 0 where
+  pub cells : (i j : ℕ) → i < m → j < n → getD after (i * q + j) 0 ≡ getD source (i * p + j) 0

@@ -1,0 +1,45 @@
+// Copies between the lent slices, whose rows have n cells, and the working arrays, whose rows have 64.
+ghost use mathlib.Core.Path.{_≡_};
+ghost use Prim.Native.Nat.{ℕ, _+_, _*_, _≤_, _<_};
+ghost use lib.ListN.{length, getD};
+ghost use Rattle.planner.specs.Copy.{Copied, RowsMoved};
+
+// Copies a slice into another from index `at` on.
+pub fn copy_into(source: &[u64], at: usize, to: &mut [u64])
+    requires { ⌜ at + length (now source) ≤ length (now to) ⌝ }
+    ensures { λ _. ⌜ Copied (now (source .entry)) at (now (to .entry)) (now (to .exit)) ⌝ }
+{
+    let mut k: usize = 0;
+    while k < source.len() {
+        to[at + k] = source[k];
+        k += 1;
+    }
+}
+
+// Copies the m rows of n unit costs into rows of 64.
+pub fn spread_rows(m: usize, n: usize, costs: &[u64], to: &mut [u64; 2048])
+    requires { ⌜ (m ≤ 32) × (n ≤ 64) × (length (now costs) ≡ m * n) × (length (now to) ≡ 2048) ⌝ }
+    ensures { λ _. ⌜ RowsMoved m n n 64 (now (costs .entry)) (now (to .exit)) × (length (now (to .exit)) ≡ 2048) ⌝ }
+{
+    let mut start: usize = 0;
+    for i in 0..m {
+        let end = start + n;
+        copy_into(&costs[start..end], i * 64, to);
+        start = end;
+    }
+}
+
+// Copies m rows of n amounts out of rows of 64; later cells are left as they are.
+pub fn gather_rows(m: usize, n: usize, cells: &[u64; 2048], to: &mut [u64])
+    requires { ⌜ (m ≤ 32) × (n ≤ 64) × (m * n ≤ length (now to)) × (length (now cells) ≡ 2048) ⌝ }
+    ensures { λ _. ⌜ RowsMoved m n 64 n (now (cells .entry)) (now (to .exit)) × (length (now (to .exit)) ≡ length (now (to .entry))) × ((k : ℕ) → m * n ≤ k → getD (now (to .exit)) k 0 ≡ getD (now (to .entry)) k 0) ⌝ }
+{
+    let all = &cells[..];
+    let mut at: usize = 0;
+    for i in 0..m {
+        let start = i * 64;
+        let end = start + n;
+        copy_into(&all[start..end], at, to);
+        at = at + n;
+    }
+}
