@@ -5,3 +5,4 @@ pub mod Promise
 pub mod Size
 pub mod Verdict
 pub mod Copy
+pub mod Answer
