@@ -17,3 +17,4 @@ pub mod Load
 pub mod Base
 pub mod Swing
 pub mod Worth
+pub mod Look

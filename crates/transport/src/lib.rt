@@ -8,6 +8,8 @@ ghost use Rattle.transport.specs.engine.Send.{LowerReady, Lowered, Carry
 ghost use Rattle.transport.specs.engine.Ship.{Stocked, Shipped, ShipDone, BaseReady, Enough, BaseDone};
 ghost use Rattle.transport.specs.engine.Sweep.{Swinging, ShiftDone};
 
+mod scan;
+
 // Above every label.
 pub const FAR: u64 = 1_000_000_000_000_000;
 
