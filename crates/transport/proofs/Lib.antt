@@ -18,3 +18,6 @@ pub mod Base
 pub mod Swing
 pub mod Worth
 pub mod Look
+pub mod Members
+pub mod Stops
+pub mod BestSplit

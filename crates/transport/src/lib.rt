@@ -8,6 +8,7 @@ ghost use Rattle.transport.specs.engine.Send.{LowerReady, Lowered, Carry
 ghost use Rattle.transport.specs.engine.Ship.{Stocked, Shipped, ShipDone, BaseReady, Enough, BaseDone};
 ghost use Rattle.transport.specs.engine.Sweep.{Swinging, ShiftDone};
 
+mod curve;
 mod scan;
 
 // Above every label.
