@@ -17,7 +17,9 @@ pub mod Load
 pub mod Base
 pub mod Swing
 pub mod Worth
-pub mod Look
 pub mod Members
+pub mod Listing
+pub mod Tables
+pub mod Look
 pub mod Stops
 pub mod BestSplit
