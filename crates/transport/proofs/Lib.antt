@@ -23,3 +23,4 @@ pub mod Tables
 pub mod Look
 pub mod Stops
 pub mod BestSplit
+pub mod Freights

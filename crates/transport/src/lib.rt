@@ -9,6 +9,7 @@ ghost use Rattle.transport.specs.engine.Ship.{Stocked, Shipped, ShipDone
 ghost use Rattle.transport.specs.engine.Sweep.{Swinging, ShiftDone};
 
 mod curve;
+mod freight;
 mod scan;
 
 // Above every label.
