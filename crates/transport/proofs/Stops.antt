@@ -13,7 +13,7 @@ use lib.Seq.{drop-cons, set-append-seam}
 use borrow.Author.Tests.{eq-eqb, ne-eqb}
 use Rattle.transport.specs.Listing.{upFrom, select}
 use Rattle.transport.specs.Curve.{bends, isStop, stopsOf, written}
-use Rattle.transport.specs.engine.Stops.{Straight, before, stopAt}
+use Rattle.transport.specs.engine.Stops.{Straight, before, stopAt, turned, Noted, Marked, Climbing}
 use Rattle.transport.proofs.Members.{select-append, select-none, select-length, select-yes, upFrom-out, upFrom-split, upFrom-length}
 
 -- ---- one split
@@ -125,3 +125,16 @@ map-append f (x ∷ l) l' = ap (λ (r : List ℕ). f x ∷ r) (map-append f l l'
 pub map-length : (f : ℕ → ℕ) (l : List ℕ) → length (map f l) ≡ length l
 map-length f [] = refl
 map-length f (x ∷ l) = ap suc (map-length f l)
+
+-- ---- the sweep of a curve
+
+module _ (f : ℕ → ℕ) (lo hi : ℕ) where
+  -- between two straight lines the test of the two drums says whether y is a stop
+  pub turned-stop : (y gain loss gain' loss' k : ℕ) → lo ≤ y → 0 < k → y + k ≤ hi → Straight f y gain loss k → (lo < y → f (y - 1) + gain' ≡ f y + loss')
+      → isStop f lo hi y ≡ turned y lo gain loss gain' loss'
+  turned-stop y gain loss gain' loss' k h p l s b = elim (ℕ-discrete y lo) [
+    | yes e ↦ rw (eq-eqb y lo e, e) (first-stop f lo hi)
+    | no n ↦
+        rw (ne-eqb y lo n)
+        (inner-stop f lo hi y (omega arith) (omega arith) ∙ turns f y gain loss gain' loss' (b (omega arith)) (omega (arith, s 1 (omega arith))))
+  ]
