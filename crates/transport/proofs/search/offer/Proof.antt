@@ -1,9 +1,9 @@
--- `transport::offer` meets its contract. Assumes nothing.
+-- `transport::search::offer` meets its contract. Assumes nothing.
 use mathlib.Core.Path.{refl}
 use borrow.Author.Needs.{needs}
 use Rattle.transport.specs.engine.Path.Offered.{kept, won}
-use Rattle.transport.proofs.offer.Statement.{statement}
-use Rattle.transport.proofs.offer.Tie as tie
+use Rattle.transport.proofs.search.offer.Statement.{statement}
+use Rattle.transport.proofs.search.offer.Tie as tie
 
 mul-if1 : tie.Need-mul-if1
 mul-if1 c = search needs

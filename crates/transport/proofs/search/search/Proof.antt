@@ -1,4 +1,4 @@
--- `transport::search` meets its contract. Assumes nothing.
+-- `transport::search::search` meets its contract. Assumes nothing.
 use mathlib.Core.Path.{_≡_, refl}
 use mathlib.Core.Logic.{⊎-elim}
 use Prim.Native.Nat.{ℕ, _+_, _*_, _-_, _≤_, _<_}
@@ -9,12 +9,12 @@ use Rattle.transport.specs.engine.Path.{net, book, get}
 use Rattle.transport.specs.engine.Search.{Searching}
 use Rattle.transport.proofs.Settle.{marks-free, counted, label-near, relax-ready, search-start, search-step, search-less, search-found, search-stuck}
 use borrow.Author.Needs.{needs}
-use Rattle.transport.proofs.search.Statement.{statement}
-use Rattle.transport.proofs.search.Tie as tie
-use Rattle.transport.proofs.search.Reads as reads
-use Rattle.transport.proofs.search.Lts as lts
-use Rattle.transport.proofs.nearest.Reads as nearest-reads
-use Rattle.transport.proofs.relax.Reads as relax-reads
+use Rattle.transport.proofs.search.search.Statement.{statement}
+use Rattle.transport.proofs.search.search.Tie as tie
+use Rattle.transport.proofs.search.search.Reads as reads
+use Rattle.transport.proofs.search.search.Lts as lts
+use Rattle.transport.proofs.search.nearest.Reads as nearest-reads
+use Rattle.transport.proofs.search.relax.Reads as relax-reads
 
 abbrev Inv-loop : tie.InvT-loop
 Inv-loop m n cost x cap pot room start limit tent₀ prev₀ hops₀ width₀ done₀ tent prev hops width done = Searching (net m n cost cap x) pot room start limit (book tent prev hops width) done

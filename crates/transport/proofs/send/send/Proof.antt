@@ -1,4 +1,4 @@
--- `transport::send` meets its contract. Assumes nothing.
+-- `transport::send::send` meets its contract. Assumes nothing.
 use mathlib.Core.Path.{_≡_, refl}
 use Prim.Native.Nat.{ℕ, _+_, _*_, _-_, _≤_, _<_}
 use native.Mathlib.Omega.{arith}
@@ -6,14 +6,14 @@ use lib.ListN.{length, getD, getD-replicate}
 use Rattle.transport.specs.engine.Path.{net, book, get, far}
 use Rattle.transport.proofs.Deliver.{lower-ready, push-ready, pushed, delivered}
 use borrow.Author.Needs.{needs}
-use Rattle.transport.proofs.send.Statement.{statement}
-use Rattle.transport.proofs.send.Tie as tie
-use Rattle.transport.proofs.send.Reads as reads
-use Rattle.transport.proofs.send.Lts as lts
-use Rattle.transport.proofs.lower.Reads as lower-reads
-use Rattle.transport.proofs.push.Reads as push-reads
-use Rattle.transport.proofs.search.Reads as search-reads
-use Rattle.transport.proofs.smaller.Reads as smaller-reads
+use Rattle.transport.proofs.send.send.Statement.{statement}
+use Rattle.transport.proofs.send.send.Tie as tie
+use Rattle.transport.proofs.send.send.Reads as reads
+use Rattle.transport.proofs.send.send.Lts as lts
+use Rattle.transport.proofs.send.lower.Reads as lower-reads
+use Rattle.transport.proofs.send.push.Reads as push-reads
+use Rattle.transport.proofs.search.search.Reads as search-reads
+use Rattle.transport.proofs.search.smaller.Reads as smaller-reads
 
 search-requires : tie.Need-search-requires
 search-requires c κs =

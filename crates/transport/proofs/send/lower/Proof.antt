@@ -1,15 +1,15 @@
--- `transport::lower` meets its contract. Assumes nothing.
+-- `transport::send::lower` meets its contract. Assumes nothing.
 use mathlib.Core.Path.{_≡_, refl}
 use Prim.Native.Nat.{ℕ, _+_, _*_, _-_, _≤_, _<_}
 use native.Mathlib.Omega.{arith}
 use Rattle.transport.specs.engine.Send.{Lowered}
 use Rattle.transport.proofs.Falls.{lower-start, lower-next, lower-end}
 use borrow.Author.Needs.{needs}
-use Rattle.transport.proofs.lower.Statement.{statement}
-use Rattle.transport.proofs.lower.Tie as tie
-use Rattle.transport.proofs.lower.Reads as reads
-use Rattle.transport.proofs.lower.Lts as lts
-use Rattle.transport.proofs.smaller.Reads as smaller-reads
+use Rattle.transport.proofs.send.lower.Statement.{statement}
+use Rattle.transport.proofs.send.lower.Tie as tie
+use Rattle.transport.proofs.send.lower.Reads as reads
+use Rattle.transport.proofs.send.lower.Lts as lts
+use Rattle.transport.proofs.search.smaller.Reads as smaller-reads
 
 abbrev Inv-loop : tie.InvT-loop
 Inv-loop gap tent pot₀ v₀ pot v = (v ≤ 96) × Lowered gap tent pot₀ v pot

@@ -1,4 +1,4 @@
--- `transport::plan_base` meets its contract. Assumes nothing.
+-- `transport::base::plan_base` meets its contract. Assumes nothing.
 use mathlib.Core.Path.{_≡_, refl}
 use Prim.Native.Nat.{ℕ, _+_, _*_, _-_, _≤_, _<_}
 use native.Mathlib.Omega.{arith}
@@ -6,13 +6,13 @@ use lib.ListN.{getD-replicate}
 use Rattle.transport.specs.engine.Path.{net}
 use Rattle.transport.specs.engine.Ship.{Based}
 use Rattle.transport.proofs.Worth.{never-stuck}
-use Rattle.transport.proofs.Base.{base-start, base-next, base-end}
+use Rattle.transport.proofs.Supply.{base-start, base-next, base-end}
 use borrow.Author.Needs.{needs}
-use Rattle.transport.proofs.plan_base.Statement.{statement}
-use Rattle.transport.proofs.plan_base.Tie as tie
-use Rattle.transport.proofs.plan_base.Reads as reads
-use Rattle.transport.proofs.plan_base.Lts as lts
-use Rattle.transport.proofs.ship.Reads as ship-reads
+use Rattle.transport.proofs.base.plan_base.Statement.{statement}
+use Rattle.transport.proofs.base.plan_base.Tie as tie
+use Rattle.transport.proofs.base.plan_base.Reads as reads
+use Rattle.transport.proofs.base.plan_base.Lts as lts
+use Rattle.transport.proofs.base.ship.Reads as ship-reads
 
 abbrev Inv-loop : tie.InvT-loop
 Inv-loop m n cost cap amounts x₀ room₀ pot₀ i₀ x room pot i = (i ≤ m) × Based (net m n cost cap x₀) amounts room₀ i pot room x
