@@ -4,17 +4,16 @@ ghost use Prim.Native.Nat.{_+_, _-_, _≤_, _<_};
 ghost use lib.ListN.{getD, set};
 ghost use Rattle.transport.specs.engine.Path.{net};
 ghost use Rattle.transport.specs.engine.Send.{LowerReady, Lowered, CarryReady, Carried, Walkable, Walked, SendReady, SendDone};
-use super::search::FAR;
 use super::search::search;
 use super::search::smaller;
 
 // Lowers the potential of each node that is nearer than gap by what it is nearer.
-pub fn lower(gap: u64, tent: &[u64; 96], pot: &mut [u64; 96])
-    requires { ⌜ LowerReady gap (now tent) (now pot) ⌝ }
-    ensures { λ _. ⌜ Lowered gap (now (tent .entry)) (now (pot .entry)) 96 (now (pot .exit)) ⌝ }
+pub fn lower(gap: u64, dist: &[u64; 96], pot: &mut [u64; 96])
+    requires { ⌜ LowerReady gap (now dist) (now pot) ⌝ }
+    ensures { λ _. ⌜ Lowered gap (now (dist .entry)) (now (pot .entry)) 96 (now (pot .exit)) ⌝ }
 {
     for v in 0..96 {
-        pot[v] = smaller(pot[v], tent[v] - gap);
+        pot[v] = smaller(pot[v], dist[v] - gap);
     }
 }
 
@@ -80,31 +79,18 @@ pub fn send(
     requires { ⌜ SendReady (net m n (now cost) (now cap) (now x)) (now pot) (now room) start limit (now x) ⌝ }
     ensures { λ r. ⌜ SendDone (net m n (now (cost .entry)) (now (cap .entry)) (now (x .entry))) (now (pot .entry)) (now (room .entry)) start limit (now (x .entry)) (now (x .exit)) (now (pot .exit)) (r .goal) (r .amount) ⌝ }
 {
-    let mut tent = [FAR; 96];
-    let mut prev = [0usize; 96];
-    let mut hops = [0u64; 96];
-    let mut width = [0u64; 96];
-    let goal = search(
-        m,
-        n,
-        cost,
-        x,
-        cap,
-        pot,
-        room,
-        start,
-        limit,
-        &mut tent,
-        &mut prev,
-        &mut hops,
-        &mut width,
-    );
+    let found = search(m, n, cost, x, cap, pot, room, start, limit);
+    let goal = found.goal;
     if goal == 96 {
         return Sent { goal, amount: 0 };
     }
+    let dist = found.dist;
+    let prev = found.prev;
+    let hops = found.hops;
+    let width = found.width;
     let amount = smaller(width[goal], room[goal]);
     push(&prev, hops[goal], goal, amount, x);
-    let gap = tent[goal] - pot[goal];
-    lower(gap, &tent, pot);
+    let gap = dist[goal] - pot[goal];
+    lower(gap, &dist, pot);
     Sent { goal, amount }
 }

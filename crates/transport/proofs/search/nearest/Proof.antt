@@ -12,10 +12,10 @@ use Rattle.transport.proofs.search.nearest.Lts as lts
 use Rattle.transport.proofs.search.gap.Reads as gap-reads
 
 abbrev Inv-loop : tie.InvT-loop
-Inv-loop pot tent done best₀ least₀ v₀ best least v = (v ≤ 96) × Nearing pot tent done v best least
+Inv-loop pot dist done best₀ least₀ v₀ best least v = (v ≤ 96) × Nearing pot dist done v best least
 
 abbrev μ-loop : tie.MeasureT-loop
-μ-loop pot tent done best₀ least₀ v₀ best least v = 96 - v
+μ-loop pot dist done best₀ least₀ v₀ best least v = 96 - v
 
 loop-holds : tie.Need-loop-holds Inv-loop μ-loop
 loop-holds c = (omega arith, near-start _ _ _)

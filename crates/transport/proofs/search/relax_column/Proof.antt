@@ -15,10 +15,10 @@ use Rattle.transport.proofs.search.offer.Reads as offer-reads
 use Rattle.transport.proofs.search.smaller.Reads as smaller-reads
 
 abbrev Inv-loop : tie.InvT-loop
-Inv-loop m n v cost x cap base hop wide tent₀ prev₀ hops₀ width₀ j i₀ tent prev hops width i = (i ≤ m) × Passing (net m n cost cap x) v base hop wide 0 i (book tent₀ prev₀ hops₀ width₀) (book tent prev hops width)
+Inv-loop m n v cost x cap base hop wide dist₀ prev₀ hops₀ width₀ j i₀ dist prev hops width i = (i ≤ m) × Passing (net m n cost cap x) v base hop wide 0 i (book dist₀ prev₀ hops₀ width₀) (book dist prev hops width)
 
 abbrev μ-loop : tie.MeasureT-loop
-μ-loop m n v cost x cap base hop wide tent₀ prev₀ hops₀ width₀ j i₀ tent prev hops width i = m - i
+μ-loop m n v cost x cap base hop wide dist₀ prev₀ hops₀ width₀ j i₀ dist prev hops width i = m - i
 
 sub-j : tie.Need-sub-j Inv-loop μ-loop
 sub-j c = search needs

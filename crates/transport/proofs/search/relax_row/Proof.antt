@@ -15,10 +15,10 @@ use Rattle.transport.proofs.search.offer.Reads as offer-reads
 use Rattle.transport.proofs.search.smaller.Reads as smaller-reads
 
 abbrev Inv-loop : tie.InvT-loop
-Inv-loop m n i cost x cap base hop wide tent₀ prev₀ hops₀ width₀ j₀ tent prev hops width j = (j ≤ n) × Passing (net m n cost cap x) i base hop wide 32 (32 + j) (book tent₀ prev₀ hops₀ width₀) (book tent prev hops width)
+Inv-loop m n i cost x cap base hop wide dist₀ prev₀ hops₀ width₀ j₀ dist prev hops width j = (j ≤ n) × Passing (net m n cost cap x) i base hop wide 32 (32 + j) (book dist₀ prev₀ hops₀ width₀) (book dist prev hops width)
 
 abbrev μ-loop : tie.MeasureT-loop
-μ-loop m n i cost x cap base hop wide tent₀ prev₀ hops₀ width₀ j₀ tent prev hops width j = n - j
+μ-loop m n i cost x cap base hop wide dist₀ prev₀ hops₀ width₀ j₀ dist prev hops width j = n - j
 
 loop-holds : tie.Need-loop-holds Inv-loop μ-loop
 loop-holds c = (omega arith, pass-start (c .pre .long) (omega arith))

@@ -2,29 +2,19 @@
 use mathlib.Core.Path.{_≡_, refl}
 use Prim.Native.Nat.{ℕ, _+_, _*_, _-_, _≤_, _<_}
 use native.Mathlib.Omega.{arith}
-use lib.ListN.{length, getD, getD-replicate}
-use Rattle.transport.specs.engine.Path.{net, book, get, far}
 use Rattle.transport.proofs.Deliver.{lower-ready, push-ready, pushed, delivered}
 use borrow.Author.Needs.{needs}
 use Rattle.transport.proofs.send.send.Statement.{statement}
 use Rattle.transport.proofs.send.send.Tie as tie
 use Rattle.transport.proofs.send.send.Reads as reads
 use Rattle.transport.proofs.send.send.Lts as lts
-use Rattle.transport.proofs.send.lower.Reads as lower-reads
-use Rattle.transport.proofs.send.push.Reads as push-reads
 use Rattle.transport.proofs.search.search.Reads as search-reads
 use Rattle.transport.proofs.search.smaller.Reads as smaller-reads
+use Rattle.transport.proofs.send.lower.Reads as lower-reads
+use Rattle.transport.proofs.send.push.Reads as push-reads
 
 search-requires : tie.Need-search-requires
-search-requires c κs =
-    let r = c .before .before .before .before .before .before .pre in
-    record {
-      sound = r .sound;
-      long = record { tents = refl; prevs = refl; hopss = refl; widths = refl };
-      blank = λ v h. omega (arith, getD-replicate {A = ℕ} 96 v far 0 h);
-      start = r .start;
-      positive = r .positive;
-    }
+search-requires c κs = search needs
 
 returns : tie.Need-returns
 returns c =
@@ -58,9 +48,9 @@ array-read-push c = search needs
 
 push-requires : tie.Need-push-requires
 push-requires c κs =
-    let q = c .before .before .before .before .before .search .ensures in
-    let hg : c .before .before .before .before .before .search .result < 96 = omega (arith, q .bound, c .before .before .before .before .if1 .left) in
-    push-ready (c .before .before .before .before .before .before .before .before .before .before .before .before .pre) q hg refl (c .before .before .smaller .ensures)
+    let q = c .before .before .before .before .before .before .before .before .before .search .ensures in
+    let hg : c .before .before .before .before .before .before .before .before .before .search .result .goal < 96 = omega (arith, q .bound, c .before .before .before .before .before .before .before .before .if1 .left) in
+    push-ready (c .before .before .before .before .before .before .before .before .before .before .before .before .pre) q hg refl (omega (arith, c .before .before .smaller .ensures))
 
 mul-gap : tie.Need-mul-gap
 mul-gap c = search needs
@@ -76,25 +66,26 @@ element-copy-out-gap c = search needs
 
 sub-gap : tie.Need-sub-gap
 sub-gap c =
-    let q = c .before .before .before .before .before .before .before .search .ensures in
-    let hg : c .before .before .before .before .before .before .before .search .result < 96 = omega (arith, q .bound, c .before .before .before .before .before .before .if1 .left) in
-    omega (arith, q .low (c .before .before .before .before .before .before .before .search .result) hg)
+    let q = c .before .before .before .before .before .before .before .before .before .before .before .search .ensures in
+    let hg : c .before .before .before .before .before .before .before .before .before .before .before .search .result .goal < 96 = omega (arith, q .bound, c .before .before .before .before .before .before .before .before .before .before .if1 .left) in
+    omega (arith, q .low (c .before .before .before .before .before .before .before .before .before .before .before .search .result .goal) hg)
 
 lower-requires : tie.Need-lower-requires
 lower-requires c κs =
-    let q = c .before .before .before .before .before .before .before .before .before .search .ensures in
-    let hg : c .before .before .before .before .before .before .before .before .before .search .result < 96 = omega (arith, q .bound, c .before .before .before .before .before .before .before .before .if1 .left) in
+    let q = c .before .before .before .before .before .before .before .before .before .before .before .before .before .search .ensures in
+    let hg : c .before .before .before .before .before .before .before .before .before .before .before .before .before .search .result .goal < 96 = omega (arith, q .bound, c .before .before .before .before .before .before .before .before .before .before .before .before .if1 .left) in
     lower-ready (c .before .before .before .before .before .before .before .before .before .before .before .before .before .before .before .before .pre) q hg refl
 
 returns-2 : tie.Need-returns-2
 returns-2 c =
-    let q = c .before .before .before .before .before .before .before .before .before .before .search .ensures in
+    let q = c .before .before .before .before .before .before .before .before .before .before .before .before .before .before .search .ensures in
+    let small = c .before .before .before .before .before .before .before .smaller .ensures in
     record {
       bound = q .bound;
       found = λ h.
-          delivered (c .before .before .before .before .before .before .before .before .before .before .before .before .before .before .before .before .before .pre) q h refl (c .lower .ensures) (c .before .before .before .before .before .before .before .smaller .ensures)
-          (pushed (c .before .before .before .before .before .before .before .before .before .before .before .before .before .before .before .before .before .pre) q h refl (c .before .before .before .before .before .before .before .smaller .ensures) (c .before .before .before .before .push .ensures));
-      none = λ e. absurd (c .before .before .before .before .before .before .before .before .before .if1 .left e);
+          delivered (c .before .before .before .before .before .before .before .before .before .before .before .before .before .before .before .before .before .pre) q h refl (c .lower .ensures) small
+          (pushed (c .before .before .before .before .before .before .before .before .before .before .before .before .before .before .before .before .before .pre) q h refl (omega (arith, small)) (c .before .before .before .before .push .ensures));
+      none = λ e. absurd (c .before .before .before .before .before .before .before .before .before .before .before .before .before .if1 .left e);
     }
 
 pub send-spec : {M : Type 1} → statement M
