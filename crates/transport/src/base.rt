@@ -34,7 +34,7 @@ fn ship(
     left
 }
 
-// From no amounts at all, sends each source's amount.
+// From no amounts at all, sends each source's amount: first the depots, then plant 1, and plant 0 last.
 pub fn plan_base(
     m: usize,
     n: usize,
@@ -42,14 +42,16 @@ pub fn plan_base(
     cap: &[u64; 2048],
     amounts: &[u64; 32],
     x: &mut [u64; 2048],
+    pot: &mut [u64; 96],
     room: &mut [u64; 96],
 )
     requires { ⌜ BaseReady (net m n (now cost) (now cap) (now x)) (now room) (now x) ⌝ }
     requires { ⌜ Enough (net m n (now cost) (now cap) (now x)) (now amounts) (now room) ⌝ }
-    ensures { λ _. ⌜ BaseDone (net m n (now (cost .entry)) (now (cap .entry)) (now (x .entry))) (now (amounts .entry)) (now (room .entry)) (now (room .exit)) (now (x .exit)) ⌝ }
+    ensures { λ _. ⌜ BaseDone (net m n (now (cost .entry)) (now (cap .entry)) (now (x .entry))) (now (amounts .entry)) (now (room .entry)) (now (pot .exit)) (now (room .exit)) (now (x .exit)) ⌝ }
 {
-    let mut pot = [800_000_000u64; 96];
-    for i in 0..m {
-        ship(m, n, cost, cap, i, amounts[i], x, &mut pot, room);
+    *pot = [800_000_000u64; 96];
+    for k in 0..m {
+        let i = m - 1 - k;
+        ship(m, n, cost, cap, i, amounts[i], x, pot, room);
     }
 }
