@@ -14,7 +14,7 @@ pub mod Falls
 pub mod Stroll
 pub mod Deliver
 pub mod Load
-pub mod Base
+pub mod Supply
 pub mod Swing
 pub mod Worth
 pub mod Members

@@ -66,21 +66,21 @@ swing-over {N} {P} {p} {room} {x} {limit} {x'} {p'} {g} {d} k o hg t = record {
 
 module _ {N : Net} {room : List ℕ} {s : ℕ} {B : Book} (sources : N .m ≤ 32) (terminals : N .n ≤ 64) (k : Stuck N room s B) where
   -- a lane with room leads to a terminal with a label
-  reach : (j : ℕ) → s < N .m → j < N .n → N .x s j < N .u s j → get (B .tent) (32 + j) < far
+  reach : (j : ℕ) → s < N .m → j < N .n → N .x s j < N .u s j → get (B .dist) (32 + j) < far
   reach j hs hj l =
-      k .closed s (32 + j) (get (B .tent) s + N .c s j) (N .u s j - N .x s j) (omega arith) (omega arith) (k .start) (ahead j hs hj refl l refl refl)
+      k .closed s (32 + j) (get (B .dist) s + N .c s j) (N .u s j - N .x s j) (omega arith) (omega arith) (k .start) (ahead j hs hj refl l refl refl)
 
   -- where a terminal has room, and the lane to it
   pub not-stuck : (j : ℕ) → s < N .m → j < N .n → N .x s j < N .u s j → 0 < get room (32 + j) → ⊥
   not-stuck j hs hj l o = omega (arith, k .empty (32 + j) (omega arith) (reach j hs hj l))
 
   -- where another source with room serves a terminal, and the lane to that has room (its label is no less than the unit cost)
-  pub not-stuck-over : (j i : ℕ) → s < N .m → i < N .m → j < N .n → N .x s j < N .u s j → 0 < N .x i j → N .c i j ≤ get (B .tent) (32 + j)
+  pub not-stuck-over : (j i : ℕ) → s < N .m → i < N .m → j < N .n → N .x s j < N .u s j → 0 < N .x i j → N .c i j ≤ get (B .dist) (32 + j)
       → 0 < get room i → ⊥
   not-stuck-over j i hs hi hj l o e r =
       omega (
         arith,
         k .empty i (omega arith)
-            (k .closed (32 + j) i (get (B .tent) (32 + j) - N .c i j) (N .x i j) (omega arith) (omega arith) (reach j hs hj l)
+            (k .closed (32 + j) i (get (B .dist) (32 + j) - N .c i j) (N .x i j) (omega arith) (omega arith) (reach j hs hj l)
             (back j hi hj refl o (omega arith) refl)),
       )

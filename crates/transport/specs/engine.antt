@@ -1,4 +1,5 @@
 pub mod Slack
+pub mod Least
 pub mod Cells
 pub mod Walk
 pub mod Path

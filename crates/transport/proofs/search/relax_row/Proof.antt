@@ -1,4 +1,4 @@
--- `transport::relax_row` meets its contract. Assumes nothing.
+-- `transport::search::relax_row` meets its contract. Assumes nothing.
 use mathlib.Core.Path.{_≡_, refl}
 use Prim.Native.Nat.{ℕ, _+_, _*_, _-_, _≤_, _<_}
 use mathlib.Core.Logic.{⊎-elim}
@@ -7,18 +7,18 @@ use Rattle.transport.specs.engine.Path.Arc.{ahead, back}
 use Rattle.transport.specs.engine.Path.{Arc, net, book, Passing}
 use Rattle.transport.proofs.Pass.{pass-start, pass-closed, pass-open, pass-row, shut-ahead}
 use borrow.Author.Needs.{needs}
-use Rattle.transport.proofs.relax_row.Statement.{statement}
-use Rattle.transport.proofs.relax_row.Tie as tie
-use Rattle.transport.proofs.relax_row.Reads as reads
-use Rattle.transport.proofs.relax_row.Lts as lts
-use Rattle.transport.proofs.offer.Reads as offer-reads
-use Rattle.transport.proofs.smaller.Reads as smaller-reads
+use Rattle.transport.proofs.search.relax_row.Statement.{statement}
+use Rattle.transport.proofs.search.relax_row.Tie as tie
+use Rattle.transport.proofs.search.relax_row.Reads as reads
+use Rattle.transport.proofs.search.relax_row.Lts as lts
+use Rattle.transport.proofs.search.offer.Reads as offer-reads
+use Rattle.transport.proofs.search.smaller.Reads as smaller-reads
 
 abbrev Inv-loop : tie.InvT-loop
-Inv-loop m n i cost x cap base hop wide tent₀ prev₀ hops₀ width₀ j₀ tent prev hops width j = (j ≤ n) × Passing (net m n cost cap x) i base hop wide 32 (32 + j) (book tent₀ prev₀ hops₀ width₀) (book tent prev hops width)
+Inv-loop m n i cost x cap base hop wide dist₀ prev₀ hops₀ width₀ j₀ dist prev hops width j = (j ≤ n) × Passing (net m n cost cap x) i base hop wide 32 (32 + j) (book dist₀ prev₀ hops₀ width₀) (book dist prev hops width)
 
 abbrev μ-loop : tie.MeasureT-loop
-μ-loop m n i cost x cap base hop wide tent₀ prev₀ hops₀ width₀ j₀ tent prev hops width j = n - j
+μ-loop m n i cost x cap base hop wide dist₀ prev₀ hops₀ width₀ j₀ dist prev hops width j = n - j
 
 loop-holds : tie.Need-loop-holds Inv-loop μ-loop
 loop-holds c = (omega arith, pass-start (c .pre .long) (omega arith))

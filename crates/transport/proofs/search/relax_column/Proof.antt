@@ -1,4 +1,4 @@
--- `transport::relax_column` meets its contract. Assumes nothing.
+-- `transport::search::relax_column` meets its contract. Assumes nothing.
 use mathlib.Core.Path.{_≡_, refl}
 use Prim.Native.Nat.{ℕ, _+_, _*_, _-_, _≤_, _<_}
 use mathlib.Core.Logic.{⊎-elim}
@@ -7,18 +7,18 @@ use Rattle.transport.specs.engine.Path.Arc.{ahead, back}
 use Rattle.transport.specs.engine.Path.{Arc, net, book, Passing}
 use Rattle.transport.proofs.Pass.{pass-start, pass-closed, pass-open, pass-column, shut-back}
 use borrow.Author.Needs.{needs}
-use Rattle.transport.proofs.relax_column.Statement.{statement}
-use Rattle.transport.proofs.relax_column.Tie as tie
-use Rattle.transport.proofs.relax_column.Reads as reads
-use Rattle.transport.proofs.relax_column.Lts as lts
-use Rattle.transport.proofs.offer.Reads as offer-reads
-use Rattle.transport.proofs.smaller.Reads as smaller-reads
+use Rattle.transport.proofs.search.relax_column.Statement.{statement}
+use Rattle.transport.proofs.search.relax_column.Tie as tie
+use Rattle.transport.proofs.search.relax_column.Reads as reads
+use Rattle.transport.proofs.search.relax_column.Lts as lts
+use Rattle.transport.proofs.search.offer.Reads as offer-reads
+use Rattle.transport.proofs.search.smaller.Reads as smaller-reads
 
 abbrev Inv-loop : tie.InvT-loop
-Inv-loop m n v cost x cap base hop wide tent₀ prev₀ hops₀ width₀ j i₀ tent prev hops width i = (i ≤ m) × Passing (net m n cost cap x) v base hop wide 0 i (book tent₀ prev₀ hops₀ width₀) (book tent prev hops width)
+Inv-loop m n v cost x cap base hop wide dist₀ prev₀ hops₀ width₀ j i₀ dist prev hops width i = (i ≤ m) × Passing (net m n cost cap x) v base hop wide 0 i (book dist₀ prev₀ hops₀ width₀) (book dist prev hops width)
 
 abbrev μ-loop : tie.MeasureT-loop
-μ-loop m n v cost x cap base hop wide tent₀ prev₀ hops₀ width₀ j i₀ tent prev hops width i = m - i
+μ-loop m n v cost x cap base hop wide dist₀ prev₀ hops₀ width₀ j i₀ dist prev hops width i = m - i
 
 sub-j : tie.Need-sub-j Inv-loop μ-loop
 sub-j c = search needs

@@ -1,4 +1,4 @@
--- `transport::search` meets its contract. Assumes nothing.
+-- `transport::search::explore` meets its contract. Assumes nothing.
 use mathlib.Core.Path.{_≡_, refl}
 use mathlib.Core.Logic.{⊎-elim}
 use Prim.Native.Nat.{ℕ, _+_, _*_, _-_, _≤_, _<_}
@@ -9,30 +9,30 @@ use Rattle.transport.specs.engine.Path.{net, book, get}
 use Rattle.transport.specs.engine.Search.{Searching}
 use Rattle.transport.proofs.Settle.{marks-free, counted, label-near, relax-ready, search-start, search-step, search-less, search-found, search-stuck}
 use borrow.Author.Needs.{needs}
-use Rattle.transport.proofs.search.Statement.{statement}
-use Rattle.transport.proofs.search.Tie as tie
-use Rattle.transport.proofs.search.Reads as reads
-use Rattle.transport.proofs.search.Lts as lts
-use Rattle.transport.proofs.nearest.Reads as nearest-reads
-use Rattle.transport.proofs.relax.Reads as relax-reads
+use Rattle.transport.proofs.search.explore.Statement.{statement}
+use Rattle.transport.proofs.search.explore.Tie as tie
+use Rattle.transport.proofs.search.explore.Reads as reads
+use Rattle.transport.proofs.search.explore.Lts as lts
+use Rattle.transport.proofs.search.nearest.Reads as nearest-reads
+use Rattle.transport.proofs.search.relax.Reads as relax-reads
 
 abbrev Inv-loop : tie.InvT-loop
-Inv-loop m n cost x cap pot room start limit tent₀ prev₀ hops₀ width₀ done₀ tent prev hops width done = Searching (net m n cost cap x) pot room start limit (book tent prev hops width) done
+Inv-loop m n cost x cap pot room start limit dist₀ prev₀ hops₀ width₀ done₀ dist prev hops width done = Searching (net m n cost cap x) pot room start limit (book dist prev hops width) done
 
 abbrev μ-loop : tie.MeasureT-loop
-μ-loop m n cost x cap pot room start limit tent₀ prev₀ hops₀ width₀ done₀ tent prev hops width done = 96 - sum 96 (λ v. get done v)
+μ-loop m n cost x cap pot room start limit dist₀ prev₀ hops₀ width₀ done₀ dist prev hops width done = 96 - sum 96 (λ v. get done v)
 
-mul-tent : tie.Need-mul-tent Inv-loop μ-loop
-mul-tent c = search needs
+mul-dist : tie.Need-mul-dist Inv-loop μ-loop
+mul-dist c = search needs
 
-element-copy-out-tent : tie.Need-element-copy-out-tent Inv-loop μ-loop
-element-copy-out-tent c = search needs
+element-copy-out-dist : tie.Need-element-copy-out-dist Inv-loop μ-loop
+element-copy-out-dist c = search needs
 
-mul-tent-2 : tie.Need-mul-tent-2 Inv-loop μ-loop
-mul-tent-2 c = search needs
+mul-dist-2 : tie.Need-mul-dist-2 Inv-loop μ-loop
+mul-dist-2 c = search needs
 
-element-write-tent : tie.Need-element-write-tent Inv-loop μ-loop
-element-write-tent c = search needs
+element-write-dist : tie.Need-element-write-dist Inv-loop μ-loop
+element-write-dist c = search needs
 
 mul-hops : tie.Need-mul-hops Inv-loop μ-loop
 mul-hops c = search needs
@@ -47,13 +47,13 @@ element-write-width : tie.Need-element-write-width Inv-loop μ-loop
 element-write-width c = search needs
 
 loop-holds : tie.Need-loop-holds Inv-loop μ-loop
-loop-holds c = search-start (c .before .pre) (length-replicate {A = ℕ} 96 0) (λ v h. getD-replicate {A = ℕ} 96 v 0 0 h)
+loop-holds c = search-start (c .before .pre .0) (c .before .pre .1) (length-replicate {A = ℕ} 96 0) (λ v h. getD-replicate {A = ℕ} 96 v 0 0 h)
 
 nearest-requires : tie.Need-nearest-requires Inv-loop μ-loop
 nearest-requires c κs = c .before .before .loop .inv .low
 
 returns : tie.Need-returns Inv-loop μ-loop
-returns c = search-stuck (c .before .before .before .before .before .before .pre .sound) (c .before .before .before .before .loop .inv) (c .before .nearest .ensures) (c .if1 .taken)
+returns c = search-stuck (c .before .before .before .before .before .before .pre .0 .sound) (c .before .before .before .before .loop .inv) (c .before .nearest .ensures) (c .if1 .taken)
 
 mul-if2 : tie.Need-mul-if2 Inv-loop μ-loop
 mul-if2 c = search needs
@@ -64,7 +64,7 @@ element-copy-out-if2 c = search needs
 returns-2 : tie.Need-returns-2 Inv-loop μ-loop
 returns-2 c =
     let near = c .before .before .before .nearest .ensures in
-    search-found (c .before .before .before .before .before .before .before .before .pre .sound) (c .before .before .before .before .before .before .loop .inv) near (omega (arith, near .bound, c .before .before .if1 .left)) (c .if2 .taken)
+    search-found (c .before .before .before .before .before .before .before .before .pre .0 .sound) (c .before .before .before .before .before .before .loop .inv) near (omega (arith, near .bound, c .before .before .if1 .left)) (c .if2 .taken)
 
 mul-done : tie.Need-mul-done Inv-loop μ-loop
 mul-done c = search needs
@@ -88,7 +88,7 @@ add-hop : tie.Need-add-hop Inv-loop μ-loop
 add-hop c =
     let near = c .before .before .before .before .before .nearest .ensures in
     let hv : c .before .before .before .before .before .nearest .result < 96 = omega (arith, near .bound, c .before .before .before .before .if1 .left) in
-    omega (arith, label-near (c .before .before .before .before .before .before .before .before .before .before .pre .sound) (c .before .before .before .before .before .before .before .before .loop .inv) hv (near .fresh hv .1) .1)
+    omega (arith, label-near (c .before .before .before .before .before .before .before .before .before .before .pre .0 .sound) (c .before .before .before .before .before .before .before .before .loop .inv) hv (near .fresh hv .1) .1)
 
 mul-wide : tie.Need-mul-wide Inv-loop μ-loop
 mul-wide c = search needs
@@ -100,30 +100,30 @@ relax-requires : tie.Need-relax-requires Inv-loop μ-loop
 relax-requires c κs =
     let near = c .before .before .before .before .before .before .before .before .before .before .nearest .ensures in
     let hv : c .before .before .before .before .before .before .before .before .before .before .nearest .result < 96 = omega (arith, near .bound, c .before .before .before .before .before .before .before .before .before .if1 .left) in
-    relax-ready (c .before .before .before .before .before .before .before .before .before .before .before .before .before .before .before .pre .sound) (c .before .before .before .before .before .before .before .before .before .before .before .before .before .loop .inv) hv (near .fresh hv .1)
+    relax-ready (c .before .before .before .before .before .before .before .before .before .before .before .before .before .before .before .pre .0 .sound) (c .before .before .before .before .before .before .before .before .before .before .before .before .before .loop .inv) hv (near .fresh hv .1)
 
 loop-less : tie.Need-loop-less Inv-loop μ-loop
 loop-less c =
     let near = c .before .before .before .before .before .before .before .before .before .before .before .nearest .ensures in
     let hv : c .before .before .before .before .before .before .before .before .before .before .before .nearest .result < 96 = omega (arith, near .bound, c .before .before .before .before .before .before .before .before .before .before .if1 .left) in
-    search-less (c .before .before .before .before .before .before .before .before .before .before .before .before .before .before .before .before .pre .sound) (c .before .before .before .before .before .before .before .before .before .before .before .before .before .before .loop .inv) hv near (omega (arith, c .before .before .before .before .before .before .before .before .if2 .left)) (c .relax .ensures)
+    search-less (c .before .before .before .before .before .before .before .before .before .before .before .before .before .before .before .before .pre .0 .sound) (c .before .before .before .before .before .before .before .before .before .before .before .before .before .before .loop .inv) hv near (omega (arith, c .before .before .before .before .before .before .before .before .if2 .left)) (c .relax .ensures)
 
 loop-again : tie.Need-loop-again Inv-loop μ-loop
 loop-again c =
     let near = c .before .before .before .before .before .before .before .before .before .before .before .nearest .ensures in
     let hv : c .before .before .before .before .before .before .before .before .before .before .before .nearest .result < 96 = omega (arith, near .bound, c .before .before .before .before .before .before .before .before .before .before .if1 .left) in
-    search-step (c .before .before .before .before .before .before .before .before .before .before .before .before .before .before .before .before .pre .sound) (c .before .before .before .before .before .before .before .before .before .before .before .before .before .before .loop .inv) hv near (omega (arith, c .before .before .before .before .before .before .before .before .if2 .left)) (c .relax .ensures)
+    search-step (c .before .before .before .before .before .before .before .before .before .before .before .before .before .before .before .before .pre .0 .sound) (c .before .before .before .before .before .before .before .before .before .before .before .before .before .before .loop .inv) hv near (omega (arith, c .before .before .before .before .before .before .before .before .if2 .left)) (c .relax .ensures)
 
-pub search-spec : {M : Type 1} → statement M
-search-spec =
+pub explore-spec : {M : Type 1} → statement M
+explore-spec =
     tie.close
     (tie.spec
     Inv-loop
     μ-loop
-    mul-tent
-    element-copy-out-tent
-    mul-tent-2
-    element-write-tent
+    mul-dist
+    element-copy-out-dist
+    mul-dist-2
+    element-write-dist
     mul-hops
     element-write-hops
     mul-width

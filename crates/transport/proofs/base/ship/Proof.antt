@@ -1,4 +1,4 @@
--- `transport::ship` meets its contract. Assumes nothing.
+-- `transport::base::ship` meets its contract. Assumes nothing.
 use mathlib.Core.Path.{_≡_, refl}
 use Prim.Native.Nat.{ℕ, _+_, _*_, _-_, _≤_, _<_}
 use native.Mathlib.Omega.{arith}
@@ -6,11 +6,11 @@ use Rattle.transport.specs.engine.Path.{net, book, get, far}
 use Rattle.transport.specs.engine.Ship.{Shipped}
 use Rattle.transport.proofs.Load.{ship-start, send-ready, ship-next, ship-none}
 use borrow.Author.Needs.{needs}
-use Rattle.transport.proofs.ship.Statement.{statement}
-use Rattle.transport.proofs.ship.Tie as tie
-use Rattle.transport.proofs.ship.Reads as reads
-use Rattle.transport.proofs.ship.Lts as lts
-use Rattle.transport.proofs.send.Reads as send-reads
+use Rattle.transport.proofs.base.ship.Statement.{statement}
+use Rattle.transport.proofs.base.ship.Tie as tie
+use Rattle.transport.proofs.base.ship.Reads as reads
+use Rattle.transport.proofs.base.ship.Lts as lts
+use Rattle.transport.proofs.send.send.Reads as send-reads
 
 abbrev Inv-loop : tie.InvT-loop
 Inv-loop m n cost cap start amount x₀ pot₀ room₀ left₀ x pot room left = Shipped (net m n cost cap x₀) room₀ start amount pot room x left

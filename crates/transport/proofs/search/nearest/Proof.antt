@@ -1,21 +1,21 @@
--- `transport::nearest` meets its contract. Assumes nothing.
+-- `transport::search::nearest` meets its contract. Assumes nothing.
 use mathlib.Core.Logic.{⊎-elim}
 use Prim.Native.Nat.{ℕ, _+_, _*_, _-_, _≤_, _<_}
 use native.Mathlib.Omega.{arith}
 use Rattle.transport.specs.engine.Path.{Nearing}
 use Rattle.transport.proofs.Near.{near-start, near-next, near-kept, near-end}
 use borrow.Author.Needs.{needs}
-use Rattle.transport.proofs.nearest.Statement.{statement}
-use Rattle.transport.proofs.nearest.Tie as tie
-use Rattle.transport.proofs.nearest.Reads as reads
-use Rattle.transport.proofs.nearest.Lts as lts
-use Rattle.transport.proofs.gap.Reads as gap-reads
+use Rattle.transport.proofs.search.nearest.Statement.{statement}
+use Rattle.transport.proofs.search.nearest.Tie as tie
+use Rattle.transport.proofs.search.nearest.Reads as reads
+use Rattle.transport.proofs.search.nearest.Lts as lts
+use Rattle.transport.proofs.search.gap.Reads as gap-reads
 
 abbrev Inv-loop : tie.InvT-loop
-Inv-loop pot tent done best₀ least₀ v₀ best least v = (v ≤ 96) × Nearing pot tent done v best least
+Inv-loop pot dist done best₀ least₀ v₀ best least v = (v ≤ 96) × Nearing pot dist done v best least
 
 abbrev μ-loop : tie.MeasureT-loop
-μ-loop pot tent done best₀ least₀ v₀ best least v = 96 - v
+μ-loop pot dist done best₀ least₀ v₀ best least v = 96 - v
 
 loop-holds : tie.Need-loop-holds Inv-loop μ-loop
 loop-holds c = (omega arith, near-start _ _ _)

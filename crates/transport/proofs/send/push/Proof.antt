@@ -1,15 +1,15 @@
--- `transport::push` meets its contract. Assumes nothing.
+-- `transport::send::push` meets its contract. Assumes nothing.
 use mathlib.Core.List.{List}
 use Prim.Native.Nat.{ℕ, _+_, _*_, _-_, _≤_, _<_}
 use native.Mathlib.Omega.{arith}
 use Rattle.transport.specs.engine.Send.{Walkable, Walked}
 use Rattle.transport.proofs.Stroll.{turn-node, turn-able, turn-back, walked-none}
 use borrow.Author.Needs.{needs}
-use Rattle.transport.proofs.push.Statement.{statement}
-use Rattle.transport.proofs.push.Tie as tie
-use Rattle.transport.proofs.push.Reads as reads
-use Rattle.transport.proofs.push.Lts as lts
-use Rattle.transport.proofs.carry.Reads as carry-reads
+use Rattle.transport.proofs.send.push.Statement.{statement}
+use Rattle.transport.proofs.send.push.Tie as tie
+use Rattle.transport.proofs.send.push.Reads as reads
+use Rattle.transport.proofs.send.push.Lts as lts
+use Rattle.transport.proofs.send.carry.Reads as carry-reads
 
 abbrev Inv-loop : tie.InvT-loop
 Inv-loop prev count goal amount x₀ v₀ left₀ x v left = Walkable prev amount left v x × ((z : List ℕ) → Walked prev amount left v x z → Walked prev amount count goal x₀ z)

@@ -1,9 +1,9 @@
--- `transport::offer` meets its contract. Assumes nothing.
+-- `transport::search::offer` meets its contract. Assumes nothing.
 use mathlib.Core.Path.{refl}
 use borrow.Author.Needs.{needs}
 use Rattle.transport.specs.engine.Path.Offered.{kept, won}
-use Rattle.transport.proofs.offer.Statement.{statement}
-use Rattle.transport.proofs.offer.Tie as tie
+use Rattle.transport.proofs.search.offer.Statement.{statement}
+use Rattle.transport.proofs.search.offer.Tie as tie
 
 mul-if1 : tie.Need-mul-if1
 mul-if1 c = search needs
@@ -11,11 +11,11 @@ mul-if1 c = search needs
 element-copy-out-if1 : tie.Need-element-copy-out-if1
 element-copy-out-if1 c = search needs
 
-mul-tent : tie.Need-mul-tent
-mul-tent c = search needs
+mul-dist : tie.Need-mul-dist
+mul-dist c = search needs
 
-element-write-tent : tie.Need-element-write-tent
-element-write-tent c = search needs
+element-write-dist : tie.Need-element-write-dist
+element-write-dist c = search needs
 
 mul-prev : tie.Need-mul-prev
 mul-prev c = search needs
@@ -47,8 +47,8 @@ offer-spec =
     (tie.spec
     mul-if1
     element-copy-out-if1
-    mul-tent
-    element-write-tent
+    mul-dist
+    element-write-dist
     mul-prev
     element-write-prev
     mul-hops

@@ -38,27 +38,24 @@ base-start {N} {p = p} {x = x} r e l h = record {
     quiet = r .quiet;
   };
   rows = λ i hi o. absurd (omega arith);
-  rest = λ i hi o. sum-ext (N .n) (λ j. cells x i j) (λ j. 0) (λ j b. zero i j hi b) ∙ sum-none (N .n);
+  rest = λ i o. sum-ext (N .n) (λ j. cells x i j) (λ j. 0) (λ j b. zero i j (omega arith) b) ∙ sum-none (N .n);
   cols = λ j hj. omega (arith, sum-ext (N .m) (λ i. cells x i j) (λ i. 0) (λ i a. zero i j a hj), sum-none (N .m));
 }
   where
     zero : (i j : ℕ) → i < N .m → j < N .n → cells x i j ≡ 0
     zero i j a b = ap (λ f. f i j) (sym e) ∙ r .blank i j a b
 
-pub base-next : {N : Net} {amounts room p' room' x' : List ℕ} {k left : ℕ} {p'' room'' x'' : List ℕ} → Based N amounts room k p' room' x' → k < N .m
-    → Shipped (again N x') room' k (get amounts k) p'' room'' x'' left → left ≤ 0 → Based N amounts room (k + 1) p'' room'' x''
-base-next {amounts = amounts} {k = k} q h s z = record {
-  stocked = s .stocked;
-  rows = λ i hi o. elim (ℕ-discrete i k) [
-    | yes e ↦ rw e (omega (arith, s .own, q .rest k h (omega arith)))
-    | no e ↦ s .rows i hi e ∙ q .rows i hi (omega arith)
+pub base-next : {N : Net} {amounts room p' room' x' : List ℕ} {k s left : ℕ} {p'' room'' x'' : List ℕ} → Based N amounts room k p' room' x'
+    → s + k + 1 ≡ N .m → Shipped (again N x') room' s (get amounts s) p'' room'' x'' left → left ≤ 0 → Based N amounts room (k + 1) p'' room'' x''
+base-next {s = s} q e w z = record {
+  stocked = w .stocked;
+  rows = λ i hi o. elim (ℕ-discrete i s) [
+    | yes d ↦ rw d (omega (arith, w .own, q .rest s (omega arith)))
+    | no d ↦ w .rows i hi d ∙ q .rows i hi (omega arith)
   ];
-  rest = λ i hi o. s .rows i hi (omega arith) ∙ q .rest i hi (omega arith);
-  cols = λ j hj. omega (arith, s .cols j hj, q .cols j hj);
+  rest = λ i o. w .rows i (omega arith) (omega arith) ∙ q .rest i (omega arith);
+  cols = λ j hj. omega (arith, w .cols j hj, q .cols j hj);
 }
 
-pub base-end : {N : Net} {amounts room p' room' x' : List ℕ} {k : ℕ} → Based N amounts room k p' room' x' → N .m ≤ k → BaseDone N amounts room room' x'
-base-end {p' = p'} q h = record {
-  pots = p';
-  based = record { stocked = q .stocked; rows = λ i hi o. q .rows i hi (omega arith); rest = λ i hi o. absurd (omega arith); cols = q .cols };
-}
+pub base-end : {N : Net} {amounts room p' room' x' : List ℕ} {k : ℕ} → Based N amounts room k p' room' x' → N .m ≤ k → BaseDone N amounts room p' room' x'
+base-end q h = record { stocked = q .stocked; rows = λ i hi. q .rows i hi (omega arith); cols = q .cols }
