@@ -24,3 +24,4 @@ pub mod Look
 pub mod Stops
 pub mod BestSplit
 pub mod Freights
+pub mod Climb

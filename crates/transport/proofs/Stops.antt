@@ -58,6 +58,14 @@ pub before-none : (f : ℕ → ℕ) (lo hi : ℕ) → before f lo hi lo ≡ []
 unfolding before upFrom select
 before-none f lo hi = rw (sub-self lo)
 
+-- the last drum of a straight line
+pub line-behind : (f : ℕ → ℕ) (y gain loss k : ℕ) → 0 < k → Straight f y gain loss k → f (y + k - 1) + gain ≡ f (y + k) + loss
+line-behind f y gain loss zero p s = absurd (omega arith)
+line-behind f y gain loss (suc k) p s =
+    let s0 : f (y + suc k - 1) + loss * k ≡ f y + gain * k =
+    subst (λ (z : ℕ). f z + loss * k ≡ f y + gain * k) (omega arith) (s k (omega arith)) in
+    omega (arith, s (suc k) (omega arith))
+
 -- on a straight line only its first split can be a stop
 straight-none : (f : ℕ → ℕ) (lo hi y gain loss k : ℕ) → lo ≤ y → y + suc k ≤ hi → Straight f y gain loss (suc k)
     → select (isStop f lo hi) (upFrom (suc y) k) ≡ []
@@ -65,12 +73,11 @@ straight-none f lo hi y gain loss k h l s = select-none (isStop f lo hi) (upFrom
   where
     flat : (t : ℕ) → suc t < suc k → isStop f lo hi (y + suc t) ≡ false
     flat t b =
-        let s0 : f (y + suc t - 1) + loss * t ≡ f y + gain * t =
-        subst (λ (z : ℕ). f z + loss * t ≡ f y + gain * t) (omega arith) (s t (omega arith)) in
-        let s2 : f (y + suc t + 1) + loss * (suc (suc t)) ≡ f y + gain * suc (suc t) =
+        let s2 : f (y + suc t + 1) + loss * suc (suc t) ≡ f y + gain * suc (suc t) =
         subst (λ (z : ℕ). f z + loss * suc (suc t) ≡ f y + gain * suc (suc t)) (omega arith) (s (suc (suc t)) (omega arith)) in
         inner-stop f lo hi (y + suc t) (omega arith) (omega arith)
-        ∙ turns f (y + suc t) gain loss gain loss (omega (arith, s (suc t) (omega arith))) (omega (arith, s (suc t) (omega arith)))
+        ∙ turns f (y + suc t) gain loss gain loss (line-behind f y gain loss (suc t) (omega arith) (λ w d. s w (omega arith)))
+        (omega (arith, s (suc t) (omega arith)))
         ∙ ap not (eq-eqb (gain + loss) (loss + gain) (omega arith))
 
     off : (z : ℕ) → mathlib.Core.List.List·Memᴰ z (upFrom (suc y) k) → isStop f lo hi z ≡ false
