@@ -25,3 +25,4 @@ pub mod Stops
 pub mod BestSplit
 pub mod Freights
 pub mod Climb
+pub mod Stand

@@ -10,3 +10,4 @@ pub mod Sweep
 pub mod Scan
 pub mod Stops
 pub mod Freight
+pub mod Climb
