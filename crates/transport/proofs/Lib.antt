@@ -17,3 +17,5 @@ pub mod Load
 pub mod Supply
 pub mod Swing
 pub mod Worth
+pub mod Look
+pub mod Advance

@@ -8,3 +8,4 @@ pub mod Send
 pub mod Ship
 pub mod Sweep
 pub mod Scan
+pub mod Stretch

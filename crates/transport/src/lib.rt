@@ -1,5 +1,6 @@
 // The engine of the two-plant planner.
 mod base;
+mod scan;
 mod search;
 mod send;
 mod stretch;
