@@ -1,6 +1,5 @@
 -- The incumbent of a scan is the best split so far. Assumes nothing.
 use mathlib.Core.Path.{_≡_, refl, sym, ap, ap₂, subst, _∙_}
-use mathlib.Core.Logic.{_⊎_, inl, inr, ⊎-elim}
 use mathlib.Core.Bool.{Bool, true, false, cond}
 use mathlib.Core.List.{List}
 use Prim.Native.Nat.{ℕ, zero, suc, _+_, _-_, _*_, _≤_, _<_}
@@ -73,18 +72,3 @@ best-scan f table lo y gain loss b (suc k) h s l =
     (best-scan f table lo y gain loss b k h s (λ t d. l t (omega arith)))
     (along (f y) gain loss (suc k))
     (rw (← add-suc y k) (sym (along-is (f y) gain loss (suc k) (f (y + suc k)) line))))
-
--- the incumbent changes only to a split of the stretch
-pub scan-moves : (table : List ℕ) (y v gain loss : ℕ) (b : Incumbent) (k : ℕ)
-    → (scanned table y v gain loss b k ≡ b) ⊎ ((y < scanned table y v gain loss b k .split) × (scanned table y v gain loss b k .split ≤ y + k))
-scan-moves table y v gain loss b zero = inl (scanned-none table y v gain loss b)
-scan-moves table y v gain loss b (suc k) =
-    rw (scanned-more table y v gain loss b k)
-    (look (scanned table y v gain loss b k) (along v gain loss (suc k)) (getD table (y + suc k) 0) (scan-moves table y v gain loss b k))
-  where
-    look : (b' : Incumbent) (w e : ℕ) → (b' ≡ b) ⊎ ((y < b' .split) × (b' .split ≤ y + k))
-        → (better b' (y + suc k) w e ≡ b) ⊎ ((y < better b' (y + suc k) w e .split) × (better b' (y + suc k) w e .split ≤ y + suc k))
-    look b' w e m = elim (decLt (w + e) (b' .total)) [
-      | yes l ↦ inr (rw (better-new b' (y + suc k) w e l) (omega arith, omega arith))
-      | no n ↦ rw (better-old b' (y + suc k) w e (omega arith)) (⊎-elim (λ q. inl q) (λ q. inr (q .0, omega (arith, q .1))) m)
-    ]

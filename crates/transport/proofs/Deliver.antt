@@ -104,6 +104,16 @@ module _ {N : Net} {p room : List ℕ} {s limit : ℕ} {x : List ℕ} {B : Book}
             )
         back-ok l (no o) = omega (arith, down i hi, down (32 + j) hj, gap, above (32 + j) hj, r .sound .slack i j a b .back l)
 
+    -- the amounts after a walk are slack under the new potentials too
+    pub after : {x' : List ℕ} {d : ℕ} → Walking N p B g d x' s
+        → Slack (N .m) (N .n) (N .c) (N .u) (cells x') (λ i. get p' i) (λ j. get p' (32 + j))
+    after {x'} w = change-tight (N .m) (N .n) (N .c) (N .u) (N .x) (cells x') (λ i. get p' i) (λ j. get p' (32 + j)) slack tight
+      where
+        tight : (i j : ℕ) → i < N .m → j < N .n → cells x' i j ≢ N .x i j → N .c i j + get p' i ≡ get p' (32 + j)
+        tight i j a b z =
+            let t = w .tight i j a b z in
+            omega (arith, down i (omega (arith, r .sound .sources)), down (32 + j) (omega (arith, r .sound .terminals)), gap, t .even, t .source .1, t .terminal .1, above i (omega (arith, r .sound .sources)))
+
     pub delivered : {x' : List ℕ} {d : ℕ} → d ≡ min (get (B .width) g) (get room g) → Walking N p B g d x' s → Delivered N p room s limit x' p' g d
     delivered {x'} {d} ed w = record {
       has-room = f .has-room;
@@ -114,7 +124,7 @@ module _ {N : Net} {p room : List ℕ} {s limit : ℕ} {x : List ℕ} {B : Book}
       steps = w .trace .step;
       under = w .under;
       old = slack;
-      new = change-tight (N .m) (N .n) (N .c) (N .u) (N .x) (cells x') (λ i. get p' i) (λ j. get p' (32 + j)) slack tight;
+      new = after w;
       long-x = w .long;
       long-p = lo .long;
       fall = λ v hv. omega (arith, down v hv);
@@ -127,8 +137,3 @@ module _ {N : Net} {p room : List ℕ} {s limit : ℕ} {x : List ℕ} {B : Book}
         | no z ↦ omega (arith, down v hv, gap, f .goal, lg .up, lg .count, r .sound .high s hs, r .sound .high g hg)
       ];
     }
-      where
-        tight : (i j : ℕ) → i < N .m → j < N .n → cells x' i j ≢ N .x i j → N .c i j + get p' i ≡ get p' (32 + j)
-        tight i j a b z =
-            let t = w .tight i j a b z in
-            omega (arith, down i (omega (arith, r .sound .sources)), down (32 + j) (omega (arith, r .sound .terminals)), gap, t .even, t .source .1, t .terminal .1, above i (omega (arith, r .sound .sources)))

@@ -70,18 +70,18 @@ module _ (m n : ℕ) (two : 2 ≤ m) (c : Table) (a b : ℕ → ℕ) where
   convex u p q w x y z v o t s l r = omega (arith, slope u p q w x (suc y) (suc z) y (suc (suc z)) v t s l, slope u p q w x (suc y) (suc z) (suc (suc y)) z o t s r)
 
   -- the line between two stops: after a send of δ drums along one path, the least freight for each t ≤ δ
-  pub line : (u : Table) (p q : ℕ → ℕ) → Wide u → (x x' : Table) (y z δ t : ℕ) → 0 < δ → t ≤ δ
+  pub line : (u : Table) (p q : ℕ → ℕ) → Wide u → (x x' : Table) (y z δ t : ℕ) → 0 < δ → t ≤ δ → δ ≤ z
       → ((i j : ℕ) → i < m → j < n → Step δ (x i j) (x' i j))
-      → At m n a b y (z + δ) x → At m n a b (y + δ) z x' → Slack m n c u x p q → Slack m n c u x' p q
-      → (v : ℕ) × (Least m n c a b (y + t) (z + (δ - t)) v) × (v + p 0 * t ≡ freight m n c x + p 1 * t)
-  line u p q w x x' y z δ t pos le st a0 a1 s s' =
+      → At m n a b y z x → At m n a b (y + δ) (z - δ) x' → Slack m n c u x p q → Slack m n c u x' p q
+      → (v : ℕ) × (Least m n c a b (y + t) (z - t) v) × (v + p 0 * t ≡ freight m n c x + p 1 * t)
+  line u p q w x x' y z δ t pos le most st a0 a1 s s' =
       let mid = between m n two c u p q x x' δ t pos le st
-      (two-rows x x' y (z + δ) (y + δ) z a0 a1) (two-cols x x' y (z + δ) (y + δ) z a0 a1)
+      (two-rows x x' y z (y + δ) (z - δ) a0 a1) (two-cols x x' y z (y + δ) (z - δ) a0 a1)
       (omega (arith, a0 .plant0, a1 .plant0)) (omega (arith, a0 .plant1, a1 .plant1))
-      s (at-under u w y (z + δ) x a0) s' (at-under u w (y + δ) z x' a1)
+      s (at-under u w y z x a0) s' (at-under u w (y + δ) (z - δ) x' a1)
       in (
         freight m n c (mids t x x'),
-        slack-least u p q w (mids t x x') (y + t) (z + (δ - t))
+        slack-least u p q w (mids t x x') (y + t) (z - t)
             (record {
               plant0 = omega (arith, mid .plant0, a0 .plant0);
               plant1 = omega (arith, mid .plant1, a0 .plant1);

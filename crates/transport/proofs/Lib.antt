@@ -26,3 +26,4 @@ pub mod BestSplit
 pub mod Freights
 pub mod Climb
 pub mod Stand
+pub mod Advance

@@ -20,8 +20,9 @@ use Rattle.transport.specs.engine.Stops.{Straight}
 use Rattle.transport.specs.engine.Climb.{curveFrom, ClimbReady, Standing}
 use Rattle.transport.proofs.Sums.{sum-ext}
 use Rattle.transport.proofs.Freights.{freight-most}
-use Rattle.transport.proofs.Least.{slack-least}
+use Rattle.transport.proofs.Least.{slack-least, line}
 use Rattle.transport.proofs.Worth.{rows-cols}
+use Rattle.transport.proofs.Look.{along-is}
 use Rattle.transport.proofs.Tables.{sends, least-at}
 
 -- a plan of the two plants' split as the contract has it
@@ -98,3 +99,52 @@ module _ {m n : ℕ} {cost cap x₀ p₀ : List ℕ} {lo hi v : ℕ} {table spli
       small = λ t g. r .small (y + t) (omega arith) (omega arith);
       behind = s .behind;
     }
+
+    -- the stretch is a straight line of the curve
+    module _ {kept' p' x' : List ℕ} {d gain loss : ℕ} {b' : Incumbent} (low : lo ≤ y) (top : y < hi)
+      (q : StretchDone (net m n cost cap x) p table y value (hi - y) b kept p' x' kept' d gain loss b') where
+      most : y + d ≤ hi
+      most = omega (arith, q .over .most)
+
+      next-at : At m n (row n (cells x₀)) (col m (cells x₀)) (y + d) (row n (cells x₀) 0 + row n (cells x₀) 1 - y - d) (cells x')
+      next-at = q .next (row n (cells x₀)) (col m (cells x₀)) (row n (cells x₀) 0 + row n (cells x₀) 1 - y) (s .at)
+
+      pub stretch-line : Straight (curveFrom m n cost x₀) y gain loss d
+      stretch-line t h =
+          let w =
+          line m n two (cells cost) (row n (cells x₀)) (col m (cells x₀)) (cells cap) (λ i. get p' i) (λ j. get p' (32 + j)) (r .wide) (cells x) (cells x') y
+          (row n (cells x₀) 0 + row n (cells x₀) 1 - y) d t (q .some) h (omega (arith, both (y + d) most)) (q .over .steps) (s .at) next-at (q .over .old)
+          (q .over .new) in
+          let e : curveFrom m n cost x₀ (y + t) ≡ w .0 =
+          least-at m n (cells cost) (row n (cells x₀)) (col m (cells x₀)) (row n (cells x₀) 0 + row n (cells x₀) 1) (y + t)
+          (row n (cells x₀) 0 + row n (cells x₀) 1 - y - t) (w .0) two (w .1) (omega (arith, both (y + d) most)) in
+          let e' : loss * t ≡ get p' 0 * t = ap (λ k. k * t) (q .down) in
+          let e'' : gain * t ≡ get p' 1 * t = ap (λ k. k * t) (q .up) in
+          omega (arith, w .2, s .worth, here (omega arith))
+
+      -- the incumbent is of a split up to y + d
+      pub behind-next : b' .split ≤ y + d
+      behind-next = elim (decLt y (b' .split)) [ yes h ↦ q .new h .0 | no h ↦ omega arith ]
+
+      -- the plan that is kept is the incumbent's
+      pub plan-next : PlanAt m n (cells cost) (row n (cells x₀)) (col m (cells x₀)) (b' .split) (b' .freight) kept'
+      plan-next = elim (decLt y (b' .split)) [
+        | yes h ↦
+          let k = q .new h .1 in
+          plan-at (row n (cells x₀) 0 + row n (cells x₀) 1 - y - (b' .split - y)) two
+          (k .at (row n (cells x₀)) (col m (cells x₀)) (row n (cells x₀) 0 + row n (cells x₀) 1 - y) (s .at))
+          (omega (arith, both (y + d) most, q .new h .0)) (k .long) (k .value)
+        | no h ↦ let o = q .same (omega arith) in rw (o .0, o .1) (s .plan)
+      ]
+
+      pub stand-next : {value' : ℕ} → value' + loss * d ≡ value + gain * d → Standing m n cost cap x₀ x' p' kept' (y + d) value' b'
+      stand-next {value'} e =
+          let sw = q .over .swinging in
+          let z : row n (cells x₀) 0 + row n (cells x₀) 1 - y - d ≡ row n (cells x₀) 0 + row n (cells x₀) 1 - (y + d) = omega arith in
+          record {
+            swinging = subst (λ (P : ℕ). Swinging (net m n cost cap x') P p' x') (sym (sw .one)) sw;
+            at = subst (λ (w : ℕ). At m n (row n (cells x₀)) (col m (cells x₀)) (y + d) w (cells x')) z next-at;
+            worth = q .value ∙ sym (along-is value gain loss d value' e);
+            plan = plan-next;
+            behind = behind-next;
+          }

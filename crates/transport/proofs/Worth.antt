@@ -1,4 +1,4 @@
--- What the contracts of the engine's steps say of the least freights. Assumes nothing.
+-- What step 1 says of the least freights, and why it is never stuck. Assumes nothing.
 use mathlib.Core.Path.{_≡_, refl, sym, ap, _∙_}
 use mathlib.Core.Logic.{_≢_}
 use mathlib.Core.List.{List}
@@ -7,33 +7,21 @@ use native.Mathlib.Decide.{ℕ-discrete, decLt}
 use native.Mathlib.Omega.{arith}
 use lib.ListN.{length, getD, set}
 use Rattle.transport.specs.Sum.{sum}
-use Rattle.transport.proofs.Sums.{sum-ext, sum-add, sum-swap, sum-at, sum-none, sum-mono}
+use Rattle.transport.proofs.Sums.{sum-ext, sum-add, sum-swap, sum-at, sum-none, sum-mono, some-member}
 use Rattle.transport.specs.Plan.{Table, row, col, freight}
-use Rattle.transport.specs.engine.Slack.{Slack, Under}
-use Rattle.transport.specs.engine.Walk.{Flow}
-use Rattle.transport.proofs.Walks.{flow-shifted}
 use Rattle.transport.specs.engine.Least.{At, Least}
-use Rattle.transport.proofs.Least.{slack-least, line}
+use Rattle.transport.proofs.Least.{slack-least}
 use Rattle.transport.specs.engine.Cells.{cells}
 use Rattle.transport.specs.engine.Path.{Net, Book, get}
 use Rattle.transport.specs.engine.Search.{Stuck}
-use Rattle.transport.specs.engine.Ship.{again, Stocked, Shipped, NoWay, BaseReady, Enough, Based, BaseDone}
-use Rattle.transport.specs.engine.Sweep.{Swinging, Over}
+use Rattle.transport.specs.engine.Ship.{again, Shipped, NoWay, Enough, Based, BaseDone}
+use Rattle.transport.specs.engine.Sweep.{Swinging}
 use Rattle.transport.proofs.Swing.{not-stuck}
 
 -- the rows' total is the columns'
 pub rows-cols : (m n : ℕ) (x : Table) → sum m (λ i. row n x i) ≡ sum n (λ j. col m x j)
 unfolding row col
 rows-cols m n x = sum-swap m n x
-
--- a sum that is not 0 has a member that is not 0
-pub some-member : (k : ℕ) (f : ℕ → ℕ) → 0 < sum k f → (i : ℕ) × (i < k) × (0 < f i)
-unfolding sum
-some-member zero f h = absurd (omega arith)
-some-member (suc k) f h = elim (decLt 0 (f k)) [
-  | yes l ↦ (k, omega arith, l)
-  | no l ↦ let t = some-member k f (omega arith) in (t .0, omega (arith, t .1), t .2)
-]
 
 -- ---- the base
 
@@ -81,27 +69,6 @@ module _ {N : Net} {amounts room p' room' x' : List ℕ} (b : BaseDone N amounts
     high = b .stocked .floor 1 (omega arith);
     floor = λ v h. omega (arith, b .stocked .floor v h);
   }
-
--- ---- a stretch
-
-module _ (N : Net) (two : 2 ≤ N .m) (P limit : ℕ) (p' x' : List ℕ) (d : ℕ) (o : Over N P limit p' x' d) (a b : ℕ → ℕ) (y z : ℕ)
-    (t : At (N .m) (N .n) a b y (z + d) (N .x)) where
-  -- after a shift of d
-  pub over-at : At (N .m) (N .n) a b (y + d) z (cells x')
-  over-at =
-      let s = flow-shifted two (o .flow) in
-      record {
-        plant0 = omega (arith, s .plant0, t .plant0);
-        plant1 = omega (arith, s .plant1, t .plant1);
-        depots = λ i h l. sym (s .rows i h l) ∙ t .depots i h l;
-        demands = λ j h l. sym (s .cols j h l) ∙ t .demands j h l;
-      }
-
-  -- the least freight at each split on the way
-  pub over-line : ((i j : ℕ) → i < N .m → j < N .n → b j ≤ N .u i j) → 0 < d → (e : ℕ) → e ≤ d
-      → (v : ℕ) × (Least (N .m) (N .n) (N .c) a b (y + e) (z + (d - e)) v) × (v + get p' 0 * e ≡ freight (N .m) (N .n) (N .c) (N .x) + get p' 1 * e)
-  over-line wide pos e le =
-      line (N .m) (N .n) two (N .c) a b (N .u) (λ i. get p' i) (λ j. get p' (32 + j)) wide (N .x) (cells x') y z d e pos le (o .steps) t over-at (o .old) (o .new)
 
 -- ---- the base can always be made
 

@@ -11,3 +11,4 @@ pub mod Scan
 pub mod Stops
 pub mod Freight
 pub mod Climb
+pub mod Stretch
