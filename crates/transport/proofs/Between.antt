@@ -8,7 +8,8 @@ use Rattle.transport.specs.Sum.{sum}
 use Rattle.transport.specs.engine.Walk.{Step, still, more, less}
 use Rattle.transport.specs.Plan.{Table, row, col, freight}
 use Rattle.transport.specs.engine.Slack.{Lane, Under, Slack}
-use Rattle.transport.proofs.Corollaries.{Same, segment}
+use Rattle.transport.specs.engine.Least.{Same}
+use Rattle.transport.proofs.Corollaries.{segment}
 
 -- the amount after t of the δ drums
 unfoldable pub mid : ℕ → ℕ → ℕ → ℕ
@@ -54,31 +55,31 @@ abbrev pub mids : ℕ → Table → Table → Table
 mids t x x' i j = mid t (x i j) (x' i j)
 
 -- y is the plan t drums after x, with its freight
-pub record Middle (k n : ℕ) (c u : Table) (p q : ℕ → ℕ) (x : Table) (t : ℕ) (y : Table) : Type 0 where
-  pub rows : Same 2 (suc (suc k)) (row n x) (row n y)
-  pub cols : Same 0 n (col (suc (suc k)) x) (col (suc (suc k)) y)
+pub record Middle (m n : ℕ) (c u : Table) (p q : ℕ → ℕ) (x : Table) (t : ℕ) (y : Table) : Type 0 where
+  pub rows : Same 2 m (row n x) (row n y)
+  pub cols : Same 0 n (col m x) (col m y)
   pub plant0 : row n y 0 ≡ row n x 0 + t
   pub plant1 : row n x 1 ≡ row n y 1 + t
-  pub slack : Slack (suc (suc k)) n c u y p q
-  pub under : Under (suc (suc k)) n y u
-  pub straight : freight (suc (suc k)) n c y + p 0 * t ≡ freight (suc (suc k)) n c x + p 1 * t
+  pub slack : Slack m n c u y p q
+  pub under : Under m n y u
+  pub straight : freight m n c y + p 0 * t ≡ freight m n c x + p 1 * t
 
-module _ (k n : ℕ) (c u : Table) (p q : ℕ → ℕ) (x x' : Table) (δ t : ℕ) (pos : 0 < δ) (le : t ≤ δ)
-    (steps : (i j : ℕ) → i < suc (suc k) → j < n → Step δ (x i j) (x' i j)) where
-  mid-row : (i : ℕ) → i < suc (suc k) → δ * row n (mids t x x') i + t * row n x i ≡ δ * row n x i + t * row n x' i
+module _ (m n : ℕ) (two : 2 ≤ m) (c u : Table) (p q : ℕ → ℕ) (x x' : Table) (δ t : ℕ) (pos : 0 < δ) (le : t ≤ δ)
+    (steps : (i j : ℕ) → i < m → j < n → Step δ (x i j) (x' i j)) where
+  mid-row : (i : ℕ) → i < m → δ * row n (mids t x x') i + t * row n x i ≡ δ * row n x i + t * row n x' i
   unfolding row
   mid-row i h = sum-line n δ t (x i) (x' i) (mids t x x' i) (λ j l. mid-line δ t (x i j) (x' i j) le (steps i j h l))
 
   mid-col : (j : ℕ) → j < n
-      → δ * col (suc (suc k)) (mids t x x') j + t * col (suc (suc k)) x j ≡ δ * col (suc (suc k)) x j + t * col (suc (suc k)) x' j
+      → δ * col m (mids t x x') j + t * col m x j ≡ δ * col m x j + t * col m x' j
   unfolding col
   mid-col j h =
-      sum-line (suc (suc k)) δ t (λ i. x i j) (λ i. x' i j) (λ i. mids t x x' i j) (λ i l. mid-line δ t (x i j) (x' i j) le (steps i j l h))
+      sum-line m δ t (λ i. x i j) (λ i. x' i j) (λ i. mids t x x' i j) (λ i l. mid-line δ t (x i j) (x' i j) le (steps i j l h))
 
-  pub between : Same 2 (suc (suc k)) (row n x) (row n x') → Same 0 n (col (suc (suc k)) x) (col (suc (suc k)) x')
+  pub between : Same 2 m (row n x) (row n x') → Same 0 n (col m x) (col m x')
       → row n x' 0 ≡ row n x 0 + δ → row n x 1 ≡ row n x' 1 + δ
-      → Slack (suc (suc k)) n c u x p q → Under (suc (suc k)) n x u → Slack (suc (suc k)) n c u x' p q → Under (suc (suc k)) n x' u
-      → Middle k n c u p q x t (mids t x x')
+      → Slack m n c u x p q → Under m n x u → Slack m n c u x' p q → Under m n x' u
+      → Middle m n c u p q x t (mids t x x')
   between er ec e0 e1 s h s' h' = record {
     rows = r;
     cols = cl;
@@ -86,13 +87,13 @@ module _ (k n : ℕ) (c u : Table) (p q : ℕ → ℕ) (x x' : Table) (δ t : �
     plant1 = p1;
     slack = sl;
     under = un;
-    straight = segment k n c u p q x (mids t x x') r cl t p0 p1 s h sl un;
+    straight = segment m n two c u p q x (mids t x x') r cl t p0 p1 s h sl un;
   }
     where
-      r : Same 2 (suc (suc k)) (row n x) (row n (mids t x x'))
+      r : Same 2 m (row n x) (row n (mids t x x'))
       r i a b = sym (line-still δ t _ _ _ pos (mid-row i b) (sym (er i a b)))
 
-      cl : Same 0 n (col (suc (suc k)) x) (col (suc (suc k)) (mids t x x'))
+      cl : Same 0 n (col m x) (col m (mids t x x'))
       cl j a b = sym (line-still δ t _ _ _ pos (mid-col j b) (sym (ec j a b)))
 
       p0 : row n (mids t x x') 0 ≡ row n x 0 + t
@@ -101,8 +102,8 @@ module _ (k n : ℕ) (c u : Table) (p q : ℕ → ℕ) (x x' : Table) (δ t : �
       p1 : row n x 1 ≡ row n (mids t x x') 1 + t
       p1 = line-less δ t _ _ _ pos (mid-row 1 (omega arith)) e1
 
-      sl : Slack (suc (suc k)) n c u (mids t x x') p q
+      sl : Slack m n c u (mids t x x') p q
       sl i j a b = mid-lane t (x' i j) (s i j a b) (s' i j a b)
 
-      un : Under (suc (suc k)) n (mids t x x') u
+      un : Under m n (mids t x x') u
       un i j a b = mid-under t (x i j) (x' i j) (u i j) (h i j a b) (h' i j a b)

@@ -8,21 +8,19 @@ use Rattle.transport.specs.Sum.{sum}
 use Rattle.transport.proofs.Sums.{sum-ext, sum-front}
 use Rattle.transport.specs.Plan.{Table, row, col, total, freight}
 use Rattle.transport.specs.engine.Slack.{dot, Lane, Under, Slack}
+use Rattle.transport.specs.engine.Least.{Same}
 use Rattle.transport.proofs.Certificate.{total-ext, total-add, total-row, total-col, certificate}
-
--- r and r' agree from a up to k
-abbrev pub Same : ℕ → ℕ → (ℕ → ℕ) → (ℕ → ℕ) → Type 0
-Same a k r r' = (i : ℕ) → a ≤ i → i < k → r i ≡ r' i
 
 pub dot-ext : (k : ℕ) (p r r' : ℕ → ℕ) → Same 0 k r r' → dot k p r ≡ dot k p r'
 unfolding dot
 dot-ext k p r r' h = sum-ext k _ _ (λ i a. ap (λ v. p i * v) (h i (omega arith) a))
 
 -- r and r' agree but at 0 and 1
-pub dot-two : (k : ℕ) (p r r' : ℕ → ℕ) → Same 2 (suc (suc k)) r r'
-    → dot (suc (suc k)) p r + p 0 * r' 0 + p 1 * r' 1 ≡ dot (suc (suc k)) p r' + p 0 * r 0 + p 1 * r 1
+pub dot-two : (m : ℕ) → 2 ≤ m → (p r r' : ℕ → ℕ) → Same 2 m r r' → dot m p r + p 0 * r' 0 + p 1 * r' 1 ≡ dot m p r' + p 0 * r 0 + p 1 * r 1
 unfolding dot
-dot-two k p r r' h =
+dot-two zero two p r r' h = absurd (omega arith)
+dot-two (suc zero) two p r r' h = absurd (omega arith)
+dot-two (suc (suc k)) two p r r' h =
     omega (
       arith,
       front r,
@@ -69,38 +67,38 @@ module _ (m n : ℕ) (c u : Table) (p q : ℕ → ℕ) where
       → freight m n c x' + dot m p (row n x') + dot n q (col m x) ≡ freight m n c x + dot m p (row n x) + dot n q (col m x')
   slack-both x x' s h s' h' = omega (arith, certificate m n c p q u x x' s h', certificate m n c p q u x' x s' h)
 
-module _ (k n : ℕ) (c u : Table) (p q : ℕ → ℕ) (x x' : Table) (rows : Same 2 (suc (suc k)) (row n x) (row n x'))
-    (cols : Same 0 n (col (suc (suc k)) x) (col (suc (suc k)) x')) where
+module _ (m n : ℕ) (two : 2 ≤ m) (c u : Table) (p q : ℕ → ℕ) (x x' : Table) (rows : Same 2 m (row n x) (row n x'))
+    (cols : Same 0 n (col m x) (col m x')) where
   -- (c) the subgradient inequality: x is slack, x' any plan under the ceilings, with the same sums but for the plants 0 and 1
-  pub subgradient : Slack (suc (suc k)) n c u x p q → Under (suc (suc k)) n x' u
-      → freight (suc (suc k)) n c x + p 0 * row n x 0 + p 1 * row n x 1 ≤ freight (suc (suc k)) n c x' + p 0 * row n x' 0 + p 1 * row n x' 1
+  pub subgradient : Slack m n c u x p q → Under m n x' u
+      → freight m n c x + p 0 * row n x 0 + p 1 * row n x 1 ≤ freight m n c x' + p 0 * row n x' 0 + p 1 * row n x' 1
   subgradient s h =
       omega (
         arith,
-        certificate (suc (suc k)) n c p q u x x' s h,
-        dot-two k p (row n x) (row n x') rows,
-        dot-ext n q (col (suc (suc k)) x) (col (suc (suc k)) x') cols,
+        certificate m n c p q u x x' s h,
+        dot-two m two p (row n x) (row n x') rows,
+        dot-ext n q (col m x) (col m x') cols,
       )
 
   -- k more drums from plant 0, k less from plant 1
-  pub subgradient-up : (δ : ℕ) → row n x' 0 ≡ row n x 0 + δ → row n x 1 ≡ row n x' 1 + δ → Slack (suc (suc k)) n c u x p q → Under (suc (suc k)) n x' u
-      → freight (suc (suc k)) n c x + p 1 * δ ≤ freight (suc (suc k)) n c x' + p 0 * δ
+  pub subgradient-up : (δ : ℕ) → row n x' 0 ≡ row n x 0 + δ → row n x 1 ≡ row n x' 1 + δ → Slack m n c u x p q → Under m n x' u
+      → freight m n c x + p 1 * δ ≤ freight m n c x' + p 0 * δ
   subgradient-up δ e e' s h = omega (arith, subgradient s h, ap (λ v. p 0 * v) e, ap (λ v. p 1 * v) e')
 
-  pub subgradient-down : (δ : ℕ) → row n x 0 ≡ row n x' 0 + δ → row n x' 1 ≡ row n x 1 + δ → Slack (suc (suc k)) n c u x p q → Under (suc (suc k)) n x' u
-      → freight (suc (suc k)) n c x + p 0 * δ ≤ freight (suc (suc k)) n c x' + p 1 * δ
+  pub subgradient-down : (δ : ℕ) → row n x 0 ≡ row n x' 0 + δ → row n x' 1 ≡ row n x 1 + δ → Slack m n c u x p q → Under m n x' u
+      → freight m n c x + p 0 * δ ≤ freight m n c x' + p 1 * δ
   subgradient-down δ e e' s h = omega (arith, subgradient s h, ap (λ v. p 0 * v) e, ap (λ v. p 1 * v) e')
 
   -- (b3) between two slack plans under the same potentials the freight is straight
   pub segment : (δ : ℕ) → row n x' 0 ≡ row n x 0 + δ → row n x 1 ≡ row n x' 1 + δ
-      → Slack (suc (suc k)) n c u x p q → Under (suc (suc k)) n x u → Slack (suc (suc k)) n c u x' p q → Under (suc (suc k)) n x' u
-      → freight (suc (suc k)) n c x' + p 0 * δ ≡ freight (suc (suc k)) n c x + p 1 * δ
+      → Slack m n c u x p q → Under m n x u → Slack m n c u x' p q → Under m n x' u
+      → freight m n c x' + p 0 * δ ≡ freight m n c x + p 1 * δ
   segment δ e e' s h s' h' =
       omega (
         arith,
-        slack-both (suc (suc k)) n c u p q x x' s h s' h',
-        dot-two k p (row n x) (row n x') rows,
-        dot-ext n q (col (suc (suc k)) x) (col (suc (suc k)) x') cols,
+        slack-both m n c u p q x x' s h s' h',
+        dot-two m two p (row n x) (row n x') rows,
+        dot-ext n q (col m x) (col m x') cols,
         ap (λ v. p 0 * v) e,
         ap (λ v. p 1 * v) e',
       )

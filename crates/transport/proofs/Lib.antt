@@ -14,7 +14,7 @@ pub mod Falls
 pub mod Stroll
 pub mod Deliver
 pub mod Load
-pub mod Base
+pub mod Supply
 pub mod Swing
 pub mod Worth
 pub mod Members
@@ -22,3 +22,10 @@ pub mod Listing
 pub mod Tables
 pub mod Best
 pub mod Exists
+pub mod Look
+pub mod Stops
+pub mod BestSplit
+pub mod Freights
+pub mod Climb
+pub mod Stand
+pub mod Advance

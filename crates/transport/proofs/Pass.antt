@@ -55,16 +55,16 @@ module _ {N : Net} {v b hop wide lo hi : ℕ} {B B' : Book} where
   })
   pass-open {t = t} {k = k} {l = l} p e s big arc el (won h q) = rw q (record {
     long = record {
-      tents = length-set (B' .tent) hi t ∙ p .long .tents;
+      dists = length-set (B' .dist) hi t ∙ p .long .dists;
       prevs = length-set (B' .prev) hi v ∙ p .long .prevs;
       hopss = length-set (B' .hops) hi hop ∙ p .long .hopss;
       widths = length-set (B' .width) hi l ∙ p .long .widths;
     };
     each = each;
-    rest = λ w h. getD-set-other (B' .tent) hi w t 0 (omega arith) ∙ p .rest w (omega arith);
+    rest = λ w h. getD-set-other (B' .dist) hi w t 0 (omega arith) ∙ p .rest w (omega arith);
     offers = λ w t' k' o o' a. elim (ℕ-discrete w hi) [
-      | yes z ↦ rw z (omega (arith, same (B' .tent) t (p .long .tents), arc-same N s v hi b t k t' k' arc (rw z at a)))
-      | no z ↦ omega (arith, p .offers w t' k' o (omega arith) a, off (B' .tent) w t z)
+      | yes z ↦ rw z (omega (arith, same (B' .dist) t (p .long .dists), arc-same N s v hi b t k t' k' arc (rw z at a)))
+      | no z ↦ omega (arith, p .offers w t' k' o (omega arith) a, off (B' .dist) w t z)
     ];
   })
     where
@@ -75,18 +75,18 @@ module _ {N : Net} {v b hop wide lo hi : ℕ} {B B' : Book} where
       same l a z = getD-set-same l hi a 0 (omega arith)
 
       C : Book
-      C = book (set (B' .tent) hi t) (set (B' .prev) hi v) (set (B' .hops) hi hop) (set (B' .width) hi l)
+      C = book (set (B' .dist) hi t) (set (B' .prev) hi v) (set (B' .hops) hi hop) (set (B' .width) hi l)
 
       other : (w : ℕ) → w ≢ hi → Touched N v b hop wide B B' w → Touched N v b hop wide B C w
       other w z (stays e₁ e₂ e₃ e₄) =
-          stays (off (B' .tent) w t z ∙ e₁) (off (B' .prev) w v z ∙ e₂) (off (B' .hops) w hop z ∙ e₃) (off (B' .width) w l z ∙ e₄)
+          stays (off (B' .dist) w t z ∙ e₁) (off (B' .prev) w v z ∙ e₂) (off (B' .hops) w hop z ∙ e₃) (off (B' .width) w l z ∙ e₄)
       other w z (gains t' k' a o e₁ e₂ e₃ e₄) =
-          gains t' k' a o (off (B' .tent) w t z ∙ e₁) (off (B' .prev) w v z ∙ e₂) (off (B' .hops) w hop z ∙ e₃) (off (B' .width) w l z ∙ e₄)
+          gains t' k' a o (off (B' .dist) w t z ∙ e₁) (off (B' .prev) w v z ∙ e₂) (off (B' .hops) w hop z ∙ e₃) (off (B' .width) w l z ∙ e₄)
 
       here : Touched N v b hop wide B C hi
       here =
           gains t k arc (omega (arith, p .rest hi (omega arith)))
-          (same (B' .tent) t (p .long .tents))
+          (same (B' .dist) t (p .long .dists))
           (same (B' .prev) v (p .long .prevs))
           (same (B' .hops) hop (p .long .hopss))
           (same (B' .width) l (p .long .widths) ∙ el)
@@ -99,7 +99,7 @@ pub pass-row : {N : Net} {v b hop wide hi : ℕ} {B B' : Book} → Passing N v b
     → Passed N v b hop wide B B'
 pass-row {N} {v} {b} {B' = B'} p hv s z = record { long = p .long; each = p .each; offers = offers }
   where
-    offers : (w t k : ℕ) → Arc N v w b t k → get (B' .tent) w ≤ t
+    offers : (w t k : ℕ) → Arc N v w b t k → get (B' .dist) w ≤ t
     offers w t k (ahead j a e f g h i) = p .offers w t k (omega arith) (omega arith) (ahead j a e f g h i)
     offers w t k (back j a e f g h i) = absurd (omega arith)
 
@@ -108,7 +108,7 @@ pub pass-column : {N : Net} {v b hop wide hi : ℕ} {B B' : Book} → Passing N 
     → Passed N v b hop wide B B'
 pass-column {N} {v} {b} {B' = B'} p hv s z = record { long = p .long; each = p .each; offers = offers }
   where
-    offers : (w t k : ℕ) → Arc N v w b t k → get (B' .tent) w ≤ t
+    offers : (w t k : ℕ) → Arc N v w b t k → get (B' .dist) w ≤ t
     offers w t k (ahead j a e f g h i) = absurd (omega arith)
     offers w t k (back j a e f g h i) = p .offers w t k (omega arith) (omega arith) (back j a e f g h i)
 

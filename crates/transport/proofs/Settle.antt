@@ -13,7 +13,7 @@ use Rattle.transport.specs.engine.Slack.{Lane}
 use Rattle.transport.specs.engine.Path.{Net, Book, book, get, far, Low, Long, Arc, Touched, Passed, Nearest, RelaxReady}
 use Rattle.transport.specs.engine.Path.Arc.{ahead, back}
 use Rattle.transport.specs.engine.Path.Touched.{stays, gains}
-use Rattle.transport.specs.engine.Search.{Sound, Prev, Label, Searching, Near, Found, Stuck, Searched, SearchReady}
+use Rattle.transport.specs.engine.Search.{Sound, Prev, Label, Searching, Near, Found, Stuck, Searched, SearchReady, Blank}
 use Rattle.transport.specs.engine.Search.Prev.{root, step}
 
 -- ---- marks of 0 and 1
@@ -60,14 +60,14 @@ arc-eq ev eb et a = rw (ev, eb, et) a
 -- ---- one node is settled
 
 record Stays (B B' : Book) (w : ℕ) : Type 0 where
-  tents : get (B' .tent) w ≡ get (B .tent) w
+  dists : get (B' .dist) w ≡ get (B .dist) w
   prevs : get (B' .prev) w ≡ get (B .prev) w
   hopss : get (B' .hops) w ≡ get (B .hops) w
   widths : get (B' .width) w ≡ get (B .width) w
 
 module _ {N : Net} {p room : List ℕ} {s limit : ℕ} {B B' : Book} {D : List ℕ} {v : ℕ}
-    (so : Sound N p) (q : Searching N p room s limit B D) (hv : v < 96) (near : Nearest p (B .tent) D v) (none : get room v ≡ 0)
-    (pass : Passed N v (get (B .tent) v) (get (B .hops) v + 1) (get (B .width) v) B B') where
+    (so : Sound N p) (q : Searching N p room s limit B D) (hv : v < 96) (near : Nearest p (B .dist) D v) (none : get room v ≡ 0)
+    (pass : Passed N v (get (B .dist) v) (get (B .hops) v + 1) (get (B .width) v) B B') where
   D' : List ℕ
   D' = set D v 1
 
@@ -96,24 +96,24 @@ module _ {N : Net} {p room : List ℕ} {s limit : ℕ} {B B' : Book} {D : List �
   search-less = omega (arith, count, marks-free 96 v (λ w. get D w) (q .zero-one) hv (near .fresh hv .0))
 
   -- a settled node is no farther than v
-  closer : (w : ℕ) → w < 96 → get D' w ≡ 1 → get (B .tent) w + get p v ≤ get (B .tent) v + get p w
+  closer : (w : ℕ) → w < 96 → get D' w ≡ 1 → get (B .dist) w + get p v ≤ get (B .dist) v + get p w
   closer w hw e = go (was w e)
     where
-      go : (w ≡ v) ⊎ (get D w ≡ 1) → get (B .tent) w + get p v ≤ get (B .tent) v + get p w
+      go : (w ≡ v) ⊎ (get D w ≡ 1) → get (B .dist) w + get p v ≤ get (B .dist) v + get p w
       go (inl z) = rw z (omega arith)
       go (inr z) = q .order w v hw hv z (near .fresh hv .0)
 
-  stayed : (w : ℕ) → w < 96 → get D' w ≡ 1 → Touched N v (get (B .tent) v) (get (B .hops) v + 1) (get (B .width) v) B B' w → Stays B B' w
-  stayed w hw e (stays e₁ e₂ e₃ e₄) = record { tents = e₁; prevs = e₂; hopss = e₃; widths = e₄ }
+  stayed : (w : ℕ) → w < 96 → get D' w ≡ 1 → Touched N v (get (B .dist) v) (get (B .hops) v + 1) (get (B .width) v) B B' w → Stays B B' w
+  stayed w hw e (stays e₁ e₂ e₃ e₄) = record { dists = e₁; prevs = e₂; hopss = e₃; widths = e₄ }
   stayed w hw e (gains t k a l e₁ e₂ e₃ e₄) = absurd (omega (arith, arc-reduced so a, closer w hw e))
 
   stay : (w : ℕ) → w < 96 → get D' w ≡ 1 → Stays B B' w
   stay w hw e = stayed w hw e (pass .each w)
 
-  shrink : (w : ℕ) → get (B' .tent) w ≤ get (B .tent) w
+  shrink : (w : ℕ) → get (B' .dist) w ≤ get (B .dist) w
   shrink w = go (pass .each w)
     where
-      go : Touched N v (get (B .tent) v) (get (B .hops) v + 1) (get (B .width) v) B B' w → get (B' .tent) w ≤ get (B .tent) w
+      go : Touched N v (get (B .dist) v) (get (B .hops) v + 1) (get (B .width) v) B B' w → get (B' .dist) w ≤ get (B .dist) w
       go (stays e₁ e₂ e₃ e₄) = omega arith
       go (gains t k a l e₁ e₂ e₃ e₄) = omega arith
 
@@ -125,8 +125,8 @@ module _ {N : Net} {p room : List ℕ} {s limit : ℕ} {B B' : Book} {D : List �
   label-stays w e l = record {
     source = l .source;
     terminal = l .terminal;
-    up = omega (arith, l .up, e .tents, e .hopss);
-    down = omega (arith, l .down, e .tents, e .hopss);
+    up = omega (arith, l .up, e .dists, e .hopss);
+    down = omega (arith, l .down, e .dists, e .hopss);
     count = omega (arith, l .count, e .hopss, count);
     some = omega (arith, l .some, e .widths);
     most = omega (arith, l .most, e .widths);
@@ -138,15 +138,15 @@ module _ {N : Net} {p room : List ℕ} {s limit : ℕ} {B B' : Book} {D : List �
       go (step k b d a eh ew ek) =
           let f = stay (get (B .prev) w) b (now-settled (get (B .prev) w) d) in
           step k (rw (e .prevs) b) (rw (e .prevs) (now-settled (get (B .prev) w) d))
-          (arc-eq (e .prevs) (ap (λ z. get (B' .tent) z) (e .prevs) ∙ f .tents) (e .tents) a)
+          (arc-eq (e .prevs) (ap (λ z. get (B' .dist) z) (e .prevs) ∙ f .dists) (e .dists) a)
           (omega (arith, eh, e .hopss, ap (λ z. get (B' .hops) z) (e .prevs), f .hopss))
           (omega (arith, ew, e .widths, ap (λ z. get (B' .width) z) (e .prevs), f .widths))
           (omega (arith, ek, e .widths))
 
-  label-new : (w : ℕ) → Touched N v (get (B .tent) v) (get (B .hops) v + 1) (get (B .width) v) B B' w → w < 96 → get (B' .tent) w < far
+  label-new : (w : ℕ) → Touched N v (get (B .dist) v) (get (B .hops) v + 1) (get (B .width) v) B B' w → w < 96 → get (B' .dist) w < far
       → Label N s (λ w. get D' w ≡ 1) p (sum 96 (λ w. get D' w)) limit B' w
   label-new w (stays e₁ e₂ e₃ e₄) hw h =
-      label-stays w (record { tents = e₁; prevs = e₂; hopss = e₃; widths = e₄ }) (q .label w hw (omega arith))
+      label-stays w (record { dists = e₁; prevs = e₂; hopss = e₃; widths = e₄ }) (q .label w hw (omega arith))
   label-new w (gains t k a l e₁ e₂ e₃ e₄) hw h =
       let f = stay v hv here in
       record {
@@ -159,22 +159,22 @@ module _ {N : Net} {p room : List ℕ} {s limit : ℕ} {B B' : Book} {D : List �
         most = omega (arith, lv .most);
         prev =
             step k (rw e₂ hv) (rw e₂ here)
-            (arc-eq e₂ (ap (λ z. get (B' .tent) z) e₂ ∙ f .tents) e₁ a)
+            (arc-eq e₂ (ap (λ z. get (B' .dist) z) e₂ ∙ f .dists) e₁ a)
             (omega (arith, e₃, ap (λ z. get (B' .hops) z) e₂, f .hopss))
             (omega (arith, e₄, ap (λ z. get (B' .width) z) e₂, f .widths))
             (omega arith);
       }
 
   -- each node that is not settled is no nearer than v
-  beyond : (w : ℕ) → w < 96 → get D w ≡ 0 → Touched N v (get (B .tent) v) (get (B .hops) v + 1) (get (B .width) v) B B' w
-      → get (B .tent) v + get p w ≤ get (B' .tent) w + get p v
-  beyond w hw e (stays e₁ e₂ e₃ e₄) = elim (decLt (get (B .tent) w) far) [
+  beyond : (w : ℕ) → w < 96 → get D w ≡ 0 → Touched N v (get (B .dist) v) (get (B .hops) v + 1) (get (B .width) v) B B' w
+      → get (B .dist) v + get p w ≤ get (B' .dist) w + get p v
+  beyond w hw e (stays e₁ e₂ e₃ e₄) = elim (decLt (get (B .dist) w) far) [
     | yes l ↦ omega (arith, near .least w hw e l)
     | no l ↦ omega (arith, lv .up, lv .count, marks-most 96 (λ w. get D w) (q .zero-one), so .high s (q .start), so .high w hw)
   ]
   beyond w hw e (gains t k a l e₁ e₂ e₃ e₄) = omega (arith, arc-reduced so a)
 
-  lows : (w : ℕ) → w < 96 → Touched N v (get (B .tent) v) (get (B .hops) v + 1) (get (B .width) v) B B' w → get p w ≤ get (B' .tent) w
+  lows : (w : ℕ) → w < 96 → Touched N v (get (B .dist) v) (get (B .hops) v + 1) (get (B .width) v) B B' w → get p w ≤ get (B' .dist) w
   lows w hw (stays e₁ e₂ e₃ e₄) = omega (arith, q .low w hw)
   lows w hw (gains t k a l e₁ e₂ e₃ e₄) = omega (arith, arc-reduced so a, q .low v hv)
 
@@ -186,51 +186,51 @@ module _ {N : Net} {p room : List ℕ} {s limit : ℕ} {B B' : Book} {D : List �
     zero-one = λ w hw. elim (ℕ-discrete w v) [ yes z ↦ rw z (omega (arith, here)) | no z ↦ omega (arith, off w z, q .zero-one w hw) ];
     low = λ w hw. lows w hw (pass .each w);
     start = q .start;
-    root-tent = root-stays (pass .each s) .0;
+    root-dist = root-stays (pass .each s) .0;
     root-hops = root-stays (pass .each s) .1;
     label = λ w hw h. label-new w (pass .each w) hw h;
     settled = λ w hw e. settled w hw e (was w e);
-    order = λ a b ha hb ea eb. omega (arith, stay a ha ea .tents, closer a ha ea, beyond b hb (fresh b eb) (pass .each b));
+    order = λ a b ha hb ea eb. omega (arith, stay a ha ea .dists, closer a ha ea, beyond b hb (fresh b eb) (pass .each b));
     relaxed = λ a b t k ha hb ea arc. relaxed a b t k ha hb ea arc (was a ea);
   }
     where
-      root-stays : Touched N v (get (B .tent) v) (get (B .hops) v + 1) (get (B .width) v) B B' s
-          → (get (B' .tent) s ≡ get p s) × (get (B' .hops) s ≡ 0)
-      root-stays (stays e₁ e₂ e₃ e₄) = (e₁ ∙ q .root-tent, e₃ ∙ q .root-hops)
-      root-stays (gains t k a l e₁ e₂ e₃ e₄) = absurd (omega (arith, arc-reduced so a, q .low v hv, q .root-tent))
+      root-stays : Touched N v (get (B .dist) v) (get (B .hops) v + 1) (get (B .width) v) B B' s
+          → (get (B' .dist) s ≡ get p s) × (get (B' .hops) s ≡ 0)
+      root-stays (stays e₁ e₂ e₃ e₄) = (e₁ ∙ q .root-dist, e₃ ∙ q .root-hops)
+      root-stays (gains t k a l e₁ e₂ e₃ e₄) = absurd (omega (arith, arc-reduced so a, q .low v hv, q .root-dist))
 
-      settled : (w : ℕ) → w < 96 → get D' w ≡ 1 → (w ≡ v) ⊎ (get D w ≡ 1) → (get (B' .tent) w < far) × (get room w ≡ 0)
+      settled : (w : ℕ) → w < 96 → get D' w ≡ 1 → (w ≡ v) ⊎ (get D w ≡ 1) → (get (B' .dist) w < far) × (get room w ≡ 0)
       settled w hw e (inl z) = rw z (omega (arith, shrink v, near .fresh hv .1), none)
       settled w hw e (inr z) = (omega (arith, shrink w, q .settled w hw z .0), q .settled w hw z .1)
 
-      relaxed : (a b t k : ℕ) → a < 96 → b < 96 → get D' a ≡ 1 → Arc N a b (get (B' .tent) a) t k → (a ≡ v) ⊎ (get D a ≡ 1) → get (B' .tent) b ≤ t
+      relaxed : (a b t k : ℕ) → a < 96 → b < 96 → get D' a ≡ 1 → Arc N a b (get (B' .dist) a) t k → (a ≡ v) ⊎ (get D a ≡ 1) → get (B' .dist) b ≤ t
       relaxed a b t k ha hb ea arc (inl z) =
-          pass .offers b t k (arc-eq (sym z) (sym (ap (λ z. get (B' .tent) z) z ∙ stay v hv here .tents)) refl arc)
+          pass .offers b t k (arc-eq (sym z) (sym (ap (λ z. get (B' .dist) z) z ∙ stay v hv here .dists)) refl arc)
       relaxed a b t k ha hb ea arc (inr z) =
-          omega (arith, shrink b, q .relaxed a b t k ha hb z (arc-eq refl (sym (stay a ha ea .tents)) refl arc))
+          omega (arith, shrink b, q .relaxed a b t k ha hb z (arc-eq refl (sym (stay a ha ea .dists)) refl arc))
 
 -- ---- the start
 
-pub search-start : {N : Net} {p room : List ℕ} {s limit : ℕ} {B : Book} {D : List ℕ} → SearchReady N p room s limit B → length D ≡ 96
+pub search-start : {N : Net} {p room : List ℕ} {s limit : ℕ} {B : Book} {D : List ℕ} → SearchReady N p s limit → Blank B → length D ≡ 96
     → ((v : ℕ) → v < 96 → get D v ≡ 0)
-    → Searching N p room s limit (book (set (B .tent) s (get p s)) (B .prev) (set (B .hops) s 0) (set (B .width) s limit)) D
-search-start {N} {p} {room} {s} {limit} {B} {D} r e z = record {
+    → Searching N p room s limit (book (set (B .dist) s (get p s)) (B .prev) (set (B .hops) s 0) (set (B .width) s limit)) D
+search-start {N} {p} {room} {s} {limit} {B} {D} r k e z = record {
   long = record {
-    tents = length-set (B .tent) s (get p s) ∙ r .long .tents;
-    prevs = r .long .prevs;
-    hopss = length-set (B .hops) s 0 ∙ r .long .hopss;
-    widths = length-set (B .width) s limit ∙ r .long .widths;
+    dists = length-set (B .dist) s (get p s) ∙ k .long .dists;
+    prevs = k .long .prevs;
+    hopss = length-set (B .hops) s 0 ∙ k .long .hopss;
+    widths = length-set (B .width) s limit ∙ k .long .widths;
   };
   marks = e;
   zero-one = λ v h. omega (arith, z v h);
   low = λ v h. elim (ℕ-discrete v s) [
     | yes d ↦ rw d (omega (arith, here))
-    | no d ↦ omega (arith, off v d, r .blank v h, r .sound .high v h)
+    | no d ↦ omega (arith, off v d, k .dists v h, r .sound .high v h)
   ];
   start = hs;
-  root-tent = here;
+  root-dist = here;
   root-hops = hops;
-  label = λ v h l. elim (ℕ-discrete v s) [ yes d ↦ rw d label | no d ↦ absurd (omega (arith, off v d, r .blank v h)) ];
+  label = λ v h l. elim (ℕ-discrete v s) [ yes d ↦ rw d label | no d ↦ absurd (omega (arith, off v d, k .dists v h)) ];
   settled = λ v h d. absurd (omega (arith, z v h));
   order = λ v w hv hw d f. absurd (omega (arith, z v hv));
   relaxed = λ v w t k hv hw d a. absurd (omega (arith, z v hv));
@@ -240,19 +240,19 @@ search-start {N} {p} {room} {s} {limit} {B} {D} r e z = record {
     hs = omega (arith, r .start, r .sound .sources)
 
     C : Book
-    C = book (set (B .tent) s (get p s)) (B .prev) (set (B .hops) s 0) (set (B .width) s limit)
+    C = book (set (B .dist) s (get p s)) (B .prev) (set (B .hops) s 0) (set (B .width) s limit)
 
-    here : get (C .tent) s ≡ get p s
-    here = getD-set-same (B .tent) s (get p s) 0 (omega (arith, r .long .tents, hs))
+    here : get (C .dist) s ≡ get p s
+    here = getD-set-same (B .dist) s (get p s) 0 (omega (arith, k .long .dists, hs))
 
     hops : get (C .hops) s ≡ 0
-    hops = getD-set-same (B .hops) s 0 0 (omega (arith, r .long .hopss, hs))
+    hops = getD-set-same (B .hops) s 0 0 (omega (arith, k .long .hopss, hs))
 
     width : get (C .width) s ≡ limit
-    width = getD-set-same (B .width) s limit 0 (omega (arith, r .long .widths, hs))
+    width = getD-set-same (B .width) s limit 0 (omega (arith, k .long .widths, hs))
 
-    off : (v : ℕ) → v ≢ s → get (C .tent) v ≡ get (B .tent) v
-    off v d = getD-set-other (B .tent) s v (get p s) 0 d
+    off : (v : ℕ) → v ≢ s → get (C .dist) v ≡ get (B .dist) v
+    off v d = getD-set-other (B .dist) s v (get p s) 0 d
 
     label : Label N s (λ w. get D w ≡ 1) p (sum 96 (λ w. get D w)) limit C s
     label = record {
@@ -272,10 +272,10 @@ module _ {N : Net} {p room : List ℕ} {s limit : ℕ} {B : Book} {D : List ℕ}
   pub counted : sum 96 (λ w. get D w) ≤ 96
   counted = marks-most 96 (λ w. get D w) (q .zero-one)
 
-  pub label-near : {v : ℕ} → v < 96 → get (B .tent) v < far → (get (B .tent) v ≤ 1000000000) × (get (B .hops) v ≤ 96)
+  pub label-near : {v : ℕ} → v < 96 → get (B .dist) v < far → (get (B .dist) v ≤ 1000000000) × (get (B .hops) v ≤ 96)
   label-near {v} hv l = omega (arith, q .label v hv l .up, q .label v hv l .count, counted, so .high s (q .start))
 
-  pub relax-ready : {v : ℕ} → v < 96 → get (B .tent) v < far → RelaxReady N v (get (B .tent) v) B
+  pub relax-ready : {v : ℕ} → v < 96 → get (B .dist) v < far → RelaxReady N v (get (B .dist) v) B
   relax-ready {v} hv l = record {
     long = q .long;
     sources = so .sources;
@@ -289,7 +289,7 @@ module _ {N : Net} {p room : List ℕ} {s limit : ℕ} {B : Book} {D : List ℕ}
 
   -- ---- the end
 
-  label-end : (g : ℕ) → g < 96 → get D g ≡ 0 → (w : ℕ) → w < 96 → get (B .tent) w < far → Label N s (Near p (B .tent) g) p 96 limit B w
+  label-end : (g : ℕ) → g < 96 → get D g ≡ 0 → (w : ℕ) → w < 96 → get (B .dist) w < far → Label N s (Near p (B .dist) g) p 96 limit B w
   label-end g hg e w hw l = record {
     source = lw .source;
     terminal = lw .terminal;
@@ -304,26 +304,26 @@ module _ {N : Net} {p room : List ℕ} {s limit : ℕ} {B : Book} {D : List ℕ}
       lw : Label N s (λ w. get D w ≡ 1) p (sum 96 (λ w. get D w)) limit B w
       lw = q .label w hw l
 
-      go : Prev N s (λ w. get D w ≡ 1) B w → Prev N s (Near p (B .tent) g) B w
+      go : Prev N s (λ w. get D w ≡ 1) B w → Prev N s (Near p (B .dist) g) B w
       go (root z) = root z
       go (step k b d a eh ew ek) =
           step k b (q .settled (get (B .prev) w) b d .0, q .order (get (B .prev) w) g b hg d e) a eh ew ek
 
   -- a node that is nearer than the nearest is settled
-  nearer : {v : ℕ} → Nearest p (B .tent) D v → v < 96 → (w : ℕ) → w < 96 → get (B .tent) w + get p v < get (B .tent) v + get p w → get D w ≡ 1
+  nearer : {v : ℕ} → Nearest p (B .dist) D v → v < 96 → (w : ℕ) → w < 96 → get (B .dist) w + get p v < get (B .dist) v + get p w → get D w ≡ 1
   nearer {v} near hv w hw l = elim (ℕ-discrete (get D w) 0) [
-    | yes z ↦ elim (decLt (get (B .tent) w) far) [
+    | yes z ↦ elim (decLt (get (B .dist) w) far) [
       | yes o ↦ absurd (omega (arith, near .least w hw z o))
       | no o ↦ absurd (omega (arith, label-near hv (near .fresh hv .1), so .high w hw))
     ]
     | no z ↦ omega (arith, q .zero-one w hw)
   ]
 
-  pub search-found : {v : ℕ} → Nearest p (B .tent) D v → v < 96 → 0 < get room v → Searched N p room s limit B v
+  pub search-found : {v : ℕ} → Nearest p (B .dist) D v → v < 96 → 0 < get room v → Searched N p room s limit B v
   search-found {v} near hv o = record {
     long = q .long;
     low = q .low;
-    root-tent = q .root-tent;
+    root-dist = q .root-dist;
     root-hops = q .root-hops;
     bound = near .bound;
     found = λ h. record {
@@ -336,29 +336,29 @@ module _ {N : Net} {p room : List ℕ} {s limit : ℕ} {B : Book} {D : List ℕ}
     stuck = λ e. absurd (omega arith);
   }
 
-  pub search-stuck : {v : ℕ} → Nearest p (B .tent) D v → v ≡ 96 → Searched N p room s limit B v
+  pub search-stuck : {v : ℕ} → Nearest p (B .dist) D v → v ≡ 96 → Searched N p room s limit B v
   search-stuck {v} near e = record {
     long = q .long;
     low = q .low;
-    root-tent = q .root-tent;
+    root-dist = q .root-dist;
     root-hops = q .root-hops;
     bound = near .bound;
     found = λ h. absurd (omega arith);
     stuck = λ z. record {
-      start = omega (arith, q .root-tent, so .high s (q .start));
+      start = omega (arith, q .root-dist, so .high s (q .start));
       empty = λ a ha l. q .settled a ha (done a ha l) .1;
-      closed = λ a b t k ha hb l arc. elim (decLt (get (B .tent) b) far) [
+      closed = λ a b t k ha hb l arc. elim (decLt (get (B .dist) b) far) [
         | yes o ↦ o
         | no o ↦ absurd (omega (arith, q .relaxed a b t k ha hb (done a ha l) arc, far-offer a b t k ha l arc))
       ];
     };
   }
     where
-      done : (a : ℕ) → a < 96 → get (B .tent) a < far → get D a ≡ 1
+      done : (a : ℕ) → a < 96 → get (B .dist) a < far → get D a ≡ 1
       done a ha l = elim (ℕ-discrete (get D a) 0) [
         | yes z ↦ absurd (omega (arith, near .least a ha z l .0))
         | no z ↦ omega (arith, q .zero-one a ha)
       ]
 
-      far-offer : (a b t k : ℕ) → a < 96 → get (B .tent) a < far → Arc N a b (get (B .tent) a) t k → t < far
+      far-offer : (a b t k : ℕ) → a < 96 → get (B .dist) a < far → Arc N a b (get (B .dist) a) t k → t < far
       far-offer a b t k ha l arc = omega (arith, arc-near so arc, q .label a ha l .up, q .label a ha l .count, counted, so .high s (q .start))

@@ -34,7 +34,7 @@ walk-start {N} {p} {B = B} {g} {d} {x} r = record {
 
 -- one lane changes, from a to a', at an arc between i and 32 + j; the walk comes from node o and goes to node e
 module _ {N : Net} {p : List ℕ} {B : Book} {g d : ℕ} {x : List ℕ} {o e : ℕ} (terminals : N .n ≤ 64) (sources : N .m ≤ 32) (q : Walking N p B g d x o)
-    (i j a : ℕ) (hi : i < N .m) (hj : j < N .n) (tight : Tight N p (B .tent) g i j) (node : e < 96) (near : Near p (B .tent) g e)
+    (i j a : ℕ) (hi : i < N .m) (hj : j < N .n) (tight : Tight N p (B .dist) g i j) (node : e < 96) (near : Near p (B .dist) g e)
     (wide : d ≤ get (B .width) e) (li : get (B .hops) e ≤ get (B .hops) i) (lj : get (B .hops) e ≤ get (B .hops) (32 + j))
     (lo : get (B .hops) e < get (B .hops) o) (fresh : cells x i j ≡ N .x i j) (fits : a ≤ N .u i j) (move : Step d (cells x i j) a) where
   x' : List ℕ
@@ -66,7 +66,7 @@ module _ {N : Net} {p : List ℕ} {B : Book} {g d : ℕ} {x : List ℕ} {o e : �
       under k l b c (no y) z = omega (arith, put .off-row k l b c y, q .under k l b c)
       under k l b c (yes y) (no z) = omega (arith, put .off-col k l b c z, q .under k l b c)
 
-      tights : (k l : ℕ) → k < N .m → l < N .n → cells x' k l ≢ N .x k l → Dec (k ≡ i) → Dec (l ≡ j) → Tight N p (B .tent) g k l
+      tights : (k l : ℕ) → k < N .m → l < N .n → cells x' k l ≢ N .x k l → Dec (k ≡ i) → Dec (l ≡ j) → Tight N p (B .dist) g k l
       tights k l b c h (yes y) (yes z) = rw (y, z) tight
       tights k l b c h (no y) z = q .tight k l b c (λ f. h (put .off-row k l b c y ∙ f))
       tights k l b c h (yes y) (no z) = q .tight k l b c (λ f. h (put .off-col k l b c z ∙ f))
@@ -79,8 +79,8 @@ module _ {N : Net} {p : List ℕ} {B : Book} {g d : ℕ} {x : List ℕ} (termina
     fresh-back : Walking N p B g d x i → get (B .hops) i ≡ get (B .hops) (32 + j) + 1 → cells x i j ≡ N .x i j
     fresh-back q e = trace-fresh (q .trace) i j (get (B .hops) (32 + j)) hi hj (omega arith) (inr refl)
 
-    walk-ahead : Walking N p B g d x (32 + j) → Near p (B .tent) g i → d ≤ get (B .width) i → get (B .hops) (32 + j) ≡ get (B .hops) i + 1
-        → N .x i j < N .u i j → get (B .tent) (32 + j) ≡ get (B .tent) i + N .c i j → d ≤ N .u i j - N .x i j
+    walk-ahead : Walking N p B g d x (32 + j) → Near p (B .dist) g i → d ≤ get (B .width) i → get (B .hops) (32 + j) ≡ get (B .hops) i + 1
+        → N .x i j < N .u i j → get (B .dist) (32 + j) ≡ get (B .dist) i + N .c i j → d ≤ N .u i j - N .x i j
         → Walking N p B g d (set x (i * 64 + j) (cells x i j + d)) i
     walk-ahead q near wide e room even most =
         walk-cell terminals sources q i j (cells x i j + d) hi hj (record { even = even; source = near; terminal = q .near })
@@ -89,8 +89,8 @@ module _ {N : Net} {p : List ℕ} {B : Book} {g d : ℕ} {x : List ℕ} (termina
         (flow-ahead sources (cells-put (N .m) (N .n) x i j (cells x i j + d) terminals hi hj) (q .flow)
         (cells-at x i j (cells x i j + d) (omega (arith, q .long))))
 
-    walk-back : Walking N p B g d x i → Near p (B .tent) g (32 + j) → d ≤ get (B .width) (32 + j) → get (B .hops) i ≡ get (B .hops) (32 + j) + 1
-        → get (B .tent) (32 + j) ≡ get (B .tent) i + N .c i j → d ≤ N .x i j
+    walk-back : Walking N p B g d x i → Near p (B .dist) g (32 + j) → d ≤ get (B .width) (32 + j) → get (B .hops) i ≡ get (B .hops) (32 + j) + 1
+        → get (B .dist) (32 + j) ≡ get (B .dist) i + N .c i j → d ≤ N .x i j
         → Walking N p B g d (set x (i * 64 + j) (cells x i j - d)) (32 + j)
     walk-back q near wide e even most =
         let f = fresh-back q e in
@@ -104,20 +104,20 @@ module _ {N : Net} {p : List ℕ} {B : Book} {g d : ℕ} {x : List ℕ} (termina
 
 module _ {N : Net} {p : List ℕ} {s limit : ℕ} {B : Book} {g d : ℕ} {x₀ x : List ℕ} {v : ℕ}
     (r : WalkReady N p s limit B g d x₀) (q : Walking N p B g d x v) (away : v ≢ s) where
-  label : Label N s (Near p (B .tent) g) p 96 limit B v
+  label : Label N s (Near p (B .dist) g) p 96 limit B v
   label = r .label v (q .node) (q .near .0)
 
   pub walk-less : (get (B .prev) v < 96) × (get (B .hops) (get (B .prev) v) < get (B .hops) v)
   walk-less = go (label .prev)
     where
-      go : Prev N s (Near p (B .tent) g) B v → (get (B .prev) v < 96) × (get (B .hops) (get (B .prev) v) < get (B .hops) v)
+      go : Prev N s (Near p (B .dist) g) B v → (get (B .prev) v < 96) × (get (B .hops) (get (B .prev) v) < get (B .hops) v)
       go (root z) = absurd (away z)
       go (step k b n a eh ew ek) = (b, omega arith)
 
   pub walk-ready : CarryReady v (get (B .prev) v) d x
   walk-ready = go (label .prev)
     where
-      go : Prev N s (Near p (B .tent) g) B v → CarryReady v (get (B .prev) v) d x
+      go : Prev N s (Near p (B .dist) g) B v → CarryReady v (get (B .prev) v) d x
       go (root z) = absurd (away z)
       go (step k b n (ahead j a e f o h i) eh ew ek) = record {
         less = λ l. absurd (omega arith);
@@ -156,18 +156,18 @@ module _ {N : Net} {p : List ℕ} {s limit : ℕ} {B : Book} {g d : ℕ} {x₀ x
   pub walk-next : {x' : List ℕ} → Carried v (get (B .prev) v) d x x' → Walking N p B g d x' (get (B .prev) v)
   walk-next {x'} c = go (label .prev)
     where
-      go : Prev N s (Near p (B .tent) g) B v → Walking N p B g d x' (get (B .prev) v)
+      go : Prev N s (Near p (B .dist) g) B v → Walking N p B g d x' (get (B .prev) v)
       go (root z) = absurd (away z)
       go (step k b n (ahead j a e f o h i) eh ew ek) =
           let z : v - 32 ≡ j = omega arith in
           rw (c .more (omega arith), z)
           (walk-ahead (r .terminals) (r .sources) (get (B .prev) v) j a e (rw f at q) n (omega (arith, q .width))
-          (omega (arith, ap (λ z. get (B .hops) z) f)) o (omega (arith, ap (λ z. get (B .tent) z) f)) (omega (arith, q .width)))
+          (omega (arith, ap (λ z. get (B .hops) z) f)) o (omega (arith, ap (λ z. get (B .dist) z) f)) (omega (arith, q .width)))
       go (step k b n (back j a e f o h i) eh ew ek) =
           let z : get (B .prev) v - 32 ≡ j = omega arith in
           rw (c .less (omega (arith, r .sources)), z, f)
           (walk-back (r .terminals) (r .sources) v j a e q (rw f at n) (omega (arith, q .width, ap (λ z. get (B .width) z) f))
-          (omega (arith, ap (λ z. get (B .hops) z) f)) (omega (arith, ap (λ z. get (B .tent) z) f)) (omega (arith, q .width)))
+          (omega (arith, ap (λ z. get (B .hops) z) f)) (omega (arith, ap (λ z. get (B .dist) z) f)) (omega (arith, q .width)))
 
 -- ---- the whole walk
 
@@ -179,14 +179,14 @@ module _ {N : Net} {p : List ℕ} {s limit : ℕ} {B : Book} {g d : ℕ} {x₀ :
   at-root : {x : List ℕ} {v : ℕ} → get (B .hops) v ≡ 0 → Walking N p B g d x v → v ≡ s
   at-root {x} {v} e q = go (r .label v (q .node) (q .near .0) .prev)
     where
-      go : Prev N s (Near p (B .tent) g) B v → v ≡ s
+      go : Prev N s (Near p (B .dist) g) B v → v ≡ s
       go (root z) = z
       go (step k b n a eh ew ek) = absurd (omega arith)
 
   hops-less : {x : List ℕ} {v h : ℕ} → get (B .hops) v ≡ suc h → Walking N p B g d x v → get (B .hops) (get (B .prev) v) ≡ h
   hops-less {x} {v} {h} e q = go (r .label v (q .node) (q .near .0) .prev)
     where
-      go : Prev N s (Near p (B .tent) g) B v → get (B .hops) (get (B .prev) v) ≡ h
+      go : Prev N s (Near p (B .dist) g) B v → get (B .hops) (get (B .prev) v) ≡ h
       go (root z) = absurd (off-root e z)
       go (step k b n a eh ew ek) = omega arith
 

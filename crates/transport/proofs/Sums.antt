@@ -2,7 +2,7 @@
 use mathlib.Core.Path.{_≡_, refl, sym, ap, _∙_}
 use mathlib.Core.Logic.{_≢_}
 use Prim.Native.Nat.{ℕ, zero, suc, _+_, _*_, _≤_, _<_}
-use native.Mathlib.Decide.{ℕ-discrete}
+use native.Mathlib.Decide.{ℕ-discrete, decLt}
 use native.Mathlib.Omega.{arith}
 use Rattle.transport.specs.Sum.{sum}
 
@@ -71,3 +71,18 @@ pub sum-front : (k : ℕ) (f : ℕ → ℕ) → sum (suc k) f ≡ f 0 + sum k (�
 unfolding sum
 sum-front zero f = omega arith
 sum-front (suc k) f = omega (arith, sum-front k f)
+
+-- the first two members are at most the sum
+pub sum-two : (k : ℕ) (f : ℕ → ℕ) → 2 ≤ k → f 0 + f 1 ≤ sum k f
+sum-two zero f h = absurd (omega arith)
+sum-two (suc zero) f h = absurd (omega arith)
+sum-two (suc (suc k)) f h = omega (arith, sum-front (suc k) f, sum-front k (λ i. f (suc i)))
+
+-- a sum that is not 0 has a member that is not 0
+pub some-member : (k : ℕ) (f : ℕ → ℕ) → 0 < sum k f → (i : ℕ) × (i < k) × (0 < f i)
+unfolding sum
+some-member zero f h = absurd (omega arith)
+some-member (suc k) f h = elim (decLt 0 (f k)) [
+  | yes l ↦ (k, omega arith, l)
+  | no l ↦ let t = some-member k f (omega arith) in (t .0, omega (arith, t .1), t .2)
+]

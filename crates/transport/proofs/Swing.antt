@@ -1,4 +1,4 @@
--- One shift from plant 1 to plant 0, and why a search is not stuck. Assumes nothing.
+-- Why a search is not stuck, and a shift from plant 1 to plant 0. Assumes nothing.
 use mathlib.Core.Path.{_≡_, refl, sym, ap, _∙_}
 use mathlib.Core.Logic.{_≢_}
 use mathlib.Core.List.{List}
@@ -6,14 +6,18 @@ use Prim.Native.Nat.{ℕ, suc, min, _+_, _-_, _*_, _≤_, _<_}
 use native.Mathlib.Decide.{ℕ-discrete}
 use native.Mathlib.Omega.{arith}
 use lib.ListN.{length, getD, set}
-use Rattle.transport.specs.engine.Walk.{Flow}
+use Rattle.transport.specs.Plan.{row, col}
+use Rattle.transport.proofs.Sums.{sum-two, some-member}
+use Rattle.transport.specs.engine.Slack.{Lane}
 use Rattle.transport.specs.engine.Cells.{cells}
 use Rattle.transport.specs.engine.Path.{Net, Book, get, far, Arc}
 use Rattle.transport.specs.engine.Path.Arc.{ahead, back}
-use Rattle.transport.specs.engine.Search.{Sound, Stuck}
-use Rattle.transport.specs.engine.Send.{SendReady, Delivered, NoPath, SendDone}
+use Rattle.transport.specs.engine.Search.{Sound, Stuck, Found, Searched}
+use Rattle.transport.specs.engine.Send.{SendReady, Delivered, LowerReady, Lowered, Walkable, Walked, Walking}
 use Rattle.transport.specs.engine.Ship.{again}
-use Rattle.transport.specs.engine.Sweep.{Swinging, Over, ShiftDone}
+use Rattle.transport.specs.engine.Sweep.{Swinging, Over}
+use Rattle.transport.specs.engine.Stretch.{ShiftReady, Part, ShiftDone}
+use Rattle.transport.proofs.Deliver.{lower-ready, push-ready, pushed, delivered, after}
 
 -- only node 1 has room
 pub record Only (room : List ℕ) (limit : ℕ) : Type 0 where
@@ -66,21 +70,87 @@ swing-over {N} {P} {p} {room} {x} {limit} {x'} {p'} {g} {d} k o hg t = record {
 
 module _ {N : Net} {room : List ℕ} {s : ℕ} {B : Book} (sources : N .m ≤ 32) (terminals : N .n ≤ 64) (k : Stuck N room s B) where
   -- a lane with room leads to a terminal with a label
-  reach : (j : ℕ) → s < N .m → j < N .n → N .x s j < N .u s j → get (B .tent) (32 + j) < far
+  reach : (j : ℕ) → s < N .m → j < N .n → N .x s j < N .u s j → get (B .dist) (32 + j) < far
   reach j hs hj l =
-      k .closed s (32 + j) (get (B .tent) s + N .c s j) (N .u s j - N .x s j) (omega arith) (omega arith) (k .start) (ahead j hs hj refl l refl refl)
+      k .closed s (32 + j) (get (B .dist) s + N .c s j) (N .u s j - N .x s j) (omega arith) (omega arith) (k .start) (ahead j hs hj refl l refl refl)
 
   -- where a terminal has room, and the lane to it
   pub not-stuck : (j : ℕ) → s < N .m → j < N .n → N .x s j < N .u s j → 0 < get room (32 + j) → ⊥
   not-stuck j hs hj l o = omega (arith, k .empty (32 + j) (omega arith) (reach j hs hj l))
 
   -- where another source with room serves a terminal, and the lane to that has room (its label is no less than the unit cost)
-  pub not-stuck-over : (j i : ℕ) → s < N .m → i < N .m → j < N .n → N .x s j < N .u s j → 0 < N .x i j → N .c i j ≤ get (B .tent) (32 + j)
+  pub not-stuck-over : (j i : ℕ) → s < N .m → i < N .m → j < N .n → N .x s j < N .u s j → 0 < N .x i j → N .c i j ≤ get (B .dist) (32 + j)
       → 0 < get room i → ⊥
   not-stuck-over j i hs hi hj l o e r =
       omega (
         arith,
         k .empty i (omega arith)
-            (k .closed (32 + j) i (get (B .tent) (32 + j) - N .c i j) (N .x i j) (omega arith) (omega arith) (reach j hs hj l)
+            (k .closed (32 + j) i (get (B .dist) (32 + j) - N .c i j) (N .x i j) (omega arith) (omega arith) (reach j hs hj l)
             (back j hi hj refl o (omega arith) refl)),
       )
+
+-- ---- a shift
+
+module _ {N : Net} {p room x : List ℕ} {limit : ℕ} {B : Book} {g : ℕ}
+    (k : ShiftReady N p x limit) (o : Only room limit) (q : Searched N p room 0 limit B g) where
+  ready : SendReady N p room 0 limit x
+  ready = swing-ready (k .swinging) o (k .some)
+
+  sound : Sound N p
+  sound = k .swinging .sound
+
+  two : 2 ≤ N .m
+  two = omega (arith, k .swinging .plants)
+
+  -- a terminal that plant 1 serves
+  served : (j : ℕ) × (j < N .n) × (0 < N .x 1 j)
+  unfolding row
+  served = some-member (N .n) (λ j. N .x 1 j) (omega (arith, k .left, k .some))
+
+  -- the lane to it from plant 0 has room
+  open-lane : (j : ℕ) → j < N .n → 0 < N .x 1 j → N .x 0 j < N .u 0 j
+  unfolding col
+  open-lane j h l = omega (arith, sum-two (N .m) (λ i. N .x i j) two, k .wide 0 j (omega (arith, two)) h)
+
+  never : Stuck N room 0 B → ⊥
+  never w =
+      let j = served .0 in
+      not-stuck-over (sound .sources) (sound .terminals) w j 1 (omega (arith, two)) (omega (arith, two)) (served .1) (open-lane j (served .1) (served .2))
+      (served .2)
+      (omega (arith, sound .slack 1 j (omega (arith, two)) (served .1) .back (served .2), q .low (32 + j) (omega (arith, sound .terminals, served .1))))
+      (omega (arith, o .one, k .some))
+
+  found : g < 96
+  found = elim (ℕ-discrete g 96) [ yes z ↦ absurd (never (q .stuck z)) | no z ↦ omega (arith, q .bound) ]
+
+  goal : g ≡ 1
+  goal = elim (ℕ-discrete g 1) [ yes z ↦ z | no z ↦ absurd (omega (arith, o .off g found z, q .found found .has-room)) ]
+
+  reached : Searched N p room 0 limit B 1
+  reached = rw goal at q
+
+  pub shift-low : get p 1 ≤ get (B .dist) 1
+  shift-low = q .low 1 (omega arith)
+
+  pub shift-able : N .x ≡ cells x → (t : ℕ) → t ≤ get (B .width) 1 → Walkable (B .prev) t (get (B .hops) 1) 1 x
+  shift-able e t h = push-ready ready reached (omega arith) e h
+
+  pub shift-lower : {D : ℕ} → D ≡ get (B .dist) 1 - get p 1 → LowerReady D (B .dist) p
+  shift-lower e = lower-ready ready reached (omega arith) e
+
+  pub shift-done : N .x ≡ cells x → {D d : ℕ} {p' x' : List ℕ} → D ≡ get (B .dist) 1 - get p 1 → Lowered D (B .dist) p 96 p' → d ≡ min (get (B .width) 1) limit
+      → Walked (B .prev) d (get (B .hops) 1) 1 x x' → ShiftDone N (get p 1) limit x p' x' (B .prev) (get (B .hops) 1) d
+  shift-done e {D} {d} {p'} {x'} eD lo ed w = record {
+    some = sent .some;
+    over = swing-over (k .swinging) o one sent;
+    able = λ t h. shift-able e t (omega arith);
+    part = λ t h z v.
+        let l = pushed ready reached one e (omega arith) v in
+        record { flow = l .flow; slack = after ready reached one eD lo l; under = l .under; long = l .long };
+  }
+    where
+      one : 1 < 96
+      one = omega arith
+
+      sent : Delivered N p room 0 limit x' p' 1 d
+      sent = delivered ready reached one eD lo (omega (arith, o .one)) (pushed ready reached one e (omega arith) w)

@@ -11,7 +11,7 @@ use Rattle.transport.specs.Listing.{listing, least, leastFreight}
 use Rattle.transport.specs.Curve.{amountsAt, leastAt}
 use Rattle.transport.proofs.Sums.{sum-ext, sum-scale}
 use Rattle.transport.proofs.Certificate.{total-ext, total-mono}
-use Rattle.transport.proofs.Least.{At, Least}
+use Rattle.transport.specs.engine.Least.{At, Least}
 use Rattle.transport.proofs.Listing.{first-cell, later-cell, sound, complete, least-freight-low, least-freight-met, no-plan-listed}
 
 -- ---- the list of a table's cells
@@ -147,34 +147,34 @@ module _ (m n : ℕ) where
 
 -- ---- f
 
-sends : (k n : ℕ) (a b : ℕ → ℕ) (d y z : ℕ) → y + z ≡ d → (x : Table) → At k n a b y z x → (i : ℕ) → i < suc (suc k) → row n x i ≡ amountsAt d a y i
+pub sends : (m n : ℕ) (a b : ℕ → ℕ) (d y z : ℕ) → 2 ≤ m → y + z ≡ d → (x : Table) → At m n a b y z x → (i : ℕ) → i < m → row n x i ≡ amountsAt d a y i
 unfolding amountsAt
-sends k n a b d y z e x t zero h = t .plant0
-sends k n a b d y z e x t (suc zero) h = omega (arith, t .plant1)
-sends k n a b d y z e x t (suc (suc i)) h = t .depots (suc (suc i)) (omega arith) h
+sends m n a b d y z two e x t zero h = t .plant0
+sends m n a b d y z two e x t (suc zero) h = omega (arith, t .plant1)
+sends m n a b d y z two e x t (suc (suc i)) h = t .depots (suc (suc i)) (omega arith) h
 
 -- a table whose rows are what the sources send at split y
-sent : (k n : ℕ) (a b : ℕ → ℕ) (d y z : ℕ) → y + z ≡ d → (x : Table) → ((i : ℕ) → i < suc (suc k) → row n x i ≡ amountsAt d a y i)
-    → ((j : ℕ) → j < n → col (suc (suc k)) x j ≡ b j) → At k n a b y z x
+pub sent : (m n : ℕ) (a b : ℕ → ℕ) (d y z : ℕ) → 2 ≤ m → y + z ≡ d → (x : Table) → ((i : ℕ) → i < m → row n x i ≡ amountsAt d a y i)
+    → ((j : ℕ) → j < n → col m x j ≡ b j) → At m n a b y z x
 unfolding amountsAt
-sent k n a b d y z e x h l = record {
+sent m n a b d y z two e x h l = record {
   plant0 = h 0 (omega arith);
   plant1 = omega (arith, h 1 (omega arith));
   depots = depot;
   demands = λ j g k. l j k;
 }
   where
-    depot : (i : ℕ) → 2 ≤ i → i < suc (suc k) → row n x i ≡ a i
+    depot : (i : ℕ) → 2 ≤ i → i < m → row n x i ≡ a i
     depot zero g k = absurd (omega arith)
     depot (suc zero) g k = absurd (omega arith)
     depot (suc (suc i)) g k = h (suc (suc i)) k
 
 -- the least freight of the tables at a split is f there
-pub least-at : (k n : ℕ) (c : Table) (a b : ℕ → ℕ) (d y z v : ℕ) → Least k n c a b y z v → y + z ≡ d → leastAt (suc (suc k)) n c d a b y ≡ v
+pub least-at : (m n : ℕ) (c : Table) (a b : ℕ → ℕ) (d y z v : ℕ) → 2 ≤ m → Least m n c a b y z v → y + z ≡ d → leastAt m n c d a b y ≡ v
 unfolding leastAt
-least-at k n c a b d y z v l e =
-    leastFreight-is (suc (suc k)) n c (amountsAt d a y) b (l .plan) v (sends k n a b d y z e (l .plan) (l .at)) (λ j h. l .at .demands j (omega arith) h)
-    (l .is) (λ x h g. l .low x (sent k n a b d y z e x h g))
+least-at m n c a b d y z v two l e =
+    leastFreight-is m n c (amountsAt d a y) b (l .plan) v (sends m n a b d y z two e (l .plan) (l .at)) (λ j h. l .at .demands j (omega arith) h)
+    (l .is) (λ x h g. l .low x (sent m n a b d y z two e x h g))
 
 -- ---- a bound
 

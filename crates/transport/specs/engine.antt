@@ -1,4 +1,5 @@
 pub mod Slack
+pub mod Least
 pub mod Cells
 pub mod Walk
 pub mod Path
@@ -7,3 +8,7 @@ pub mod Send
 pub mod Ship
 pub mod Sweep
 pub mod Scan
+pub mod Stops
+pub mod Freight
+pub mod Climb
+pub mod Stretch

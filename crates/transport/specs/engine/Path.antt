@@ -20,19 +20,19 @@ net m n cost cap x = record { m = m; n = n; c = cells cost; u = cells cap; x = c
 
 -- the labels: distance plus potential, the node before, the arcs to it, the smallest ceiling on the way
 pub record Book : Type 0 where
-  pub tent : List ℕ
+  pub dist : List ℕ
   pub prev : List ℕ
   pub hops : List ℕ
   pub width : List ℕ
 
 abbrev pub book : List ℕ → List ℕ → List ℕ → List ℕ → Book
-book t p h w = record { tent = t; prev = p; hops = h; width = w }
+book t p h w = record { dist = t; prev = p; hops = h; width = w }
 
 abbrev pub get : List ℕ → ℕ → ℕ
 get l v = getD l v 0
 
 pub record Long (B : Book) : Type 0 where
-  pub tents : length (B .tent) ≡ 96
+  pub dists : length (B .dist) ≡ 96
   pub prevs : length (B .prev) ≡ 96
   pub hopss : length (B .hops) ≡ 96
   pub widths : length (B .width) ≡ 96
@@ -44,29 +44,29 @@ pub data Arc (N : Net) (v w b t k : ℕ) : Type 0 where
 
 -- one offer of the label t to w
 pub data Offered (w t from hop k : ℕ) (B B' : Book) : Type 0 where
-  kept : get (B .tent) w ≤ t → B' ≡ B → Offered w t from hop k B B'
-  won : t < get (B .tent) w → B' ≡ book (set (B .tent) w t) (set (B .prev) w from) (set (B .hops) w hop) (set (B .width) w k)
+  kept : get (B .dist) w ≤ t → B' ≡ B → Offered w t from hop k B B'
+  won : t < get (B .dist) w → B' ≡ book (set (B .dist) w t) (set (B .prev) w from) (set (B .hops) w hop) (set (B .width) w k)
       → Offered w t from hop k B B'
 
 -- what became of the label of w in a pass over the arcs out of v
 pub data Touched (N : Net) (v b hop wide : ℕ) (B B' : Book) (w : ℕ) : Type 0 where
-  stays : get (B' .tent) w ≡ get (B .tent) w → get (B' .prev) w ≡ get (B .prev) w → get (B' .hops) w ≡ get (B .hops) w
+  stays : get (B' .dist) w ≡ get (B .dist) w → get (B' .prev) w ≡ get (B .prev) w → get (B' .hops) w ≡ get (B .hops) w
       → get (B' .width) w ≡ get (B .width) w → Touched N v b hop wide B B' w
-  gains : (t k : ℕ) → Arc N v w b t k → t < get (B .tent) w → get (B' .tent) w ≡ t → get (B' .prev) w ≡ v → get (B' .hops) w ≡ hop
+  gains : (t k : ℕ) → Arc N v w b t k → t < get (B .dist) w → get (B' .dist) w ≡ t → get (B' .prev) w ≡ v → get (B' .hops) w ≡ hop
       → get (B' .width) w ≡ min wide k → Touched N v b hop wide B B' w
 
 -- a pass that has reached the nodes from lo up to hi
 pub record Passing (N : Net) (v b hop wide lo hi : ℕ) (B B' : Book) : Type 0 where
   pub long : Long B'
   pub each : (w : ℕ) → Touched N v b hop wide B B' w
-  pub rest : (w : ℕ) → hi ≤ w → get (B' .tent) w ≡ get (B .tent) w
-  pub offers : (w t k : ℕ) → lo ≤ w → w < hi → Arc N v w b t k → get (B' .tent) w ≤ t
+  pub rest : (w : ℕ) → hi ≤ w → get (B' .dist) w ≡ get (B .dist) w
+  pub offers : (w t k : ℕ) → lo ≤ w → w < hi → Arc N v w b t k → get (B' .dist) w ≤ t
 
 -- a whole pass
 pub record Passed (N : Net) (v b hop wide : ℕ) (B B' : Book) : Type 0 where
   pub long : Long B'
   pub each : (w : ℕ) → Touched N v b hop wide B B' w
-  pub offers : (w t k : ℕ) → Arc N v w b t k → get (B' .tent) w ≤ t
+  pub offers : (w t k : ℕ) → Arc N v w b t k → get (B' .dist) w ≤ t
 
 -- what a pass asks
 pub record RowReady (N : Net) (v b : ℕ) (B : Book) : Type 0 where

@@ -20,7 +20,7 @@ pub record Sound (N : Net) (p : List ℕ) : Type 0 where
 pub data Prev (N : Net) (s : ℕ) (S : ℕ → Type 0) (B : Book) (v : ℕ) : Type 0 where
   root : v ≡ s → Prev N s S B v
   step : (k : ℕ) → get (B .prev) v < 96 → S (get (B .prev) v)
-      → Arc N (get (B .prev) v) v (get (B .tent) (get (B .prev) v)) (get (B .tent) v) k
+      → Arc N (get (B .prev) v) v (get (B .dist) (get (B .prev) v)) (get (B .dist) v) k
       → get (B .hops) v ≡ get (B .hops) (get (B .prev) v) + 1
       → get (B .width) v ≤ get (B .width) (get (B .prev) v) → get (B .width) v ≤ k → Prev N s S B v
 
@@ -28,8 +28,8 @@ pub data Prev (N : Net) (s : ℕ) (S : ℕ → Type 0) (B : Book) (v : ℕ) : Ty
 pub record Label (N : Net) (s : ℕ) (S : ℕ → Type 0) (p : List ℕ) (cnt limit : ℕ) (B : Book) (v : ℕ) : Type 0 where
   pub source : v < 32 → v < N .m
   pub terminal : 32 ≤ v → v < 32 + N .n
-  pub up : get (B .tent) v ≤ get p s + get (B .hops) v * 2000000
-  pub down : get p s ≤ get (B .tent) v + get (B .hops) v * 2000000
+  pub up : get (B .dist) v ≤ get p s + get (B .hops) v * 2000000
+  pub down : get p s ≤ get (B .dist) v + get (B .hops) v * 2000000
   pub count : get (B .hops) v ≤ cnt
   pub some : 0 < get (B .width) v
   pub most : get (B .width) v ≤ limit
@@ -40,14 +40,14 @@ pub record Searching (N : Net) (p room : List ℕ) (s limit : ℕ) (B : Book) (D
   pub long : Long B
   pub marks : length D ≡ 96
   pub zero-one : (v : ℕ) → v < 96 → get D v ≤ 1
-  pub low : Low p (B .tent)
+  pub low : Low p (B .dist)
   pub start : s < 96
-  pub root-tent : get (B .tent) s ≡ get p s
+  pub root-dist : get (B .dist) s ≡ get p s
   pub root-hops : get (B .hops) s ≡ 0
-  pub label : (v : ℕ) → v < 96 → get (B .tent) v < far → Label N s (λ w. get D w ≡ 1) p (sum 96 (λ w. get D w)) limit B v
-  pub settled : (v : ℕ) → v < 96 → get D v ≡ 1 → (get (B .tent) v < far) × (get room v ≡ 0)
-  pub order : (v w : ℕ) → v < 96 → w < 96 → get D v ≡ 1 → get D w ≡ 0 → get (B .tent) v + get p w ≤ get (B .tent) w + get p v
-  pub relaxed : (v w t k : ℕ) → v < 96 → w < 96 → get D v ≡ 1 → Arc N v w (get (B .tent) v) t k → get (B .tent) w ≤ t
+  pub label : (v : ℕ) → v < 96 → get (B .dist) v < far → Label N s (λ w. get D w ≡ 1) p (sum 96 (λ w. get D w)) limit B v
+  pub settled : (v : ℕ) → v < 96 → get D v ≡ 1 → (get (B .dist) v < far) × (get room v ≡ 0)
+  pub order : (v w : ℕ) → v < 96 → w < 96 → get D v ≡ 1 → get D w ≡ 0 → get (B .dist) v + get p w ≤ get (B .dist) w + get p v
+  pub relaxed : (v w t k : ℕ) → v < 96 → w < 96 → get D v ≡ 1 → Arc N v w (get (B .dist) v) t k → get (B .dist) w ≤ t
 
 -- w has a label and is no farther than g
 abbrev pub Near : List ℕ → List ℕ → ℕ → ℕ → Type 0
@@ -55,32 +55,36 @@ Near p T g w = (get T w < far) × (get T w + get p g ≤ get T g + get p w)
 
 -- a path to g, a node with room
 pub record Found (N : Net) (p room : List ℕ) (s limit : ℕ) (B : Book) (g : ℕ) : Type 0 where
-  pub goal : get (B .tent) g < far
+  pub goal : get (B .dist) g < far
   pub has-room : 0 < get room g
-  pub label : (v : ℕ) → v < 96 → get (B .tent) v < far → Label N s (Near p (B .tent) g) p 96 limit B v
-  pub relaxed : (v w t k : ℕ) → v < 96 → w < 96 → get (B .tent) v + get p g < get (B .tent) g + get p v → Arc N v w (get (B .tent) v) t k
-      → get (B .tent) w ≤ t
-  pub empty : (v : ℕ) → v < 96 → get (B .tent) v + get p g < get (B .tent) g + get p v → get room v ≡ 0
+  pub label : (v : ℕ) → v < 96 → get (B .dist) v < far → Label N s (Near p (B .dist) g) p 96 limit B v
+  pub relaxed : (v w t k : ℕ) → v < 96 → w < 96 → get (B .dist) v + get p g < get (B .dist) g + get p v → Arc N v w (get (B .dist) v) t k
+      → get (B .dist) w ≤ t
+  pub empty : (v : ℕ) → v < 96 → get (B .dist) v + get p g < get (B .dist) g + get p v → get room v ≡ 0
 
 -- no path: the nodes with a label have no room, and no open arc leaves them
 pub record Stuck (N : Net) (room : List ℕ) (s : ℕ) (B : Book) : Type 0 where
-  pub start : get (B .tent) s < far
-  pub empty : (v : ℕ) → v < 96 → get (B .tent) v < far → get room v ≡ 0
-  pub closed : (v w t k : ℕ) → v < 96 → w < 96 → get (B .tent) v < far → Arc N v w (get (B .tent) v) t k → get (B .tent) w < far
+  pub start : get (B .dist) s < far
+  pub empty : (v : ℕ) → v < 96 → get (B .dist) v < far → get room v ≡ 0
+  pub closed : (v w t k : ℕ) → v < 96 → w < 96 → get (B .dist) v < far → Arc N v w (get (B .dist) v) t k → get (B .dist) w < far
 
 -- the answer of the search: the goal, or 96
 pub record Searched (N : Net) (p room : List ℕ) (s limit : ℕ) (B : Book) (r : ℕ) : Type 0 where
   pub long : Long B
-  pub low : Low p (B .tent)
-  pub root-tent : get (B .tent) s ≡ get p s
+  pub low : Low p (B .dist)
+  pub root-dist : get (B .dist) s ≡ get p s
   pub root-hops : get (B .hops) s ≡ 0
   pub bound : r ≤ 96
   pub found : r < 96 → Found N p room s limit B r
   pub stuck : r ≡ 96 → Stuck N room s B
 
-pub record SearchReady (N : Net) (p room : List ℕ) (s limit : ℕ) (B : Book) : Type 0 where
+-- what a search asks: limit drums are at source s
+pub record SearchReady (N : Net) (p : List ℕ) (s limit : ℕ) : Type 0 where
   pub sound : Sound N p
-  pub long : Long B
-  pub blank : (v : ℕ) → v < 96 → far ≤ get (B .tent) v
   pub start : s < N .m
   pub positive : 0 < limit
+
+-- no node has a label
+pub record Blank (B : Book) : Type 0 where
+  pub long : Long B
+  pub dists : (v : ℕ) → v < 96 → far ≤ get (B .dist) v

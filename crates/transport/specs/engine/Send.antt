@@ -54,8 +54,8 @@ pub record WalkReady (N : Net) (p : List ℕ) (s limit : ℕ) (B : Book) (g d : 
   pub sources : N .m ≤ 32
   pub terminals : N .n ≤ 64
   pub goal : g < 96
-  pub labelled : get (B .tent) g < far
-  pub label : (v : ℕ) → v < 96 → get (B .tent) v < far → Label N s (Near p (B .tent) g) p 96 limit B v
+  pub labelled : get (B .dist) g < far
+  pub label : (v : ℕ) → v < 96 → get (B .dist) v < far → Label N s (Near p (B .dist) g) p 96 limit B v
   pub width : d ≤ get (B .width) g
   pub under : Under (N .m) (N .n) (N .x) (N .u)
   pub ceilings : (i j : ℕ) → i < N .m → j < N .n → N .u i j ≤ 4000000000
@@ -65,12 +65,12 @@ pub record WalkReady (N : Net) (p : List ℕ) (s limit : ℕ) (B : Book) (g d : 
 -- the walk stands at v
 pub record Walking (N : Net) (p : List ℕ) (B : Book) (g d : ℕ) (x : List ℕ) (v : ℕ) : Type 0 where
   pub node : v < 96
-  pub near : Near p (B .tent) g v
+  pub near : Near p (B .dist) g v
   pub width : d ≤ get (B .width) v
   pub flow : Flow (N .m) (N .n) d (N .x) (cells x) g v
   pub trace : Trace (N .m) (N .n) d (N .x) (cells x) (λ w. get (B .hops) w) (get (B .hops) v)
   pub under : Under (N .m) (N .n) (cells x) (N .u)
-  pub tight : (i j : ℕ) → i < N .m → j < N .n → cells x i j ≢ N .x i j → Tight N p (B .tent) g i j
+  pub tight : (i j : ℕ) → i < N .m → j < N .n → cells x i j ≢ N .x i j → Tight N p (B .dist) g i j
   pub long : length x ≡ 2048
 
 -- ---- a whole send

@@ -61,13 +61,15 @@ pub record Enough (N : Net) (amounts room : List ℕ) : Type 0 where
   pub total : sum (N .m) (λ i. get amounts i) ≤ sum (N .n) (λ j. get room (32 + j))
   pub wide : (i j : ℕ) → i < N .m → j < N .n → get room (32 + j) ≤ N .u i j
 
--- the sources below k have sent their amounts
+-- the last k sources have sent their amounts
 pub record Based (N : Net) (amounts room : List ℕ) (k : ℕ) (p' room' x' : List ℕ) : Type 0 where
   pub stocked : Stocked (again N x') p' room' x'
-  pub rows : (i : ℕ) → i < N .m → i < k → row (N .n) (cells x') i ≡ get amounts i
-  pub rest : (i : ℕ) → i < N .m → k ≤ i → row (N .n) (cells x') i ≡ 0
+  pub rows : (i : ℕ) → i < N .m → N .m ≤ i + k → row (N .n) (cells x') i ≡ get amounts i
+  pub rest : (i : ℕ) → i + k < N .m → row (N .n) (cells x') i ≡ 0
   pub cols : (j : ℕ) → j < N .n → col (N .m) (cells x') j + get room' (32 + j) ≡ get room (32 + j)
 
-pub record BaseDone (N : Net) (amounts room room' x' : List ℕ) : Type 0 where
-  pub pots : List ℕ
-  pub based : Based N amounts room (N .m) pots room' x'
+-- all sources have
+pub record BaseDone (N : Net) (amounts room p' room' x' : List ℕ) : Type 0 where
+  pub stocked : Stocked (again N x') p' room' x'
+  pub rows : (i : ℕ) → i < N .m → row (N .n) (cells x') i ≡ get amounts i
+  pub cols : (j : ℕ) → j < N .n → col (N .m) (cells x') j + get room' (32 + j) ≡ get room (32 + j)

@@ -1,4 +1,4 @@
--- What the engine keeps in the sweep from split to split, and what one shift from plant 1 to plant 0 does. Assumes nothing.
+-- What the engine keeps in the sweep from split to split, and what becomes of a plan when drums go over from plant 1 to plant 0. Assumes nothing.
 use mathlib.Core.Path.{_≡_}
 use mathlib.Core.List.{List}
 use Prim.Native.Nat.{ℕ, suc, min, _+_, _-_, _*_, _≤_, _<_}
@@ -7,9 +7,9 @@ use Rattle.transport.specs.Plan.{Table}
 use Rattle.transport.specs.engine.Slack.{Slack, Under}
 use Rattle.transport.specs.engine.Walk.{Step, Flow}
 use Rattle.transport.specs.engine.Cells.{cells}
-use Rattle.transport.specs.engine.Path.{Net, Book, get}
-use Rattle.transport.specs.engine.Search.{Sound, Stuck}
-use Rattle.transport.specs.engine.Ship.{again, NoWay}
+use Rattle.transport.specs.engine.Path.{Net, get}
+use Rattle.transport.specs.engine.Search.{Sound}
+use Rattle.transport.specs.engine.Ship.{again}
 
 -- a slack plan x of N whose plant 1 has the potential P
 pub record Swinging (N : Net) (P : ℕ) (p x : List ℕ) : Type 0 where
@@ -31,8 +31,3 @@ pub record Over (N : Net) (P limit : ℕ) (p' x' : List ℕ) (d : ℕ) : Type 0 
   pub steps : (i j : ℕ) → i < N .m → j < N .n → Step d (N .x i j) (cells x' i j)
   pub old : Slack (N .m) (N .n) (N .c) (N .u) (N .x) (λ i. get p' i) (λ j. get p' (32 + j))
   pub new : Slack (N .m) (N .n) (N .c) (N .u) (cells x') (λ i. get p' i) (λ j. get p' (32 + j))
-
-pub record ShiftDone (N : Net) (P limit : ℕ) (p x p' x' : List ℕ) (d : ℕ) : Type 0 where
-  pub over : 0 < d → Over N P limit p' x' d
-  pub same-x : d ≡ 0 → x' ≡ x
-  pub same-p : d ≡ 0 → p' ≡ p

@@ -1,0 +1,162 @@
+-- What a stretch says of the least freights, of the incumbent and of the plan that is kept for it. Assumes nothing.
+use mathlib.Core.Path.{_≡_, refl, sym, ap, _∙_}
+use mathlib.Core.Bool.{Bool, true, false, cond}
+use mathlib.Core.List.{List}
+use Prim.Native.Nat.{ℕ, zero, suc, _+_, _-_, _*_, _≤_, _<_}
+use native.Mathlib.Decide.{decLt}
+use native.Mathlib.Omega.{arith}
+use lib.Dec.{ltb}
+use lib.ListN.{length, getD}
+use Rattle.transport.specs.Plan.{row, col, freight}
+use Rattle.transport.specs.declared.Incumbent.{Incumbent}
+use Rattle.transport.specs.engine.Slack.{Slack, Under}
+use Rattle.transport.specs.engine.Least.{At, Least}
+use Rattle.transport.specs.engine.Walk.{Flow}
+use Rattle.transport.specs.engine.Cells.{cells}
+use Rattle.transport.specs.engine.Path.{Net, get}
+use Rattle.transport.specs.engine.Send.{Walkable, Walked}
+use Rattle.transport.specs.engine.Sweep.{Swinging, Over}
+use Rattle.transport.specs.engine.Scan.{along, better, scanned, ScanReady}
+use Rattle.transport.specs.engine.Stretch.{ShiftReady, Part, ShiftDone, KeepDone, StretchReady, Kept, StretchDone}
+use Rattle.transport.proofs.Corollaries.{segment}
+use Rattle.transport.proofs.Walks.{Shifted, flow-shifted}
+use Rattle.transport.proofs.Least.{line}
+use Rattle.transport.proofs.Look.{along-is}
+
+-- ---- the incumbent
+
+-- after a look at the k splits beyond y: the incumbent before, or one of these splits with the freight there
+record Looked (y v gain loss : ℕ) (b : Incumbent) (k : ℕ) (r : Incumbent) : Type 0 where
+  old : r .split ≤ y → r ≡ b
+  new : y < r .split → (r .split ≤ y + k) × (r .freight ≡ along v gain loss (r .split - y))
+
+look-more : {y v gain loss : ℕ} {b : Incumbent} {k : ℕ} {r : Incumbent} (e : ℕ) → Looked y v gain loss b k r → (t : Bool)
+    → Looked y v gain loss b (suc k) (cond t (record { split = y + suc k; total = e; freight = along v gain loss (suc k) }) r)
+look-more {y} {v} {gain} {loss} {k = k} e q true = record {
+  old = λ l. absurd (omega arith);
+  new = λ l. let z : suc k ≡ (y + suc k) - y = omega arith in (omega arith, ap (along v gain loss) z);
+}
+look-more e q false = record { old = q .old; new = λ l. (omega (arith, q .new l .0), q .new l .1) }
+
+looked : (table : List ℕ) (y v gain loss : ℕ) (b : Incumbent) → b .split ≤ y → (k : ℕ) → Looked y v gain loss b k (scanned table y v gain loss b k)
+unfolding scanned better
+looked table y v gain loss b h zero = record { old = λ l. refl; new = λ l. absurd (omega arith) }
+looked table y v gain loss b h (suc k) =
+    look-more (along v gain loss (suc k) + getD table (y + suc k) 0) (looked table y v gain loss b h k)
+    (ltb (along v gain loss (suc k) + getD table (y + suc k) 0) (scanned table y v gain loss b k .total))
+
+-- ---- the plans on the way
+
+-- what a shift asks, from a plan at a split
+pub shift-ready : {N : Net} {p x : List ℕ} {limit : ℕ} {a b : ℕ → ℕ} {y z : ℕ} → Swinging N (get p 1) p x → At (N .m) (N .n) a b y z (N .x)
+    → ((i j : ℕ) → i < N .m → j < N .n → b j ≤ N .u i j) → 0 < limit → limit ≤ z → ShiftReady N p x limit
+shift-ready k t wide some left = record {
+  swinging = k;
+  some = some;
+  left = omega (arith, t .plant1);
+  wide = λ i j h l. omega (arith, t .demands j (omega arith) l, wide i j h l);
+}
+
+module _ {N : Net} (two : 2 ≤ N .m) {p' z : List ℕ} {t : ℕ} (w : Part N p' z t) where
+  moved : Shifted (N .m) (N .n) t (N .x) (cells z)
+  moved = flow-shifted two (w .flow)
+
+  part-at : (a b : ℕ → ℕ) (y q : ℕ) → At (N .m) (N .n) a b y q (N .x) → At (N .m) (N .n) a b (y + t) (q - t) (cells z)
+  part-at a b y q s = record {
+    plant0 = omega (arith, moved .plant0, s .plant0);
+    plant1 = omega (arith, moved .plant1, s .plant1);
+    depots = λ i h l. sym (moved .rows i h l) ∙ s .depots i h l;
+    demands = λ j h l. sym (moved .cols j h l) ∙ s .demands j h l;
+  }
+
+  part-value : Slack (N .m) (N .n) (N .c) (N .u) (N .x) (λ i. get p' i) (λ j. get p' (32 + j)) → Under (N .m) (N .n) (N .x) (N .u)
+      → freight (N .m) (N .n) (N .c) (cells z) ≡ along (freight (N .m) (N .n) (N .c) (N .x)) (get p' 1) (get p' 0) t
+  part-value s u =
+      along-is (freight (N .m) (N .n) (N .c) (N .x)) (get p' 1) (get p' 0) t (freight (N .m) (N .n) (N .c) (cells z))
+      (segment (N .m) (N .n) two (N .c) (N .u) (λ i. get p' i) (λ j. get p' (32 + j)) (N .x) (cells z) (moved .rows) (moved .cols) t (moved .plant0)
+      (moved .plant1) s u (w .slack) (w .under))
+
+-- ---- the stretch
+
+module _ {N : Net} {p x table : List ℕ} {y v limit : ℕ} {best : Incumbent} {p' x' prev : List ℕ} {count d : ℕ}
+    (r : StretchReady N p x table y v limit best) (s : ShiftDone N (get p 1) limit x p' x' prev count d) where
+  two : 2 ≤ N .m
+  two = omega (arith, r .shift .swinging .plants)
+
+  whole : Part N p' x' d
+  whole = record {
+    flow = s .over .flow;
+    slack = s .over .new;
+    under = s .over .swinging .under;
+    long = s .over .swinging .long-x;
+  }
+
+  next : (a b : ℕ → ℕ) (z : ℕ) → At (N .m) (N .n) a b y z (N .x) → At (N .m) (N .n) a b (y + d) (z - d) (cells x')
+  next a b z t = part-at two whole a b y z t
+
+  value : (z : List ℕ) (t : ℕ) → Part N p' z t → freight (N .m) (N .n) (N .c) (cells z) ≡ along v (get p' 1) (get p' 0) t
+  value z t w = rw (← (r .value)) (part-value two w (s .over .old) (r .shift .swinging .under))
+
+  -- the least freight at each split on the way, as an equation
+  on-line : (a b : ℕ → ℕ) (z : ℕ) → At (N .m) (N .n) a b y z (N .x) → (t : ℕ) → t ≤ d
+      → (w : ℕ) × (Least (N .m) (N .n) (N .c) a b (y + t) (z - t) w) × (w + get p' 0 * t ≡ freight (N .m) (N .n) (N .c) (N .x) + get p' 1 * t)
+  on-line a b z q t h =
+      line (N .m) (N .n) two (N .c) a b (N .u) (λ i. get p' i) (λ j. get p' (32 + j))
+      (λ i j k l. omega (arith, q .demands j (omega arith) l, r .shift .wide i j k l)) (N .x) (cells x') y z d t (s .some) h
+      (omega (arith, q .plant1, moved two whole .plant1)) (s .over .steps) q (next a b z q) (s .over .old) (s .over .new)
+
+  pub on-stretch : (a b : ℕ → ℕ) (z : ℕ) → At (N .m) (N .n) a b y z (N .x) → (t : ℕ) → t ≤ d
+      → Least (N .m) (N .n) (N .c) a b (y + t) (z - t) (along v (get p' 1) (get p' 0) t)
+  on-stretch a b z q t h =
+      let l = on-line a b z q t h in
+      let e : l .0 ≡ along v (get p' 1) (get p' 0) t = along-is v (get p' 1) (get p' 0) t (l .0) (omega (arith, l .2, r .value)) in rw e at (l .1)
+
+  -- the plan itself has its row and column sums
+  here : At (N .m) (N .n) (row (N .n) (N .x)) (col (N .m) (N .x)) y (row (N .n) (N .x) 1) (N .x)
+  here = record { plant0 = r .split; plant1 = refl; depots = λ i h l. refl; demands = λ j h l. refl }
+
+  pub scan-ready : ScanReady table y d v (get p' 1) (get p' 0)
+  scan-ready = record {
+    entries = omega (arith, r .entries, s .over .most);
+    small = λ t h. r .small t (omega (arith, s .over .most));
+    start = r .start;
+    rise = omega (arith, s .over .swinging .sound .high 1 (omega arith));
+    fall = omega (arith, s .over .swinging .sound .high 0 (omega arith));
+    few = omega (arith, r .few, s .over .most);
+    above = λ t h.
+        let l = on-line (row (N .n) (N .x)) (col (N .m) (N .x)) (row (N .n) (N .x) 1) here t h in omega (arith, l .2, r .value);
+  }
+
+  module _ {held : Incumbent} (look : held ≡ scanned table y v (get p' 1) (get p' 0) best d) where
+    seen : Looked y v (get p' 1) (get p' 0) best d held
+    seen = rw look (looked table y v (get p' 1) (get p' 0) best (r .behind) d)
+
+    within : held .split - y ≤ d
+    within = elim (decLt y (held .split)) [ yes h ↦ omega (arith, seen .new h .0) | no h ↦ omega arith ]
+
+    pub keep-ready : Walkable prev (held .split - y) count 1 x
+    keep-ready = s .able (held .split - y) within
+
+    pub stretch-done : {kept kept' : List ℕ} → KeepDone prev count (held .split) y x kept kept'
+        → StretchDone N p table y v limit best kept p' x' kept' d (get p' 1) (get p' 0) held
+    stretch-done {kept} {kept'} k = record {
+      some = s .some;
+      over = s .over;
+      up = refl;
+      down = refl;
+      line = on-stretch;
+      next = next;
+      value = value x' d whole;
+      look = look;
+      same = λ h. (seen .old h, k .same h);
+      new = λ h. (seen .new h .0, new h (s .part (held .split - y) within kept' (k .walked h)));
+    }
+      where
+        new : y < held .split → Part N p' kept' (held .split - y) → Kept N y held kept'
+        new h w =
+            let e : y + (held .split - y) ≡ held .split = omega arith in
+            record {
+              long = w .long;
+              at = λ a b z q. rw e at (part-at two w a b y z q);
+              value = value kept' (held .split - y) w ∙ sym (seen .new h .1);
+            }

@@ -1,0 +1,150 @@
+-- Where the climb stands: the plan there, its freight, and what the next stretch asks. Assumes nothing.
+use mathlib.Core.Path.{_≡_, refl, sym, ap, subst, _∙_}
+use mathlib.Core.List.{List}
+use Prim.Native.Nat.{ℕ, zero, suc, _+_, _-_, _*_, _≤_, _<_}
+use native.Mathlib.Nat.{mul-le-mul-left}
+use native.Mathlib.Decide.{decLt}
+use native.Mathlib.Omega.{arith}
+use lib.ListN.{length, getD}
+use Rattle.transport.specs.Sum.{sum}
+use Rattle.transport.specs.Plan.{Table, row, col, freight}
+use Rattle.transport.specs.Curve.{amountsAt, leastAt}
+use Rattle.transport.specs.Sweep.{curveOf, PlanAt}
+use Rattle.transport.specs.declared.Incumbent.{Incumbent}
+use Rattle.transport.specs.engine.Cells.{cells}
+use Rattle.transport.specs.engine.Path.{net, get}
+use Rattle.transport.specs.engine.Least.{At, Least}
+use Rattle.transport.specs.engine.Sweep.{Swinging, Over}
+use Rattle.transport.specs.engine.Stretch.{ShiftReady, StretchReady, Kept, StretchDone}
+use Rattle.transport.specs.engine.Stops.{Straight}
+use Rattle.transport.specs.engine.Climb.{curveFrom, ClimbReady, Standing}
+use Rattle.transport.proofs.Sums.{sum-ext}
+use Rattle.transport.proofs.Freights.{freight-most}
+use Rattle.transport.proofs.Least.{slack-least, line}
+use Rattle.transport.proofs.Worth.{rows-cols}
+use Rattle.transport.proofs.Look.{along-is}
+use Rattle.transport.proofs.Tables.{sends, least-at}
+
+-- a plan of the two plants' split as the contract has it
+pub plan-at : {m n : ℕ} {c : Table} {a b : ℕ → ℕ} {y v : ℕ} {x : List ℕ} (z : ℕ) → 2 ≤ m → At m n a b y z (cells x) → y + z ≡ a 0 + a 1
+    → length x ≡ 2048 → freight m n c (cells x) ≡ v → PlanAt m n c a b y v x
+plan-at {m} {n} {c} {a} {b} {y} {v} {x} z two t e long worth = record {
+  long = long;
+  rows = sends m n a b (a 0 + a 1) y z two e (cells x) t;
+  columns = λ j h. t .demands j (omega arith) h;
+  worth = worth;
+}
+
+module _ {m n : ℕ} {cost cap x₀ p₀ : List ℕ} {lo hi v : ℕ} {table splits freights : List ℕ} (r : ClimbReady m n cost cap x₀ p₀ lo hi v table splits freights) where
+  pub two : 2 ≤ m
+  two = omega (arith, r .swinging .plants)
+
+  -- every split of the climb is within what both plants make
+  pub both : (y : ℕ) → y ≤ hi → y ≤ row n (cells x₀) 0 + row n (cells x₀) 1
+  both y h = omega (arith, r .first, r .within, r .order)
+
+  pub stand-start : Standing m n cost cap x₀ x₀ p₀ x₀ lo v (record { split = lo; total = v + getD table lo 0; freight = v })
+  stand-start =
+      let t : At m n (row n (cells x₀)) (col m (cells x₀)) lo (row n (cells x₀) 0 + row n (cells x₀) 1 - lo) (cells x₀) =
+      record { plant0 = r .first; plant1 = omega (arith, r .first); depots = λ i h l. refl; demands = λ j h l. refl } in
+      record {
+        swinging = r .swinging;
+        at = t;
+        worth = r .worth;
+        plan =
+            plan-at (row n (cells x₀) 0 + row n (cells x₀) 1 - lo) two t (omega (arith, both lo (r .order))) (r .swinging .long-x) (r .worth);
+        behind = omega arith;
+      }
+
+  module _ {x p kept : List ℕ} {y value : ℕ} {b : Incumbent} (s : Standing m n cost cap x₀ x p kept y value b) where
+    wide : (i j : ℕ) → i < m → j < n → col m (cells x) j ≤ cells cap i j
+    wide i j h l = omega (arith, s .at .demands j (omega arith) l, r .wide i j h l)
+
+    -- the least freight at y
+    pub here : y ≤ hi → curveFrom m n cost x₀ y ≡ value
+    here h =
+        least-at m n (cells cost) (row n (cells x₀)) (col m (cells x₀)) (row n (cells x₀) 0 + row n (cells x₀) 1) y
+        (row n (cells x₀) 0 + row n (cells x₀) 1 - y) (freight m n (cells cost) (cells x)) two
+        (slack-least m n two (cells cost) (row n (cells x₀)) (col m (cells x₀)) (cells cap) (λ i. get p i) (λ j. get p (32 + j)) (r .wide) (cells x) y
+        (row n (cells x₀) 0 + row n (cells x₀) 1 - y) (s .at) (s .swinging .sound .slack))
+        (omega (arith, both y h))
+        ∙ s .worth
+
+    -- 2,000,000 for each of 256,000 drums at most
+    pub value-most : value ≤ 512000000000
+    value-most =
+        omega (
+          arith,
+          s .worth,
+          freight-most m n 2000000 (cells cost) (cells x) (s .swinging .sound .costs),
+          rows-cols m n (cells x),
+          sum-ext n (col m (cells x)) (col m (cells x₀)) (λ j h. s .at .demands j (omega arith) h),
+          rows-cols m n (cells x₀),
+          r .few,
+        )
+
+    pub stretch-ready : lo ≤ y → y < hi → StretchReady (net m n cost cap x) p x table y value (hi - y) b
+    stretch-ready l h = record {
+      shift = record {
+        swinging = s .swinging;
+        some = omega arith;
+        left = omega (arith, s .at .plant1, r .first, r .within);
+        wide = wide;
+      };
+      few = omega (arith, r .short);
+      split = s .at .plant0;
+      value = s .worth;
+      start = omega (arith, value-most);
+      entries = omega (arith, r .entries);
+      small = λ t g. r .small (y + t) (omega arith) (omega arith);
+      behind = s .behind;
+    }
+
+    -- the stretch is a straight line of the curve
+    module _ {kept' p' x' : List ℕ} {d gain loss : ℕ} {b' : Incumbent} (low : lo ≤ y) (top : y < hi)
+      (q : StretchDone (net m n cost cap x) p table y value (hi - y) b kept p' x' kept' d gain loss b') where
+      most : y + d ≤ hi
+      most = omega (arith, q .over .most)
+
+      next-at : At m n (row n (cells x₀)) (col m (cells x₀)) (y + d) (row n (cells x₀) 0 + row n (cells x₀) 1 - y - d) (cells x')
+      next-at = q .next (row n (cells x₀)) (col m (cells x₀)) (row n (cells x₀) 0 + row n (cells x₀) 1 - y) (s .at)
+
+      pub stretch-line : Straight (curveFrom m n cost x₀) y gain loss d
+      stretch-line t h =
+          let w =
+          line m n two (cells cost) (row n (cells x₀)) (col m (cells x₀)) (cells cap) (λ i. get p' i) (λ j. get p' (32 + j)) (r .wide) (cells x) (cells x') y
+          (row n (cells x₀) 0 + row n (cells x₀) 1 - y) d t (q .some) h (omega (arith, both (y + d) most)) (q .over .steps) (s .at) next-at (q .over .old)
+          (q .over .new) in
+          let e : curveFrom m n cost x₀ (y + t) ≡ w .0 =
+          least-at m n (cells cost) (row n (cells x₀)) (col m (cells x₀)) (row n (cells x₀) 0 + row n (cells x₀) 1) (y + t)
+          (row n (cells x₀) 0 + row n (cells x₀) 1 - y - t) (w .0) two (w .1) (omega (arith, both (y + d) most)) in
+          let e' : loss * t ≡ get p' 0 * t = ap (λ k. k * t) (q .down) in
+          let e'' : gain * t ≡ get p' 1 * t = ap (λ k. k * t) (q .up) in
+          omega (arith, w .2, s .worth, here (omega arith))
+
+      -- the incumbent is of a split up to y + d
+      pub behind-next : b' .split ≤ y + d
+      behind-next = elim (decLt y (b' .split)) [ yes h ↦ q .new h .0 | no h ↦ omega arith ]
+
+      -- the plan that is kept is the incumbent's
+      pub plan-next : PlanAt m n (cells cost) (row n (cells x₀)) (col m (cells x₀)) (b' .split) (b' .freight) kept'
+      plan-next = elim (decLt y (b' .split)) [
+        | yes h ↦
+          let k = q .new h .1 in
+          plan-at (row n (cells x₀) 0 + row n (cells x₀) 1 - y - (b' .split - y)) two
+          (k .at (row n (cells x₀)) (col m (cells x₀)) (row n (cells x₀) 0 + row n (cells x₀) 1 - y) (s .at))
+          (omega (arith, both (y + d) most, q .new h .0)) (k .long) (k .value)
+        | no h ↦ let o = q .same (omega arith) in rw (o .0, o .1) (s .plan)
+      ]
+
+      pub stand-next : {value' : ℕ} → value' + loss * d ≡ value + gain * d → Standing m n cost cap x₀ x' p' kept' (y + d) value' b'
+      stand-next {value'} e =
+          let sw = q .over .swinging in
+          let z : row n (cells x₀) 0 + row n (cells x₀) 1 - y - d ≡ row n (cells x₀) 0 + row n (cells x₀) 1 - (y + d) = omega arith in
+          record {
+            swinging = subst (λ (P : ℕ). Swinging (net m n cost cap x') P p' x') (sym (sw .one)) sw;
+            at = subst (λ (w : ℕ). At m n (row n (cells x₀)) (col m (cells x₀)) (y + d) w (cells x')) z next-at;
+            worth = q .value ∙ sym (along-is value gain loss d value' e);
+            plan = plan-next;
+            behind = behind-next;
+          }

@@ -1,0 +1,148 @@
+-- `transport::search::explore` meets its contract. Assumes nothing.
+use mathlib.Core.Path.{_≡_, refl}
+use mathlib.Core.Logic.{⊎-elim}
+use Prim.Native.Nat.{ℕ, _+_, _*_, _-_, _≤_, _<_}
+use native.Mathlib.Omega.{arith}
+use lib.ListN.{length, getD, length-replicate, getD-replicate}
+use Rattle.transport.specs.Sum.{sum}
+use Rattle.transport.specs.engine.Path.{net, book, get}
+use Rattle.transport.specs.engine.Search.{Searching}
+use Rattle.transport.proofs.Settle.{marks-free, counted, label-near, relax-ready, search-start, search-step, search-less, search-found, search-stuck}
+use borrow.Author.Needs.{needs}
+use Rattle.transport.proofs.search.explore.Statement.{statement}
+use Rattle.transport.proofs.search.explore.Tie as tie
+use Rattle.transport.proofs.search.explore.Reads as reads
+use Rattle.transport.proofs.search.explore.Lts as lts
+use Rattle.transport.proofs.search.nearest.Reads as nearest-reads
+use Rattle.transport.proofs.search.relax.Reads as relax-reads
+
+abbrev Inv-loop : tie.InvT-loop
+Inv-loop m n cost x cap pot room start limit dist₀ prev₀ hops₀ width₀ done₀ dist prev hops width done = Searching (net m n cost cap x) pot room start limit (book dist prev hops width) done
+
+abbrev μ-loop : tie.MeasureT-loop
+μ-loop m n cost x cap pot room start limit dist₀ prev₀ hops₀ width₀ done₀ dist prev hops width done = 96 - sum 96 (λ v. get done v)
+
+mul-dist : tie.Need-mul-dist Inv-loop μ-loop
+mul-dist c = search needs
+
+element-copy-out-dist : tie.Need-element-copy-out-dist Inv-loop μ-loop
+element-copy-out-dist c = search needs
+
+mul-dist-2 : tie.Need-mul-dist-2 Inv-loop μ-loop
+mul-dist-2 c = search needs
+
+element-write-dist : tie.Need-element-write-dist Inv-loop μ-loop
+element-write-dist c = search needs
+
+mul-hops : tie.Need-mul-hops Inv-loop μ-loop
+mul-hops c = search needs
+
+element-write-hops : tie.Need-element-write-hops Inv-loop μ-loop
+element-write-hops c = search needs
+
+mul-width : tie.Need-mul-width Inv-loop μ-loop
+mul-width c = search needs
+
+element-write-width : tie.Need-element-write-width Inv-loop μ-loop
+element-write-width c = search needs
+
+loop-holds : tie.Need-loop-holds Inv-loop μ-loop
+loop-holds c = search-start (c .before .pre .0) (c .before .pre .1) (length-replicate {A = ℕ} 96 0) (λ v h. getD-replicate {A = ℕ} 96 v 0 0 h)
+
+nearest-requires : tie.Need-nearest-requires Inv-loop μ-loop
+nearest-requires c κs = c .before .before .loop .inv .low
+
+returns : tie.Need-returns Inv-loop μ-loop
+returns c = search-stuck (c .before .before .before .before .before .before .pre .0 .sound) (c .before .before .before .before .loop .inv) (c .before .nearest .ensures) (c .if1 .taken)
+
+mul-if2 : tie.Need-mul-if2 Inv-loop μ-loop
+mul-if2 c = search needs
+
+element-copy-out-if2 : tie.Need-element-copy-out-if2 Inv-loop μ-loop
+element-copy-out-if2 c = search needs
+
+returns-2 : tie.Need-returns-2 Inv-loop μ-loop
+returns-2 c =
+    let near = c .before .before .before .nearest .ensures in
+    search-found (c .before .before .before .before .before .before .before .before .pre .0 .sound) (c .before .before .before .before .before .before .loop .inv) near (omega (arith, near .bound, c .before .before .if1 .left)) (c .if2 .taken)
+
+mul-done : tie.Need-mul-done Inv-loop μ-loop
+mul-done c = search needs
+
+array-write-done : tie.Need-array-write-done Inv-loop μ-loop
+array-write-done c = search needs
+
+mul-base : tie.Need-mul-base Inv-loop μ-loop
+mul-base c = search needs
+
+element-copy-out-base : tie.Need-element-copy-out-base Inv-loop μ-loop
+element-copy-out-base c = search needs
+
+mul-hop : tie.Need-mul-hop Inv-loop μ-loop
+mul-hop c = search needs
+
+element-copy-out-hop : tie.Need-element-copy-out-hop Inv-loop μ-loop
+element-copy-out-hop c = search needs
+
+add-hop : tie.Need-add-hop Inv-loop μ-loop
+add-hop c =
+    let near = c .before .before .before .before .before .nearest .ensures in
+    let hv : c .before .before .before .before .before .nearest .result < 96 = omega (arith, near .bound, c .before .before .before .before .if1 .left) in
+    omega (arith, label-near (c .before .before .before .before .before .before .before .before .before .before .pre .0 .sound) (c .before .before .before .before .before .before .before .before .loop .inv) hv (near .fresh hv .1) .1)
+
+mul-wide : tie.Need-mul-wide Inv-loop μ-loop
+mul-wide c = search needs
+
+element-copy-out-wide : tie.Need-element-copy-out-wide Inv-loop μ-loop
+element-copy-out-wide c = search needs
+
+relax-requires : tie.Need-relax-requires Inv-loop μ-loop
+relax-requires c κs =
+    let near = c .before .before .before .before .before .before .before .before .before .before .nearest .ensures in
+    let hv : c .before .before .before .before .before .before .before .before .before .before .nearest .result < 96 = omega (arith, near .bound, c .before .before .before .before .before .before .before .before .before .if1 .left) in
+    relax-ready (c .before .before .before .before .before .before .before .before .before .before .before .before .before .before .before .pre .0 .sound) (c .before .before .before .before .before .before .before .before .before .before .before .before .before .loop .inv) hv (near .fresh hv .1)
+
+loop-less : tie.Need-loop-less Inv-loop μ-loop
+loop-less c =
+    let near = c .before .before .before .before .before .before .before .before .before .before .before .nearest .ensures in
+    let hv : c .before .before .before .before .before .before .before .before .before .before .before .nearest .result < 96 = omega (arith, near .bound, c .before .before .before .before .before .before .before .before .before .before .if1 .left) in
+    search-less (c .before .before .before .before .before .before .before .before .before .before .before .before .before .before .before .before .pre .0 .sound) (c .before .before .before .before .before .before .before .before .before .before .before .before .before .before .loop .inv) hv near (omega (arith, c .before .before .before .before .before .before .before .before .if2 .left)) (c .relax .ensures)
+
+loop-again : tie.Need-loop-again Inv-loop μ-loop
+loop-again c =
+    let near = c .before .before .before .before .before .before .before .before .before .before .before .nearest .ensures in
+    let hv : c .before .before .before .before .before .before .before .before .before .before .before .nearest .result < 96 = omega (arith, near .bound, c .before .before .before .before .before .before .before .before .before .before .if1 .left) in
+    search-step (c .before .before .before .before .before .before .before .before .before .before .before .before .before .before .before .before .pre .0 .sound) (c .before .before .before .before .before .before .before .before .before .before .before .before .before .before .loop .inv) hv near (omega (arith, c .before .before .before .before .before .before .before .before .if2 .left)) (c .relax .ensures)
+
+pub explore-spec : {M : Type 1} → statement M
+explore-spec =
+    tie.close
+    (tie.spec
+    Inv-loop
+    μ-loop
+    mul-dist
+    element-copy-out-dist
+    mul-dist-2
+    element-write-dist
+    mul-hops
+    element-write-hops
+    mul-width
+    element-write-width
+    loop-holds
+    nearest-requires
+    returns
+    mul-if2
+    element-copy-out-if2
+    returns-2
+    mul-done
+    array-write-done
+    mul-base
+    element-copy-out-base
+    mul-hop
+    element-copy-out-hop
+    add-hop
+    mul-wide
+    element-copy-out-wide
+    relax-requires
+    loop-less
+    loop-again)

@@ -1,0 +1,111 @@
+-- `transport::send::send` meets its contract. Assumes nothing.
+use mathlib.Core.Path.{_≡_, refl}
+use Prim.Native.Nat.{ℕ, _+_, _*_, _-_, _≤_, _<_}
+use native.Mathlib.Omega.{arith}
+use Rattle.transport.proofs.Deliver.{lower-ready, push-ready, pushed, delivered}
+use borrow.Author.Needs.{needs}
+use Rattle.transport.proofs.send.send.Statement.{statement}
+use Rattle.transport.proofs.send.send.Tie as tie
+use Rattle.transport.proofs.send.send.Reads as reads
+use Rattle.transport.proofs.send.send.Lts as lts
+use Rattle.transport.proofs.search.search.Reads as search-reads
+use Rattle.transport.proofs.search.smaller.Reads as smaller-reads
+use Rattle.transport.proofs.send.lower.Reads as lower-reads
+use Rattle.transport.proofs.send.push.Reads as push-reads
+
+search-requires : tie.Need-search-requires
+search-requires c κs = search needs
+
+returns : tie.Need-returns
+returns c =
+    let q = c .before .search .ensures in
+    record {
+      bound = q .bound;
+      found = λ h. absurd (omega (arith, c .if1 .taken));
+      none = λ e. record { labels = _; stuck = q .stuck e; same-x = refl; same-p = refl };
+    }
+
+mul-smaller : tie.Need-mul-smaller
+mul-smaller c = search needs
+
+array-read-smaller : tie.Need-array-read-smaller
+array-read-smaller c = search needs
+
+mul-smaller-2 : tie.Need-mul-smaller-2
+mul-smaller-2 c = search needs
+
+element-copy-out-smaller : tie.Need-element-copy-out-smaller
+element-copy-out-smaller c = search needs
+
+smaller-requires : tie.Need-smaller-requires
+smaller-requires c κs = search needs
+
+mul-push : tie.Need-mul-push
+mul-push c = search needs
+
+array-read-push : tie.Need-array-read-push
+array-read-push c = search needs
+
+push-requires : tie.Need-push-requires
+push-requires c κs =
+    let q = c .before .before .before .before .before .before .before .before .before .search .ensures in
+    let hg : c .before .before .before .before .before .before .before .before .before .search .result .goal < 96 = omega (arith, q .bound, c .before .before .before .before .before .before .before .before .if1 .left) in
+    push-ready (c .before .before .before .before .before .before .before .before .before .before .before .before .pre) q hg refl (omega (arith, c .before .before .smaller .ensures))
+
+mul-gap : tie.Need-mul-gap
+mul-gap c = search needs
+
+array-read-gap : tie.Need-array-read-gap
+array-read-gap c = search needs
+
+mul-gap-2 : tie.Need-mul-gap-2
+mul-gap-2 c = search needs
+
+element-copy-out-gap : tie.Need-element-copy-out-gap
+element-copy-out-gap c = search needs
+
+sub-gap : tie.Need-sub-gap
+sub-gap c =
+    let q = c .before .before .before .before .before .before .before .before .before .before .before .search .ensures in
+    let hg : c .before .before .before .before .before .before .before .before .before .before .before .search .result .goal < 96 = omega (arith, q .bound, c .before .before .before .before .before .before .before .before .before .before .if1 .left) in
+    omega (arith, q .low (c .before .before .before .before .before .before .before .before .before .before .before .search .result .goal) hg)
+
+lower-requires : tie.Need-lower-requires
+lower-requires c κs =
+    let q = c .before .before .before .before .before .before .before .before .before .before .before .before .before .search .ensures in
+    let hg : c .before .before .before .before .before .before .before .before .before .before .before .before .before .search .result .goal < 96 = omega (arith, q .bound, c .before .before .before .before .before .before .before .before .before .before .before .before .if1 .left) in
+    lower-ready (c .before .before .before .before .before .before .before .before .before .before .before .before .before .before .before .before .pre) q hg refl
+
+returns-2 : tie.Need-returns-2
+returns-2 c =
+    let q = c .before .before .before .before .before .before .before .before .before .before .before .before .before .before .search .ensures in
+    let small = c .before .before .before .before .before .before .before .smaller .ensures in
+    record {
+      bound = q .bound;
+      found = λ h.
+          delivered (c .before .before .before .before .before .before .before .before .before .before .before .before .before .before .before .before .before .pre) q h refl (c .lower .ensures) small
+          (pushed (c .before .before .before .before .before .before .before .before .before .before .before .before .before .before .before .before .before .pre) q h refl (omega (arith, small)) (c .before .before .before .before .push .ensures));
+      none = λ e. absurd (c .before .before .before .before .before .before .before .before .before .before .before .before .before .if1 .left e);
+    }
+
+pub send-spec : {M : Type 1} → statement M
+send-spec =
+    tie.close
+    (tie.spec
+    search-requires
+    returns
+    mul-smaller
+    array-read-smaller
+    mul-smaller-2
+    element-copy-out-smaller
+    smaller-requires
+    mul-push
+    array-read-push
+    push-requires
+    mul-gap
+    array-read-gap
+    mul-gap-2
+    element-copy-out-gap
+    sub-gap
+    lower-requires
+    returns-2)

@@ -1,0 +1,57 @@
+// Step 1: a cheapest plan at the first split.
+ghost use Prim.Native.Nat.{_<_};
+ghost use Rattle.transport.specs.engine.Path.{net};
+ghost use Rattle.transport.specs.engine.Ship.{Stocked, ShipDone, BaseReady, Enough, BaseDone};
+use super::send::send;
+
+// Sends amount from a source to the terminals that have room; what is left.
+fn ship(
+    m: usize,
+    n: usize,
+    cost: &[u64; 2048],
+    cap: &[u64; 2048],
+    start: usize,
+    amount: u64,
+    x: &mut [u64; 2048],
+    pot: &mut [u64; 96],
+    room: &mut [u64; 96],
+) -> u64
+    requires { ⌜ start < m ⌝ }
+    requires { ⌜ Stocked (net m n (now cost) (now cap) (now x)) (now pot) (now room) (now x) ⌝ }
+    ensures { λ r. ⌜ ShipDone (net m n (now (cost .entry)) (now (cap .entry)) (now (x .entry))) (now (room .entry)) start amount (now (pot .exit)) (now (room .exit)) (now (x .exit)) r ⌝ }
+{
+    let mut left = amount;
+    while 0 < left {
+        let sent = send(m, n, cost, cap, room, start, left, x, pot);
+        let goal = sent.goal;
+        let part = sent.amount;
+        if goal == 96 {
+            return left;
+        }
+        room[goal] = room[goal] - part;
+        left = left - part;
+    }
+    left
+}
+
+// From no amounts at all, sends each source's amount: first the depots, then plant 1, and plant 0 last.
+pub fn plan_base(
+    m: usize,
+    n: usize,
+    cost: &[u64; 2048],
+    cap: &[u64; 2048],
+    amounts: &[u64; 32],
+    x: &mut [u64; 2048],
+    pot: &mut [u64; 96],
+    room: &mut [u64; 96],
+)
+    requires { ⌜ BaseReady (net m n (now cost) (now cap) (now x)) (now room) (now x) ⌝ }
+    requires { ⌜ Enough (net m n (now cost) (now cap) (now x)) (now amounts) (now room) ⌝ }
+    ensures { λ _. ⌜ BaseDone (net m n (now (cost .entry)) (now (cap .entry)) (now (x .entry))) (now (amounts .entry)) (now (room .entry)) (now (pot .exit)) (now (room .exit)) (now (x .exit)) ⌝ }
+{
+    *pot = [800_000_000u64; 96];
+    for k in 0..m {
+        let i = m - 1 - k;
+        ship(m, n, cost, cap, i, amounts[i], x, pot, room);
+    }
+}

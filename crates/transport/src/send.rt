@@ -1,0 +1,96 @@
+// The send: the potentials after a search, the walk back over its path, both together.
+ghost use mathlib.Core.Path.{_≡_};
+ghost use Prim.Native.Nat.{_+_, _-_, _≤_, _<_};
+ghost use lib.ListN.{getD, set};
+ghost use Rattle.transport.specs.engine.Path.{net};
+ghost use Rattle.transport.specs.engine.Send.{LowerReady, Lowered, CarryReady, Carried, Walkable, Walked, SendReady, SendDone};
+use super::search::search;
+use super::search::smaller;
+
+// Lowers the potential of each node that is nearer than gap by what it is nearer.
+pub fn lower(gap: u64, dist: &[u64; 96], pot: &mut [u64; 96])
+    requires { ⌜ LowerReady gap (now dist) (now pot) ⌝ }
+    ensures { λ _. ⌜ Lowered gap (now (dist .entry)) (now (pot .entry)) 96 (now (pot .exit)) ⌝ }
+{
+    for v in 0..96 {
+        pot[v] = smaller(pot[v], dist[v] - gap);
+    }
+}
+
+fn take(k: usize, amount: u64, x: &mut [u64; 2048])
+    requires { ⌜ (k < 2048) × (amount ≤ getD (now x) k 0) ⌝ }
+    ensures { λ _. ⌜ now (x .exit) ≡ set (now (x .entry)) k (getD (now (x .entry)) k 0 - amount) ⌝ }
+{
+    x[k] = x[k] - amount;
+}
+
+fn give(k: usize, amount: u64, x: &mut [u64; 2048])
+    requires { ⌜ (k < 2048) × (getD (now x) k 0 + amount ≤ 4000000000) ⌝ }
+    ensures { λ _. ⌜ now (x .exit) ≡ set (now (x .entry)) k (getD (now (x .entry)) k 0 + amount) ⌝ }
+{
+    x[k] = x[k] + amount;
+}
+
+// Carries amount over the arc from w to v.
+fn carry(v: usize, w: usize, amount: u64, x: &mut [u64; 2048])
+    requires { ⌜ CarryReady v w amount (now x) ⌝ }
+    ensures { λ _. ⌜ Carried v w amount (now (x .entry)) (now (x .exit)) ⌝ }
+{
+    if v < 32 {
+        take(v * 64 + (w - 32), amount, x);
+    } else {
+        give(w * 64 + (v - 32), amount, x);
+    }
+}
+
+// Carries amount over the last count arcs of the path to goal.
+pub fn push(prev: &[usize; 96], count: u64, goal: usize, amount: u64, x: &mut [u64; 2048])
+    requires { ⌜ Walkable (now prev) amount count goal (now x) ⌝ }
+    ensures { λ _. ⌜ Walked (now (prev .entry)) amount count goal (now (x .entry)) (now (x .exit)) ⌝ }
+{
+    let mut v = goal;
+    let mut left = count;
+    while 0 < left {
+        let w = prev[v];
+        carry(v, w, amount, x);
+        v = w;
+        left = left - 1;
+    }
+}
+
+// Where a send went (96: nowhere), and how much.
+pub struct Sent {
+    pub goal: usize,
+    pub amount: u64,
+}
+
+// Sends up to limit along a cheapest path from a source to a node that has room.
+pub fn send(
+    m: usize,
+    n: usize,
+    cost: &[u64; 2048],
+    cap: &[u64; 2048],
+    room: &[u64; 96],
+    start: usize,
+    limit: u64,
+    x: &mut [u64; 2048],
+    pot: &mut [u64; 96],
+) -> Sent
+    requires { ⌜ SendReady (net m n (now cost) (now cap) (now x)) (now pot) (now room) start limit (now x) ⌝ }
+    ensures { λ r. ⌜ SendDone (net m n (now (cost .entry)) (now (cap .entry)) (now (x .entry))) (now (pot .entry)) (now (room .entry)) start limit (now (x .entry)) (now (x .exit)) (now (pot .exit)) (r .goal) (r .amount) ⌝ }
+{
+    let found = search(m, n, cost, x, cap, pot, room, start, limit);
+    let goal = found.goal;
+    if goal == 96 {
+        return Sent { goal, amount: 0 };
+    }
+    let dist = found.dist;
+    let prev = found.prev;
+    let hops = found.hops;
+    let width = found.width;
+    let amount = smaller(width[goal], room[goal]);
+    push(&prev, hops[goal], goal, amount, x);
+    let gap = dist[goal] - pot[goal];
+    lower(gap, &dist, pot);
+    Sent { goal, amount }
+}

@@ -1,0 +1,107 @@
+// Step 3: one stretch of the freight curve, from a split to the next stop (substeps 1° to 3° of report 4.1).
+ghost use Prim.Native.Nat.{_-_};
+ghost use lib.ListN.{getD};
+ghost use Rattle.transport.specs.engine.Path.{net};
+ghost use Rattle.transport.specs.engine.Send.{Walkable};
+ghost use Rattle.transport.specs.engine.Stretch.{ShiftReady, ShiftDone, KeepDone, StretchReady, StretchDone};
+use super::scan::scan;
+use super::search::search;
+use super::search::smaller;
+use super::send::lower;
+use super::send::push;
+use crate::Incumbent;
+
+// The path that drums went over from plant 1 to plant 0, and how many: its arcs, and the node before each node.
+pub struct Path {
+    pub amount: u64,
+    pub count: u64,
+    pub prev: [usize; 96],
+}
+
+// 1° A cheapest path from plant 0 to plant 1. 2° As many drums as its smallest ceiling, and limit at most, go along it.
+fn shift(
+    m: usize,
+    n: usize,
+    cost: &[u64; 2048],
+    cap: &[u64; 2048],
+    limit: u64,
+    x: &mut [u64; 2048],
+    pot: &mut [u64; 96],
+) -> Path
+    requires { ⌜ ShiftReady (net m n (now cost) (now cap) (now x)) (now pot) (now x) limit ⌝ }
+    ensures { λ r. ⌜ ShiftDone (net m n (now (cost .entry)) (now (cap .entry)) (now (x .entry))) (getD (now (pot .entry)) 1 0) limit (now (x .entry)) (now (pot .exit)) (now (x .exit)) (r .prev) (r .count) (r .amount) ⌝ }
+{
+    let mut room = [0u64; 96];
+    room[1] = limit;
+    let found = search(m, n, cost, x, cap, pot, &room, 0, limit);
+    let dist = found.dist;
+    let prev = found.prev;
+    let hops = found.hops;
+    let width = found.width;
+    let amount = smaller(width[1], limit);
+    let count = hops[1];
+    push(&prev, count, 1, amount, x);
+    let gap = dist[1] - pot[1];
+    lower(gap, &dist, pot);
+    Path {
+        amount,
+        count,
+        prev,
+    }
+}
+
+// Keeps the plan at a split beyond y: x with split - y drums moved along the path.
+fn keep(prev: &[usize; 96], count: u64, split: u64, y: u64, x: &[u64; 2048], kept: &mut [u64; 2048])
+    requires { ⌜ Walkable (now prev) (split - y) count 1 (now x) ⌝ }
+    ensures { λ _. ⌜ KeepDone (now (prev .entry)) count split y (now (x .entry)) (now (kept .entry)) (now (kept .exit)) ⌝ }
+{
+    if split <= y {
+        return;
+    }
+    *kept = *x;
+    push(prev, count, 1, split - y, kept);
+}
+
+// How far a stretch went, what each of its drums adds to the freight and takes off it, and the incumbent after it.
+pub struct Moved {
+    pub amount: u64,
+    pub gain: u64,
+    pub loss: u64,
+    pub best: Incumbent,
+}
+
+// One stretch from split y, whose plan x has the given freight, at most limit drums further; the incumbent's plan is kept.
+pub fn stretch(
+    m: usize,
+    n: usize,
+    cost: &[u64; 2048],
+    cap: &[u64; 2048],
+    table: &[u64],
+    y: u64,
+    freight: u64,
+    limit: u64,
+    best: Incumbent,
+    x: &mut [u64; 2048],
+    pot: &mut [u64; 96],
+    kept: &mut [u64; 2048],
+) -> Moved
+    requires { ⌜ StretchReady (net m n (now cost) (now cap) (now x)) (now pot) (now x) (now table) y freight limit best ⌝ }
+    ensures { λ r. ⌜ StretchDone (net m n (now (cost .entry)) (now (cap .entry)) (now (x .entry))) (now (pot .entry)) (now (table .entry)) y freight limit best (now (kept .entry)) (now (pot .exit)) (now (x .exit)) (now (kept .exit)) (r .amount) (r .gain) (r .loss) (r .best) ⌝ }
+{
+    let old = *x;
+    let path = shift(m, n, cost, cap, limit, x, pot);
+    let amount = path.amount;
+    let count = path.count;
+    let prev = path.prev;
+    let gain = pot[1];
+    let loss = pot[0];
+    let held = scan(table, y, amount, freight, gain, loss, best);
+    let split = held.split;
+    keep(&prev, count, split, y, &old, kept);
+    Moved {
+        amount,
+        gain,
+        loss,
+        best: held,
+    }
+}
