@@ -7,3 +7,5 @@ pub mod Rows
 pub mod TestLaws
 pub mod FormLaws
 pub mod Copies
+pub mod Example
+pub mod Cases
