@@ -45,19 +45,18 @@ module _ (f : ℕ → ℕ) (table splits freights : List ℕ) (lo hi : ℕ) wher
     few : count ≤ y - lo
     few = omega (arith, c .number, before-length f lo hi y)
 
+    -- the slices keep their lengths
+    pub climb-splits : length splits' ≡ length splits
+    climb-splits = ap length (c .stops) ∙ written-length (before f lo hi y) splits (omega (arith, few, c .number, c .high))
+
+    pub climb-freights : length freights' ≡ length freights
+    climb-freights =
+        ap length (c .values)
+        ∙ written-length (map f (before f lo hi y)) freights (omega (arith, few, c .number, c .high, map-length f (before f lo hi y)))
+
     -- there is room for one stop more
     pub climb-room : NoteReady count splits' freights'
-    climb-room = record {
-      splits-room = omega (arith, ap length (c .stops), written-length (before f lo hi y) splits (omega (arith, few, c .number, c .high)), few, c .high);
-      freights-room =
-          omega (
-            arith,
-            ap length (c .values),
-            written-length (map f (before f lo hi y)) freights (omega (arith, few, c .number, c .high, map-length f (before f lo hi y))),
-            few,
-            c .high,
-          );
-    }
+    climb-room = record { splits-room = omega (arith, climb-splits, few, c .high); freights-room = omega (arith, climb-freights, few, c .high) }
 
     -- the stops up to y, with y
     pub climb-note : {splits'' freights'' : List ℕ} {r : ℕ} → Noted count y value splits' freights' splits'' freights'' r

@@ -27,3 +27,4 @@ pub mod Freights
 pub mod Climb
 pub mod Stand
 pub mod Advance
+pub mod Ascend

@@ -74,7 +74,11 @@ fn climb(
     ensures { λ r. ⌜ Swept m n (cells (now (cost .entry))) (row n (cells (now (x .entry)))) (col m (cells (now (x .entry)))) lo hi (now (table .entry)) (now (splits .entry)) (now (freights .entry)) (now (splits .exit)) (now (freights .exit)) (now (kept .exit)) (r .split) (r .total) (r .freight) (r .stops) ⌝ }
 {
     let at = lo as usize;
-    let mut best = Incumbent { split: lo, total: freight + table[at], freight };
+    let mut best = Incumbent {
+        split: lo,
+        total: freight + table[at],
+        freight,
+    };
     *kept = *x;
     let mut y = lo;
     let mut value = freight;
@@ -91,6 +95,11 @@ fn climb(
         y = y + moved.amount;
         best = moved.best;
     }
-    count = note(count, hi, value, splits, freights);
-    Curve { split: best.split, total: best.total, freight: best.freight, stops: count }
+    count = note(count, y, value, splits, freights);
+    Curve {
+        split: best.split,
+        total: best.total,
+        freight: best.freight,
+        stops: count,
+    }
 }
