@@ -1,5 +1,5 @@
 -- The climb from the first split to the last, turn by turn. Assumes nothing.
-use mathlib.Core.Path.{_≡_, refl, sym, ap, subst, _∙_}
+use mathlib.Core.Path.{_≡_, sym, ap, _∙_}
 use mathlib.Core.Bool.{Bool}
 use mathlib.Core.List.{List}
 use Prim.Native.Nat.{ℕ, _+_, _-_, _*_, _≤_, _<_}
@@ -7,7 +7,7 @@ use native.Mathlib.Omega.{arith}
 use lib.ListN.{length, getD}
 use Rattle.transport.specs.Plan.{row, col}
 use Rattle.transport.specs.Curve.{bestFrom}
-use Rattle.transport.specs.Sweep.{curveOf, Swept}
+use Rattle.transport.specs.Sweep.{Swept}
 use Rattle.transport.specs.declared.Incumbent.{Incumbent}
 use Rattle.transport.specs.engine.Cells.{cells}
 use Rattle.transport.specs.engine.Path.{net}

@@ -1,14 +1,14 @@
 -- The sweep of a curve, stretch by stretch. Assumes nothing.
-use mathlib.Core.Path.{_≡_, refl, sym, ap, subst, _∙_}
-use mathlib.Core.Bool.{Bool, true, false, cond}
+use mathlib.Core.Path.{_≡_, refl, sym, ap, _∙_}
+use mathlib.Core.Bool.{Bool, true, false}
 use mathlib.Core.List.{List, [], _∷_, _++_, map, append-nil}
-use Prim.Native.Nat.{ℕ, zero, suc, _+_, _-_, _*_, _≤_, _<_}
+use Prim.Native.Nat.{ℕ, _+_, _-_, _*_, _≤_, _<_}
 use native.Mathlib.Omega.{arith}
 use lib.ListN.{length, getD, set, length-append}
 use Rattle.transport.specs.Curve.{isStop, stopsOf, written}
 use Rattle.transport.specs.declared.Incumbent.{Incumbent}
 use Rattle.transport.specs.engine.Scan.{scanned}
-use Rattle.transport.specs.engine.Stops.{Straight, before, stopAt, turned, Best, NoteReady, Noted, Marked, Climbing}
+use Rattle.transport.specs.engine.Stops.{Straight, before, stopAt, turned, NoteReady, Noted, Marked, Climbing}
 use Rattle.transport.proofs.Stops.{before-none, before-stretch, before-length, line-behind, stops-end, written-more, written-length, map-append, map-length, turned-stop}
 use Rattle.transport.proofs.BestSplit.{best-start, best-scan}
 

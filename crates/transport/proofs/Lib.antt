@@ -28,3 +28,4 @@ pub mod Climb
 pub mod Stand
 pub mod Advance
 pub mod Ascend
+pub mod Begin

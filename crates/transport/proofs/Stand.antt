@@ -1,21 +1,19 @@
 -- Where the climb stands: the plan there, its freight, and what the next stretch asks. Assumes nothing.
 use mathlib.Core.Path.{_≡_, refl, sym, ap, subst, _∙_}
 use mathlib.Core.List.{List}
-use Prim.Native.Nat.{ℕ, zero, suc, _+_, _-_, _*_, _≤_, _<_}
+use Prim.Native.Nat.{ℕ, _+_, _-_, _*_, _≤_, _<_}
 use native.Mathlib.Nat.{mul-le-mul}
 use native.Mathlib.Decide.{decLt}
 use native.Mathlib.Omega.{arith}
 use lib.ListN.{length, getD}
-use Rattle.transport.specs.Sum.{sum}
 use Rattle.transport.specs.Plan.{Table, row, col, freight}
-use Rattle.transport.specs.Curve.{amountsAt, leastAt}
-use Rattle.transport.specs.Sweep.{curveOf, PlanAt}
+use Rattle.transport.specs.Sweep.{PlanAt}
 use Rattle.transport.specs.declared.Incumbent.{Incumbent}
 use Rattle.transport.specs.engine.Cells.{cells}
 use Rattle.transport.specs.engine.Path.{net, get}
-use Rattle.transport.specs.engine.Least.{At, Least}
-use Rattle.transport.specs.engine.Sweep.{Swinging, Over}
-use Rattle.transport.specs.engine.Stretch.{ShiftReady, StretchReady, Kept, StretchDone}
+use Rattle.transport.specs.engine.Least.{At}
+use Rattle.transport.specs.engine.Sweep.{Swinging}
+use Rattle.transport.specs.engine.Stretch.{StretchReady, StretchDone}
 use Rattle.transport.specs.engine.Stops.{Straight}
 use Rattle.transport.specs.engine.Climb.{curveFrom, ClimbReady, Standing}
 use Rattle.transport.proofs.Sums.{sum-ext}

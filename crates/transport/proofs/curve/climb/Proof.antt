@@ -1,22 +1,13 @@
 -- `transport::curve::climb` meets its contract. Assumes nothing.
-use mathlib.Core.Path.{_≡_, refl, sym, ap, _∙_}
-use mathlib.Core.List.{List}
-use Prim.Native.Nat.{ℕ, _+_, _*_, _-_, _≤_, _<_}
+use mathlib.Core.Path.{_∙_}
+use Prim.Native.Nat.{_-_, _≤_}
 use native.Mathlib.Omega.{arith}
-use lib.ListN.{length, getD}
 use Rattle.transport.specs.engine.Stops.{Climbing}
 use Rattle.transport.specs.engine.Climb.{curveFrom, Standing}
 use Rattle.transport.proofs.Ascend.{ascend-start, ascend-splits, ascend-freights, ascend-room, ascend-next, ascend-end}
-use Rattle.transport.proofs.Stand.{stand-start, here, value-most, stretch-ready, stretch-line, stand-next, most, gain-most, loss-most, gains-most, losses-most, losses-short, value-next}
-use borrow.Author.Needs.{needs}
+use Rattle.transport.proofs.Stand.{stand-start, value-most, stretch-ready, stand-next, most, gain-most, loss-most, gains-most, losses-most, losses-short, value-next}
 use Rattle.transport.proofs.curve.climb.Statement.{statement}
 use Rattle.transport.proofs.curve.climb.Tie as tie
-use Rattle.transport.proofs.curve.climb.Reads as reads
-use Rattle.transport.proofs.curve.climb.Lts as lts
-use Rattle.transport.proofs.curve.mark.Reads as mark-reads
-use Rattle.transport.proofs.curve.note.Reads as note-reads
-use Rattle.transport.proofs.curve.turn.Reads as turn-reads
-use Rattle.transport.proofs.stretch.stretch.Reads as stretch-reads
 
 abbrev Inv-loop : tie.InvT-loop
 Inv-loop m n cost cap lo hi freight table splits₀ freights₀ x₀ pot₀ kept₀ at best₀ y₀ value₀ count₀ rise₀ fall₀ splits freights x pot kept best y value count rise fall =
