@@ -9,3 +9,4 @@ pub mod FormLaws
 pub mod Copies
 pub mod Example
 pub mod Cases
+pub mod Solve

@@ -18,8 +18,8 @@ use Rattle.planner.specs.Plans.{rowSum, columnSum, freightOf, MeetsTP, P
 use Rattle.planner.proofs.Passed.{Balanced}
 
 -- the first two, and the rest
-sum-two : (m : ℕ) (g : ℕ → ℕ) → 2 ≤ m → sum m g ≡ g 0 + (g 1 + sum (m - 2) (λ k. g (2 + k)))
-sum-two m g l =
+pub first-two : (m : ℕ) (g : ℕ → ℕ) → 2 ≤ m → sum m g ≡ g 0 + (g 1 + sum (m - 2) (λ k. g (2 + k)))
+first-two m g l =
     ap (λ (k : ℕ). sum k g) (omega arith) ∙ sum-front (suc (m - 2)) g
     ∙ ap (λ (a : ℕ). g 0 + a) (sum-front (m - 2) (λ i. g (suc i))
     ∙ ap (λ (a : ℕ). g 1 + a) (sum-ext (m - 2) (λ i. g (suc (suc i))) (λ i. g (2 + i)) (λ i h. ap g (omega arith))))
@@ -39,7 +39,7 @@ balance c x l p =
     let q : Plan (c .m) (c .n) (rowSum c x) (demand c) x = record { cells = p .cells; rows = λ i h. refl; columns = p .terminals } in
     ap (λ (a : ℕ). rowSum c x 0 + (rowSum c x 1 + a))
     (sum-ext (c .m - 2) (λ k. supply c (2 + k)) (λ k. rowSum c x (2 + k)) (λ k h. sym (p .depots (2 + k) (omega arith) (omega arith))))
-    ∙ sym (sum-two (c .m) (rowSum c x) l) ∙ exists.plan-balanced (c .m) (c .n) (rowSum c x) (demand c) x q
+    ∙ sym (first-two (c .m) (rowSum c x) l) ∙ exists.plan-balanced (c .m) (c .n) (rowSum c x) (demand c) x q
 
 -- its split is one of the splits, and it is a plan there
 pub record SplitOf (c : Case) (x : List ℕ) : Type 0 where
@@ -96,7 +96,7 @@ sent-all : (c : Case) (y : ℕ) → 2 ≤ c .m → depotStock c ≤ allDemand c 
     → sum (c .m) (amountsAt (made c) (λ i. supply c i) y) ≡ allDemand c
 unfolding depotStock made amountsAt
 sent-all c y l h g =
-    sum-two (c .m) (amountsAt (made c) (λ i. supply c i) y) l
+    first-two (c .m) (amountsAt (made c) (λ i. supply c i) y) l
     ∙ ap (λ (a : ℕ). y + (allDemand c - depotStock c - y + a))
     (sum-ext (c .m - 2) (λ k. amountsAt (made c) (λ i. supply c i) y (2 + k)) (λ k. supply c (2 + k)) (λ k u. depot (2 + k) (omega arith)))
     ∙ omega arith

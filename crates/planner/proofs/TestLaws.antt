@@ -180,7 +180,7 @@ module _ (s d : List ℕ) (all stock : ℕ) (ea : all ≡ sum (length d) (λ j. 
   splits-above h l = rw (← ea, ← es, le-ltb all stock h, lt-ltb (getD s 0 0 + getD s 1 0) (all - stock) l) refl
 
   pub splits-between : stock ≤ all → all - stock ≤ getD s 0 0 + getD s 1 0
-      → splitsOf s d ≡ Between (all - stock - getD s 1 0) (min (getD s 0 0) (all - stock))
+      → splitsOf s d ≡ Between (all - stock - getD s 1 0) (min (getD s 0 0) (all - stock)) (all - stock)
   unfolding splitsOf
   splits-between h l = rw (← ea, ← es, le-ltb all stock h, le-ltb (getD s 0 0 + getD s 1 0) (all - stock) l) refl
 

@@ -6,3 +6,4 @@ pub mod Size
 pub mod Verdict
 pub mod Copy
 pub mod Answer
+pub mod Ready

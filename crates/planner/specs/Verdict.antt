@@ -42,14 +42,14 @@ AtMost limit l = (k : ℕ) → k < length l → getD l k 0 ≤ limit
 unfoldable pub amountsRefusal : List ℕ → List ℕ → Option Outcome
 amountsRefusal s d = refuseAt 4 (firstFrom (λ p. ltb 4000 (getD (s ++ d) (p - 1) 0)) 1 (length s + length d))
 
--- ℓ and u, or the balance refusal that bars them
+-- ℓ, u and d, or the balance refusal that bars them
 unfoldable pub splitsOf : List ℕ → List ℕ → Splits
 splitsOf s d =
     let all = sum (length d) (λ j. getD d j 0) in
     let stock = sum (length s - 2) (λ k. getD s (2 + k) 0) in
     cond (ltb all stock) (Unbalanced 7)
     (cond (ltb (getD s 0 0 + getD s 1 0) (all - stock)) (Unbalanced 8)
-    (Between (all - stock - getD s 1 0) (min (getD s 0 0) (all - stock))))
+    (Between (all - stock - getD s 1 0) (min (getD s 0 0) (all - stock)) (all - stock)))
 
 -- tests 9 and 10 of the entries at the splits lo to hi
 unfoldable pub entriesRefusal : List ℕ → ℕ → ℕ → Option Outcome

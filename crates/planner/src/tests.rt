@@ -88,9 +88,9 @@ pub fn sum_of(s: &[u64]) -> u64
     total
 }
 
-// ℓ and u, or the number of the refusal for balance.
+// ℓ, u and d, or the number of the refusal for balance.
 pub enum Splits {
-    Between(u64, u64),
+    Between(u64, u64, u64),
     Unbalanced(u64),
 }
 
@@ -171,7 +171,7 @@ pub fn splits_of(supplies: &[u64], demands: &[u64]) -> Splits
     if first + second < made {
         return Splits::Unbalanced(8);
     }
-    Splits::Between(excess(made, second), smaller(first, made))
+    Splits::Between(excess(made, second), smaller(first, made), made)
 }
 
 // Tests 9 and 10, at the splits lo to hi.

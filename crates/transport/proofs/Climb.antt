@@ -1,14 +1,14 @@
 -- The sweep of a curve, stretch by stretch. Assumes nothing.
-use mathlib.Core.Path.{_≡_, refl, sym, ap, subst, _∙_}
-use mathlib.Core.Bool.{Bool, true, false, cond}
+use mathlib.Core.Path.{_≡_, refl, sym, ap, _∙_}
+use mathlib.Core.Bool.{Bool, true, false}
 use mathlib.Core.List.{List, [], _∷_, _++_, map, append-nil}
-use Prim.Native.Nat.{ℕ, zero, suc, _+_, _-_, _*_, _≤_, _<_}
+use Prim.Native.Nat.{ℕ, _+_, _-_, _*_, _≤_, _<_}
 use native.Mathlib.Omega.{arith}
 use lib.ListN.{length, getD, set, length-append}
 use Rattle.transport.specs.Curve.{isStop, stopsOf, written}
 use Rattle.transport.specs.declared.Incumbent.{Incumbent}
 use Rattle.transport.specs.engine.Scan.{scanned}
-use Rattle.transport.specs.engine.Stops.{Straight, before, stopAt, turned, Best, NoteReady, Noted, Marked, Climbing}
+use Rattle.transport.specs.engine.Stops.{Straight, before, stopAt, turned, NoteReady, Noted, Marked, Climbing}
 use Rattle.transport.proofs.Stops.{before-none, before-stretch, before-length, line-behind, stops-end, written-more, written-length, map-append, map-length, turned-stop}
 use Rattle.transport.proofs.BestSplit.{best-start, best-scan}
 
@@ -45,19 +45,18 @@ module _ (f : ℕ → ℕ) (table splits freights : List ℕ) (lo hi : ℕ) wher
     few : count ≤ y - lo
     few = omega (arith, c .number, before-length f lo hi y)
 
+    -- the slices keep their lengths
+    pub climb-splits : length splits' ≡ length splits
+    climb-splits = ap length (c .stops) ∙ written-length (before f lo hi y) splits (omega (arith, few, c .number, c .high))
+
+    pub climb-freights : length freights' ≡ length freights
+    climb-freights =
+        ap length (c .values)
+        ∙ written-length (map f (before f lo hi y)) freights (omega (arith, few, c .number, c .high, map-length f (before f lo hi y)))
+
     -- there is room for one stop more
     pub climb-room : NoteReady count splits' freights'
-    climb-room = record {
-      splits-room = omega (arith, ap length (c .stops), written-length (before f lo hi y) splits (omega (arith, few, c .number, c .high)), few, c .high);
-      freights-room =
-          omega (
-            arith,
-            ap length (c .values),
-            written-length (map f (before f lo hi y)) freights (omega (arith, few, c .number, c .high, map-length f (before f lo hi y))),
-            few,
-            c .high,
-          );
-    }
+    climb-room = record { splits-room = omega (arith, climb-splits, few, c .high); freights-room = omega (arith, climb-freights, few, c .high) }
 
     -- the stops up to y, with y
     pub climb-note : {splits'' freights'' : List ℕ} {r : ℕ} → Noted count y value splits' freights' splits'' freights'' r

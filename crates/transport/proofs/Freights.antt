@@ -1,13 +1,13 @@
 -- The freight of a plan, row by row, and how large it can be. Assumes nothing.
-use mathlib.Core.Path.{_≡_, refl, sym, ap, _∙_}
+use mathlib.Core.Path.{_≡_, refl, sym}
 use Prim.Native.Nat.{ℕ, zero, suc, _+_, _*_, _≤_, _<_}
-use native.Mathlib.Nat.{mul-le-mul, mul-le-mul-left, mul-le-mul-right}
+use native.Mathlib.Nat.{mul-le-mul, mul-le-mul-right}
 use native.Mathlib.Numerals.{add-one}
 use native.Mathlib.Omega.{arith}
 use Rattle.transport.specs.Sum.{sum}
 use Rattle.transport.specs.Plan.{Table, row, total, freight}
 use Rattle.transport.specs.engine.Freight.{FreightReady}
-use Rattle.transport.proofs.Sums.{sum-zero, sum-suc, sum-mono, sum-scale}
+use Rattle.transport.proofs.Sums.{sum-suc, sum-mono, sum-scale}
 
 -- one term more, as a loop counts
 pub sum-more : (k : ℕ) (f : ℕ → ℕ) (s : ℕ) → s ≡ sum k f → s + f k ≡ sum (k + 1) f

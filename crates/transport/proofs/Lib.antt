@@ -29,3 +29,5 @@ pub mod Freights
 pub mod Climb
 pub mod Stand
 pub mod Advance
+pub mod Ascend
+pub mod Begin

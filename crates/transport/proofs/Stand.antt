@@ -1,21 +1,19 @@
 -- Where the climb stands: the plan there, its freight, and what the next stretch asks. Assumes nothing.
 use mathlib.Core.Path.{_≡_, refl, sym, ap, subst, _∙_}
 use mathlib.Core.List.{List}
-use Prim.Native.Nat.{ℕ, zero, suc, _+_, _-_, _*_, _≤_, _<_}
-use native.Mathlib.Nat.{mul-le-mul-left}
+use Prim.Native.Nat.{ℕ, _+_, _-_, _*_, _≤_, _<_}
+use native.Mathlib.Nat.{mul-le-mul}
 use native.Mathlib.Decide.{decLt}
 use native.Mathlib.Omega.{arith}
 use lib.ListN.{length, getD}
-use Rattle.transport.specs.Sum.{sum}
 use Rattle.transport.specs.Plan.{Table, row, col, freight}
-use Rattle.transport.specs.Curve.{amountsAt, leastAt}
-use Rattle.transport.specs.Sweep.{curveOf, PlanAt}
+use Rattle.transport.specs.Sweep.{PlanAt}
 use Rattle.transport.specs.declared.Incumbent.{Incumbent}
 use Rattle.transport.specs.engine.Cells.{cells}
 use Rattle.transport.specs.engine.Path.{net, get}
-use Rattle.transport.specs.engine.Least.{At, Least}
-use Rattle.transport.specs.engine.Sweep.{Swinging, Over}
-use Rattle.transport.specs.engine.Stretch.{ShiftReady, StretchReady, Kept, StretchDone}
+use Rattle.transport.specs.engine.Least.{At}
+use Rattle.transport.specs.engine.Sweep.{Swinging}
+use Rattle.transport.specs.engine.Stretch.{StretchReady, StretchDone}
 use Rattle.transport.specs.engine.Stops.{Straight}
 use Rattle.transport.specs.engine.Climb.{curveFrom, ClimbReady, Standing}
 use Rattle.transport.proofs.Sums.{sum-ext}
@@ -102,8 +100,8 @@ module _ {m n : ℕ} {cost cap x₀ p₀ : List ℕ} {lo hi v : ℕ} {table spli
 
     -- the stretch is a straight line of the curve
     module _ {kept' p' x' : List ℕ} {d gain loss : ℕ} {b' : Incumbent} (low : lo ≤ y) (top : y < hi)
-      (q : StretchDone (net m n cost cap x) p table y value (hi - y) b kept p' x' kept' d gain loss b') where
-      most : y + d ≤ hi
+        (q : StretchDone (net m n cost cap x) p table y value (hi - y) b kept p' x' kept' d gain loss b') where
+      pub most : y + d ≤ hi
       most = omega (arith, q .over .most)
 
       next-at : At m n (row n (cells x₀)) (col m (cells x₀)) (y + d) (row n (cells x₀) 0 + row n (cells x₀) 1 - y - d) (cells x')
@@ -130,10 +128,10 @@ module _ {m n : ℕ} {cost cap x₀ p₀ : List ℕ} {lo hi v : ℕ} {table spli
       pub plan-next : PlanAt m n (cells cost) (row n (cells x₀)) (col m (cells x₀)) (b' .split) (b' .freight) kept'
       plan-next = elim (decLt y (b' .split)) [
         | yes h ↦
-          let k = q .new h .1 in
-          plan-at (row n (cells x₀) 0 + row n (cells x₀) 1 - y - (b' .split - y)) two
-          (k .at (row n (cells x₀)) (col m (cells x₀)) (row n (cells x₀) 0 + row n (cells x₀) 1 - y) (s .at))
-          (omega (arith, both (y + d) most, q .new h .0)) (k .long) (k .value)
+            let k = q .new h .1 in
+            plan-at (row n (cells x₀) 0 + row n (cells x₀) 1 - y - (b' .split - y)) two
+            (k .at (row n (cells x₀)) (col m (cells x₀)) (row n (cells x₀) 0 + row n (cells x₀) 1 - y) (s .at))
+            (omega (arith, both (y + d) most, q .new h .0)) (k .long) (k .value)
         | no h ↦ let o = q .same (omega arith) in rw (o .0, o .1) (s .plan)
       ]
 
@@ -148,3 +146,25 @@ module _ {m n : ℕ} {cost cap x₀ p₀ : List ℕ} {lo hi v : ℕ} {table spli
             plan = plan-next;
             behind = behind-next;
           }
+
+      pub gain-most : gain ≤ 800000000
+      gain-most = omega (arith, q .up, q .over .swinging .sound .high 1 (omega arith))
+
+      pub loss-most : loss ≤ 800000000
+      loss-most = omega (arith, q .down, q .over .swinging .sound .high 0 (omega arith))
+
+      drums : d ≤ 4000
+      drums = omega (arith, most, r .short)
+
+      -- what the drums add, and what they take off
+      pub gains-most : gain * d ≤ 3200000000000
+      gains-most = mul-le-mul {n₂ = 800000000} {m₂ = 4000} gain-most drums
+
+      pub losses-most : loss * d ≤ 3200000000000
+      losses-most = mul-le-mul {n₂ = 800000000} {m₂ = 4000} loss-most drums
+
+      pub losses-short : loss * d ≤ value + gain * d
+      losses-short = omega (arith, stretch-line d (omega arith), here (omega arith))
+
+      pub value-next : value + gain * d - loss * d + loss * d ≡ value + gain * d
+      value-next = omega (arith, losses-short)

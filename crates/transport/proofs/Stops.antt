@@ -1,10 +1,9 @@
 -- The stops passed so far, stretch by stretch, and how they stand in the lent slices. Assumes nothing.
-use mathlib.Core.Path.{_≡_, refl, sym, ap, ap₂, subst, _∙_}
-use mathlib.Core.Logic.{_≢_}
-use mathlib.Core.Bool.{Bool, true, false, cond, not, _||_}
-use mathlib.Core.List.{List, [], _∷_, _++_, map, append-nil, append-assoc}
+use mathlib.Core.Path.{_≡_, refl, sym, ap, subst, _∙_}
+use mathlib.Core.Bool.{Bool, true, false, not, _||_}
+use mathlib.Core.List.{List, [], _∷_, _++_, map, append-assoc}
 use Prim.Native.Nat.{ℕ, zero, suc, _+_, _-_, _*_, _≤_, _<_}
-use native.Mathlib.Nat.{sub-self, le-trans}
+use native.Mathlib.Nat.{sub-self}
 use native.Mathlib.Decide.{ℕ-discrete}
 use native.Mathlib.Omega.{arith}
 use lib.Dec.{eqb}
@@ -13,8 +12,8 @@ use lib.Seq.{drop-cons, set-append-seam}
 use borrow.Author.Tests.{eq-eqb, ne-eqb}
 use Rattle.transport.specs.Listing.{upFrom, select}
 use Rattle.transport.specs.Curve.{bends, isStop, stopsOf, written}
-use Rattle.transport.specs.engine.Stops.{Straight, before, stopAt, turned, Noted, Marked, Climbing}
-use Rattle.transport.proofs.Members.{select-append, select-none, select-length, select-yes, upFrom-out, upFrom-split, upFrom-length}
+use Rattle.transport.specs.engine.Stops.{Straight, before, stopAt, turned}
+use Rattle.transport.proofs.Members.{select-append, select-none, select-length, upFrom-out, upFrom-split, upFrom-length}
 
 -- ---- one split
 

@@ -2,11 +2,13 @@
 ghost use mathlib.Core.Path.{_≡_};
 ghost use Prim.Native.Nat.{_+_, _*_, _≤_};
 ghost use lib.ListN.{getD};
-ghost use Rattle.transport.specs.Plan.{row, col};
-ghost use Rattle.transport.specs.Sweep.{Swept};
+ghost use Rattle.transport.specs.Plan.{byRow, row, col};
+ghost use Rattle.transport.specs.Sweep.{amountIn, demandIn, SweepReady, Swept};
 ghost use Rattle.transport.specs.engine.Cells.{cells};
 ghost use Rattle.transport.specs.engine.Stops.{NoteReady, Noted, Marked, turned};
 ghost use Rattle.transport.specs.engine.Climb.{ClimbReady};
+use super::base::plan_base;
+use super::freight::freight_of;
 use super::stretch::stretch;
 use crate::Incumbent;
 
@@ -74,7 +76,11 @@ fn climb(
     ensures { λ r. ⌜ Swept m n (cells (now (cost .entry))) (row n (cells (now (x .entry)))) (col m (cells (now (x .entry)))) lo hi (now (table .entry)) (now (splits .entry)) (now (freights .entry)) (now (splits .exit)) (now (freights .exit)) (now (kept .exit)) (r .split) (r .total) (r .freight) (r .stops) ⌝ }
 {
     let at = lo as usize;
-    let mut best = Incumbent { split: lo, total: freight + table[at], freight };
+    let mut best = Incumbent {
+        split: lo,
+        total: freight + table[at],
+        freight,
+    };
     *kept = *x;
     let mut y = lo;
     let mut value = freight;
@@ -91,6 +97,52 @@ fn climb(
         y = y + moved.amount;
         best = moved.best;
     }
-    count = note(count, hi, value, splits, freights);
-    Curve { split: best.split, total: best.total, freight: best.freight, stops: count }
+    count = note(count, y, value, splits, freights);
+    Curve {
+        split: best.split,
+        total: best.total,
+        freight: best.freight,
+        stops: count,
+    }
+}
+
+// The sweep of a prepared case from split lo to split hi: the stops and their freights go into the slices, a cheapest plan at the best split
+// into kept.
+pub fn sweep(
+    m: usize,
+    n: usize,
+    cost: &[u64; 2048],
+    cap: &[u64; 2048],
+    amounts: &[u64; 32],
+    demand: &[u64; 96],
+    lo: u64,
+    hi: u64,
+    table: &[u64],
+    splits: &mut [u64],
+    freights: &mut [u64],
+    kept: &mut [u64; 2048],
+) -> Curve
+    requires { ⌜ SweepReady m n (now cost) (now cap) (now amounts) (now demand) lo hi (now table) (now splits) (now freights) ⌝ }
+    ensures { λ r. ⌜ Swept m n (byRow 64 (now (cost .entry))) (amountIn (now (amounts .entry))) (demandIn (now (demand .entry))) lo hi (now (table .entry)) (now (splits .entry)) (now (freights .entry)) (now (splits .exit)) (now (freights .exit)) (now (kept .exit)) (r .split) (r .total) (r .freight) (r .stops) ⌝ }
+{
+    let mut x = [0u64; 2048];
+    let mut pot = [0u64; 96];
+    let mut room = *demand;
+    plan_base(m, n, cost, cap, amounts, &mut x, &mut pot, &mut room);
+    let freight = freight_of(m, n, cost, &x);
+    climb(
+        m,
+        n,
+        cost,
+        cap,
+        lo,
+        hi,
+        freight,
+        table,
+        splits,
+        freights,
+        &mut x,
+        &mut pot,
+        kept,
+    )
 }

@@ -1,6 +1,6 @@
 // The engine of the two-plant planner.
 mod base;
-mod curve;
+pub mod curve;
 mod freight;
 mod scan;
 mod search;

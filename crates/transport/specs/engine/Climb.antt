@@ -11,7 +11,6 @@ use Rattle.transport.specs.engine.Cells.{cells}
 use Rattle.transport.specs.engine.Path.{net, get}
 use Rattle.transport.specs.engine.Least.{At}
 use Rattle.transport.specs.engine.Sweep.{Swinging}
-use Rattle.transport.specs.engine.Stops.{Climbing}
 
 -- the freight curve of the row and column sums of a plan
 abbrev pub curveFrom : ℕ → ℕ → List ℕ → List ℕ → ℕ → ℕ

@@ -1,7 +1,7 @@
 use borrow.Author.Needs.{needs}
 -- `planner::tests::splits_of` meets its contract. Assumes nothing.
 use mathlib.Core.Path.{_≡_, sym, ap, ap₂, _∙_}
-use Prim.Native.Nat.{ℕ}
+use Prim.Native.Nat.{ℕ, _-_}
 use native.Mathlib.Omega.{arith}
 use lib.ListN.{length}
 use denote.Ref.{now}
@@ -53,7 +53,7 @@ smaller-requires c κs = search needs
 
 returns-3 : tie.Need-returns-3
 returns-3 c =
-    ap₂ (λ (a b : ℕ). Between a b) (c .before .excess .ensures) (c .smaller .ensures)
+    ap₂ (λ (a b : ℕ). Between a b (c .before .before .before .before .before .before .before .before .sum-of .result - c .before .before .before .before .before .before .sum-of2 .result)) (c .before .excess .ensures) (c .smaller .ensures)
     ∙ sym (splits-between (now (c .before .before .before .before .before .before .before .before .before .before .before .args .supplies)) (now (c .before .before .before .before .before .before .before .before .before .before .before .args .demands)) _ _ (c .before .before .before .before .before .before .before .before .sum-of .ensures) (c .before .before .before .before .before .before .sum-of2 .ensures ∙ depots-sum (now (c .before .before .before .before .before .before .before .before .before .before .before .args .supplies)) (c .before .before .before .before .before .before .before .before .before .before .before .pre .two)) (c .before .before .before .before .before .if1 .left) (c .before .before .if2 .left))
 
 pub splits-of-spec : {M : Type 1} → statement M

@@ -1,6 +1,6 @@
 -- `transport::freight::row_freight` meets its contract. Assumes nothing.
 use mathlib.Core.Path.{_≡_, sym}
-use Prim.Native.Nat.{ℕ, _+_, _*_, _-_, _≤_, _<_}
+use Prim.Native.Nat.{_*_, _-_, _≤_}
 use native.Mathlib.Omega.{arith}
 use Rattle.transport.specs.Sum.{sum}
 use Rattle.transport.specs.engine.Cells.{cells}
@@ -9,8 +9,6 @@ use Rattle.transport.proofs.Freights.{sum-more, lane-most, row-most}
 use borrow.Author.Needs.{needs}
 use Rattle.transport.proofs.freight.row_freight.Statement.{statement}
 use Rattle.transport.proofs.freight.row_freight.Tie as tie
-use Rattle.transport.proofs.freight.row_freight.Reads as reads
-use Rattle.transport.proofs.freight.row_freight.Lts as lts
 
 abbrev Inv-loop : tie.InvT-loop
 Inv-loop m n i cost x total₀ j₀ total j = (j ≤ n) × (total ≡ sum j (λ j. cells cost i j * cells x i j))

@@ -1,0 +1,141 @@
+-- `transport::curve::climb` meets its contract. Assumes nothing.
+use mathlib.Core.Path.{_∙_}
+use Prim.Native.Nat.{_-_, _≤_}
+use native.Mathlib.Omega.{arith}
+use Rattle.transport.specs.engine.Stops.{Climbing}
+use Rattle.transport.specs.engine.Climb.{curveFrom, Standing}
+use Rattle.transport.proofs.Ascend.{ascend-start, ascend-splits, ascend-freights, ascend-room, ascend-next, ascend-end}
+use Rattle.transport.proofs.Stand.{stand-start, value-most, stretch-ready, stand-next, most, gain-most, loss-most, gains-most, losses-most, losses-short, value-next}
+use Rattle.transport.proofs.curve.climb.Statement.{statement}
+use Rattle.transport.proofs.curve.climb.Tie as tie
+
+abbrev Inv-loop : tie.InvT-loop
+Inv-loop m n cost cap lo hi freight table splits₀ freights₀ x₀ pot₀ kept₀ at best₀ y₀ value₀ count₀ rise₀ fall₀ splits freights x pot kept best y value count rise fall =
+    Standing m n cost cap x₀ x pot kept y value best
+    × Climbing (curveFrom m n cost x₀) table splits₀ freights₀ lo hi splits freights y value count rise fall best
+    × (rise ≤ 800000000)
+    × (fall ≤ 800000000)
+
+abbrev μ-loop : tie.MeasureT-loop
+μ-loop m n cost cap lo hi freight table splits₀ freights₀ x₀ pot₀ kept₀ at best₀ y₀ value₀ count₀ rise₀ fall₀ splits freights x pot kept best y value count rise fall =
+    hi - y
+
+mul-t23 : tie.Need-mul-t23 Inv-loop μ-loop
+mul-t23 c = omega (arith, c .before .before .before .pre .entries, c .before .before .before .pre .order, c .before .before .before .good)
+
+shared-slice-read-t25 : tie.Need-shared-slice-read-t25 Inv-loop μ-loop
+shared-slice-read-t25 c = omega (arith, c .before .before .before .before .pre .entries, c .before .before .before .before .pre .order)
+
+add-t26 : tie.Need-add-t26 Inv-loop μ-loop
+add-t26 c = let r = c .before .before .before .before .pre in omega (arith, value-most r (stand-start r), r .small (c .before .before .before .before .args .lo) (omega arith) (r .order))
+
+loop-holds : tie.Need-loop-holds Inv-loop μ-loop
+loop-holds c = let r = c .before .before .before .before .before .pre in (stand-start r, ascend-start r, omega arith, omega arith)
+
+sub-stretch : tie.Need-sub-stretch Inv-loop μ-loop
+sub-stretch c = omega (arith, c .loop-test .taken)
+
+stretch-requires : tie.Need-stretch-requires Inv-loop μ-loop
+stretch-requires c κs = let i = c .before .before .before .before .loop .inv in stretch-ready (c .before .before .before .before .before .before .before .before .before .before .pre) (i .0) (i .1 .low) (c .before .before .before .loop-test .taken)
+
+turn-requires : tie.Need-turn-requires Inv-loop μ-loop
+turn-requires c κs =
+    let i = c .before .before .before .before .before .loop .inv in
+    let r = c .before .before .before .before .before .before .before .before .before .before .before .pre in
+    let l = c .before .before .before .before .loop-test .taken in
+    (omega (arith, gain-most r (i .0) (i .1 .low) l (c .stretch .ensures), i .3), omega (arith, loss-most r (i .0) (i .1 .low) l (c .stretch .ensures), i .2))
+
+mark-requires : tie.Need-mark-requires Inv-loop μ-loop
+mark-requires c κs = let i = c .before .before .before .before .before .before .before .before .loop .inv in ascend-room (c .before .before .before .before .before .before .before .before .before .before .before .before .before .before .pre) (i .0) (i .1)
+
+mul-value : tie.Need-mul-value Inv-loop μ-loop
+mul-value c =
+    let i = c .before .before .before .before .before .before .before .before .before .before .before .before .before .before .loop .inv in
+    let q = c .before .before .before .before .before .before .before .before .before .stretch .ensures in
+    omega (arith, gains-most (c .before .before .before .before .before .before .before .before .before .before .before .before .before .before .before .before .before .before .before .before .pre) (i .0) (i .1 .low) (c .before .before .before .before .before .before .before .before .before .before .before .before .before .loop-test .taken) q)
+
+add-value : tie.Need-add-value Inv-loop μ-loop
+add-value c =
+    let i = c .before .before .before .before .before .before .before .before .before .before .before .before .before .before .loop .inv in
+    let q = c .before .before .before .before .before .before .before .before .before .stretch .ensures in
+    omega (arith, gains-most (c .before .before .before .before .before .before .before .before .before .before .before .before .before .before .before .before .before .before .before .before .pre) (i .0) (i .1 .low) (c .before .before .before .before .before .before .before .before .before .before .before .before .before .loop-test .taken) q, value-most (c .before .before .before .before .before .before .before .before .before .before .before .before .before .before .before .before .before .before .before .before .pre) (i .0))
+
+mul-value-2 : tie.Need-mul-value-2 Inv-loop μ-loop
+mul-value-2 c =
+    let i = c .before .before .before .before .before .before .before .before .before .before .before .before .before .before .before .loop .inv in
+    let q = c .before .before .before .before .before .before .before .before .before .before .stretch .ensures in
+    omega (arith, losses-most (c .before .before .before .before .before .before .before .before .before .before .before .before .before .before .before .before .before .before .before .before .before .pre) (i .0) (i .1 .low) (c .before .before .before .before .before .before .before .before .before .before .before .before .before .before .loop-test .taken) q)
+
+sub-value : tie.Need-sub-value Inv-loop μ-loop
+sub-value c =
+    let i = c .before .before .before .before .before .before .before .before .before .before .before .before .before .before .before .loop .inv in
+    let q = c .before .before .before .before .before .before .before .before .before .before .stretch .ensures in
+    omega (arith, losses-short (c .before .before .before .before .before .before .before .before .before .before .before .before .before .before .before .before .before .before .before .before .before .pre) (i .0) (i .1 .low) (c .before .before .before .before .before .before .before .before .before .before .before .before .before .before .loop-test .taken) q)
+
+add-y : tie.Need-add-y Inv-loop μ-loop
+add-y c =
+    let i = c .before .before .before .before .before .before .before .before .before .before .before .before .before .before .before .before .loop .inv in
+    let q = c .before .before .before .before .before .before .before .before .before .before .before .stretch .ensures in
+    omega (arith, most (c .before .before .before .before .before .before .before .before .before .before .before .before .before .before .before .before .before .before .before .before .before .before .pre) (i .0) (i .1 .low) (c .before .before .before .before .before .before .before .before .before .before .before .before .before .before .before .loop-test .taken) q, c .before .before .before .before .before .before .before .before .before .before .before .before .before .before .before .before .before .before .before .before .before .before .fits .hi)
+
+loop-less : tie.Need-loop-less Inv-loop μ-loop
+loop-less c =
+    let i = c .before .before .before .before .before .before .before .before .before .before .before .before .before .before .before .before .before .loop .inv in
+    let q = c .before .before .before .before .before .before .before .before .before .before .before .before .stretch .ensures in
+    omega (arith, most (c .before .before .before .before .before .before .before .before .before .before .before .before .before .before .before .before .before .before .before .before .before .before .before .pre) (i .0) (i .1 .low) (c .before .before .before .before .before .before .before .before .before .before .before .before .before .before .before .before .loop-test .taken) q, q .some, c .before .before .before .before .before .before .before .before .before .before .before .before .before .before .before .before .loop-test .taken)
+
+loop-again : tie.Need-loop-again Inv-loop μ-loop
+loop-again c =
+    let i = c .before .before .before .before .before .before .before .before .before .before .before .before .before .before .before .before .before .loop .inv in
+    let r = c .before .before .before .before .before .before .before .before .before .before .before .before .before .before .before .before .before .before .before .before .before .before .before .pre in
+    let l = c .before .before .before .before .before .before .before .before .before .before .before .before .before .before .before .before .loop-test .taken in
+    let q = c .before .before .before .before .before .before .before .before .before .before .before .before .stretch .ensures in (
+      stand-next r (i .0) (i .1 .low) l q (value-next r (i .0) (i .1 .low) l q),
+      ascend-next r (i .0) (i .1) l q (c .before .before .before .before .before .before .before .before .before .before .before .turn .ensures) (c .before .before .before .before .before .before .before .before .mark .ensures),
+      gain-most r (i .0) (i .1 .low) l q,
+      loss-most r (i .0) (i .1 .low) l q,
+    )
+
+note-requires : tie.Need-note-requires Inv-loop μ-loop
+note-requires c κs = let i = c .before .before .before .loop .inv in ascend-room (c .before .before .before .before .before .before .before .before .before .pre) (i .0) (i .1)
+
+same-length : tie.Need-same-length Inv-loop μ-loop
+same-length c =
+    let i = c .before .before .before .before .before .before .before .before .loop .inv in
+    c .before .before .before .before .note .kept .1 .1 .1 .0 ∙ ascend-splits (c .before .before .before .before .before .before .before .before .before .before .before .before .before .before .pre) (i .0) (i .1)
+
+same-length-2 : tie.Need-same-length-2 Inv-loop μ-loop
+same-length-2 c =
+    let i = c .before .before .before .before .before .before .before .before .loop .inv in
+    c .before .before .before .before .note .kept .1 .1 .1 .1 .0 ∙ ascend-freights (c .before .before .before .before .before .before .before .before .before .before .before .before .before .before .pre) (i .0) (i .1)
+
+returns : tie.Need-returns Inv-loop μ-loop
+returns c =
+    let i = c .before .before .before .before .before .before .before .before .loop .inv in
+    ascend-end (c .before .before .before .before .before .before .before .before .before .before .before .before .before .before .pre) (i .0) (i .1) (c .before .before .before .before .before .before .before .loop-test .left) (c .before .before .before .before .note .ensures)
+
+pub climb-spec : {M : Type 1} → statement M
+climb-spec =
+    tie.close
+    (tie.spec
+    Inv-loop
+    μ-loop
+    mul-t23
+    shared-slice-read-t25
+    add-t26
+    loop-holds
+    sub-stretch
+    stretch-requires
+    turn-requires
+    mark-requires
+    mul-value
+    add-value
+    mul-value-2
+    sub-value
+    add-y
+    loop-less
+    loop-again
+    note-requires
+    same-length
+    same-length-2
+    returns)
