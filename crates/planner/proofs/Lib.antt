@@ -9,4 +9,5 @@ pub mod FormLaws
 pub mod Copies
 pub mod Example
 pub mod Cases
-pub mod Solve
+pub mod Solution
+pub mod Decide

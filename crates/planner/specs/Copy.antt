@@ -14,3 +14,15 @@ pub record Copied (source : List ℕ) (at : ℕ) (before after : List ℕ) : Typ
 -- m rows of n cells, row i of one list at i × p and of the other at i × q
 pub record RowsMoved (m n p q : ℕ) (source after : List ℕ) : Type 0 where
   pub cells : (i j : ℕ) → i < m → j < n → getD after (i * q + j) 0 ≡ getD source (i * p + j) 0
+
+-- the amounts at the first split
+pub record FirstAmounts (supplies : List ℕ) (first second : ℕ) (amounts : List ℕ) : Type 0 where
+  pub plant1 : getD amounts 0 0 ≡ first
+  pub plant2 : getD amounts 1 0 ≡ second
+  pub depots : (i : ℕ) → 2 ≤ i → i < length supplies → getD amounts i 0 ≡ getD supplies i 0
+
+-- the demands at the terminals' nodes
+pub record Wanted (demands wants : List ℕ) : Type 0 where
+  pub long : length wants ≡ 96
+  pub quiet : (v : ℕ) → v < 32 → getD wants v 0 ≡ 0
+  pub terminals : (j : ℕ) → j < length demands → getD wants (32 + j) 0 ≡ getD demands j 0

@@ -1,5 +1,15 @@
 // The two-plant production and freight planner.
+ghost use lib.ListN.{length};
+ghost use Rattle.planner.specs.Verdict.{lent};
+ghost use Rattle.planner.specs.Answer.{outcome, slices, Answered};
+use crate::solve::plan_between;
+use crate::tests::Splits;
+use crate::tests::Verdict;
+use crate::tests::form_test;
+use crate::tests::splits_of;
+
 pub mod limits;
+mod solve;
 mod tests;
 mod work;
 
@@ -15,4 +25,40 @@ pub enum Answer {
         number: u64,
         place: u64,
     },
+}
+
+// Plans a lent case, or refuses it by a number and a place.
+pub fn plan(
+    m: usize,
+    n: usize,
+    costs: &[u64],
+    supplies: &[u64],
+    demands: &[u64],
+    table: &[u64],
+    plan: &mut [u64],
+    splits: &mut [u64],
+    freights: &mut [u64],
+) -> Answer
+    ensures { λ r. ⌜ Answered (lent m n (now (costs .entry)) (now (supplies .entry)) (now (demands .entry)) (now (table .entry)) (length (now (plan .entry))) (length (now (splits .entry))) (length (now (freights .entry)))) (outcome r) (slices (now (plan .entry)) (now (splits .entry)) (now (freights .entry))) (slices (now (plan .exit)) (now (splits .exit)) (now (freights .exit))) ⌝ }
+{
+    if let Verdict::Refused(number, place) = form_test(m, n, costs, supplies, demands, table) {
+        return Answer::Refused { number, place };
+    }
+    match splits_of(supplies, demands) {
+        Splits::Unbalanced(number) => Answer::Refused { number, place: 0 },
+        Splits::Between(lo, hi, all) => plan_between(
+            m,
+            n,
+            costs,
+            supplies,
+            demands,
+            table,
+            lo,
+            hi,
+            all,
+            plan,
+            splits,
+            freights,
+        ),
+    }
 }

@@ -2,7 +2,7 @@
 ghost use mathlib.Core.Path.{_≡_};
 ghost use Prim.Native.Nat.{ℕ, _+_, _*_, _≤_, _<_};
 ghost use lib.ListN.{length, getD};
-ghost use Rattle.planner.specs.Copy.{Copied, RowsMoved};
+ghost use Rattle.planner.specs.Copy.{Copied, RowsMoved, FirstAmounts, Wanted};
 
 // Copies a slice into another from index `at` on.
 pub fn copy_into(source: &[u64], at: usize, to: &mut [u64])
@@ -42,4 +42,43 @@ pub fn gather_rows(m: usize, n: usize, cells: &[u64; 2048], to: &mut [u64])
         copy_into(&all[start..end], at, to);
         at = at + n;
     }
+}
+
+// The unit costs in rows of 64.
+pub fn cost_rows(m: usize, n: usize, costs: &[u64]) -> [u64; 2048]
+    requires { ⌜ (m ≤ 32) × (n ≤ 64) × (length (now costs) ≡ m * n) ⌝ }
+    ensures { λ r. ⌜ RowsMoved m n n 64 (now (costs .entry)) r ⌝ }
+{
+    let mut cost = [0u64; 2048];
+    spread_rows(m, n, costs, &mut cost);
+    cost
+}
+
+// A ceiling on each lane that no amount reaches.
+pub fn ceilings() -> [u64; 2048]
+    ensures { λ r. ⌜ ((k : ℕ) → k < 2048 → getD r k 0 ≡ 4000) ⌝ }
+{
+    [4_000u64; 2048]
+}
+
+// What each source sends at the first split: plant 1 first, plant 2 second, the depots their stock.
+pub fn first_amounts(supplies: &[u64], first: u64, second: u64) -> [u64; 32]
+    requires { ⌜ length (now supplies) ≤ 32 ⌝ }
+    ensures { λ r. ⌜ FirstAmounts (now (supplies .entry)) first second r ⌝ }
+{
+    let mut amounts = [0u64; 32];
+    copy_into(supplies, 0, &mut amounts);
+    amounts[0] = first;
+    amounts[1] = second;
+    amounts
+}
+
+// The demands at the terminals' nodes, 32 and up.
+pub fn wanted(demands: &[u64]) -> [u64; 96]
+    requires { ⌜ length (now demands) ≤ 64 ⌝ }
+    ensures { λ r. ⌜ Wanted (now (demands .entry)) r ⌝ }
+{
+    let mut wants = [0u64; 96];
+    copy_into(demands, 32, &mut wants);
+    wants
 }

@@ -19,7 +19,7 @@ use Rattle.planner.specs.Plans.{PlanAt, rowSum, columnSum, freightOf, le
 use Rattle.planner.specs.Outcome.{Outcome, planned, refused, refusalOf, planOf, outcomeOf, formRefusal, test12}
 use Rattle.planner.specs.Promise.{Cheapest, BalanceRule}
 use Rattle.planner.specs.Answer.{Slices, slices, Written, Answered}
-use Rattle.planner.specs.Copy.{Copied, RowsMoved}
+use Rattle.planner.specs.Copy.{RowsMoved, FirstAmounts, Wanted}
 use Rattle.planner.specs.Ready.{OnSplits, Accepts}
 use Rattle.planner.proofs.Passed.{Formed, formed, Balanced, balanced, small-entry, Roomy, roomy, second-decides}
 use Rattle.planner.proofs.Splits.{first-two, last-split}
@@ -69,6 +69,23 @@ module _ {c : Case} {lo hi all : ℕ} (s : OnSplits c lo hi all) where
 
   pub inside : hi < length (c .table)
   inside = omega (arith, form .table-long, most)
+
+-- from what the working arrays' functions say
+pub prepare : {c : Case} {lo hi all : ℕ} {cost cap amounts wants : List ℕ} → Accepts c lo hi all → RowsMoved (c .m) (c .n) (c .n) 64 (c .costs) cost
+    → ((k : ℕ) → k < 2048 → getD cap k 0 ≡ 4000) → FirstAmounts (c .supplies) lo (all - lo) amounts → Wanted (c .demands) wants
+    → Prepared c lo all cost cap amounts wants
+prepare {c} a r l f w =
+    let q = formed c (a .on .form) in
+    record {
+      costs = r;
+      ceilings = l;
+      first = f .plant1;
+      second = f .plant2;
+      others = λ i h k. f .depots i h (omega (arith, q .supplies-long));
+      long = w .long;
+      quiet = w .quiet;
+      demands = λ j h. w .terminals j (omega (arith, q .demands-long));
+    }
 
 -- ---- what the engine asks
 
@@ -218,9 +235,9 @@ module _ {c : Case} {lo hi all : ℕ} (a : Accepts c lo hi all) {cost cap amount
       unfolding outcomeOf planOf
       answered =
           let e : planned y t v k ≡ outcomeOf c =
-              ap₂ (λ (x z : ℕ). planned x z v k) is-split is-total
-              ∙ ap₂ (λ (x z : ℕ). planned (bestSplit c) (totalAt c (bestSplit c)) x z) is-freight (w .count ∙ ap length is-stops)
-              ∙ sym (rw (accepted-all, outcomeOf) refl) in
+          ap₂ (λ (x z : ℕ). planned x z v k) is-split is-total
+          ∙ ap₂ (λ (x z : ℕ). planned (bestSplit c) (totalAt c (bestSplit c)) x z) is-freight (w .count ∙ ap length is-stops)
+          ∙ sym (rw (accepted-all, outcomeOf) refl) in
           record {
             answer = e;
             written = λ s' t' f' k' q. let es : s' ≡ bestSplit c = let z : y ≡ s' = cc in omega (arith, is-split) in

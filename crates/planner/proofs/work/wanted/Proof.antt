@@ -1,0 +1,29 @@
+use borrow.Author.Needs.{needs}
+-- `planner::work::wanted` meets its contract. Assumes nothing.
+use mathlib.Core.Path.{_≡_, _∙_}
+use Prim.Native.Nat.{ℕ}
+use lib.ListN.{length-replicate, getD-replicate}
+use native.Mathlib.Omega.{arith}
+use Rattle.planner.proofs.work.wanted.Statement.{statement}
+use Rattle.planner.proofs.work.wanted.Tie as tie
+use Rattle.planner.proofs.work.wanted.Reads as reads
+use Rattle.planner.proofs.work.wanted.Lts as lts
+use Rattle.planner.proofs.work.copy_into.Reads as copy-into-reads
+
+slice-aggregate-copy-into : tie.Need-slice-aggregate-copy-into
+slice-aggregate-copy-into c = search needs
+
+copy-into-requires : tie.Need-copy-into-requires
+copy-into-requires c κs = search needs
+
+returns : tie.Need-returns
+returns c =
+    let w = c .before .copy-into .ensures in
+    record {
+      long = w .long;
+      quiet = λ v h. w .below v h ∙ getD-replicate {A = ℕ} 96 v 0 0 (omega arith);
+      terminals = w .here;
+    }
+
+pub wanted-spec : {M : Type 1} → statement M
+wanted-spec = tie.close (tie.spec slice-aggregate-copy-into copy-into-requires returns)
