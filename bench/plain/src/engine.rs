@@ -71,7 +71,17 @@ fn nearest(pot: &Nodes, dist: &Nodes, done: &Nodes) -> usize {
     best
 }
 
-fn search(m: usize, n: usize, cost: &Cells, x: &Cells, cap: &Cells, pot: &Nodes, room: &Nodes, start: usize, limit: u64) -> Paths {
+fn search(
+    m: usize,
+    n: usize,
+    cost: &Cells,
+    x: &Cells,
+    cap: &Cells,
+    pot: &Nodes,
+    room: &Nodes,
+    start: usize,
+    limit: u64,
+) -> Paths {
     let mut paths = Paths { goal: NONE, dist: [FAR; NODES], prev: [0; NODES], hops: [0; NODES], width: [0; NODES] };
     let mut done = [0u64; NODES];
     paths.dist[start] = pot[start];
@@ -107,7 +117,16 @@ fn push(prev: &[usize; NODES], count: u64, goal: usize, amount: u64, x: &mut Cel
 }
 
 /// Step 1: a cheapest plan at the first split. Depots first, plant 1 last.
-fn plan_base(m: usize, n: usize, cost: &Cells, cap: &Cells, amounts: &[u64; 32], x: &mut Cells, pot: &mut Nodes, room: &mut Nodes) {
+fn plan_base(
+    m: usize,
+    n: usize,
+    cost: &Cells,
+    cap: &Cells,
+    amounts: &[u64; 32],
+    x: &mut Cells,
+    pot: &mut Nodes,
+    room: &mut Nodes,
+) {
     *pot = [800_000_000; NODES];
     for i in (0..m).rev() {
         let mut left = amounts[i];
