@@ -6,16 +6,15 @@ use Prim.Native.Nat.{ℕ, zero, suc, _+_, _-_, _*_, _≤_, _<_}
 use native.Mathlib.Decide.{decLt}
 use native.Mathlib.Omega.{arith}
 use lib.Dec.{ltb}
-use lib.ListN.{length, getD}
+use lib.ListN.{getD}
 use Rattle.transport.specs.Plan.{row, col, freight}
 use Rattle.transport.specs.declared.Incumbent.{Incumbent}
 use Rattle.transport.specs.engine.Slack.{Slack, Under}
 use Rattle.transport.specs.engine.Least.{At, Least}
-use Rattle.transport.specs.engine.Walk.{Flow}
 use Rattle.transport.specs.engine.Cells.{cells}
 use Rattle.transport.specs.engine.Path.{Net, get}
-use Rattle.transport.specs.engine.Send.{Walkable, Walked}
-use Rattle.transport.specs.engine.Sweep.{Swinging, Over}
+use Rattle.transport.specs.engine.Send.{Walkable}
+use Rattle.transport.specs.engine.Sweep.{Swinging}
 use Rattle.transport.specs.engine.Scan.{along, better, scanned, ScanReady}
 use Rattle.transport.specs.engine.Stretch.{ShiftReady, Part, ShiftDone, KeepDone, StretchReady, Kept, StretchDone}
 use Rattle.transport.proofs.Corollaries.{segment}

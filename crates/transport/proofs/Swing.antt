@@ -1,22 +1,19 @@
 -- Why a search is not stuck, and a shift from plant 1 to plant 0. Assumes nothing.
-use mathlib.Core.Path.{_≡_, refl, sym, ap, _∙_}
+use mathlib.Core.Path.{_≡_, refl, ap, _∙_}
 use mathlib.Core.Logic.{_≢_}
 use mathlib.Core.List.{List}
-use Prim.Native.Nat.{ℕ, suc, min, _+_, _-_, _*_, _≤_, _<_}
+use Prim.Native.Nat.{ℕ, min, _+_, _-_, _≤_, _<_}
 use native.Mathlib.Decide.{ℕ-discrete}
 use native.Mathlib.Omega.{arith}
-use lib.ListN.{length, getD, set}
 use Rattle.transport.specs.Plan.{row, col}
 use Rattle.transport.proofs.Sums.{sum-two, some-member}
-use Rattle.transport.specs.engine.Slack.{Lane}
 use Rattle.transport.specs.engine.Cells.{cells}
-use Rattle.transport.specs.engine.Path.{Net, Book, get, far, Arc}
+use Rattle.transport.specs.engine.Path.{Net, Book, get, far}
 use Rattle.transport.specs.engine.Path.Arc.{ahead, back}
-use Rattle.transport.specs.engine.Search.{Sound, Stuck, Found, Searched}
-use Rattle.transport.specs.engine.Send.{SendReady, Delivered, LowerReady, Lowered, Walkable, Walked, Walking}
-use Rattle.transport.specs.engine.Ship.{again}
+use Rattle.transport.specs.engine.Search.{Sound, Stuck, Searched}
+use Rattle.transport.specs.engine.Send.{SendReady, Delivered, LowerReady, Lowered, Walkable, Walked}
 use Rattle.transport.specs.engine.Sweep.{Swinging, Over}
-use Rattle.transport.specs.engine.Stretch.{ShiftReady, Part, ShiftDone}
+use Rattle.transport.specs.engine.Stretch.{ShiftReady, ShiftDone}
 use Rattle.transport.proofs.Deliver.{lower-ready, push-ready, pushed, delivered, after}
 
 -- only node 1 has room
@@ -65,6 +62,20 @@ swing-over {N} {P} {p} {room} {x} {limit} {x'} {p'} {g} {d} k o hg t = record {
   where
     goal : g ≡ 1
     goal = elim (ℕ-discrete g 1) [ yes z ↦ z | no z ↦ absurd (omega (arith, o .off g hg z, t .has-room)) ]
+
+-- plant 1's potential as it stands among the others: what the next stretch asks
+pub swing-own : {N : Net} {P : ℕ} {p x : List ℕ} → Swinging N P p x → Swinging N (get p 1) p x
+swing-own k = record {
+  sound = k .sound;
+  under = k .under;
+  ceilings = k .ceilings;
+  long-x = k .long-x;
+  long-p = k .long-p;
+  plants = k .plants;
+  one = refl;
+  high = omega (arith, k .one, k .high);
+  floor = k .floor;
+}
 
 -- ---- a search is not stuck
 

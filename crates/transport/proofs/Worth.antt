@@ -1,19 +1,16 @@
 -- What step 1 says of the least freights, and why it is never stuck. Assumes nothing.
-use mathlib.Core.Path.{_≡_, refl, sym, ap, _∙_}
-use mathlib.Core.Logic.{_≢_}
+use mathlib.Core.Path.{_≡_, refl, ap}
 use mathlib.Core.List.{List}
-use Prim.Native.Nat.{ℕ, zero, suc, min, _+_, _-_, _*_, _≤_, _<_}
+use Prim.Native.Nat.{ℕ, zero, suc, _+_, _≤_, _<_}
 use native.Mathlib.Decide.{ℕ-discrete, decLt}
 use native.Mathlib.Omega.{arith}
-use lib.ListN.{length, getD, set}
 use Rattle.transport.specs.Sum.{sum}
-use Rattle.transport.proofs.Sums.{sum-ext, sum-add, sum-swap, sum-at, sum-none, sum-mono, some-member}
+use Rattle.transport.proofs.Sums.{sum-ext, sum-add, sum-swap, sum-at, sum-mono, some-member}
 use Rattle.transport.specs.Plan.{Table, row, col, freight}
 use Rattle.transport.specs.engine.Least.{At, Least}
 use Rattle.transport.proofs.Least.{slack-least}
 use Rattle.transport.specs.engine.Cells.{cells}
-use Rattle.transport.specs.engine.Path.{Net, Book, get}
-use Rattle.transport.specs.engine.Search.{Stuck}
+use Rattle.transport.specs.engine.Path.{Net, get}
 use Rattle.transport.specs.engine.Ship.{again, Shipped, NoWay, Enough, Based, BaseDone}
 use Rattle.transport.specs.engine.Sweep.{Swinging}
 use Rattle.transport.proofs.Swing.{not-stuck}

@@ -1,9 +1,8 @@
 -- What the engine keeps in the sweep from split to split, and what becomes of a plan when drums go over from plant 1 to plant 0. Assumes nothing.
 use mathlib.Core.Path.{_≡_}
 use mathlib.Core.List.{List}
-use Prim.Native.Nat.{ℕ, suc, min, _+_, _-_, _*_, _≤_, _<_}
-use lib.ListN.{length, getD, set}
-use Rattle.transport.specs.Plan.{Table}
+use Prim.Native.Nat.{ℕ, _+_, _≤_, _<_}
+use lib.ListN.{length}
 use Rattle.transport.specs.engine.Slack.{Slack, Under}
 use Rattle.transport.specs.engine.Walk.{Step, Flow}
 use Rattle.transport.specs.engine.Cells.{cells}

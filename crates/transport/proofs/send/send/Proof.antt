@@ -1,6 +1,6 @@
 -- `transport::send::send` meets its contract. Assumes nothing.
-use mathlib.Core.Path.{_≡_, refl}
-use Prim.Native.Nat.{ℕ, _+_, _*_, _-_, _≤_, _<_}
+use mathlib.Core.Path.{refl}
+use Prim.Native.Nat.{_<_}
 use native.Mathlib.Omega.{arith}
 use Rattle.transport.proofs.Deliver.{lower-ready, push-ready, pushed, delivered}
 use borrow.Author.Needs.{needs}
