@@ -21,7 +21,7 @@ pub mod Members
 pub mod Listing
 pub mod Tables
 pub mod Look
-pub mod Stops
+pub mod Bends
 pub mod BestSplit
 pub mod Freights
 pub mod Climb
