@@ -101,6 +101,8 @@ held =
     ∷ refuse (slices (2 ∷ 6 ∷ 5 ∷ 3 ∷ 1 ∷ 1000001 ∷ []) (3 ∷ 3 ∷ 1 ∷ []) (3 ∷ 2 ∷ []) (99 ∷ 20 ∷ 24 ∷ [])) 5 6
     -- two lanes: the first in row order
     ∷ refuse (slices (2 ∷ 1000001 ∷ 1000001 ∷ 3 ∷ 1 ∷ 4 ∷ []) (3 ∷ 3 ∷ 1 ∷ []) (3 ∷ 2 ∷ []) (99 ∷ 20 ∷ 24 ∷ 20 ∷ [])) 5 2
+    -- five entries
+    ∷ refuse (A (3 ∷ 3 ∷ 1 ∷ []) (99 ∷ 20 ∷ 24 ∷ 20 ∷ 20 ∷ [])) 6 0
     -- three entries, and the balance
     ∷ refuse (A (3 ∷ 3 ∷ 6 ∷ []) (99 ∷ 20 ∷ 24 ∷ [])) 6 0
     -- balance, and entry 0

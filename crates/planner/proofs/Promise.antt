@@ -4,16 +4,15 @@ use mathlib.Core.Logic.{_⊎_, inl, inr}
 use mathlib.Core.Bool.{Bool, true, false}
 use mathlib.Core.Option.{Option, none, some}
 use mathlib.Core.List.{List}
-use Prim.Native.Nat.{ℕ, zero, suc, _+_, _-_, _*_, _≤_, _<_}
+use Prim.Native.Nat.{ℕ, _-_, _<_}
 use native.Mathlib.Omega.{arith}
-use Rattle.transport.proofs.Best.{Best}
-use Rattle.planner.specs.Case.{Case, supply, entry, allDemand, depotStock, made, leastSplit, greatestSplit, steps}
-use Rattle.planner.specs.Plans.{rowSum, freightOf, MeetsTP, PlanAt, planTotal, leastFreightAt, totalAt, bestSplit}
+use Rattle.planner.specs.Case.{Case, entry, leastSplit}
+use Rattle.planner.specs.Plans.{rowSum, freightOf, PlanAt, planTotal, leastFreightAt, totalAt, bestSplit}
 use Rattle.planner.specs.Outcome.{Outcome, planned, refused, refuseIf, refuseAt, _orElse_, formRefusal, refusalOf, planOf, outcomeOf}
 use Rattle.planner.specs.Outcome.{test7, test8, test9, test10, test11, test12}
-use Rattle.planner.specs.Promise.{Cheapest, NoPlan, Unbalanced, BalanceRule}
-use Rattle.planner.proofs.Passed.{some≢none, first-decides, second-decides, Formed, formed, Balanced, balanced, balanced-passes, refuseIf-cases, Accepted, accepted}
-use Rattle.planner.proofs.Splits.{last-split, SplitOf, split-of, Met, meets, plan-exists, freight-low, best-split}
+use Rattle.planner.specs.Promise.{Cheapest, NoPlan, BalanceRule}
+use Rattle.planner.proofs.Passed.{some≢none, first-decides, second-decides, formed, Balanced, balanced, balanced-passes, refuseIf-cases, accepted}
+use Rattle.planner.proofs.Splits.{last-split, split-of, meets, plan-exists, freight-low, best-split}
 
 -- ---- the refusals for balance
 

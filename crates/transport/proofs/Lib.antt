@@ -22,3 +22,4 @@ pub mod Listing
 pub mod Tables
 pub mod Best
 pub mod Exists
+pub mod Stops
