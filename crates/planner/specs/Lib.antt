@@ -1,3 +1,4 @@
 pub mod Case
 pub mod Plans
 pub mod Outcome
+pub mod Promise

@@ -20,6 +20,9 @@ pub mod Worth
 pub mod Members
 pub mod Listing
 pub mod Tables
+pub mod Best
+pub mod Exists
+pub mod Stops
 pub mod Look
 pub mod Bends
 pub mod BestSplit

@@ -2,14 +2,15 @@
 use mathlib.Core.Path.{_≡_, refl, sym, ap, _∙_, subst}
 use mathlib.Core.List.{List, [], _∷_, _++_, List·Memᴰ, List·Memᴰ·head, List·Memᴰ·not-nil, map}
 use Prim.Native.Nat.{ℕ, zero, suc, _+_, _-_, _*_, _≤_, _<_}
-use native.Mathlib.Nat.{zero-mul, suc-mul, not-suc-le-zero, le-of-suc-le-suc, le-antisymm}
+use native.Mathlib.Nat.{zero-mul, suc-mul, not-suc-le-zero, le-of-suc-le-suc, le-antisymm, mul-le-mul-right}
 use native.Mathlib.Omega.{arith}
 use lib.ListN.{length, getD, length-append}
-use Rattle.transport.specs.Plan.{Table, byRow, row, col, freight, Plan}
+use Rattle.transport.specs.Sum.{sum}
+use Rattle.transport.specs.Plan.{Table, byRow, row, col, total, freight, Plan}
 use Rattle.transport.specs.Listing.{listing, least, leastFreight}
 use Rattle.transport.specs.Curve.{amountsAt, leastAt}
-use Rattle.transport.proofs.Sums.{sum-ext}
-use Rattle.transport.proofs.Certificate.{total-ext}
+use Rattle.transport.proofs.Sums.{sum-ext, sum-scale}
+use Rattle.transport.proofs.Certificate.{total-ext, total-mono}
 use Rattle.transport.specs.engine.Least.{At, Least}
 use Rattle.transport.proofs.Listing.{first-cell, later-cell, sound, complete, least-freight-low, least-freight-met, no-plan-listed}
 
@@ -174,3 +175,16 @@ unfolding leastAt
 least-at m n c a b d y z v two l e =
     leastFreight-is m n c (amountsAt d a y) b (l .plan) v (sends m n a b d y z two e (l .plan) (l .at)) (λ j h. l .at .demands j (omega arith) h)
     (l .is) (λ x h g. l .low x (sent m n a b d y z two e x h g))
+
+-- ---- a bound
+
+-- unit costs up to a limit: the freight is at most the limit times all that is sent
+pub freight-bound : (m n limit : ℕ) (c x : Table) → ((i j : ℕ) → i < m → j < n → c i j ≤ limit) → freight m n c x ≤ limit * sum m (row n x)
+unfolding freight total row
+freight-bound m n limit c x h =
+    omega (
+      arith,
+      total-mono m n (λ i j. c i j * x i j) (λ i j. limit * x i j) (λ i j a b. mul-le-mul-right (x i j) (h i j a b)),
+      sum-ext m (λ i. sum n (λ j. limit * x i j)) (λ i. limit * sum n (λ j. x i j)) (λ i a. sum-scale n limit (λ j. x i j)),
+      sum-scale m limit (row n x),
+    )
