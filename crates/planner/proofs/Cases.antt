@@ -1,7 +1,7 @@
 -- Two tables of examples, one theorem each: the cases P1 to P10, and further cases that pin what those leave open. Assumes nothing.
 use mathlib.Core.Path.{_≡_, refl}
 use mathlib.Core.Bool.{true}
-use mathlib.Core.List.{List, [], _∷_, flatMap}
+use mathlib.Core.List.{List, [], _∷_, flatMap, List·Memᴰ}
 use Prim.Native.Nat.{ℕ}
 use lib.ListN.{replicate}
 use Rattle.transport.specs.Sum.{sum}
@@ -12,7 +12,7 @@ use Rattle.planner.specs.Case.{Case, allDemand, depotStock, made, leastS
 use Rattle.planner.specs.Plans.{leastFreightAt, totalAt, bestSplit, stops, stopFreights}
 use Rattle.planner.specs.Outcome.{Outcome, planned, refused, refuseIf, refuseAt, firstFrom, _orElse_, formRefusal, refusalOf, planOf, outcomeOf}
 use Rattle.planner.specs.Outcome.{test1, test2, test3, test4, test5, test6, test7, test8, test9, test10, test11, test12}
-use Rattle.planner.proofs.Example.{Example, whereAccepted, sameList, sameOutcome, right, allRight}
+use Rattle.planner.proofs.Example.{Example, whereAccepted, sameList, sameOutcome, right, allRight, Right, each-right}
 
 -- m, n, unit costs, supplies, demands, table, and the cells of the three slices to be written
 lend : ℕ → ℕ → List ℕ → List ℕ → List ℕ → List ℕ → ℕ → ℕ → ℕ → Case
@@ -68,6 +68,9 @@ pub P1-to-P10 : allRight paper ≡ true
 unfolding paper lend slices A accept refuse flatMap sum row col total freight upFrom select compositions rowLists served listing least leastFreight amountsAt leastAt bends isStop stopsOf bestFrom allDemand depotStock made leastSplit greatestSplit steps leastFreightAt totalAt bestSplit stops stopFreights refuseIf refuseAt firstFrom _orElse_ formRefusal refusalOf planOf outcomeOf test1 test2 test3 test4 test5 test6 test7 test8 test9 test10 test11 test12 whereAccepted sameList sameOutcome right allRight
 P1-to-P10 = refl
 
+pub paper-right : (e : Example) → List·Memᴰ e paper → Right e
+paper-right = each-right paper P1-to-P10
+
 -- each refusal 1 to 11, the order of the tests where two conditions hold, the places, the ranges of tests 9 and 10, straight splits, the limits
 pub held : List Example
 held =
@@ -101,6 +104,8 @@ held =
     ∷ refuse (slices (2 ∷ 6 ∷ 5 ∷ 3 ∷ 1 ∷ 1000001 ∷ []) (3 ∷ 3 ∷ 1 ∷ []) (3 ∷ 2 ∷ []) (99 ∷ 20 ∷ 24 ∷ [])) 5 6
     -- two lanes: the first in row order
     ∷ refuse (slices (2 ∷ 1000001 ∷ 1000001 ∷ 3 ∷ 1 ∷ 4 ∷ []) (3 ∷ 3 ∷ 1 ∷ []) (3 ∷ 2 ∷ []) (99 ∷ 20 ∷ 24 ∷ 20 ∷ [])) 5 2
+    -- five entries
+    ∷ refuse (A (3 ∷ 3 ∷ 1 ∷ []) (99 ∷ 20 ∷ 24 ∷ 20 ∷ 20 ∷ [])) 6 0
     -- three entries, and the balance
     ∷ refuse (A (3 ∷ 3 ∷ 6 ∷ []) (99 ∷ 20 ∷ 24 ∷ [])) 6 0
     -- balance, and entry 0
@@ -139,6 +144,9 @@ held =
     ∷ accept (lend 2 64 (replicate {A = ℕ} 128 0) (0 ∷ 0 ∷ []) (replicate {A = ℕ} 64 0) (3 ∷ []) 128 1 1) (planned 0 3 0 1) (0 ∷ []) (0 ∷ [])
     ∷ []
 
-pub held-right : allRight held ≡ true
+pub held-pass : allRight held ≡ true
 unfolding held lend slices A rooms sized accept refuse flatMap sum row col total freight upFrom select compositions rowLists served listing least leastFreight amountsAt leastAt bends isStop stopsOf bestFrom allDemand depotStock made leastSplit greatestSplit steps leastFreightAt totalAt bestSplit stops stopFreights refuseIf refuseAt firstFrom _orElse_ formRefusal refusalOf planOf outcomeOf test1 test2 test3 test4 test5 test6 test7 test8 test9 test10 test11 test12 whereAccepted sameList sameOutcome right allRight
-held-right = refl
+held-pass = refl
+
+pub held-right : (e : Example) → List·Memᴰ e held → Right e
+held-right = each-right held held-pass

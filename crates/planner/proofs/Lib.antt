@@ -1,3 +1,5 @@
+pub mod Example
+pub mod Cases
 pub mod First
 pub mod Passed
 pub mod Splits
@@ -7,7 +9,5 @@ pub mod Rows
 pub mod TestLaws
 pub mod FormLaws
 pub mod Copies
-pub mod Example
-pub mod Cases
 pub mod Solution
 pub mod Decide

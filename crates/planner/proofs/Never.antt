@@ -1,20 +1,19 @@
 -- Test 12 refuses no case that tests 1 to 9 pass. Assumes nothing.
-use mathlib.Core.Path.{_≡_, refl, sym, ap, _∙_}
+use mathlib.Core.Path.{_≡_, ap}
 use mathlib.Core.Bool.{Bool}
-use mathlib.Core.Option.{Option, none}
-use mathlib.Core.List.{List}
-use Prim.Native.Nat.{ℕ, zero, suc, _+_, _-_, _*_, _≤_, _<_, min}
+use mathlib.Core.Option.{none}
+use Prim.Native.Nat.{ℕ, zero, suc, _+_, _-_, _*_, _≤_, _<_}
 use native.Mathlib.Nat.{suc-mul, mul-le-mul-right}
 use native.Mathlib.Omega.{arith}
 use borrow.Author.Tests.{le-ltb}
 use Rattle.transport.specs.Sum.{sum}
-use Rattle.transport.specs.Plan.{byRow, row, Plan}
+use Rattle.transport.specs.Plan.{byRow, row}
 use Rattle.transport.specs.Curve.{amountsAt}
 use Rattle.transport.proofs.Sums.{sum-zero, sum-suc, sum-ext}
 use Rattle.transport.proofs.Tables.{freight-bound}
-use Rattle.planner.specs.Case.{Case, supply, entry, made, leastSplit, greatestSplit, steps}
-use Rattle.planner.specs.Plans.{freightOf, PlanAt, leastFreightAt, totalAt, bestSplit}
-use Rattle.planner.specs.Outcome.{Outcome, refuseIf, _orElse_, formRefusal, refusalOf}
+use Rattle.planner.specs.Case.{Case, supply, made, leastSplit, greatestSplit}
+use Rattle.planner.specs.Plans.{freightOf, leastFreightAt, totalAt, bestSplit}
+use Rattle.planner.specs.Outcome.{refuseIf, _orElse_, formRefusal, refusalOf}
 use Rattle.planner.specs.Outcome.{test7, test8, test9, test10, test11, test12}
 use Rattle.planner.proofs.Passed.{under-first, second-never, Formed, formed, Balanced, balanced, small-entry}
 use Rattle.planner.proofs.Splits.{last-split, freight-met, best-split}

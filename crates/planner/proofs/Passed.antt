@@ -4,7 +4,7 @@ use mathlib.Core.Logic.{_⊎_, inl, inr}
 use mathlib.Core.Bool.{Bool, true, false, not, _||_}
 use mathlib.Core.Option.{Option, none, some}
 use mathlib.Core.List.{List, _++_}
-use Prim.Native.Nat.{ℕ, zero, suc, _+_, _-_, _*_, _≤_, _<_}
+use Prim.Native.Nat.{ℕ, _+_, _-_, _*_, _≤_, _<_}
 use native.Mathlib.Omega.{arith}
 use lib.Dec.{eqb, ltb}
 use lib.ListN.{length, getD, List·getD-append}
@@ -100,13 +100,13 @@ pub record Formed (c : Case) : Type 0 where
   pub small-cost : (k : ℕ) → k < c .m * c .n → getD (c .costs) k 0 ≤ 1000000
   pub table-long : length (c .table) ≡ supply c 0 + 1
 
-pub record Passes6 (c : Case) : Type 0 where
-  pub t1 : test1 c ≡ none
-  pub t2 : test2 c ≡ none
-  pub t3 : test3 c ≡ none
-  pub t4 : test4 c ≡ none
-  pub t5 : test5 c ≡ none
-  pub t6 : test6 c ≡ none
+record Passes6 (c : Case) : Type 0 where
+  t1 : test1 c ≡ none
+  t2 : test2 c ≡ none
+  t3 : test3 c ≡ none
+  t4 : test4 c ≡ none
+  t5 : test5 c ≡ none
+  t6 : test6 c ≡ none
 
 passes6 : (c : Case) → formRefusal c ≡ none → Passes6 c
 unfolding formRefusal

@@ -4,16 +4,15 @@ use mathlib.Core.Logic.{_⊎_, inl, inr}
 use mathlib.Core.Bool.{Bool, true, false}
 use mathlib.Core.Option.{Option, none, some}
 use mathlib.Core.List.{List}
-use Prim.Native.Nat.{ℕ, zero, suc, _+_, _-_, _*_, _≤_, _<_}
+use Prim.Native.Nat.{ℕ, _-_, _<_}
 use native.Mathlib.Omega.{arith}
-use Rattle.transport.proofs.Best.{Best}
-use Rattle.planner.specs.Case.{Case, supply, entry, allDemand, depotStock, made, leastSplit, greatestSplit, steps}
-use Rattle.planner.specs.Plans.{rowSum, freightOf, MeetsTP, PlanAt, planTotal, leastFreightAt, totalAt, bestSplit}
+use Rattle.planner.specs.Case.{Case, entry, leastSplit}
+use Rattle.planner.specs.Plans.{rowSum, freightOf, PlanAt, planTotal, leastFreightAt, totalAt, bestSplit}
 use Rattle.planner.specs.Outcome.{Outcome, planned, refused, refuseIf, refuseAt, _orElse_, formRefusal, refusalOf, planOf, outcomeOf}
 use Rattle.planner.specs.Outcome.{test7, test8, test9, test10, test11, test12}
-use Rattle.planner.specs.Promise.{Cheapest, NoPlan, Unbalanced, BalanceRule}
-use Rattle.planner.proofs.Passed.{some≢none, first-decides, second-decides, Formed, formed, Balanced, balanced, balanced-passes, refuseIf-cases, Accepted, accepted}
-use Rattle.planner.proofs.Splits.{last-split, SplitOf, split-of, Met, meets, plan-exists, freight-low, best-split}
+use Rattle.planner.specs.Promise.{Cheapest, NoPlan, BalanceRule}
+use Rattle.planner.proofs.Passed.{some≢none, first-decides, second-decides, formed, Balanced, balanced, balanced-passes, refuseIf-cases, accepted}
+use Rattle.planner.proofs.Splits.{last-split, split-of, meets, plan-exists, freight-low, freight-met, best-split}
 
 -- ---- the refusals for balance
 
@@ -123,6 +122,13 @@ balance-rule c = record {
 }
 
 -- ---- the plan given
+
+-- an accepted case has a plan at the best split with freight f there
+pub gets-plan : (c : Case) → refusalOf c ≡ none → (x : List ℕ) × PlanAt c (bestSplit c) x × (freightOf c x ≡ leastFreightAt c (bestSplit c))
+gets-plan c e =
+    let a = accepted c e in
+    let bal = balanced c (a .t7) (a .t8) in
+    freight-met c (bestSplit c) (formed c (a .form) .two-sources) bal (omega (arith, best-split c .to, last-split c bal))
 
 -- a plan at the best split with freight f there is cheapest, and its split is the smallest of least total
 pub cheapest : (c : Case) (x : List ℕ) → refusalOf c ≡ none → PlanAt c (bestSplit c) x → freightOf c x ≡ leastFreightAt c (bestSplit c)

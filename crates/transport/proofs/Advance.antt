@@ -13,14 +13,16 @@ use Rattle.transport.specs.engine.Slack.{Slack, Under}
 use Rattle.transport.specs.engine.Least.{At, Least}
 use Rattle.transport.specs.engine.Cells.{cells}
 use Rattle.transport.specs.engine.Path.{Net, get}
-use Rattle.transport.specs.engine.Send.{Walkable}
-use Rattle.transport.specs.engine.Sweep.{Swinging}
+use Rattle.transport.specs.engine.Send.{Lowered, Walkable, Walked}
+use Rattle.transport.specs.engine.Sweep.{Swinging, Over}
 use Rattle.transport.specs.engine.Scan.{along, better, scanned, ScanReady}
-use Rattle.transport.specs.engine.Stretch.{ShiftReady, Part, ShiftDone, KeepDone, StretchReady, Kept, StretchDone}
+use Rattle.transport.specs.engine.Stretch.{ShiftReady, Part, PathDone, KeepDone, StretchReady, Kept, StretchDone}
 use Rattle.transport.proofs.Corollaries.{segment}
 use Rattle.transport.proofs.Walks.{Shifted, flow-shifted}
 use Rattle.transport.proofs.Least.{line}
 use Rattle.transport.proofs.Look.{along-is}
+use Rattle.transport.proofs.Falls.{lowers}
+use Rattle.transport.proofs.Stroll.{walks}
 
 -- ---- the incumbent
 
@@ -77,58 +79,86 @@ module _ {N : Net} (two : 2 ≤ N .m) {p' z : List ℕ} {t : ℕ} (w : Part N p'
 
 -- ---- the stretch
 
-module _ {N : Net} {p x table : List ℕ} {y v limit : ℕ} {best : Incumbent} {p' x' prev : List ℕ} {count d : ℕ}
-    (r : StretchReady N p x table y v limit best) (s : ShiftDone N (get p 1) limit x p' x' prev count d) where
+-- the plan itself has its row and column sums
+here : {N : Net} {p x table : List ℕ} {y v limit : ℕ} {best : Incumbent} → StretchReady N p x table y v limit best
+    → At (N .m) (N .n) (row (N .n) (N .x)) (col (N .m) (N .x)) y (row (N .n) (N .x) 1) (N .x)
+here r = record { plant0 = r .split; plant1 = refl; depots = λ i h l. refl; demands = λ j h l. refl }
+
+module _ {N : Net} {p x table : List ℕ} {y v limit : ℕ} {best : Incumbent} {dist prev : List ℕ} {count gap d : ℕ}
+    (r : StretchReady N p x table y v limit best) (s : PathDone N p x limit dist prev count gap d) where
   two : 2 ≤ N .m
   two = omega (arith, r .shift .swinging .plants)
 
-  whole : Part N p' x' d
-  whole = record {
-    flow = s .over .flow;
-    slack = s .over .new;
-    under = s .over .swinging .under;
-    long = s .over .swinging .long-x;
-  }
+  -- what the drums leave, and the lowered potentials
+  module _ {p' : List ℕ} (x' : List ℕ) (lo : Lowered gap dist p 96 p') (w : Walked prev d count 1 x x') where
+    over : Over N (get p 1) limit p' x' d
+    over = s .over p' lo x' w
 
-  next : (a b : ℕ → ℕ) (z : ℕ) → At (N .m) (N .n) a b y z (N .x) → At (N .m) (N .n) a b (y + d) (z - d) (cells x')
-  next a b z t = part-at two whole a b y z t
+    up : get p 1 ≡ get p' 1
+    up = omega (arith, lo .down 1 (omega arith), s .ends)
 
-  value : (z : List ℕ) (t : ℕ) → Part N p' z t → freight (N .m) (N .n) (N .c) (cells z) ≡ along v (get p' 1) (get p' 0) t
-  value z t w = rw (← (r .value)) (part-value two w (s .over .old) (r .shift .swinging .under))
+    down : get p 0 - gap ≡ get p' 0
+    down = omega (arith, lo .down 0 (omega arith), s .starts)
 
-  -- the least freight at each split on the way, as an equation
-  on-line : (a b : ℕ → ℕ) (z : ℕ) → At (N .m) (N .n) a b y z (N .x) → (t : ℕ) → t ≤ d
-      → (w : ℕ) × (Least (N .m) (N .n) (N .c) a b (y + t) (z - t) w) × (w + get p' 0 * t ≡ freight (N .m) (N .n) (N .c) (N .x) + get p' 1 * t)
-  on-line a b z q t h =
-      line (N .m) (N .n) two (N .c) a b (N .u) (λ i. get p' i) (λ j. get p' (32 + j))
-      (λ i j k l. omega (arith, q .demands j (omega arith) l, r .shift .wide i j k l)) (N .x) (cells x') y z d t (s .some) h
-      (omega (arith, q .plant1, moved two whole .plant1)) (s .over .steps) q (next a b z q) (s .over .old) (s .over .new)
+    whole : Part N p' x' d
+    whole = record {
+      flow = over .flow;
+      slack = over .new;
+      under = over .swinging .under;
+      long = over .swinging .long-x;
+    }
 
-  pub on-stretch : (a b : ℕ → ℕ) (z : ℕ) → At (N .m) (N .n) a b y z (N .x) → (t : ℕ) → t ≤ d
-      → Least (N .m) (N .n) (N .c) a b (y + t) (z - t) (along v (get p' 1) (get p' 0) t)
-  on-stretch a b z q t h =
-      let l = on-line a b z q t h in
-      let e : l .0 ≡ along v (get p' 1) (get p' 0) t = along-is v (get p' 1) (get p' 0) t (l .0) (omega (arith, l .2, r .value)) in rw e at (l .1)
+    next : (a b : ℕ → ℕ) (z : ℕ) → At (N .m) (N .n) a b y z (N .x) → At (N .m) (N .n) a b (y + d) (z - d) (cells x')
+    next a b z t = part-at two whole a b y z t
 
-  -- the plan itself has its row and column sums
-  here : At (N .m) (N .n) (row (N .n) (N .x)) (col (N .m) (N .x)) y (row (N .n) (N .x) 1) (N .x)
-  here = record { plant0 = r .split; plant1 = refl; depots = λ i h l. refl; demands = λ j h l. refl }
+    value : (z : List ℕ) (t : ℕ) → Part N p' z t → freight (N .m) (N .n) (N .c) (cells z) ≡ along v (get p 1) (get p 0 - gap) t
+    value z t k = rw (up, down, ← (r .value)) (part-value two k (over .old) (r .shift .swinging .under))
 
-  pub scan-ready : ScanReady table y d v (get p' 1) (get p' 0)
+    -- the least freight at each split on the way, as an equation
+    on-line : (a b : ℕ → ℕ) (z : ℕ) → At (N .m) (N .n) a b y z (N .x) → (t : ℕ) → t ≤ d
+        → (w : ℕ) × (Least (N .m) (N .n) (N .c) a b (y + t) (z - t) w) × (w + (get p 0 - gap) * t ≡ freight (N .m) (N .n) (N .c) (N .x) + get p 1 * t)
+    on-line a b z q t h =
+        rw (up, down)
+        (line (N .m) (N .n) two (N .c) a b (N .u) (λ i. get p' i) (λ j. get p' (32 + j))
+        (λ i j k l. omega (arith, q .demands j (omega arith) l, r .shift .wide i j k l)) (N .x) (cells x') y z d t (s .some) h
+        (omega (arith, q .plant1, moved two whole .plant1)) (over .steps) q (next a b z q) (over .old) (over .new))
+
+    on-stretch : (a b : ℕ → ℕ) (z : ℕ) → At (N .m) (N .n) a b y z (N .x) → (t : ℕ) → t ≤ d
+        → Least (N .m) (N .n) (N .c) a b (y + t) (z - t) (along v (get p 1) (get p 0 - gap) t)
+    on-stretch a b z q t h =
+        let l = on-line a b z q t h in
+        let e : l .0 ≡ along v (get p 1) (get p 0 - gap) t = along-is v (get p 1) (get p 0 - gap) t (l .0) (omega (arith, l .2, r .value)) in rw e at (l .1)
+
+    above : (t : ℕ) → t ≤ d → (get p 0 - gap) * t ≤ v + get p 1 * t
+    above t h =
+        let l = on-line (row (N .n) (N .x)) (col (N .m) (N .x)) (row (N .n) (N .x) 1) (here r) t h in omega (arith, l .2, r .value)
+
+  pub loss-ready : gap ≤ get p 0
+  loss-ready = omega (arith, s .ready .above 0 (omega arith), s .starts)
+
+  pub scan-ready : ScanReady table y d v (get p 1) (get p 0 - gap)
   scan-ready = record {
-    entries = omega (arith, r .entries, s .over .most);
-    small = λ t h. r .small t (omega (arith, s .over .most));
+    entries = omega (arith, r .entries, most);
+    small = λ t h. r .small t (omega (arith, most));
     start = r .start;
-    rise = omega (arith, s .over .swinging .sound .high 1 (omega arith));
-    fall = omega (arith, s .over .swinging .sound .high 0 (omega arith));
-    few = omega (arith, r .few, s .over .most);
-    above = λ t h.
-        let l = on-line (row (N .n) (N .x)) (col (N .m) (N .x)) (row (N .n) (N .x) 1) here t h in omega (arith, l .2, r .value);
+    rise = omega (arith, r .shift .swinging .sound .high 1 (omega arith));
+    fall = omega (arith, r .shift .swinging .sound .high 0 (omega arith));
+    few = omega (arith, r .few, most);
+    above = above (left .0) (low .1) (left .1);
   }
+    where
+      low : (p' : List ℕ) × Lowered gap dist p 96 p'
+      low = lowers gap dist p (s .ready .long)
 
-  module _ {held : Incumbent} (look : held ≡ scanned table y v (get p' 1) (get p' 0) best d) where
-    seen : Looked y v (get p' 1) (get p' 0) best d held
-    seen = rw look (looked table y v (get p' 1) (get p' 0) best (r .behind) d)
+      left : (x' : List ℕ) × Walked prev d count 1 x x'
+      left = walks prev d count 1 x
+
+      most : d ≤ limit
+      most = over (left .0) (low .1) (left .1) .most
+
+  module _ {held : Incumbent} (look : held ≡ scanned table y v (get p 1) (get p 0 - gap) best d) where
+    seen : Looked y v (get p 1) (get p 0 - gap) best d held
+    seen = rw look (looked table y v (get p 1) (get p 0 - gap) best (r .behind) d)
 
     within : held .split - y ≤ d
     within = elim (decLt y (held .split)) [ yes h ↦ omega (arith, seen .new h .0) | no h ↦ omega arith ]
@@ -136,26 +166,26 @@ module _ {N : Net} {p x table : List ℕ} {y v limit : ℕ} {best : Incumbent} {
     pub keep-ready : Walkable prev (held .split - y) count 1 x
     keep-ready = s .able (held .split - y) within
 
-    pub stretch-done : {kept kept' : List ℕ} → KeepDone prev count (held .split) y x kept kept'
-        → StretchDone N p table y v limit best kept p' x' kept' d (get p' 1) (get p' 0) held
-    stretch-done {kept} {kept'} k = record {
+    pub stretch-done : {kept kept' p' x' : List ℕ} → KeepDone prev count (held .split) y x kept kept' → Walked prev d count 1 x x' → Lowered gap dist p 96 p'
+        → StretchDone N p table y v limit best kept p' x' kept' d (get p 1) (get p 0 - gap) held
+    stretch-done {kept} {kept'} {p'} {x'} k w lo = record {
       some = s .some;
-      over = s .over;
-      up = refl;
-      down = refl;
-      line = on-stretch;
-      next = next;
-      value = value x' d whole;
+      over = over x' lo w;
+      up = up x' lo w;
+      down = down x' lo w;
+      line = on-stretch x' lo w;
+      next = next x' lo w;
+      value = value x' lo w x' d (whole x' lo w);
       look = look;
       same = λ h. (seen .old h, k .same h);
-      new = λ h. (seen .new h .0, new h (s .part (held .split - y) within kept' (k .walked h)));
+      new = λ h. (seen .new h .0, new h (s .part p' lo (held .split - y) within kept' (k .walked h)));
     }
       where
         new : y < held .split → Part N p' kept' (held .split - y) → Kept N y held kept'
-        new h w =
+        new h t =
             let e : y + (held .split - y) ≡ held .split = omega arith in
             record {
-              long = w .long;
-              at = λ a b z q. rw e at (part-at two w a b y z q);
-              value = value kept' (held .split - y) w ∙ sym (seen .new h .1);
+              long = t .long;
+              at = λ a b z q. rw e at (part-at two t a b y z q);
+              value = value x' lo w kept' (held .split - y) t ∙ sym (seen .new h .1);
             }

@@ -24,6 +24,7 @@ pub mod Best
 pub mod Exists
 pub mod Look
 pub mod Stops
+pub mod Bends
 pub mod BestSplit
 pub mod Freights
 pub mod Climb

@@ -17,11 +17,10 @@ use Rattle.transport.specs.engine.Stretch.{StretchReady, StretchDone}
 use Rattle.transport.specs.engine.Stops.{Straight}
 use Rattle.transport.specs.engine.Climb.{curveFrom, ClimbReady, Standing}
 use Rattle.transport.proofs.Sums.{sum-ext}
-use Rattle.transport.proofs.Freights.{freight-most}
 use Rattle.transport.proofs.Least.{slack-least, line}
 use Rattle.transport.proofs.Worth.{rows-cols}
 use Rattle.transport.proofs.Look.{along-is}
-use Rattle.transport.proofs.Tables.{sends, least-at}
+use Rattle.transport.proofs.Tables.{sends, least-at, freight-bound}
 
 -- a plan of the two plants' split as the contract has it
 pub plan-at : {m n : ℕ} {c : Table} {a b : ℕ → ℕ} {y v : ℕ} {x : List ℕ} (z : ℕ) → 2 ≤ m → At m n a b y z (cells x) → y + z ≡ a 0 + a 1
@@ -74,7 +73,7 @@ module _ {m n : ℕ} {cost cap x₀ p₀ : List ℕ} {lo hi v : ℕ} {table spli
         omega (
           arith,
           s .worth,
-          freight-most m n 2000000 (cells cost) (cells x) (s .swinging .sound .costs),
+          freight-bound m n 2000000 (cells cost) (cells x) (s .swinging .sound .costs),
           rows-cols m n (cells x),
           sum-ext n (col m (cells x)) (col m (cells x₀)) (λ j h. s .at .demands j (omega arith) h),
           rows-cols m n (cells x₀),

@@ -3,7 +3,7 @@ use mathlib.Core.Path.{_≡_, refl, sym, ap, _∙_}
 use mathlib.Core.Logic.{_≢_, _⊎_, inl, inr}
 use mathlib.Core.List.{List}
 use Prim.Native.Nat.{ℕ, zero, suc, min, _+_, _-_, _*_, _≤_, _<_}
-use native.Mathlib.Decide.{ℕ-discrete}
+use native.Mathlib.Decide.{ℕ-discrete, decLt}
 use native.Mathlib.Omega.{arith}
 use lib.ListN.{length, getD, set, length-set}
 use lib.Seq.{getD-set-same, getD-set-other}
@@ -226,3 +226,17 @@ module _ (P : List ℕ) (d v : ℕ) (x : List ℕ) where
   unfolding Walked
   walked-none zero l = refl
   walked-none (suc h) l = absurd (omega arith)
+
+-- what an arc leaves, and what a walk leaves that can be made
+carries : (v w d : ℕ) (x : List ℕ) → (x' : List ℕ) × Carried v w d x x'
+carries v w d x = elim (decLt v 32) [
+  | yes h ↦ (set x (v * 64 + (w - 32)) (get x (v * 64 + (w - 32)) - d), record { less = λ l. refl; more = λ l. absurd (omega arith) })
+  | no h ↦ (set x (w * 64 + (v - 32)) (get x (w * 64 + (v - 32)) + d), record { less = λ l. absurd (omega arith); more = λ l. refl })
+]
+
+pub walks : (P : List ℕ) (d h v : ℕ) (x : List ℕ) → (x' : List ℕ) × Walked P d h v x x'
+unfolding Walked
+walks P d zero v x = (x, refl)
+walks P d (suc h) v x =
+    let a = carries v (get P v) d x in
+    let b = walks P d h (get P v) (a .0) in (b .0, (a .0, a .1, b .1))

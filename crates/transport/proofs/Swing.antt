@@ -1,4 +1,4 @@
--- Why a search is not stuck, and a shift from plant 1 to plant 0. Assumes nothing.
+-- Why a search is not stuck, and the path of a stretch. Assumes nothing.
 use mathlib.Core.Path.{_≡_, refl, ap, _∙_}
 use mathlib.Core.Logic.{_≢_}
 use mathlib.Core.List.{List}
@@ -11,9 +11,9 @@ use Rattle.transport.specs.engine.Cells.{cells}
 use Rattle.transport.specs.engine.Path.{Net, Book, get, far}
 use Rattle.transport.specs.engine.Path.Arc.{ahead, back}
 use Rattle.transport.specs.engine.Search.{Sound, Stuck, Searched}
-use Rattle.transport.specs.engine.Send.{SendReady, Delivered, LowerReady, Lowered, Walkable, Walked}
+use Rattle.transport.specs.engine.Send.{SendReady, Delivered}
 use Rattle.transport.specs.engine.Sweep.{Swinging, Over}
-use Rattle.transport.specs.engine.Stretch.{ShiftReady, ShiftDone}
+use Rattle.transport.specs.engine.Stretch.{ShiftReady, PathDone}
 use Rattle.transport.proofs.Deliver.{lower-ready, push-ready, pushed, delivered, after}
 
 -- only node 1 has room
@@ -100,7 +100,7 @@ module _ {N : Net} {room : List ℕ} {s : ℕ} {B : Book} (sources : N .m ≤ 32
             (back j hi hj refl o (omega arith) refl)),
       )
 
--- ---- a shift
+-- ---- the path of a stretch
 
 module _ {N : Net} {p room x : List ℕ} {limit : ℕ} {B : Book} {g : ℕ}
     (k : ShiftReady N p x limit) (o : Only room limit) (q : Searched N p room 0 limit B g) where
@@ -140,28 +140,23 @@ module _ {N : Net} {p room x : List ℕ} {limit : ℕ} {B : Book} {g : ℕ}
   reached : Searched N p room 0 limit B 1
   reached = rw goal at q
 
-  pub shift-low : get p 1 ≤ get (B .dist) 1
-  shift-low = q .low 1 (omega arith)
+  pub path-low : get p 1 ≤ get (B .dist) 1
+  path-low = q .low 1 (omega arith)
 
-  pub shift-able : N .x ≡ cells x → (t : ℕ) → t ≤ get (B .width) 1 → Walkable (B .prev) t (get (B .hops) 1) 1 x
-  shift-able e t h = push-ready ready reached (omega arith) e h
-
-  pub shift-lower : {D : ℕ} → D ≡ get (B .dist) 1 - get p 1 → LowerReady D (B .dist) p
-  shift-lower e = lower-ready ready reached (omega arith) e
-
-  pub shift-done : N .x ≡ cells x → {D d : ℕ} {p' x' : List ℕ} → D ≡ get (B .dist) 1 - get p 1 → Lowered D (B .dist) p 96 p' → d ≡ min (get (B .width) 1) limit
-      → Walked (B .prev) d (get (B .hops) 1) 1 x x' → ShiftDone N (get p 1) limit x p' x' (B .prev) (get (B .hops) 1) d
-  shift-done e {D} {d} {p'} {x'} eD lo ed w = record {
-    some = sent .some;
-    over = swing-over (k .swinging) o one sent;
-    able = λ t h. shift-able e t (omega arith);
-    part = λ t h z v.
+  pub path-done : N .x ≡ cells x → {D d : ℕ} → D ≡ get (B .dist) 1 - get p 1 → d ≡ min (get (B .width) 1) limit
+      → PathDone N p x limit (B .dist) (B .prev) (get (B .hops) 1) D d
+  path-done e {D} {d} eD ed = record {
+    some = omega (arith, k .some, reached .found one .label 1 one (reached .found one .goal) .some);
+    ends = omega (arith, path-low);
+    starts = q .root-dist;
+    ready = lower-ready ready reached one eD;
+    able = λ t h. push-ready ready reached one e (omega arith);
+    part = λ p' lo t h z v.
         let l = pushed ready reached one e (omega arith) v in
         record { flow = l .flow; slack = after ready reached one eD lo l; under = l .under; long = l .long };
+    over = λ p' lo x' w.
+        swing-over (k .swinging) o one (delivered ready reached one eD lo (omega (arith, o .one)) (pushed ready reached one e (omega arith) w));
   }
     where
       one : 1 < 96
       one = omega arith
-
-      sent : Delivered N p room 0 limit x' p' 1 d
-      sent = delivered ready reached one eD lo (omega (arith, o .one)) (pushed ready reached one e (omega arith) w)

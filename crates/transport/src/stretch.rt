@@ -1,9 +1,8 @@
 // Step 3: one stretch of the freight curve, from a split to the next stop (substeps 1° to 3° of report 4.1).
 ghost use Prim.Native.Nat.{_-_};
-ghost use lib.ListN.{getD};
 ghost use Rattle.transport.specs.engine.Path.{net};
 ghost use Rattle.transport.specs.engine.Send.{Walkable};
-ghost use Rattle.transport.specs.engine.Stretch.{ShiftReady, ShiftDone, KeepDone, StretchReady, StretchDone};
+ghost use Rattle.transport.specs.engine.Stretch.{ShiftReady, PathDone, KeepDone, StretchReady, StretchDone};
 use super::scan::scan;
 use super::search::search;
 use super::search::smaller;
@@ -11,25 +10,28 @@ use super::send::lower;
 use super::send::push;
 use crate::Incumbent;
 
-// The path that drums went over from plant 1 to plant 0, and how many: its arcs, and the node before each node.
+// A path from plant 0 to plant 1: how many drums can go along it, its arcs, its reduced cost, and for each node
+// the distance and the node before it.
 pub struct Path {
     pub amount: u64,
     pub count: u64,
+    pub gap: u64,
+    pub dist: [u64; 96],
     pub prev: [usize; 96],
 }
 
-// 1° A cheapest path from plant 0 to plant 1. 2° As many drums as its smallest ceiling, and limit at most, go along it.
-fn shift(
+// 1° A cheapest path from plant 0 to plant 1. 2° As many drums as its smallest ceiling, and limit at most, can go along it.
+fn find_path(
     m: usize,
     n: usize,
     cost: &[u64; 2048],
     cap: &[u64; 2048],
     limit: u64,
-    x: &mut [u64; 2048],
-    pot: &mut [u64; 96],
+    x: &[u64; 2048],
+    pot: &[u64; 96],
 ) -> Path
     requires { ⌜ ShiftReady (net m n (now cost) (now cap) (now x)) (now pot) (now x) limit ⌝ }
-    ensures { λ r. ⌜ ShiftDone (net m n (now (cost .entry)) (now (cap .entry)) (now (x .entry))) (getD (now (pot .entry)) 1 0) limit (now (x .entry)) (now (pot .exit)) (now (x .exit)) (r .prev) (r .count) (r .amount) ⌝ }
+    ensures { λ r. ⌜ PathDone (net m n (now (cost .entry)) (now (cap .entry)) (now (x .entry))) (now (pot .entry)) (now (x .entry)) limit (r .dist) (r .prev) (r .count) (r .gap) (r .amount) ⌝ }
 {
     let mut room = [0u64; 96];
     room[1] = limit;
@@ -40,12 +42,12 @@ fn shift(
     let width = found.width;
     let amount = smaller(width[1], limit);
     let count = hops[1];
-    push(&prev, count, 1, amount, x);
     let gap = dist[1] - pot[1];
-    lower(gap, &dist, pot);
     Path {
         amount,
         count,
+        gap,
+        dist,
         prev,
     }
 }
@@ -71,6 +73,7 @@ pub struct Moved {
 }
 
 // One stretch from split y, whose plan x has the given freight, at most limit drums further; the incumbent's plan is kept.
+// The plan is copied only where the incumbent is new.
 pub fn stretch(
     m: usize,
     n: usize,
@@ -88,16 +91,19 @@ pub fn stretch(
     requires { ⌜ StretchReady (net m n (now cost) (now cap) (now x)) (now pot) (now x) (now table) y freight limit best ⌝ }
     ensures { λ r. ⌜ StretchDone (net m n (now (cost .entry)) (now (cap .entry)) (now (x .entry))) (now (pot .entry)) (now (table .entry)) y freight limit best (now (kept .entry)) (now (pot .exit)) (now (x .exit)) (now (kept .exit)) (r .amount) (r .gain) (r .loss) (r .best) ⌝ }
 {
-    let old = *x;
-    let path = shift(m, n, cost, cap, limit, x, pot);
+    let path = find_path(m, n, cost, cap, limit, x, pot);
     let amount = path.amount;
     let count = path.count;
+    let gap = path.gap;
+    let dist = path.dist;
     let prev = path.prev;
     let gain = pot[1];
-    let loss = pot[0];
+    let loss = pot[0] - gap;
     let held = scan(table, y, amount, freight, gain, loss, best);
     let split = held.split;
-    keep(&prev, count, split, y, &old, kept);
+    keep(&prev, count, split, y, x, kept);
+    push(&prev, count, 1, amount, x);
+    lower(gap, &dist, pot);
     Moved {
         amount,
         gain,

@@ -11,11 +11,11 @@ use Rattle.transport.specs.engine.Least.{At, Least}
 use Rattle.transport.specs.engine.Walk.{Flow}
 use Rattle.transport.specs.engine.Cells.{cells}
 use Rattle.transport.specs.engine.Path.{Net, get}
-use Rattle.transport.specs.engine.Send.{Walkable, Walked}
+use Rattle.transport.specs.engine.Send.{LowerReady, Lowered, Walkable, Walked}
 use Rattle.transport.specs.engine.Sweep.{Swinging, Over}
 use Rattle.transport.specs.engine.Scan.{along, scanned}
 
--- ---- the shift
+-- ---- the path
 
 -- plant 1 makes limit drums or more, and no ceiling is below what a terminal gets
 pub record ShiftReady (N : Net) (p x : List ℕ) (limit : ℕ) : Type 0 where
@@ -31,12 +31,15 @@ pub record Part (N : Net) (p' z : List ℕ) (t : ℕ) : Type 0 where
   pub under : Under (N .m) (N .n) (cells z) (N .u)
   pub long : length z ≡ 2048
 
--- d drums went over, along a path of count arcs that any part of them could have gone
-pub record ShiftDone (N : Net) (P limit : ℕ) (x p' x' prev : List ℕ) (count d : ℕ) : Type 0 where
+-- a path of count arcs: up to d drums can go over along it, and what that leaves is slack under the lowered potentials
+pub record PathDone (N : Net) (p x : List ℕ) (limit : ℕ) (dist prev : List ℕ) (count gap d : ℕ) : Type 0 where
   pub some : 0 < d
-  pub over : Over N P limit p' x' d
+  pub ends : get dist 1 ≡ get p 1 + gap
+  pub starts : get dist 0 ≡ get p 0
+  pub ready : LowerReady gap dist p
   pub able : (t : ℕ) → t ≤ d → Walkable prev t count 1 x
-  pub part : (t : ℕ) → t ≤ d → (z : List ℕ) → Walked prev t count 1 x z → Part N p' z t
+  pub part : (p' : List ℕ) → Lowered gap dist p 96 p' → (t : ℕ) → t ≤ d → (z : List ℕ) → Walked prev t count 1 x z → Part N p' z t
+  pub over : (p' : List ℕ) → Lowered gap dist p 96 p' → (x' : List ℕ) → Walked prev d count 1 x x' → Over N (get p 1) limit p' x' d
 
 -- ---- the plan that is kept
 

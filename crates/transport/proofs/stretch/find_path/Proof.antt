@@ -1,0 +1,61 @@
+-- `transport::stretch::find_path` meets its contract. Assumes nothing.
+use mathlib.Core.Path.{refl, _∙_}
+use Prim.Native.Nat.{ℕ}
+use native.Mathlib.Omega.{arith}
+use lib.ListN.{replicate, getD-replicate, set}
+use lib.Seq.{getD-set-other}
+use Rattle.transport.proofs.Swing.{Only, path-low, path-done}
+use borrow.Author.Needs.{needs}
+use Rattle.transport.proofs.stretch.find_path.Statement.{statement}
+use Rattle.transport.proofs.stretch.find_path.Tie as tie
+use Rattle.transport.proofs.stretch.find_path.Reads as reads
+use Rattle.transport.proofs.stretch.find_path.Lts as lts
+use Rattle.transport.proofs.search.search.Reads as search-reads
+use Rattle.transport.proofs.search.smaller.Reads as smaller-reads
+
+only : (limit : ℕ) → Only (set (replicate 96 0) 1 limit) limit
+only limit = record {
+  one = refl;
+  off = λ v h z. getD-set-other (replicate 96 0) 1 v limit 0 z ∙ getD-replicate {A = ℕ} 96 v 0 0 h;
+}
+
+array-write-room : tie.Need-array-write-room
+array-write-room c = search needs
+
+search-requires : tie.Need-search-requires
+search-requires c κs = search needs
+
+array-read-smaller : tie.Need-array-read-smaller
+array-read-smaller c = search needs
+
+smaller-requires : tie.Need-smaller-requires
+smaller-requires c κs = search needs
+
+array-read-count : tie.Need-array-read-count
+array-read-count c = search needs
+
+array-read-gap : tie.Need-array-read-gap
+array-read-gap c = search needs
+
+element-copy-out-gap : tie.Need-element-copy-out-gap
+element-copy-out-gap c = search needs
+
+sub-gap : tie.Need-sub-gap
+sub-gap c = path-low (c .before .before .before .before .before .before .before .before .pre) (only (c .before .before .before .before .before .before .before .before .args .limit)) (c .before .before .before .before .before .before .search .ensures)
+
+returns : tie.Need-returns
+returns c = path-done (c .before .before .before .before .before .before .before .before .pre) (only (c .before .before .before .before .before .before .before .before .args .limit)) (c .before .before .before .before .before .before .search .ensures) refl refl (c .before .smaller .ensures)
+
+pub find-path-spec : {M : Type 1} → statement M
+find-path-spec =
+    tie.close
+    (tie.spec
+    array-write-room
+    search-requires
+    array-read-smaller
+    smaller-requires
+    array-read-count
+    array-read-gap
+    element-copy-out-gap
+    sub-gap
+    returns)
