@@ -18,6 +18,10 @@ const SIZES: [(usize, usize); 4] = [(4, 8), (8, 16), (16, 32), (32, 64)];
 const STEPS: [u64; 5] = [1, 10, 100, 1_000, 4_000];
 
 fn main() -> std::io::Result<()> {
+    if std::env::args().any(|word| word == "profile") {
+        Kind::ALL.into_iter().for_each(|kind| measure::plan_only(Shape { m: 32, n: 64, kind, steps: 3_000 }, 5));
+        return Ok(());
+    }
     let quick = std::env::args().any(|word| word == "quick");
     let (cases, repeats) = if quick { (4, 3) } else { (20, 7) };
     let mut lines = Vec::new();

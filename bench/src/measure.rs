@@ -122,6 +122,14 @@ pub fn times(shape: Shape, cases: u64, repeats: u32) -> Times {
     }
 }
 
+/// Plans each case once by the proved planner: for a profiler.
+pub fn plan_only(shape: Shape, cases: u64) {
+    for seed in 0..cases {
+        let case = case(shape, seed);
+        Lent::of(&case).plan(yadvorkhul::plan_into, &case);
+    }
+}
+
 /// The least total and the smallest split that has it, solved split by split.
 fn every_split(lemon: &Lemon, case: &Case) -> (u64, u64) {
     (case.least..=case.greatest).map(|y| (lemon.split(y) + case.table[y as usize], y)).min().expect("a split")

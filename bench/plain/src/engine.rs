@@ -186,20 +186,20 @@ pub fn sweep(
         *count += 1;
     };
     while y < hi {
-        let old = x;
         let limit = hi - y;
         let mut room = [0u64; NODES];
         room[1] = limit;
         let found = search(m, n, cost, &x, cap, &pot, &room, 0, limit);
         let amount = found.width[1].min(limit);
-        push(&found.prev, found.hops[1], 1, amount, &mut x);
-        lower(found.dist[1] - pot[1], &found.dist, &mut pot);
-        let (gain, loss) = (pot[1], pot[0]);
+        let gap = found.dist[1] - pot[1];
+        let (gain, loss) = (pot[1], pot[0] - gap);
         let held = scan(table, y, amount, value, gain, loss, best);
         if y < held.split {
-            *kept = old;
+            *kept = x;
             push(&found.prev, found.hops[1], 1, held.split - y, kept);
         }
+        push(&found.prev, found.hops[1], 1, amount, &mut x);
+        lower(gap, &found.dist, &mut pot);
         if y == lo || gain + fall != loss + rise {
             note(&mut count, y, value);
         }

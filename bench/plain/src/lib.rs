@@ -115,7 +115,7 @@ fn planned(
     for i in 0..m {
         cost[i * 64..i * 64 + n].copy_from_slice(&costs[i * n..(i + 1) * n]);
     }
-    let cap = [1_000_000u64; 2048];
+    let cap = [4_000u64; 2048];
     let mut amounts = [0u64; 32];
     amounts[..m].copy_from_slice(supplies);
     let all: u64 = demands.iter().sum();
