@@ -21,51 +21,40 @@ cells c = now (c .before .before .before .args .report)
 long : (c : tie.After-known-told) → 4 ≤ length (cells c)
 long c = c .before .before .before .pre
 
--- src/lib.rt:17:27
 enum-known-answer : tie.Need-enum-known-answer
 enum-known-answer c = search needs
 
--- src/lib.rt:18:13
 slice-write-report : tie.Need-slice-write-report
 slice-write-report c = search needs
 
--- src/lib.rt:19:13
 slice-write-report-2 : tie.Need-slice-write-report-2
 slice-write-report-2 c = omega (arith, long c, length-set (cells c) 0 (c .before .answer .given .0 .0))
 
--- src/lib.rt:20:13
 slice-write-report-3 : tie.Need-slice-write-report-3
 slice-write-report-3 c =
     let one = set (cells c) 0 (c .before .answer .given .0 .0) in
     omega (arith, long c, length-set (cells c) 0 (c .before .answer .given .0 .0), length-set one 1 (c .before .answer .given .0 .1 .0))
 
--- src/lib.rt:21:13
 slice-write-report-4 : tie.Need-slice-write-report-4
 slice-write-report-4 c = search needs
 
--- src/lib.rt:24:27
 enum-known-answer-2 : tie.Need-enum-known-answer-2
 enum-known-answer-2 c = search needs
 
--- src/lib.rt:25:13
 slice-write-report-5 : tie.Need-slice-write-report-5
 slice-write-report-5 c = search needs
 
--- src/lib.rt:12:1
 same-length : tie.Need-same-length
 same-length c = search needs
 
--- src/lib.rt:12:1
 returns : tie.Need-returns
 returns c =
     let e : c .before .before .before .args .answer ≡ _ = c .before .answer .given .1 in
     (sym (ap (λ a. numberOf (outcome a)) e), four-written (cells c) _ _ _ _ (long c) ∙ sym (ap (λ a. written (reportOf (outcome a)) (cells c)) e))
 
--- src/lib.rt:12:1
 same-length-2 : tie.Need-same-length-2
 same-length-2 c = search needs
 
--- src/lib.rt:12:1
 returns-2 : tie.Need-returns-2
 returns-2 c =
     let l = now (c .before .before .before .args .report) in

@@ -8,35 +8,27 @@ use Rattle.ffi.proofs.yadvorkhul_plan.Lts as lts
 use Rattle.ffi.proofs.tell.Reads as tell-reads
 use Rattle.planner.proofs.plan.Reads as plan-reads
 
--- src/lib.rt:49:9
 returns : tie.Need-returns
 returns c = by-short _ _ _ (c .if1 .taken)
 
--- src/lib.rt:51:9
 plan-requires : tie.Need-plan-requires
 plan-requires c κs = search needs
 
--- src/lib.rt:52:5
 tell-requires : tie.Need-tell-requires
 tell-requires c κs = search needs
 
--- src/lib.rt:33:1
 same-length : tie.Need-same-length
 same-length c = search needs
 
--- src/lib.rt:33:1
 same-length-2 : tie.Need-same-length-2
 same-length-2 c = search needs
 
--- src/lib.rt:33:1
 same-length-3 : tie.Need-same-length-3
 same-length-3 c = search needs
 
--- src/lib.rt:33:1
 same-length-4 : tie.Need-same-length-4
 same-length-4 c = search needs
 
--- src/lib.rt:33:1
 returns-2 : tie.Need-returns-2
 returns-2 c =
     let told = c .before .before in
