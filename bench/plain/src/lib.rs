@@ -1,0 +1,133 @@
+//! The proved planner's method in plain Rust: the same functions, arrays and widths, with Rust's own checks in place of the
+//! proofs. It answers as the proved one does, in the same cells.
+
+mod engine;
+
+use self::engine::{sweep, Curve};
+
+/// As `yadvorkhul::plan_into`.
+#[allow(clippy::too_many_arguments)]
+pub fn plan_into(
+    m: usize,
+    n: usize,
+    costs: &[u64],
+    supplies: &[u64],
+    demands: &[u64],
+    table: &[u64],
+    plan: &mut [u64],
+    splits: &mut [u64],
+    freights: &mut [u64],
+    report: &mut [u64],
+) -> u64 {
+    if report.len() < 4 {
+        return 34;
+    }
+    match checked(m, n, costs, supplies, demands, table, plan.len(), splits.len(), freights.len()) {
+        Err((number, place)) => {
+            report[0] = place;
+            number
+        }
+        Ok((lo, hi)) => {
+            let curve = planned(m, n, costs, supplies, demands, table, lo, hi, plan, splits, freights);
+            report[..4].copy_from_slice(&[curve.split, curve.total, curve.freight, curve.stops as u64]);
+            0
+        }
+    }
+}
+
+fn first_above(s: &[u64], limit: u64) -> Option<usize> {
+    s.iter().position(|&a| limit < a)
+}
+
+/// Tests 1 to 11: the first and the last split, or the refusal.
+#[allow(clippy::too_many_arguments)]
+fn checked(
+    m: usize,
+    n: usize,
+    costs: &[u64],
+    supplies: &[u64],
+    demands: &[u64],
+    table: &[u64],
+    plan_cells: usize,
+    split_cells: usize,
+    freight_cells: usize,
+) -> Result<(u64, u64), (u64, u64)> {
+    if !(2..=32).contains(&m) {
+        return Err((1, 0));
+    }
+    if !(1..=64).contains(&n) {
+        return Err((2, 0));
+    }
+    if costs.len() != m * n || supplies.len() != m || demands.len() != n {
+        return Err((3, 0));
+    }
+    if let Some(k) = first_above(supplies, 4_000) {
+        return Err((4, k as u64 + 1));
+    }
+    if let Some(k) = first_above(demands, 4_000) {
+        return Err((4, (m + k) as u64 + 1));
+    }
+    if let Some(k) = first_above(costs, 1_000_000) {
+        return Err((5, k as u64 + 1));
+    }
+    if table.len() as u64 != supplies[0] + 1 {
+        return Err((6, 0));
+    }
+    let all: u64 = demands.iter().sum();
+    let stock: u64 = supplies[2..].iter().sum();
+    if all < stock {
+        return Err((7, 0));
+    }
+    let made = all - stock;
+    if supplies[0] + supplies[1] < made {
+        return Err((8, 0));
+    }
+    let (lo, hi) = (made.saturating_sub(supplies[1]), made.min(supplies[0]));
+    let part = &table[lo as usize..=hi as usize];
+    if let Some(k) = first_above(part, 1_000_000_000) {
+        return Err((9, lo + k as u64));
+    }
+    if let Some(k) = part.windows(3).position(|w| 2 * w[1] < w[0] + w[2]) {
+        return Err((10, lo + k as u64 + 1));
+    }
+    if plan_cells < m * n || split_cells < part.len() || freight_cells < part.len() {
+        return Err((11, 0));
+    }
+    Ok((lo, hi))
+}
+
+/// The working arrays from the lent slices, the sweep, and the plan into its slice.
+#[allow(clippy::too_many_arguments)]
+fn planned(
+    m: usize,
+    n: usize,
+    costs: &[u64],
+    supplies: &[u64],
+    demands: &[u64],
+    table: &[u64],
+    lo: u64,
+    hi: u64,
+    plan: &mut [u64],
+    splits: &mut [u64],
+    freights: &mut [u64],
+) -> Curve {
+    let mut cost = [0u64; 2048];
+    for i in 0..m {
+        cost[i * 64..i * 64 + n].copy_from_slice(&costs[i * n..(i + 1) * n]);
+    }
+    let cap = [4_000u64; 2048];
+    let mut amounts = [0u64; 32];
+    amounts[..m].copy_from_slice(supplies);
+    let all: u64 = demands.iter().sum();
+    let stock: u64 = supplies[2..].iter().sum();
+    amounts[0] = lo;
+    amounts[1] = all - stock - lo;
+    let mut demand = [0u64; 96];
+    demand[32..32 + n].copy_from_slice(demands);
+    let mut kept = [0u64; 2048];
+    let curve = sweep(m, n, &cost, &cap, &amounts, &demand, lo, hi, table, splits, freights, &mut kept);
+    for i in 0..m {
+        plan[i * n..(i + 1) * n].copy_from_slice(&kept[i * 64..i * 64 + n]);
+    }
+    curve
+}

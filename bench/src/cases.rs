@@ -1,0 +1,125 @@
+//! Random cases of a given shape, repeatable.
+
+/// How the unit costs are drawn.
+#[derive(Clone, Copy, PartialEq, Eq)]
+pub enum Kind {
+    Uniform,
+    Few,
+    Plane,
+}
+
+impl Kind {
+    pub const ALL: [Kind; 3] = [Kind::Uniform, Kind::Few, Kind::Plane];
+
+    pub fn name(self) -> &'static str {
+        match self {
+            Kind::Uniform => "uniform",
+            Kind::Few => "few values",
+            Kind::Plane => "plane",
+        }
+    }
+}
+
+#[derive(Clone, Copy)]
+pub struct Shape {
+    pub m: usize,
+    pub n: usize,
+    pub kind: Kind,
+    /// u - ℓ
+    pub steps: u64,
+}
+
+pub struct Case {
+    pub m: usize,
+    pub n: usize,
+    pub costs: Vec<u64>,
+    pub supplies: Vec<u64>,
+    pub demands: Vec<u64>,
+    pub table: Vec<u64>,
+    pub least: u64,
+    pub greatest: u64,
+}
+
+/// SplitMix64.
+struct Random(u64);
+
+impl Random {
+    fn next(&mut self) -> u64 {
+        self.0 = self.0.wrapping_add(0x9E37_79B9_7F4A_7C15);
+        let mut z = self.0;
+        z = (z ^ (z >> 30)).wrapping_mul(0xBF58_476D_1CE4_E5B9);
+        z = (z ^ (z >> 27)).wrapping_mul(0x94D0_49BB_1331_11EB);
+        z ^ (z >> 31)
+    }
+
+    fn within(&mut self, low: u64, high: u64) -> u64 {
+        low + self.next() % (high - low + 1)
+    }
+}
+
+/// The plants make 4,000 drums together; the depots hold up to 16,000, about half of it in the mean.
+pub fn case(shape: Shape, seed: u64) -> Case {
+    let Shape { m, n, kind, steps } = shape;
+    let mut random = Random(seed);
+    let costs = costs(&mut random, m, n, kind);
+    let made = 4_000;
+    let first = 2_000 + steps / 2;
+    let second = 2_000 + steps - steps / 2;
+    let most = (16_000 / (m as u64 - 2)).min(4_000);
+    let mut supplies = vec![first, second];
+    supplies.extend((2..m).map(|_| random.within(0, most)));
+    let drums = supplies[2..].iter().sum::<u64>() + made;
+    let demands = shares(&mut random, drums, n);
+    let least = made - second;
+    let table = table(&mut random, first, steps, least, kind);
+    Case { m, n, costs, supplies, demands, table, least, greatest: first }
+}
+
+fn costs(random: &mut Random, m: usize, n: usize, kind: Kind) -> Vec<u64> {
+    match kind {
+        Kind::Uniform => (0..m * n).map(|_| random.within(0, 1_000_000)).collect(),
+        Kind::Few => (0..m * n).map(|_| random.within(1, 5)).collect(),
+        Kind::Plane => {
+            let mut points = |k: usize| -> Vec<(f64, f64)> {
+                (0..k).map(|_| (random.within(0, 10_000) as f64, random.within(0, 10_000) as f64)).collect()
+            };
+            let (sources, terminals) = (points(m), points(n));
+            let away = |s: (f64, f64), t: (f64, f64)| (s.0 - t.0).hypot(s.1 - t.1).round() as u64;
+            (0..m * n).map(|k| away(sources[k / n], terminals[k % n])).collect()
+        }
+    }
+}
+
+/// The drums dealt to n terminals, 4,000 to each at most: random weights, and the rest to those with room.
+fn shares(random: &mut Random, drums: u64, n: usize) -> Vec<u64> {
+    let weights: Vec<u64> = (0..n).map(|_| random.within(1, 1_000)).collect();
+    let all: u64 = weights.iter().sum();
+    let mut shares: Vec<u64> = weights.iter().map(|w| (drums * w / all).min(4_000)).collect();
+    let mut rest = drums - shares.iter().sum::<u64>();
+    for share in shares.iter_mut() {
+        let more = rest.min(4_000 - *share);
+        *share += more;
+        rest -= more;
+    }
+    assert_eq!(rest, 0, "the terminals take all drums");
+    shares
+}
+
+/// A concave table whose slopes are of the size of the costs' differences.
+fn table(random: &mut Random, first: u64, steps: u64, least: u64, kind: Kind) -> Vec<u64> {
+    let most = match kind {
+        Kind::Uniform => 100_000,
+        Kind::Few => 2,
+        Kind::Plane => 2_000,
+    };
+    let mut slopes: Vec<i64> = (0..steps).map(|_| random.within(0, 2 * most) as i64 - most as i64).collect();
+    slopes.sort_unstable_by(|a, b| b.cmp(a));
+    let mut table = vec![0; first as usize + 1];
+    let mut entry = 400_000_000i64;
+    table[least as usize] = entry as u64;
+    for (k, slope) in slopes.iter().enumerate() {
+        entry += slope;
+        table[least as usize + 1 + k] = entry as u64;
+    }
+    table
+}

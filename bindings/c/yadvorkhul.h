@@ -1,0 +1,56 @@
+/* The proved two-plant production and freight planner, for C and C++.
+
+   The archive target/staticlib/libffi.a, which `rt staticlib ffi` writes, defines the function. Nothing checks this
+   declaration against the Rattle source (crates/ffi/src/lib.rt): a slice there is a pointer and then a length here, and
+   a usize is a size_t of 64 bits. */
+#ifndef YADVORKHUL_H
+#define YADVORKHUL_H
+
+#include <stddef.h>
+#include <stdint.h>
+
+#ifdef __cplusplus
+extern "C" {
+#endif
+
+#define YADVORKHUL_MOST_SOURCES 32   /* m is 2 to 32 */
+#define YADVORKHUL_MOST_TERMINALS 64 /* n is 1 to 64 */
+#define YADVORKHUL_MOST_SPLITS 4001  /* stops of a case are never more */
+#define YADVORKHUL_REPORT_CELLS 4
+#define YADVORKHUL_SHORT_REPORT 34
+
+/* Plans a case, or refuses it. Any numbers and any lengths may be passed; nothing else is required of them.
+
+   m, n         sources and terminals. Sources 1 and 2 are plants, the others depots.
+   costs        m × n unit costs, one source's together, row after row: source i to terminal j (from 0) at i × n + j
+   supplies     m numbers: the most each of the plants can make, then each depot's stock, which must all leave
+   demands      n numbers: what each terminal takes
+   table        one entry more than the first supply: entry y is the cost of both plants together when plant 1 makes y
+   plan         gets the amounts in its first m × n cells, in the order of the costs
+   splits       gets the stops of the freight curve, rising; give it one cell for each split, YADVORKHUL_MOST_SPLITS at most
+   freights     gets the least freight at each stop; as long as splits
+   report       at least YADVORKHUL_REPORT_CELLS cells; gets in its first cells
+                  split, total, freight, count of stops   where the answer is 0
+                  the place of the refusal                where it is another
+
+   Each pointer is followed by its number of cells. It points at that many numbers that lie together and are aligned for
+   uint64_t; it may not be null, even where the number is 0. plan, splits, freights and report overlap nothing.
+
+   Answers 0 where the case is planned, or the number of the first test that it fails (1 to 12, see docs/USING.md), or
+   YADVORKHUL_SHORT_REPORT where the report is too short for anything to be told. On a refusal plan, splits and freights
+   keep their contents. All cells that are not named here keep theirs always. It needs about 110 kB of stack, and no heap. */
+uint64_t yadvorkhul_plan(size_t m, size_t n,
+                         const uint64_t *costs, size_t costs_cells,
+                         const uint64_t *supplies, size_t supplies_cells,
+                         const uint64_t *demands, size_t demands_cells,
+                         const uint64_t *table, size_t table_cells,
+                         uint64_t *plan, size_t plan_cells,
+                         uint64_t *splits, size_t splits_cells,
+                         uint64_t *freights, size_t freights_cells,
+                         uint64_t *report, size_t report_cells);
+
+#ifdef __cplusplus
+}
+#endif
+
+#endif

@@ -1,0 +1,175 @@
+"""Tests of the Python module: the paper's cases, refusals, lent lists cell by cell, and a listing of all plans."""
+
+import doctest
+import random
+import unittest
+
+import yadvorkhul
+from yadvorkhul import Refusal, plan, plan_into
+
+A = dict(costs=[[2, 6], [5, 3], [1, 4]], supplies=[3, 3, 1], demands=[3, 2], table=[99, 20, 24, 20])
+
+
+def rows(m, n, total_rows, columns):
+    """All ways to fill m rows of n amounts with these row and column sums."""
+    if m == 0:
+        if not any(columns):
+            yield []
+        return
+    for row in fill(n, total_rows[0], columns):
+        left = [b - x for b, x in zip(columns, row)]
+        for rest in rows(m - 1, n, total_rows[1:], left):
+            yield [row] + rest
+
+
+def fill(n, total, most):
+    if n == 1:
+        if total <= most[0]:
+            yield [total]
+        return
+    for x in range(min(total, most[0]) + 1):
+        for rest in fill(n - 1, total - x, most[1:]):
+            yield [x] + rest
+
+
+def listed(costs, supplies, demands, table):
+    """Split, total, and f at each split, by a listing of all plans."""
+    m, n = len(supplies), len(demands)
+    d = sum(demands) - sum(supplies[2:])
+    curve = {}
+    for y in range(max(0, d - supplies[1]), min(supplies[0], d) + 1):
+        plans = rows(m, n, [y, d - y] + supplies[2:], demands)
+        curve[y] = min(sum(c * x for cr, xr in zip(costs, p) for c, x in zip(cr, xr)) for p in plans)
+    total, split = min((f + table[y], y) for y, f in curve.items())
+    return split, total, curve
+
+
+class Cases(unittest.TestCase):
+    def expect(self, split, total, **changes):
+        found = plan(**{**A, **changes})
+        self.assertEqual((found.split, found.total), (split, total))
+        return found
+
+    def refused(self, number, place, **changes):
+        with self.assertRaises(Refusal) as caught:
+            plan(**{**A, **changes})
+        self.assertEqual((caught.exception.number, caught.exception.place), (number, place))
+
+    def test_p1_to_p4(self):
+        found = self.expect(3, 33)
+        self.assertEqual(found.amounts, [[3, 0], [0, 1], [0, 1]])
+        self.assertEqual(found.stops, [(1, 14), (2, 11), (3, 13)])
+        self.expect(1, 34, table=[99, 20, 24, 22])
+        self.expect(1, 34, table=[99, 20, 24, 21])
+        self.expect(2, 31, table=[99, 20, 20, 20])
+
+    def test_p5_to_p8(self):
+        self.refused(7, 0, supplies=[3, 3, 6])
+        self.refused(8, 0, supplies=[1, 2, 1], table=[99, 20])
+        self.refused(10, 2, table=[99, 20, 20, 22])
+        self.refused(4, 1, supplies=[4001, 3, 1])
+
+    def test_p9_and_p10(self):
+        found = self.expect(0, 110, supplies=[3, 3, 5])
+        self.assertEqual((found.freight, found.stops), (11, [(0, 11)]))
+        found = self.expect(3, 33, supplies=[3, 1, 1])
+        self.assertEqual(found.stops, [(3, 13)])
+
+    def test_report_example(self):
+        costs = [[12, 1, 3, 4], [4, 9, 6, 2], [2, 6, 2, 10]]
+        found = plan(costs, [200, 200, 150], [80, 180, 120, 70], [0] * 201)
+        self.assertEqual(found.split, 200)
+        self.assertEqual(found.stops, [(100, 1430), (150, 1030), (180, 820), (200, 800)])
+
+    def test_other_refusals(self):
+        self.refused(1, 0, supplies=[3], costs=[[2, 6]])
+        self.refused(2, 0, demands=[], costs=[[], [], []])
+        self.refused(3, 0, costs=[[2, 6], [5, 3, 1], [4]])
+        self.refused(3, 0, costs=[[2, 6], [5, 3]])
+        self.refused(5, 6, costs=[[2, 6], [5, 3], [1, 1_000_001]])
+        self.refused(6, 0, table=[99, 20, 24])
+        self.refused(9, 2, table=[99, 20, 1_000_000_001, 20])
+
+    def test_readable(self):
+        with self.assertRaisesRegex(Refusal, "^refusal 4 at place 5: a supply or demand is above 4,000$"):
+            plan(**{**A, "demands": [3, 4001]})
+
+    def test_numbers(self):
+        for odd in (-1, 1 << 64, 1.5, "3", True, None):
+            with self.assertRaises(TypeError):
+                plan(**{**A, "demands": [3, odd]})
+        self.refused(4, 5, demands=[3, (1 << 64) - 1])
+
+    def test_doc(self):
+        failed, tried = doctest.testmod(yadvorkhul, verbose=False, optionflags=doctest.IGNORE_EXCEPTION_DETAIL)
+        self.assertEqual(failed, 0)
+        self.assertGreater(tried, 3)
+
+
+class Lent(unittest.TestCase):
+    def call(self, plan_cells=8, split_cells=4, freight_cells=5, report_cells=6, **changes):
+        case = {**A, **changes}
+        lent = [[7] * k for k in (plan_cells, split_cells, freight_cells, report_cells)]
+        costs = [c for row in case["costs"] for c in row]
+        return plan_into(3, 2, costs, case["supplies"], case["demands"], case["table"], *lent), lent
+
+    def test_planned(self):
+        number, lent = self.call()
+        self.assertEqual(number, 0)
+        self.assertEqual(lent, [[3, 0, 0, 1, 0, 1, 7, 7], [1, 2, 3, 7], [14, 11, 13, 7, 7], [3, 33, 13, 3, 7, 7]])
+
+    def test_refused(self):
+        number, lent = self.call(table=[99, 20, 20, 22])
+        self.assertEqual(number, 10)
+        self.assertEqual(lent, [[7] * 8, [7] * 4, [7] * 5, [2] + [7] * 5])
+
+    def test_short_by_one(self):
+        for short in (dict(plan_cells=5), dict(split_cells=2), dict(freight_cells=2)):
+            number, lent = self.call(**short)
+            self.assertEqual((number, lent[3][0]), (11, 0))
+            self.assertTrue(all(cell == 7 for cells in lent[:3] for cell in cells))
+
+    def test_short_report(self):
+        for cells in range(4):
+            number, lent = self.call(report_cells=cells)
+            self.assertEqual(number, yadvorkhul.SHORT_REPORT)
+            self.assertTrue(all(cell == 7 for cells in lent for cell in cells))
+
+
+class Listing(unittest.TestCase):
+    def test_random_small_cases(self):
+        draw = random.Random(1995)
+        planned = 0
+        while planned < 500:
+            m, n = draw.randint(2, 3), draw.randint(1, 3)
+            costs = [[draw.randint(0, 9) for _ in range(n)] for _ in range(m)]
+            supplies = [draw.randint(0, 4) for _ in range(m)]
+            demands = [draw.randint(0, 4) for _ in range(n)]
+            table = [draw.randint(0, 3) for _ in range(supplies[0] + 1)]
+            d = sum(demands) - sum(supplies[2:])
+            if d < 0 or d > supplies[0] + supplies[1]:
+                with self.assertRaises(Refusal) as caught:
+                    plan(costs, supplies, demands, table)
+                self.assertEqual(caught.exception.number, 7 if d < 0 else 8)
+                continue
+            low, high = max(0, d - supplies[1]), min(supplies[0], d)
+            sags = [y for y in range(low + 1, high) if 2 * table[y] < table[y - 1] + table[y + 1]]
+            if sags:
+                with self.assertRaises(Refusal) as caught:
+                    plan(costs, supplies, demands, table)
+                self.assertEqual((caught.exception.number, caught.exception.place), (10, sags[0]))
+                continue
+            found = plan(costs, supplies, demands, table)
+            split, total, curve = listed(costs, supplies, demands, table)
+            self.assertEqual((found.split, found.total, found.freight), (split, total, curve[split]))
+            self.assertEqual([sum(row) for row in found.amounts], [split, d - split] + supplies[2:])
+            self.assertEqual([sum(column) for column in zip(*found.amounts)], demands)
+            spent = sum(c * x for cr, xr in zip(costs, found.amounts) for c, x in zip(cr, xr))
+            self.assertEqual(spent, found.freight)
+            bends = [y for y in curve if y in (low, high) or curve[y - 1] + curve[y + 1] != 2 * curve[y]]
+            self.assertEqual(found.stops, [(y, curve[y]) for y in bends])
+            planned += 1
+
+
+if __name__ == "__main__":
+    unittest.main()

@@ -1,0 +1,129 @@
+"""The proved two-plant production and freight planner, for Python.
+
+    >>> from yadvorkhul import plan
+    >>> p = plan(costs=[[2, 6], [5, 3], [1, 4]], supplies=[3, 3, 1], demands=[3, 2], table=[99, 20, 24, 20])
+    >>> p.split, p.total, p.freight
+    (3, 33, 13)
+    >>> p.amounts
+    [[3, 0], [0, 1], [0, 1]]
+    >>> p.stops
+    [(1, 14), (2, 11), (3, 13)]
+
+A case that fails a test is refused by an exception that has the number and the place:
+
+    >>> plan(costs=[[2, 6], [5, 3], [1, 4]], supplies=[3, 3, 6], demands=[3, 2], table=[99, 20, 24, 20])
+    Traceback (most recent call last):
+    yadvorkhul.Refusal: refusal 7: the depots hold more than the terminals take
+
+The shared object is made from the proved archive by `bindings/python/build`. Nothing checks the declaration here against
+the Rattle source.
+"""
+
+import ctypes
+import os
+from typing import List, NamedTuple, Tuple
+
+__all__ = ["plan", "plan_into", "Plan", "Refusal", "SHORT_REPORT"]
+
+MOST_SOURCES = 32
+MOST_TERMINALS = 64
+MOST_SPLITS = 4001
+REPORT_CELLS = 4
+SHORT_REPORT = 34
+
+_MEANINGS = {
+    1: "the count of sources is not 2 to 32",
+    2: "the count of terminals is not 1 to 64",
+    3: "the costs are not one for each source and terminal",
+    4: "a supply or demand is above 4,000",
+    5: "a unit cost is above 1,000,000",
+    6: "the table has not one entry more than plant 1's supply",
+    7: "the depots hold more than the terminals take",
+    8: "the terminals take more than depots and plants can give",
+    9: "a table entry at a split in use is above 1,000,000,000",
+    10: "the table is not concave",
+    11: "a lent slice is too short for the plan or the stops",
+    12: "the total is above 200,000,000,000",
+    SHORT_REPORT: "the report has fewer than four cells",
+}
+
+
+class Refusal(ValueError):
+    """The first test that a case fails: its number, and the place where it fails (0 where the number names none)."""
+
+    def __init__(self, number: int, place: int):
+        self.number = number
+        self.place = place
+        at = f" at place {place}" if place or number in (9, 10) else ""
+        super().__init__(f"refusal {number}{at}: {_MEANINGS.get(number, 'unknown')}")
+
+
+class Plan(NamedTuple):
+    """A cheapest plan."""
+
+    split: int  # what plant 1 makes: the smallest of the splits with the least total
+    total: int  # freight plus the table's entry at the split
+    freight: int  # the least of any plan at the split
+    amounts: List[List[int]]  # a row for each source: the drums to each terminal
+    stops: List[Tuple[int, int]]  # the freight curve: split and least freight, at the ends and where the slope changes
+
+
+def _load():
+    path = os.environ.get("YADVORKHUL_SO") or os.path.join(os.path.dirname(os.path.abspath(__file__)), "libyadvorkhul.so")
+    if not os.path.exists(path):
+        raise ImportError("libyadvorkhul.so is not there: run bindings/python/build, or name it in YADVORKHUL_SO")
+    function = ctypes.CDLL(path).yadvorkhul_plan
+    cells = ctypes.POINTER(ctypes.c_uint64)
+    # m and n, then eight slices, each a pointer and then a length
+    function.argtypes = [ctypes.c_size_t] * 2 + [cells, ctypes.c_size_t] * 8
+    function.restype = ctypes.c_uint64
+    return function
+
+
+_function = _load()
+
+
+def _cells(numbers):
+    """An array of the numbers. A number that is no unsigned 64-bit one is an error, and is not cut down to one."""
+    numbers = list(numbers)
+    for number in numbers:
+        if isinstance(number, bool) or not isinstance(number, int) or not 0 <= number < 1 << 64:
+            raise TypeError(f"not a whole number from 0 to 2^64 - 1: {number!r}")
+    # one cell more, so that the pointer of an empty slice points at something
+    return (ctypes.c_uint64 * (len(numbers) + 1))(*numbers), len(numbers)
+
+
+def plan_into(m, n, costs, supplies, demands, table, plan, splits, freights, report):
+    """The planner on lent lists. Each of the last four is changed in the cells that the planner writes. Answers its number."""
+    read = [_cells(numbers) for numbers in (costs, supplies, demands, table)]
+    lent = [plan, splits, freights, report]
+    written = [_cells(numbers) for numbers in lent]
+    _cells([m, n])
+    answer = _function(m, n, *(part for pair in read + written for part in pair))
+    for numbers, (cells, length) in zip(lent, written):
+        numbers[:] = cells[:length]
+    return answer
+
+
+def plan(costs, supplies, demands, table) -> Plan:
+    """A cheapest plan, or a `Refusal`.
+
+    costs     a row for each source: its unit cost to each terminal
+    supplies  the most each of the two plants can make, then each depot's stock, which must all leave
+    demands   what each terminal takes
+    table     one entry more than the first supply: entry y is the cost of both plants together when plant 1 makes y
+    """
+    rows = [list(row) for row in costs]
+    supplies, demands = list(supplies), list(demands)
+    m, n = len(supplies), len(demands)
+    # rows of other lengths must not pass for a table of the right size
+    even = len(rows) == m and all(len(row) == n for row in rows)
+    lanes = [cost for row in rows for cost in row] if even else []
+    amounts = [0] * (min(m, MOST_SOURCES) * min(n, MOST_TERMINALS))
+    splits, freights, report = [0] * MOST_SPLITS, [0] * MOST_SPLITS, [0] * REPORT_CELLS
+    number = plan_into(m, n, lanes, supplies, demands, table, amounts, splits, freights, report)
+    if number != 0:
+        raise Refusal(number, report[0])
+    split, total, freight, count = report
+    by_source = [amounts[i * n : (i + 1) * n] for i in range(m)]
+    return Plan(split, total, freight, by_source, list(zip(splits[:count], freights[:count])))

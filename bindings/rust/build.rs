@@ -1,0 +1,40 @@
+//! Builds the proved static library and links it.
+//!
+//! `rt staticlib ffi` is run in the root of the repository. It proves the crate and what it depends on (nothing is proved
+//! again where nothing changed) and writes target/staticlib/libffi.a. Where the environment names a folder in
+//! YADVORKHUL_LIB, the archive of that folder is linked instead and `rt` is not run.
+
+use std::path::{Path, PathBuf};
+use std::process::Command;
+
+fn main() {
+    println!("cargo:rerun-if-env-changed=YADVORKHUL_LIB");
+    let folder = match std::env::var_os("YADVORKHUL_LIB") {
+        Some(folder) => PathBuf::from(folder),
+        None => prove(),
+    };
+    println!("cargo:rerun-if-changed={}", folder.join("libffi.a").display());
+    println!("cargo:rustc-link-search=native={}", folder.display());
+    println!("cargo:rustc-link-lib=static=ffi");
+}
+
+/// Runs `rt staticlib ffi` and answers the folder of the archive.
+fn prove() -> PathBuf {
+    let here = PathBuf::from(std::env::var_os("CARGO_MANIFEST_DIR").expect("set by cargo"));
+    let root = here.join("../..").canonicalize().expect("the repository's root");
+    println!("cargo:rerun-if-changed={}", root.join("crates.txt").display());
+    for name in ["transport", "planner", "ffi"] {
+        for part in ["src", "specs", "proofs"] {
+            let folder = root.join("crates").join(name).join(part);
+            if Path::new(&folder).exists() {
+                println!("cargo:rerun-if-changed={}", folder.display());
+            }
+        }
+    }
+    let status = Command::new("rt").args(["staticlib", "ffi"]).current_dir(&root).status();
+    match status {
+        Ok(status) if status.success() => root.join("target/staticlib"),
+        Ok(status) => panic!("`rt staticlib ffi` in the repository's root ended with {status}"),
+        Err(error) => panic!("`rt` could not be run ({error}): the Rattle kit must be on the PATH, or YADVORKHUL_LIB name the folder of libffi.a"),
+    }
+}

@@ -1,0 +1,229 @@
+//! The proved two-plant production and freight planner, for Rust.
+//!
+//! Two plants and any number of depots supply terminals. The planner finds how much plant 1 makes (the *split*), how many
+//! drums go along each lane, and the freight curve: see `docs/USING.md`.
+//!
+//! ```
+//! use yadvorkhul::Case;
+//!
+//! let case = Case {
+//!     costs: vec![2, 6, 5, 3, 1, 4], // row after row: plant 1, plant 2, the depot
+//!     supplies: vec![3, 3, 1],
+//!     demands: vec![3, 2],
+//!     table: vec![99, 20, 24, 20], // entry y: both plants together, when plant 1 makes y
+//! };
+//! let plan = case.plan().unwrap();
+//! assert_eq!((plan.split, plan.total, plan.freight), (3, 33, 13));
+//! assert_eq!(plan.amounts, [3, 0, 0, 1, 0, 1]);
+//! let curve: Vec<_> = plan.stops.iter().map(|s| (s.split, s.freight)).collect();
+//! assert_eq!(curve, [(1, 14), (2, 11), (3, 13)]);
+//! ```
+//!
+//! A case that cannot be planned is refused, with the number and the place of the first test that it fails:
+//!
+//! ```
+//! use yadvorkhul::Case;
+//!
+//! let case = Case {
+//!     costs: vec![2, 6, 5, 3, 1, 4],
+//!     supplies: vec![3, 3, 6],
+//!     demands: vec![3, 2],
+//!     table: vec![99, 20, 24, 20],
+//! };
+//! let refusal = case.plan().unwrap_err();
+//! assert_eq!((refusal.number, refusal.place), (7, 0));
+//! println!("{refusal}");
+//! ```
+//!
+//! What is proved is the function behind [`plan_into`]. Nothing checks its declaration here against the Rattle source; the
+//! tests of this crate compare it with an independent planner on many cases.
+
+mod refusal;
+
+pub use refusal::Refusal;
+
+/// Most sources of a case: two plants and thirty depots.
+pub const MOST_SOURCES: usize = 32;
+/// Most terminals of a case.
+pub const MOST_TERMINALS: usize = 64;
+/// Largest supply or demand.
+pub const MOST_AMOUNT: u64 = 4_000;
+/// Largest unit cost.
+pub const MOST_COST: u64 = 1_000_000;
+/// Largest entry of the production table at a split in use.
+pub const MOST_ENTRY: u64 = 1_000_000_000;
+/// Cells of a report.
+pub const REPORT_CELLS: usize = 4;
+/// The number that answers a report of fewer cells. It is outside the numbers of the paper.
+pub const SHORT_REPORT: u64 = 34;
+
+extern "C" {
+    // Each slice passes as a pointer and then a length.
+    fn yadvorkhul_plan(
+        m: usize,
+        n: usize,
+        costs: *const u64,
+        costs_len: usize,
+        supplies: *const u64,
+        supplies_len: usize,
+        demands: *const u64,
+        demands_len: usize,
+        table: *const u64,
+        table_len: usize,
+        plan: *mut u64,
+        plan_len: usize,
+        splits: *mut u64,
+        splits_len: usize,
+        freights: *mut u64,
+        freights_len: usize,
+        report: *mut u64,
+        report_len: usize,
+    ) -> u64;
+}
+
+/// The planner on lent slices, of any numbers and any lengths.
+///
+/// Answers 0 where the case is planned: then the first four cells of `report` are split, total, freight and count of stops,
+/// the first m × n cells of `plan` are the amounts in row order, and the first cells of `splits` and `freights` are the
+/// stops. Else it answers the number of the refusal: then the first cell of `report` is its place. A `report` shorter than
+/// four cells is answered by [`SHORT_REPORT`], before anything else is looked at. All other cells keep their contents.
+///
+/// ```
+/// let (mut plan, mut splits, mut freights, mut report) = ([7; 7], [7; 4], [7; 4], [7; 5]);
+/// let answer = yadvorkhul::plan_into(
+///     3, 2, &[2, 6, 5, 3, 1, 4], &[3, 3, 1], &[3, 2], &[99, 20, 24, 20],
+///     &mut plan, &mut splits, &mut freights, &mut report,
+/// );
+/// assert_eq!(answer, 0);
+/// assert_eq!(report, [3, 33, 13, 3, 7]);
+/// assert_eq!(plan, [3, 0, 0, 1, 0, 1, 7]);
+/// assert_eq!(splits, [1, 2, 3, 7]);
+/// assert_eq!(freights, [14, 11, 13, 7]);
+/// ```
+#[allow(clippy::too_many_arguments)]
+pub fn plan_into(
+    m: usize,
+    n: usize,
+    costs: &[u64],
+    supplies: &[u64],
+    demands: &[u64],
+    table: &[u64],
+    plan: &mut [u64],
+    splits: &mut [u64],
+    freights: &mut [u64],
+    report: &mut [u64],
+) -> u64 {
+    // Safety: the callee has no `requires`. It reads and writes only within the lengths passed beside the pointers, keeps
+    // none of them, and the four slices that it writes are borrowed exclusively, so none overlaps another slice.
+    unsafe {
+        yadvorkhul_plan(
+            m,
+            n,
+            costs.as_ptr(),
+            costs.len(),
+            supplies.as_ptr(),
+            supplies.len(),
+            demands.as_ptr(),
+            demands.len(),
+            table.as_ptr(),
+            table.len(),
+            plan.as_mut_ptr(),
+            plan.len(),
+            splits.as_mut_ptr(),
+            splits.len(),
+            freights.as_mut_ptr(),
+            freights.len(),
+            report.as_mut_ptr(),
+            report.len(),
+        )
+    }
+}
+
+/// A planning case. There are as many sources as supplies and as many terminals as demands.
+#[derive(Clone, Debug, PartialEq, Eq)]
+pub struct Case {
+    /// Unit costs, one source's together, row after row: source i's cost to terminal j (both from 0) at i × n + j.
+    pub costs: Vec<u64>,
+    /// Of the two plants, the most each can make; then of each depot the stock, which must all leave.
+    pub supplies: Vec<u64>,
+    /// What each terminal takes, exactly.
+    pub demands: Vec<u64>,
+    /// Entry y: the cost of both plants together when plant 1 makes y and plant 2 the rest. One entry more than plant 1's
+    /// supply.
+    pub table: Vec<u64>,
+}
+
+/// A cheapest plan.
+#[derive(Clone, Debug, PartialEq, Eq)]
+pub struct Plan {
+    /// What plant 1 makes: the smallest of the splits with the least total.
+    pub split: u64,
+    /// Freight plus the table's entry at the split.
+    pub total: u64,
+    /// Sum of amount times unit cost over the lanes: the least of any plan at the split.
+    pub freight: u64,
+    /// The amount of each lane, in the order of the costs.
+    pub amounts: Vec<u64>,
+    /// The freight curve: the first and the last split, and each one between where the slope changes.
+    pub stops: Vec<Stop>,
+    terminals: usize,
+}
+
+/// A point of the freight curve.
+#[derive(Clone, Copy, Debug, PartialEq, Eq)]
+pub struct Stop {
+    pub split: u64,
+    /// The least freight of any plan at that split.
+    pub freight: u64,
+}
+
+impl Case {
+    /// A cheapest plan, or the first refusal.
+    pub fn plan(&self) -> Result<Plan, Refusal> {
+        let (m, n) = (self.supplies.len(), self.demands.len());
+        // Room for any case that is accepted: refusal 11 cannot arise.
+        let mut amounts = vec![0; m.min(MOST_SOURCES) * n.min(MOST_TERMINALS)];
+        let mut splits = vec![0; MOST_AMOUNT as usize + 1];
+        let mut freights = vec![0; MOST_AMOUNT as usize + 1];
+        let mut report = [0; REPORT_CELLS];
+        let number = plan_into(
+            m,
+            n,
+            &self.costs,
+            &self.supplies,
+            &self.demands,
+            &self.table,
+            &mut amounts,
+            &mut splits,
+            &mut freights,
+            &mut report,
+        );
+        if number != 0 {
+            return Err(Refusal { number, place: report[0], sources: m, terminals: n });
+        }
+        let [split, total, freight, count] = report;
+        let stops = splits.iter().zip(&freights).take(count as usize);
+        let stops = stops.map(|(&split, &freight)| Stop { split, freight }).collect();
+        Ok(Plan { split, total, freight, amounts, stops, terminals: n })
+    }
+}
+
+impl Plan {
+    /// Drums from source i to terminal j, both counted from 0.
+    ///
+    /// ```
+    /// # let case = yadvorkhul::Case {
+    /// #     costs: vec![2, 6, 5, 3, 1, 4], supplies: vec![3, 3, 1], demands: vec![3, 2], table: vec![99, 20, 24, 20] };
+    /// let plan = case.plan().unwrap();
+    /// assert_eq!(plan.amount(2, 1), 1);
+    /// ```
+    pub fn amount(&self, source: usize, terminal: usize) -> u64 {
+        assert!(terminal < self.terminals, "terminal {terminal} of {}", self.terminals);
+        self.amounts[source * self.terminals + terminal]
+    }
+
+    /// The amounts of each source in turn.
+    pub fn rows(&self) -> impl Iterator<Item = &[u64]> {
+        self.amounts.chunks(self.terminals)
+    }
+}

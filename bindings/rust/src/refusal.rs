@@ -1,0 +1,81 @@
+//! What a refusal's number means, and where to look.
+
+use std::error::Error;
+use std::fmt;
+
+/// The first test that a case fails.
+///
+/// ```
+/// let case = yadvorkhul::Case {
+///     costs: vec![2, 6, 5, 3, 1, 4],
+///     supplies: vec![3, 3, 1],
+///     demands: vec![3, 4001],
+///     table: vec![99, 20, 24, 20],
+/// };
+/// let refusal = case.plan().unwrap_err();
+/// assert_eq!(refusal.to_string(), "refusal 4 at place 5: a supply or demand is above 4,000; look at the demand of terminal 2");
+/// ```
+#[derive(Clone, Copy, Debug, PartialEq, Eq)]
+pub struct Refusal {
+    /// 1 to 12.
+    pub number: u64,
+    /// Where the test fails, as the number has it; 0 where it names no place.
+    pub place: u64,
+    pub(crate) sources: usize,
+    pub(crate) terminals: usize,
+}
+
+impl Refusal {
+    /// What the number says.
+    pub fn meaning(&self) -> &'static str {
+        match self.number {
+            1 => "the count of sources is not 2 to 32",
+            2 => "the count of terminals is not 1 to 64",
+            3 => "the costs are not one for each source and terminal",
+            4 => "a supply or demand is above 4,000",
+            5 => "a unit cost is above 1,000,000",
+            6 => "the table has not one entry more than plant 1's supply",
+            7 => "the depots hold more than the terminals take",
+            8 => "the terminals take more than depots and plants can give",
+            9 => "a table entry at a split in use is above 1,000,000,000",
+            10 => "the table is not concave",
+            11 => "a lent slice is too short for the plan or the stops",
+            12 => "the total is above 200,000,000,000",
+            _ => "a number that this wrapper does not know",
+        }
+    }
+
+    /// Where to look, with sources and terminals counted from 1 and table entries from 0, as in the paper.
+    pub fn whereabouts(&self) -> String {
+        let (m, n, place) = (self.sources as u64, self.terminals as u64, self.place);
+        match self.number {
+            1 => format!("there are {m} supplies"),
+            2 => format!("there are {n} demands"),
+            3 => format!("{m} sources and {n} terminals need {} costs", m * n),
+            4 if place <= m => format!("look at the supply of source {place}"),
+            4 => format!("look at the demand of terminal {}", place - m),
+            5 if n > 0 && place > 0 => {
+                format!("look at the cost from source {} to terminal {}", (place - 1) / n + 1, (place - 1) % n + 1)
+            }
+            6 => "look at the table's length and the first supply".to_string(),
+            7 => "compare the sum of supplies from the third on with the sum of demands".to_string(),
+            8 => "compare the sum of all supplies with the sum of demands".to_string(),
+            9 => format!("look at table entry {place}"),
+            10 => format!("twice table entry {place} is below the sum of its two neighbours"),
+            11 => "lend m × n cells for the plan and one for each split for the stops".to_string(),
+            _ => "no place is named".to_string(),
+        }
+    }
+}
+
+impl fmt::Display for Refusal {
+    fn fmt(&self, f: &mut fmt::Formatter<'_>) -> fmt::Result {
+        write!(f, "refusal {}", self.number)?;
+        if self.place != 0 || matches!(self.number, 9 | 10) {
+            write!(f, " at place {}", self.place)?;
+        }
+        write!(f, ": {}; {}", self.meaning(), self.whereabouts())
+    }
+}
+
+impl Error for Refusal {}

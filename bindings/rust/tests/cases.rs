@@ -1,0 +1,152 @@
+//! The cases of the paper: P1 to P10, the report's example, and those at the limits.
+
+mod common;
+
+use common::{expect_plan, expect_referee, expect_refusal, referee, Lent};
+use yadvorkhul::{Case, Stop};
+
+fn with_table(table: &[u64]) -> Lent {
+    Lent { table: table.to_vec(), ..Lent::a() }
+}
+
+/// Planned with this split, total and freight curve, and as the referee says in each cell.
+fn planned(lent: &Lent, split: u64, total: u64, least: u64, curve: &[u64]) {
+    assert_eq!(referee::curve(lent), (least, curve.to_vec()));
+    assert_eq!(referee::best(least, curve, &lent.table), (split, total));
+    expect_plan(lent, least, curve);
+}
+
+#[test]
+fn p1() {
+    planned(&Lent::a(), 3, 33, 1, &[14, 11, 13]);
+}
+
+#[test]
+fn p2() {
+    planned(&with_table(&[99, 20, 24, 22]), 1, 34, 1, &[14, 11, 13]);
+}
+
+#[test]
+fn p3_tie() {
+    planned(&with_table(&[99, 20, 24, 21]), 1, 34, 1, &[14, 11, 13]);
+}
+
+#[test]
+fn p4_between() {
+    planned(&with_table(&[99, 20, 20, 20]), 2, 31, 1, &[14, 11, 13]);
+}
+
+#[test]
+fn p5_refusal_7() {
+    expect_refusal(&Lent { supplies: vec![3, 3, 6], ..Lent::a() }, 7, 0);
+}
+
+#[test]
+fn p6_refusal_8() {
+    expect_refusal(&Lent { supplies: vec![1, 2, 1], table: vec![99, 20], ..Lent::a() }, 8, 0);
+}
+
+#[test]
+fn p7_refusal_10() {
+    expect_refusal(&with_table(&[99, 20, 20, 22]), 10, 2);
+}
+
+#[test]
+fn p8_refusal_4() {
+    expect_refusal(&Lent { supplies: vec![4001, 3, 1], ..Lent::a() }, 4, 1);
+}
+
+#[test]
+fn p9_nothing_made() {
+    planned(&Lent { supplies: vec![3, 3, 5], ..Lent::a() }, 0, 110, 0, &[11]);
+}
+
+#[test]
+fn p10_one_split() {
+    planned(&Lent { supplies: vec![3, 1, 1], ..Lent::a() }, 3, 33, 3, &[13]);
+}
+
+#[test]
+fn report_example() {
+    let lent = Lent::report_example();
+    let (least, curve) = referee::curve(&lent);
+    let stops = [(100, 1430), (150, 1030), (180, 820), (200, 800)];
+    assert_eq!(referee::stops(least, &curve), stops);
+    planned(&lent, 200, 800, 100, &curve);
+}
+
+/// The report's own table, 100 times the square root of y, in hundredths: the least total is at 180.
+#[test]
+fn report_example_with_its_table() {
+    let mut lent = Lent::report_example();
+    lent.costs.iter_mut().for_each(|c| *c *= 10_000);
+    lent.table = (0..=200u64).map(|y| (1_000_000.0 * (y as f64).sqrt()).round() as u64).collect();
+    let (least, curve) = referee::curve(&lent);
+    assert_eq!(referee::best(least, &curve, &lent.table).0, 180);
+    expect_plan(&lent, least, &curve);
+}
+
+#[test]
+fn owned_types() {
+    let a = Lent::a();
+    let case = Case { costs: a.costs, supplies: a.supplies, demands: a.demands, table: a.table };
+    let plan = case.plan().unwrap();
+    assert_eq!((plan.split, plan.total, plan.freight), (3, 33, 13));
+    assert_eq!(plan.rows().collect::<Vec<_>>(), [[3, 0], [0, 1], [0, 1]]);
+    let stop = |split, freight| Stop { split, freight };
+    assert_eq!(plan.stops, [stop(1, 14), stop(2, 11), stop(3, 13)]);
+}
+
+#[test]
+fn refusals_are_readable() {
+    let a = Lent::a();
+    let case = Case { costs: a.costs, supplies: a.supplies, demands: a.demands, table: a.table };
+    let text = |case: Case| case.plan().unwrap_err().to_string();
+    let costs = vec![2, 6, 5, 3, 1, 1_000_001];
+    assert_eq!(
+        text(Case { costs, ..case.clone() }),
+        "refusal 5 at place 6: a unit cost is above 1,000,000; look at the cost from source 3 to terminal 2"
+    );
+    assert_eq!(
+        text(Case { table: vec![99, 20, 20, 22], ..case.clone() }),
+        "refusal 10 at place 2: the table is not concave; twice table entry 2 is below the sum of its two neighbours"
+    );
+    assert_eq!(
+        text(Case { supplies: vec![3], ..case.clone() }),
+        "refusal 1: the count of sources is not 2 to 32; there are 1 supplies"
+    );
+    assert_eq!(
+        text(Case { costs: vec![1; 5], ..case }),
+        "refusal 3: the costs are not one for each source and terminal; 3 sources and 2 terminals need 6 costs"
+    );
+}
+
+/// m = 32 and 33, n = 64 and 65, amounts 4,000 and 4,001, unit costs 1,000,000 and 1,000,001, stop slices of u - ℓ + 1 and
+/// one less.
+#[test]
+fn limits() {
+    let square = |m: usize, n: usize, amount: u64, cost: u64| {
+        let mut lent =
+            Lent::new(m, n, &vec![cost; m * n], &vec![amount; m], &vec![0; n], &vec![0; amount as usize + 1]);
+        let mut rest = (m as u64 - 1) * amount;
+        for demand in lent.demands.iter_mut() {
+            *demand = rest.min(amount);
+            rest -= *demand;
+        }
+        lent
+    };
+    let largest = square(32, 64, 4_000, 1_000_000);
+    assert_eq!(expect_referee(&largest), 0);
+    expect_refusal(&square(33, 64, 4_000, 1_000_000), 1, 0);
+    expect_refusal(&square(32, 65, 4_000, 1_000_000), 2, 0);
+    expect_refusal(&square(32, 64, 4_001, 1_000_000), 4, 1);
+    expect_refusal(&square(32, 64, 4_000, 1_000_001), 5, 1);
+    let exact = Lent { plan_cells: 2_048, split_cells: 4_001, freight_cells: 4_001, ..largest.clone() };
+    assert_eq!(expect_referee(&exact), 0);
+    expect_refusal(&Lent { plan_cells: 2_047, ..exact.clone() }, 11, 0);
+    expect_refusal(&Lent { split_cells: 4_000, ..exact.clone() }, 11, 0);
+    expect_refusal(&Lent { freight_cells: 4_000, ..exact }, 11, 0);
+    // the highest total known: every drum at the dearest cost
+    let answer = largest.call();
+    assert_eq!(answer.report[1], 31 * 4_000 * 1_000_000);
+}

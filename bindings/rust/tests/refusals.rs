@@ -1,0 +1,226 @@
+//! Every refusal by spoiled cases, their order where a case is spoiled twice, and slices too short by one.
+
+mod common;
+
+use common::random::{accepted, Limits, Random};
+use common::{expect_referee, expect_refusal, referee, untouched, Lent};
+
+const SMALL: Limits = Limits { sources: (2, 6), terminals: (1, 8), amount: 12 };
+
+/// Spoils the case so that test `number` fails; answers false where this case has no such fault.
+fn spoil(random: &mut Random, lent: &mut Lent, number: u64) -> bool {
+    let Lent { m, n, .. } = *lent;
+    let (d, l, u) = referee::splits(lent);
+    match number {
+        1 => lent.m = [0, 1, 33, 64, usize::MAX, 1 << 63][random.size(0, 5)],
+        2 => lent.n = [0, 65, 66, usize::MAX, 1 << 58, 1 << 63][random.size(0, 5)],
+        3 => {
+            let slice =
+                [&mut lent.costs, &mut lent.supplies, &mut lent.demands].into_iter().nth(random.size(0, 2)).unwrap();
+            match random.within(0, 2) {
+                0 => drop(slice.pop()),
+                1 => slice.push(0),
+                _ => slice.clear(),
+            }
+        }
+        4 => {
+            let k = random.size(0, m + n - 1);
+            let amount = [4_001, 1 << 32, u64::MAX][random.size(0, 2)];
+            *if k < m { &mut lent.supplies[k] } else { &mut lent.demands[k - m] } = amount;
+        }
+        5 => {
+            let k = random.size(0, m * n - 1);
+            lent.costs[k] = [1_000_001, 1 << 32, u64::MAX][random.size(0, 2)];
+        }
+        6 => match random.within(0, 2) {
+            0 => drop(lent.table.pop()),
+            1 => lent.table.push(0),
+            _ => lent.table.clear(),
+        },
+        7 => {
+            // the last depot gets one more than all the terminals take beyond the others
+            if m == 2 || lent.supplies[m - 1] + d + 1 > 4_000 {
+                return false;
+            }
+            lent.supplies[m - 1] += d + 1;
+        }
+        8 => {
+            let short = lent.supplies[0] + lent.supplies[1] + 1 - d;
+            let Some(demand) = lent.demands.iter_mut().find(|b| **b + short <= 4_000) else { return false };
+            *demand += short;
+        }
+        9 => lent.table[random.within(l, u) as usize] = [1_000_000_001, u64::MAX / 2, u64::MAX][random.size(0, 2)],
+        10 => {
+            if u < l + 2 {
+                return false;
+            }
+            let y = random.within(l + 1, u - 1) as usize;
+            let sides = lent.table[y - 1] + lent.table[y + 1];
+            if sides == 0 {
+                lent.table[y + 1] = 1;
+                lent.table[y] = 0;
+            } else {
+                lent.table[y] = (sides - 1) / 2;
+            }
+        }
+        _ => match random.within(0, 2) {
+            0 => lent.plan_cells = m * n - 1,
+            1 => lent.split_cells = (u - l) as usize,
+            _ => lent.freight_cells = (u - l) as usize,
+        },
+    }
+    true
+}
+
+#[test]
+fn each_refusal() {
+    let mut random = Random::new(1);
+    let mut seen = [0; 13];
+    for round in 0..4_400 {
+        let number = round % 11 + 1;
+        let (mut lent, _, _) = accepted(&mut random, SMALL);
+        if spoil(&mut random, &mut lent, number) {
+            assert_eq!(expect_referee(&lent), number, "{lent:?}");
+            seen[number as usize] += 1;
+        }
+    }
+    assert!(seen[1..=11].iter().all(|&k| k >= 100), "{seen:?}");
+    println!("refusals 1 to 11, one fault each: {:?} cases", &seen[1..=11]);
+}
+
+/// Two faults: the lower number wins, except where the first fault made the second one void.
+#[test]
+fn order_of_refusals() {
+    let mut random = Random::new(2);
+    let mut seen = [0; 13];
+    for round in 0..12_100 {
+        let (one, other) = (round % 11 + 1, round / 11 % 11 + 1);
+        let (mut lent, _, _) = accepted(&mut random, SMALL);
+        // the higher first: the faults of lower numbers break what the others are placed by
+        spoil(&mut random, &mut lent, one.max(other));
+        // a lower fault is placed by the form of the case, which faults 1 to 8 may have broken
+        if one != other && referee::refusal(&lent).is_none_or(|r| r.0 > 8) {
+            spoil(&mut random, &mut lent, one.min(other));
+        }
+        seen[expect_referee(&lent) as usize] += 1;
+    }
+    assert!(seen[1..=11].iter().all(|&k| k >= 50), "{seen:?}");
+    println!("two faults: {:?} cases by number", &seen);
+}
+
+/// Any numbers and any lengths: the referee and the planner agree on each, and nothing else is written.
+#[test]
+fn anything_at_all() {
+    let mut random = Random::new(3);
+    let mut seen = [0; 13];
+    for _ in 0..10_000 {
+        let odd = |random: &mut Random, most: u64| match random.within(0, 9) {
+            0 => random.next(),
+            1 => most + 1,
+            2 => most,
+            _ => random.within(0, most.min(6)),
+        };
+        let m = if random.within(0, 9) == 0 { random.next() as usize } else { random.size(1, 4) };
+        let n = if random.within(0, 9) == 0 { random.next() as usize } else { random.size(0, 3) };
+        let length =
+            |random: &mut Random, due: usize| if random.within(0, 9) == 0 { random.size(0, 9) } else { due.min(99) };
+        let list = |random: &mut Random, due: usize, most: u64, mild: bool| -> Vec<u64> {
+            let k = length(random, due);
+            (0..k).map(|_| if mild { random.within(0, 6) } else { odd(random, most) }).collect()
+        };
+        let mild = random.within(0, 3) > 0;
+        let costs = list(&mut random, m.saturating_mul(n), 1_000_000, mild);
+        let supplies = list(&mut random, m, 4_000, mild);
+        let demands = list(&mut random, n, 4_000, mild);
+        let entries = supplies.first().map_or(0, |a| (*a).min(4_000) as usize + 1);
+        let mut table = list(&mut random, entries, 1_000_000_000, mild);
+        if random.within(0, 1) == 0 {
+            table.fill(7);
+        }
+        let mut lent = Lent::new(m, n, &costs, &supplies, &demands, &table);
+        lent.plan_cells = random.size(0, 12);
+        lent.split_cells = random.size(0, 12);
+        lent.freight_cells = random.size(0, 12);
+        seen[expect_referee(&lent) as usize] += 1;
+    }
+    println!("anything: {:?} cases by number, 0 planned", &seen);
+}
+
+/// A place is the lowest where several fail.
+#[test]
+fn lowest_place() {
+    let mut lent = Lent::a();
+    lent.supplies[2] = 5_000;
+    lent.demands[0] = 5_000;
+    expect_refusal(&lent, 4, 3);
+    lent.supplies[2] = 1;
+    expect_refusal(&lent, 4, 4);
+    let mut lent = Lent::a();
+    lent.costs[5] = 1_000_001;
+    lent.costs[3] = u64::MAX;
+    expect_refusal(&lent, 5, 4);
+    let mut lent = Lent::a();
+    lent.table = vec![u64::MAX, 20, 1_000_000_001, 1_000_000_001];
+    expect_refusal(&lent, 9, 2);
+    let lent = Lent { supplies: vec![5, 5, 0], table: vec![9, 4, 4, 5, 5, 9], ..Lent::a() };
+    expect_refusal(&lent, 10, 1);
+}
+
+/// The examples of the paper's table of refusals.
+#[test]
+fn examples() {
+    let a = Lent::a;
+    expect_refusal(&Lent { m: 1, ..a() }, 1, 0);
+    expect_refusal(&Lent { n: 0, ..a() }, 2, 0);
+    expect_refusal(&Lent { costs: vec![2, 6, 5, 3, 1], ..a() }, 3, 0);
+    expect_refusal(&Lent { supplies: vec![4_001, 3, 1], ..a() }, 4, 1);
+    expect_refusal(&Lent { costs: vec![1_000_001, 6, 5, 3, 1, 4], ..a() }, 5, 1);
+    expect_refusal(&Lent { table: vec![99, 20, 24], ..a() }, 6, 0);
+    expect_refusal(&Lent { supplies: vec![3, 3, 6], ..a() }, 7, 0);
+    expect_refusal(&Lent { supplies: vec![1, 2, 1], table: vec![99, 20], ..a() }, 8, 0);
+    expect_refusal(&Lent { table: vec![99, 20, 1_000_000_001, 20], ..a() }, 9, 2);
+    expect_refusal(&Lent { table: vec![99, 20, 20, 22], ..a() }, 10, 2);
+    expect_refusal(&Lent { plan_cells: 5, ..a() }, 11, 0);
+}
+
+/// A report of fewer than four cells is answered by a number of its own; nothing is written, whatever the case.
+#[test]
+fn short_report() {
+    for cells in 0..4 {
+        for lent in [Lent::a(), Lent { m: 1, ..Lent::a() }, Lent { plan_cells: 5, ..Lent::a() }] {
+            let answer = lent.call_with_report(cells);
+            assert_eq!(answer.number, yadvorkhul::SHORT_REPORT);
+            assert_eq!(answer.report, untouched(4, cells));
+            assert_eq!(answer.plan, untouched(1, lent.plan_cells));
+            assert_eq!(answer.splits, untouched(2, lent.split_cells));
+            assert_eq!(answer.freights, untouched(3, lent.freight_cells));
+        }
+    }
+    assert_eq!(Lent::a().call_with_report(4).report, [3, 33, 13, 3]);
+}
+
+/// Each lent slice exactly long enough is accepted; one cell less is refused, and nothing is written.
+#[test]
+fn short_by_one() {
+    let mut random = Random::new(4);
+    for _ in 0..500 {
+        let (mut lent, least, curve) = accepted(&mut random, SMALL);
+        lent.plan_cells = lent.m * lent.n;
+        lent.split_cells = curve.len();
+        lent.freight_cells = curve.len();
+        common::expect_plan(&lent, least, &curve);
+        for k in 0..3 {
+            let mut short = lent.clone();
+            let cells = [&mut short.plan_cells, &mut short.split_cells, &mut short.freight_cells];
+            *cells.into_iter().nth(k).unwrap() -= 1;
+            expect_refusal(&short, 11, 0);
+        }
+        for k in 0..4 {
+            let mut short = lent.clone();
+            let slice =
+                [&mut short.costs, &mut short.supplies, &mut short.demands, &mut short.table].into_iter().nth(k);
+            slice.unwrap().pop();
+            expect_refusal(&short, if k < 3 { 3 } else { 6 }, 0);
+        }
+    }
+}

@@ -1,0 +1,68 @@
+// The planner for callers outside Rattle: numbers and slices only.
+ghost use mathlib.Core.Path.{_≡_};
+ghost use Prim.Native.Nat.{_≤_};
+ghost use lib.ListN.{length};
+ghost use Rattle.transport.specs.Curve.{written};
+ghost use Rattle.planner.specs.Verdict.{lent};
+ghost use Rattle.planner.specs.Answer.{outcome, slices};
+ghost use Rattle.ffi.specs.Report.{numberOf, reportOf, Exported};
+use planner::Answer;
+
+// Writes the report of an answer; its number.
+fn tell(answer: Answer, report: &mut [u64]) -> u64
+    requires { ⌜ 4 ≤ length (now report) ⌝ }
+    ensures { λ r. ⌜ (r ≡ numberOf (outcome answer)) × (now (report .exit) ≡ written (reportOf (outcome answer)) (now (report .entry))) ⌝ }
+{
+    match answer {
+        Answer::Planned {
+            split,
+            total,
+            freight,
+            stops,
+        } => {
+            report[0] = split;
+            report[1] = total;
+            report[2] = freight;
+            report[3] = stops as u64;
+            0
+        }
+        Answer::Refused { number, place } => {
+            report[0] = place;
+            number
+        }
+    }
+}
+
+// Plans a lent case: 0 where there is a plan, else the number of the refusal. The report's first cells get split, total,
+// freight and count of stops, or the refusal's place. A report of fewer than four cells is answered by 34.
+#[no_mangle]
+pub extern "C" fn yadvorkhul_plan(
+    m: usize,
+    n: usize,
+    costs: &[u64],
+    supplies: &[u64],
+    demands: &[u64],
+    table: &[u64],
+    plan: &mut [u64],
+    splits: &mut [u64],
+    freights: &mut [u64],
+    report: &mut [u64],
+) -> u64
+    ensures { λ r. ⌜ Exported (lent m n (now (costs .entry)) (now (supplies .entry)) (now (demands .entry)) (now (table .entry)) (length (now (plan .entry))) (length (now (splits .entry))) (length (now (freights .entry)))) (slices (now (plan .entry)) (now (splits .entry)) (now (freights .entry))) (slices (now (plan .exit)) (now (splits .exit)) (now (freights .exit))) (now (report .entry)) (now (report .exit)) r ⌝ }
+{
+    if report.len() < 4 {
+        return 34;
+    }
+    let answer = planner::plan(
+        m,
+        n,
+        costs,
+        supplies,
+        demands,
+        table,
+        plan,
+        splits,
+        freights,
+    );
+    tell(answer, report)
+}
