@@ -10,6 +10,7 @@ pub mod Least
 pub mod Pass
 pub mod Near
 pub mod Settle
+pub mod Keys
 pub mod Falls
 pub mod Stroll
 pub mod Deliver

@@ -43,8 +43,8 @@ module _ {N : Net} {v b hop wide lo hi : ℕ} {B B' : Book} where
   }
 
   pub pass-open : {hi' t k l : ℕ} {B'' : Book} → Passing N v b hop wide lo hi B B' → hi' ≡ hi + 1 → N .m ≤ 32 → hi < 96 → Arc N v hi b t k
-      → l ≡ min wide k → Offered hi t v hop l B' B'' → Passing N v b hop wide lo hi' B B''
-  pass-open {t = t} {k = k} p e s big arc el (kept h q) = rw q (record {
+      → l ≡ min wide k → {p K K' : List ℕ} → Offered hi t v hop l p B' B'' K K' → Passing N v b hop wide lo hi' B B''
+  pass-open {t = t} {k = k} p e s big arc el (kept h q eq) = rw q (record {
     long = p .long;
     each = p .each;
     rest = λ w h. p .rest w (omega arith);
@@ -53,7 +53,7 @@ module _ {N : Net} {v b hop wide lo hi : ℕ} {B B' : Book} where
       | no z ↦ p .offers w t' k' o (omega arith) a
     ];
   })
-  pass-open {t = t} {k = k} {l = l} p e s big arc el (won h q) = rw q (record {
+  pass-open {t = t} {k = k} {l = l} p e s big arc el (won h q eq) = rw q (record {
     long = record {
       dists = length-set (B' .dist) hi t ∙ p .long .dists;
       prevs = length-set (B' .prev) hi v ∙ p .long .prevs;

@@ -50,7 +50,7 @@ arc-terminal : {N : Net} {v w b t k : ℕ} → N .m ≤ 32 → Arc N v w b t k �
 arc-terminal s (ahead j a e f g h i) l = omega arith
 arc-terminal s (back j a e f g h i) l = absurd (omega arith)
 
-arc-near : {N : Net} {p : List ℕ} {v w b t k : ℕ} → Sound N p → Arc N v w b t k → (t ≤ b + 2000000) × (b ≤ t + 2000000)
+pub arc-near : {N : Net} {p : List ℕ} {v w b t k : ℕ} → Sound N p → Arc N v w b t k → (t ≤ b + 2000000) × (b ≤ t + 2000000)
 arc-near {v = v} so (ahead j a e f g h i) = omega (arith, so .costs v j a e)
 arc-near {w = w} so (back j a e f g h i) = omega (arith, so .costs w j a e)
 
@@ -59,8 +59,8 @@ arc-eq ev eb et a = rw (ev, eb, et) a
 
 -- ---- one node is settled
 
-record Stays (B B' : Book) (w : ℕ) : Type 0 where
-  dists : get (B' .dist) w ≡ get (B .dist) w
+pub record Stays (B B' : Book) (w : ℕ) : Type 0 where
+  pub dists : get (B' .dist) w ≡ get (B .dist) w
   prevs : get (B' .prev) w ≡ get (B .prev) w
   hopss : get (B' .hops) w ≡ get (B .hops) w
   widths : get (B' .width) w ≡ get (B .width) w
@@ -88,12 +88,9 @@ module _ {N : Net} {p room : List ℕ} {s limit : ℕ} {B B' : Book} {D : List �
   now-settled : (w : ℕ) → get D w ≡ 1 → get D' w ≡ 1
   now-settled w e = elim (ℕ-discrete w v) [ yes z ↦ rw z here | no z ↦ off w z ∙ e ]
 
-  count : sum 96 (λ w. get D' w) ≡ sum 96 (λ w. get D w) + 1
-  count = omega (arith, sum-change 96 v (λ w. get D' w) (λ w. get D w) hv (λ w l z. off w z), here, near .fresh hv)
-
-  pub search-less : 96 - sum 96 (λ w. get (set D v 1) w) < 96 - sum 96 (λ w. get D w)
+  pub count : sum 96 (λ w. get (set D v 1) w) ≡ sum 96 (λ w. get D w) + 1
   unfolding D'
-  search-less = omega (arith, count, marks-free 96 v (λ w. get D w) (q .zero-one) hv (near .fresh hv .0))
+  count = omega (arith, sum-change 96 v (λ w. get D' w) (λ w. get D w) hv (λ w l z. off w z), here, near .fresh hv)
 
   -- a settled node is no farther than v
   closer : (w : ℕ) → w < 96 → get D' w ≡ 1 → get (B .dist) w + get p v ≤ get (B .dist) v + get p w
@@ -107,7 +104,8 @@ module _ {N : Net} {p room : List ℕ} {s limit : ℕ} {B B' : Book} {D : List �
   stayed w hw e (stays e₁ e₂ e₃ e₄) = record { dists = e₁; prevs = e₂; hopss = e₃; widths = e₄ }
   stayed w hw e (gains t k a l e₁ e₂ e₃ e₄) = absurd (omega (arith, arc-reduced so a, closer w hw e))
 
-  stay : (w : ℕ) → w < 96 → get D' w ≡ 1 → Stays B B' w
+  pub stay : (w : ℕ) → w < 96 → get (set D v 1) w ≡ 1 → Stays B B' w
+  unfolding D'
   stay w hw e = stayed w hw e (pass .each w)
 
   shrink : (w : ℕ) → get (B' .dist) w ≤ get (B .dist) w
@@ -122,6 +120,7 @@ module _ {N : Net} {p room : List ℕ} {s limit : ℕ} {B B' : Book} {D : List �
 
   label-stays : (w : ℕ) → Stays B B' w → Label N s (λ w. get D w ≡ 1) p (sum 96 (λ w. get D w)) limit B w
       → Label N s (λ w. get D' w ≡ 1) p (sum 96 (λ w. get D' w)) limit B' w
+  unfolding D'
   label-stays w e l = record {
     source = l .source;
     terminal = l .terminal;
@@ -145,6 +144,7 @@ module _ {N : Net} {p room : List ℕ} {s limit : ℕ} {B B' : Book} {D : List �
 
   label-new : (w : ℕ) → Touched N v (get (B .dist) v) (get (B .hops) v + 1) (get (B .width) v) B B' w → w < 96 → get (B' .dist) w < far
       → Label N s (λ w. get D' w ≡ 1) p (sum 96 (λ w. get D' w)) limit B' w
+  unfolding D'
   label-new w (stays e₁ e₂ e₃ e₄) hw h =
       label-stays w (record { dists = e₁; prevs = e₂; hopss = e₃; widths = e₄ }) (q .label w hw (omega arith))
   label-new w (gains t k a l e₁ e₂ e₃ e₄) hw h =
@@ -275,15 +275,17 @@ module _ {N : Net} {p room : List ℕ} {s limit : ℕ} {B : Book} {D : List ℕ}
   pub label-near : {v : ℕ} → v < 96 → get (B .dist) v < far → (get (B .dist) v ≤ 1000000000) × (get (B .hops) v ≤ 96)
   label-near {v} hv l = omega (arith, q .label v hv l .up, q .label v hv l .count, counted, so .high s (q .start))
 
-  pub relax-ready : {v : ℕ} → v < 96 → get (B .dist) v < far → RelaxReady N v (get (B .dist) v) B
-  relax-ready {v} hv l = record {
+  pub relax-ready : {v : ℕ} {K : List ℕ} → v < 96 → get (B .dist) v < far → length K ≡ 96 → RelaxReady N p v (get (B .dist) v) B K
+  relax-ready {v} hv l e = record {
     long = q .long;
+    long-key = e;
     sources = so .sources;
     terminals = so .terminals;
     source = q .label v hv l .source;
     terminal = q .label v hv l .terminal;
     near = label-near hv l .0;
     costs = so .costs;
+    ahead = λ j a b o. omega (arith, so .slack v j a b .ahead o, q .low v hv);
     back = λ i j a b e o. omega (arith, so .slack i j a b .back o, q .low v hv, ap (λ v. get p v) e);
   }
 

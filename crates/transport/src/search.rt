@@ -1,7 +1,7 @@
 // The path search: labels, one pass over the arcs out of a node, the nearest node, the search.
 ghost use mathlib.Core.Path.{_≡_};
 ghost use Prim.Native.Nat.{min, _≤_, _<_};
-ghost use Rattle.transport.specs.engine.Path.{net, book, Offered, Passed, RowReady, ColumnReady, RelaxReady, Gap, Nearest, Low};
+ghost use Rattle.transport.specs.engine.Path.{net, book, OfferReady, Offered, Passed, Rekeyed, RowReady, ColumnReady, RelaxReady, Closest, ClosestNode};
 ghost use Rattle.transport.specs.engine.Search.{SearchReady, Blank, Searched};
 
 // Above every label.
@@ -13,26 +13,29 @@ pub fn smaller(a: u64, b: u64) -> u64
     if a < b { a } else { b }
 }
 
-// Offers node w a label; a smaller one than it has is taken.
+// Offers node w a label; a smaller one than it has is taken, and its key is then the label less the potential.
 fn offer(
     w: usize,
     t: u64,
     from: usize,
     hop: u64,
     k: u64,
+    pot: &[u64; 96],
     dist: &mut [u64; 96],
     prev: &mut [usize; 96],
     hops: &mut [u64; 96],
     width: &mut [u64; 96],
+    key: &mut [u64; 96],
 )
-    requires { ⌜ w < 96 ⌝ }
-    ensures { λ _. ⌜ Offered w t from hop k (book (now (dist .entry)) (now (prev .entry)) (now (hops .entry)) (now (width .entry))) (book (now (dist .exit)) (now (prev .exit)) (now (hops .exit)) (now (width .exit))) ⌝ }
+    requires { ⌜ OfferReady w t (now pot) ⌝ }
+    ensures { λ _. ⌜ Offered w t from hop k (now (pot .entry)) (book (now (dist .entry)) (now (prev .entry)) (now (hops .entry)) (now (width .entry))) (book (now (dist .exit)) (now (prev .exit)) (now (hops .exit)) (now (width .exit))) (now (key .entry)) (now (key .exit)) ⌝ }
 {
     if t < dist[w] {
         dist[w] = t;
         prev[w] = from;
         hops[w] = hop;
         width[w] = k;
+        key[w] = t - pot[w];
     }
 }
 
@@ -47,20 +50,23 @@ fn relax_row(
     base: u64,
     hop: u64,
     wide: u64,
+    pot: &[u64; 96],
     dist: &mut [u64; 96],
     prev: &mut [usize; 96],
     hops: &mut [u64; 96],
     width: &mut [u64; 96],
+    key: &mut [u64; 96],
 )
-    requires { ⌜ RowReady (net m n (now cost) (now cap) (now x)) i base (book (now dist) (now prev) (now hops) (now width)) ⌝ }
+    requires { ⌜ RowReady (net m n (now cost) (now cap) (now x)) (now pot) i base (book (now dist) (now prev) (now hops) (now width)) (now key) ⌝ }
     ensures { λ _. ⌜ Passed (net m n (now (cost .entry)) (now (cap .entry)) (now (x .entry))) i base hop wide (book (now (dist .entry)) (now (prev .entry)) (now (hops .entry)) (now (width .entry))) (book (now (dist .exit)) (now (prev .exit)) (now (hops .exit)) (now (width .exit))) ⌝ }
+    ensures { λ _. ⌜ Rekeyed (now (pot .entry)) (now (dist .entry)) (now (dist .exit)) (now (key .entry)) (now (key .exit)) ⌝ }
 {
     for j in 0..n {
         let k = i * 64 + j;
         if x[k] < cap[k] {
             let t = base + cost[k];
             let left = smaller(wide, cap[k] - x[k]);
-            offer(32 + j, t, i, hop, left, dist, prev, hops, width);
+            offer(32 + j, t, i, hop, left, pot, dist, prev, hops, width, key);
         }
     }
 }
@@ -76,13 +82,16 @@ fn relax_column(
     base: u64,
     hop: u64,
     wide: u64,
+    pot: &[u64; 96],
     dist: &mut [u64; 96],
     prev: &mut [usize; 96],
     hops: &mut [u64; 96],
     width: &mut [u64; 96],
+    key: &mut [u64; 96],
 )
-    requires { ⌜ ColumnReady (net m n (now cost) (now cap) (now x)) v base (book (now dist) (now prev) (now hops) (now width)) ⌝ }
+    requires { ⌜ ColumnReady (net m n (now cost) (now cap) (now x)) (now pot) v base (book (now dist) (now prev) (now hops) (now width)) (now key) ⌝ }
     ensures { λ _. ⌜ Passed (net m n (now (cost .entry)) (now (cap .entry)) (now (x .entry))) v base hop wide (book (now (dist .entry)) (now (prev .entry)) (now (hops .entry)) (now (width .entry))) (book (now (dist .exit)) (now (prev .exit)) (now (hops .exit)) (now (width .exit))) ⌝ }
+    ensures { λ _. ⌜ Rekeyed (now (pot .entry)) (now (dist .entry)) (now (dist .exit)) (now (key .entry)) (now (key .exit)) ⌝ }
 {
     let j = v - 32;
     for i in 0..m {
@@ -90,7 +99,7 @@ fn relax_column(
         if 0 < x[k] {
             let t = base - cost[k];
             let left = smaller(wide, x[k]);
-            offer(i, t, v, hop, left, dist, prev, hops, width);
+            offer(i, t, v, hop, left, pot, dist, prev, hops, width, key);
         }
     }
 }
@@ -106,13 +115,16 @@ fn relax(
     base: u64,
     hop: u64,
     wide: u64,
+    pot: &[u64; 96],
     dist: &mut [u64; 96],
     prev: &mut [usize; 96],
     hops: &mut [u64; 96],
     width: &mut [u64; 96],
+    key: &mut [u64; 96],
 )
-    requires { ⌜ RelaxReady (net m n (now cost) (now cap) (now x)) v base (book (now dist) (now prev) (now hops) (now width)) ⌝ }
+    requires { ⌜ RelaxReady (net m n (now cost) (now cap) (now x)) (now pot) v base (book (now dist) (now prev) (now hops) (now width)) (now key) ⌝ }
     ensures { λ _. ⌜ Passed (net m n (now (cost .entry)) (now (cap .entry)) (now (x .entry))) v base hop wide (book (now (dist .entry)) (now (prev .entry)) (now (hops .entry)) (now (width .entry))) (book (now (dist .exit)) (now (prev .exit)) (now (hops .exit)) (now (width .exit))) ⌝ }
+    ensures { λ _. ⌜ Rekeyed (now (pot .entry)) (now (dist .entry)) (now (dist .exit)) (now (key .entry)) (now (key .exit)) ⌝ }
 {
     if v < 32 {
         relax_row(
@@ -125,10 +137,12 @@ fn relax(
             base,
             hop,
             wide,
+            pot,
             dist,
             prev,
             hops,
             width,
+            key,
         );
     } else {
         relax_column(
@@ -141,34 +155,25 @@ fn relax(
             base,
             hop,
             wide,
+            pot,
             dist,
             prev,
             hops,
             width,
+            key,
         );
     }
 }
 
-// The reduced distance of a node that has a label and is not settled.
-fn gap(done: u64, dist: u64, pot: u64) -> u64
-    requires { ⌜ pot ≤ dist ⌝ }
-    ensures { λ r. ⌜ Gap done dist pot r ⌝ }
-{
-    if done != 0 {
-        return FAR;
-    }
-    if dist < FAR { dist - pot } else { FAR }
-}
-
-// The nearest node that is not settled, or 96.
-fn nearest(pot: &[u64; 96], dist: &[u64; 96], done: &[u64; 96]) -> usize
-    requires { ⌜ Low (now pot) (now dist) ⌝ }
-    ensures { λ r. ⌜ Nearest (now (pot .entry)) (now (dist .entry)) (now (done .entry)) r ⌝ }
+// The node of the least key from lo up to hi, or 96.
+fn closest(lo: usize, hi: usize, key: &[u64; 96]) -> usize
+    requires { ⌜ hi ≤ 96 ⌝ }
+    ensures { λ r. ⌜ Closest (now (key .entry)) lo hi r ⌝ }
 {
     let mut best: usize = 96;
     let mut least = FAR;
-    for v in 0..96 {
-        let d = gap(done[v], dist[v], pot[v]);
+    for v in lo..hi {
+        let d = key[v];
         if d < least {
             least = d;
             best = v;
@@ -177,7 +182,27 @@ fn nearest(pot: &[u64; 96], dist: &[u64; 96], done: &[u64; 96]) -> usize
     best
 }
 
-// Settles node after node, nearest first by reduced costs, up to the first that has room: that node, or 96.
+// The nearest node that is not settled, or 96: of the m sources and the n terminals, since no other node has a label.
+fn nearest(m: usize, n: usize, key: &[u64; 96]) -> usize
+    requires { ⌜ (m ≤ 32) × (n ≤ 64) ⌝ }
+    ensures { λ r. ⌜ ClosestNode m n (now (key .entry)) r ⌝ }
+{
+    let source = closest(0, m, key);
+    let terminal = closest(32, 32 + n, key);
+    if source == 96 {
+        return terminal;
+    }
+    if terminal == 96 {
+        return source;
+    }
+    if key[terminal] < key[source] {
+        return terminal;
+    }
+    source
+}
+
+// Settles node after node, nearest first by reduced costs, up to the first that has room: that node, or 96. The key of a node that
+// has a label and is not settled is its reduced distance, of any other FAR.
 fn explore(
     m: usize,
     n: usize,
@@ -197,19 +222,20 @@ fn explore(
     requires { ⌜ Blank (book (now dist) (now prev) (now hops) (now width)) ⌝ }
     ensures { λ r. ⌜ Searched (net m n (now (cost .entry)) (now (cap .entry)) (now (x .entry))) (now (pot .entry)) (now (room .entry)) start limit (book (now (dist .exit)) (now (prev .exit)) (now (hops .exit)) (now (width .exit))) r ⌝ }
 {
-    let mut done = [0u64; 96];
+    let mut key = [FAR; 96];
     dist[start] = pot[start];
     hops[start] = 0;
     width[start] = limit;
-    loop {
-        let v = nearest(pot, dist, &done);
+    key[start] = 0;
+    for turn in 0u64..96 {
+        let v = nearest(m, n, &key);
         if v == 96 {
             return v;
         }
         if 0 < room[v] {
             return v;
         }
-        done[v] = 1;
+        key[v] = FAR;
         let base = dist[v];
         let hop = hops[v] + 1;
         let wide = width[v];
@@ -223,12 +249,15 @@ fn explore(
             base,
             hop,
             wide,
+            pot,
             dist,
             prev,
             hops,
             width,
+            &mut key,
         );
     }
+    96
 }
 
 // What a search found: the goal (96: none), and for each node its distance, the node before it, the number of arcs to it

@@ -42,11 +42,15 @@ pub data Arc (N : Net) (v w b t k : ℕ) : Type 0 where
   ahead : (j : ℕ) → v < N .m → j < N .n → w ≡ 32 + j → N .x v j < N .u v j → t ≡ b + N .c v j → k ≡ N .u v j - N .x v j → Arc N v w b t k
   back : (j : ℕ) → w < N .m → j < N .n → v ≡ 32 + j → 0 < N .x w j → t + N .c w j ≡ b → k ≡ N .x w j → Arc N v w b t k
 
--- one offer of the label t to w
-pub data Offered (w t from hop k : ℕ) (B B' : Book) : Type 0 where
-  kept : get (B .dist) w ≤ t → B' ≡ B → Offered w t from hop k B B'
+pub record OfferReady (w t : ℕ) (p : List ℕ) : Type 0 where
+  pub node : w < 96
+  pub low : get p w ≤ t
+
+-- one offer of the label t to w, and what becomes of the keys K: a node that takes the label has its distance less its potential as key
+pub data Offered (w t from hop k : ℕ) (p : List ℕ) (B B' : Book) (K K' : List ℕ) : Type 0 where
+  kept : get (B .dist) w ≤ t → B' ≡ B → K' ≡ K → Offered w t from hop k p B B' K K'
   won : t < get (B .dist) w → B' ≡ book (set (B .dist) w t) (set (B .prev) w from) (set (B .hops) w hop) (set (B .width) w k)
-      → Offered w t from hop k B B'
+      → K' ≡ set K w (t - get p w) → Offered w t from hop k p B B' K K'
 
 -- what became of the label of w in a pass over the arcs out of v
 pub data Touched (N : Net) (v b hop wide : ℕ) (B B' : Book) (w : ℕ) : Type 0 where
@@ -68,42 +72,57 @@ pub record Passed (N : Net) (v b hop wide : ℕ) (B B' : Book) : Type 0 where
   pub each : (w : ℕ) → Touched N v b hop wide B B' w
   pub offers : (w t k : ℕ) → Arc N v w b t k → get (B' .dist) w ≤ t
 
+-- what became of the key k of a node of potential p whose label was t
+pub data Rekey (p t t' k k' : ℕ) : Type 0 where
+  same : t' ≡ t → k' ≡ k → Rekey p t t' k k'
+  new : t' < t → k' + p ≡ t' → Rekey p t t' k k'
+
+-- what a pass makes of the keys K, where it makes T' of the labels T
+pub record Rekeyed (p T T' K K' : List ℕ) : Type 0 where
+  pub long : length K' ≡ 96
+  pub each : (w : ℕ) → w < 96 → Rekey (get p w) (get T w) (get T' w) (get K w) (get K' w)
+
 -- what a pass asks
-pub record RowReady (N : Net) (v b : ℕ) (B : Book) : Type 0 where
+pub record RowReady (N : Net) (p : List ℕ) (v b : ℕ) (B : Book) (K : List ℕ) : Type 0 where
   pub long : Long B
+  pub long-key : length K ≡ 96
   pub sources : N .m ≤ 32
   pub terminals : N .n ≤ 64
   pub source : v < N .m
   pub near : b ≤ 1000000000
   pub costs : (i j : ℕ) → i < N .m → j < N .n → N .c i j ≤ 2000000
+  pub ahead : (j : ℕ) → j < N .n → N .x v j < N .u v j → get p (32 + j) ≤ b + N .c v j
 
-pub record ColumnReady (N : Net) (v b : ℕ) (B : Book) : Type 0 where
+pub record ColumnReady (N : Net) (p : List ℕ) (v b : ℕ) (B : Book) (K : List ℕ) : Type 0 where
   pub long : Long B
+  pub long-key : length K ≡ 96
   pub sources : N .m ≤ 32
   pub terminals : N .n ≤ 64
   pub low : 32 ≤ v
   pub high : v < 32 + N .n
-  pub back : (i j : ℕ) → i < N .m → j < N .n → v ≡ 32 + j → 0 < N .x i j → N .c i j ≤ b
+  pub back : (i j : ℕ) → i < N .m → j < N .n → v ≡ 32 + j → 0 < N .x i j → get p i + N .c i j ≤ b
 
 -- what a pass asks, at a source or a terminal
-pub record RelaxReady (N : Net) (v b : ℕ) (B : Book) : Type 0 where
+pub record RelaxReady (N : Net) (p : List ℕ) (v b : ℕ) (B : Book) (K : List ℕ) : Type 0 where
   pub long : Long B
+  pub long-key : length K ≡ 96
   pub sources : N .m ≤ 32
   pub terminals : N .n ≤ 64
   pub source : v < 32 → v < N .m
   pub terminal : 32 ≤ v → v < 32 + N .n
   pub near : b ≤ 1000000000
   pub costs : (i j : ℕ) → i < N .m → j < N .n → N .c i j ≤ 2000000
-  pub back : (i j : ℕ) → i < N .m → j < N .n → v ≡ 32 + j → 0 < N .x i j → N .c i j ≤ b
+  pub ahead : (j : ℕ) → v < N .m → j < N .n → N .x v j < N .u v j → get p (32 + j) ≤ b + N .c v j
+  pub back : (i j : ℕ) → i < N .m → j < N .n → v ≡ 32 + j → 0 < N .x i j → get p i + N .c i j ≤ b
 
 -- above every label
 abbrev pub far : ℕ
 far = 1000000000000000
 
--- r is the distance of a node that has a label and is not settled, else far
-pub record Gap (d t p r : ℕ) : Type 0 where
-  pub fresh : d ≡ 0 → t < far → r + p ≡ t
-  pub shut : r < far → (d ≡ 0) × (t < far) × (r + p ≡ t)
+-- k is the key of a node of potential p: where it has a label t and is not settled (its mark d is 0), what t is above p, else far
+pub record Key (d t p k : ℕ) : Type 0 where
+  pub fresh : d ≡ 0 → t < far → k + p ≡ t
+  pub shut : k < far → (d ≡ 0) × (t < far) × (k + p ≡ t)
 
 -- r is the nearest node that is not settled (96: none)
 pub record Nearest (p T D : List ℕ) (r : ℕ) : Type 0 where
@@ -111,13 +130,27 @@ pub record Nearest (p T D : List ℕ) (r : ℕ) : Type 0 where
   pub fresh : r < 96 → (get D r ≡ 0) × (get T r < far)
   pub least : (v : ℕ) → v < 96 → get D v ≡ 0 → get T v < far → (r < 96) × (get T r + get p v ≤ get T v + get p r)
 
--- the same of the nodes below k, with its distance
-pub record Nearing (p T D : List ℕ) (k r least : ℕ) : Type 0 where
+-- r has the least key below far of the nodes from lo up to hi (96: none has)
+pub record Closest (K : List ℕ) (lo hi r : ℕ) : Type 0 where
   pub bound : r ≤ 96
-  pub fresh : r < 96 → (get D r ≡ 0) × (get T r < far) × (least + get p r ≡ get T r)
+  pub near : r < 96 → get K r < far
+  pub least : (v : ℕ) → lo ≤ v → v < hi → get K v < far → (r < 96) × (get K r ≤ get K v)
+
+-- the same up to k, with its key
+pub record Closing (K : List ℕ) (lo k r least : ℕ) : Type 0 where
+  pub bound : r ≤ 96
+  pub own : r < 96 → get K r ≡ least
+  pub near : r < 96 → least < far
   pub some : least < far → r < 96
   pub most : least ≤ far
-  pub all : (v : ℕ) → v < k → get D v ≡ 0 → get T v < far → (r < 96) × (least + get p v ≤ get T v)
+  pub all : (v : ℕ) → lo ≤ v → v < k → least ≤ get K v
+
+-- the same of all sources and terminals
+pub record ClosestNode (m n : ℕ) (K : List ℕ) (r : ℕ) : Type 0 where
+  pub bound : r ≤ 96
+  pub near : r < 96 → get K r < far
+  pub sources : (v : ℕ) → v < m → get K v < far → (r < 96) × (get K r ≤ get K v)
+  pub terminals : (v : ℕ) → 32 ≤ v → v < 32 + n → get K v < far → (r < 96) × (get K r ≤ get K v)
 
 abbrev pub Low : List ℕ → List ℕ → Type 0
 Low p T = (v : ℕ) → v < 96 → get p v ≤ get T v

@@ -6,7 +6,7 @@ use lib.ListN.{length, getD, set}
 use Rattle.transport.specs.Sum.{sum}
 use Rattle.transport.specs.Plan.{Table}
 use Rattle.transport.specs.engine.Slack.{Slack}
-use Rattle.transport.specs.engine.Path.{Net, Book, get, Long, Arc, far, Low}
+use Rattle.transport.specs.engine.Path.{Net, Book, get, Long, Arc, far, Low, Key}
 
 -- a slack plan of the size that the engine admits, and potentials of at most 800,000,000
 pub record Sound (N : Net) (p : List ℕ) : Type 0 where
@@ -48,6 +48,14 @@ pub record Searching (N : Net) (p room : List ℕ) (s limit : ℕ) (B : Book) (D
   pub settled : (v : ℕ) → v < 96 → get D v ≡ 1 → (get (B .dist) v < far) × (get room v ≡ 0)
   pub order : (v w : ℕ) → v < 96 → w < 96 → get D v ≡ 1 → get D w ≡ 0 → get (B .dist) v + get p w ≤ get (B .dist) w + get p v
   pub relaxed : (v w t k : ℕ) → v < 96 → w < 96 → get D v ≡ 1 → Arc N v w (get (B .dist) v) t k → get (B .dist) w ≤ t
+
+-- the same after some turns, each of which has settled one node; K has the keys
+pub record Exploring (N : Net) (p room : List ℕ) (s limit : ℕ) (B : Book) (K : List ℕ) (turns : ℕ) : Type 0 where
+  pub marks : List ℕ
+  pub searching : Searching N p room s limit B marks
+  pub count : sum 96 (λ w. get marks w) ≡ turns
+  pub long-key : length K ≡ 96
+  pub keys : (v : ℕ) → v < 96 → Key (get marks v) (get (B .dist) v) (get p v) (get K v)
 
 -- w has a label and is no farther than g
 abbrev pub Near : List ℕ → List ℕ → ℕ → ℕ → Type 0

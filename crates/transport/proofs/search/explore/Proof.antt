@@ -1,13 +1,12 @@
 -- `transport::search::explore` meets its contract. Assumes nothing.
-use mathlib.Core.Path.{_≡_, refl}
-use mathlib.Core.Logic.{⊎-elim}
+use mathlib.Core.Path.{_≡_, refl, _∙_}
 use Prim.Native.Nat.{ℕ, _+_, _*_, _-_, _≤_, _<_}
 use native.Mathlib.Omega.{arith}
-use lib.ListN.{length, getD, length-replicate, getD-replicate}
-use Rattle.transport.specs.Sum.{sum}
-use Rattle.transport.specs.engine.Path.{net, book, get}
-use Rattle.transport.specs.engine.Search.{Searching}
-use Rattle.transport.proofs.Settle.{marks-free, counted, label-near, relax-ready, search-start, search-step, search-less, search-found, search-stuck}
+use lib.ListN.{replicate, length-set, length-replicate, getD-replicate}
+use Rattle.transport.specs.engine.Path.{net, book, far}
+use Rattle.transport.specs.engine.Search.{Exploring}
+use Rattle.transport.proofs.Settle.{label-near, relax-ready, search-found, search-stuck}
+use Rattle.transport.proofs.Keys.{explore-start, explore-near, explore-step, explore-end}
 use borrow.Author.Needs.{needs}
 use Rattle.transport.proofs.search.explore.Statement.{statement}
 use Rattle.transport.proofs.search.explore.Tie as tie
@@ -17,10 +16,10 @@ use Rattle.transport.proofs.search.nearest.Reads as nearest-reads
 use Rattle.transport.proofs.search.relax.Reads as relax-reads
 
 abbrev Inv-loop : tie.InvT-loop
-Inv-loop m n cost x cap pot room start limit dist₀ prev₀ hops₀ width₀ done₀ dist prev hops width done = Searching (net m n cost cap x) pot room start limit (book dist prev hops width) done
+Inv-loop m n cost x cap pot room start limit dist₀ prev₀ hops₀ width₀ key₀ turn₀ dist prev hops width key turn = Exploring (net m n cost cap x) pot room start limit (book dist prev hops width) key turn
 
 abbrev μ-loop : tie.MeasureT-loop
-μ-loop m n cost x cap pot room start limit dist₀ prev₀ hops₀ width₀ done₀ dist prev hops width done = 96 - sum 96 (λ v. get done v)
+μ-loop m n cost x cap pot room start limit dist₀ prev₀ hops₀ width₀ key₀ turn₀ dist prev hops width key turn = 96 - turn
 
 mul-dist : tie.Need-mul-dist Inv-loop μ-loop
 mul-dist c = search needs
@@ -46,14 +45,20 @@ mul-width c = search needs
 element-write-width : tie.Need-element-write-width Inv-loop μ-loop
 element-write-width c = search needs
 
+mul-key : tie.Need-mul-key Inv-loop μ-loop
+mul-key c = search needs
+
+array-write-key : tie.Need-array-write-key Inv-loop μ-loop
+array-write-key c = search needs
+
 loop-holds : tie.Need-loop-holds Inv-loop μ-loop
-loop-holds c = search-start (c .before .pre .0) (c .before .pre .1) (length-replicate {A = ℕ} 96 0) (λ v h. getD-replicate {A = ℕ} 96 v 0 0 h)
+loop-holds c = explore-start (replicate {A = ℕ} 96 far) (c .before .pre .0) (c .before .pre .1) (length-replicate {A = ℕ} 96 far) (λ v h. getD-replicate {A = ℕ} 96 v far 0 h)
 
 nearest-requires : tie.Need-nearest-requires Inv-loop μ-loop
-nearest-requires c κs = c .before .before .loop .inv .low
+nearest-requires c κs = search needs
 
 returns : tie.Need-returns Inv-loop μ-loop
-returns c = search-stuck (c .before .before .before .before .before .before .pre .0 .sound) (c .before .before .before .before .loop .inv) (c .before .nearest .ensures) (c .if1 .taken)
+returns c = search-stuck (c .before .before .before .before .before .before .pre .0 .sound) (c .before .before .before .before .loop .inv .searching) (explore-near (c .before .before .before .before .before .before .pre .0 .sound) (c .before .before .before .before .loop .inv) (c .before .nearest .ensures)) (c .if1 .taken)
 
 mul-if2 : tie.Need-mul-if2 Inv-loop μ-loop
 mul-if2 c = search needs
@@ -63,14 +68,15 @@ element-copy-out-if2 c = search needs
 
 returns-2 : tie.Need-returns-2 Inv-loop μ-loop
 returns-2 c =
-    let near = c .before .before .before .nearest .ensures in
-    search-found (c .before .before .before .before .before .before .before .before .pre .0 .sound) (c .before .before .before .before .before .before .loop .inv) near (omega (arith, near .bound, c .before .before .if1 .left)) (c .if2 .taken)
+    let near = explore-near (c .before .before .before .before .before .before .before .before .pre .0 .sound) (c .before .before .before .before .before .before .loop .inv) (c .before .before .before .nearest .ensures) in
+    let hv : c .before .before .before .nearest .result < 96 = omega (arith, c .before .before .before .nearest .ensures .bound, c .before .before .if1 .left) in
+    search-found (c .before .before .before .before .before .before .before .before .pre .0 .sound) (c .before .before .before .before .before .before .loop .inv .searching) near hv (c .if2 .taken)
 
-mul-done : tie.Need-mul-done Inv-loop μ-loop
-mul-done c = search needs
+mul-key-2 : tie.Need-mul-key-2 Inv-loop μ-loop
+mul-key-2 c = search needs
 
-array-write-done : tie.Need-array-write-done Inv-loop μ-loop
-array-write-done c = search needs
+array-write-key-2 : tie.Need-array-write-key-2 Inv-loop μ-loop
+array-write-key-2 c = search needs
 
 mul-base : tie.Need-mul-base Inv-loop μ-loop
 mul-base c = search needs
@@ -86,9 +92,9 @@ element-copy-out-hop c = search needs
 
 add-hop : tie.Need-add-hop Inv-loop μ-loop
 add-hop c =
-    let near = c .before .before .before .before .before .nearest .ensures in
-    let hv : c .before .before .before .before .before .nearest .result < 96 = omega (arith, near .bound, c .before .before .before .before .if1 .left) in
-    omega (arith, label-near (c .before .before .before .before .before .before .before .before .before .before .pre .0 .sound) (c .before .before .before .before .before .before .before .before .loop .inv) hv (near .fresh hv .1) .1)
+    let near = explore-near (c .before .before .before .before .before .before .before .before .before .before .pre .0 .sound) (c .before .before .before .before .before .before .before .before .loop .inv) (c .before .before .before .before .before .nearest .ensures) in
+    let hv : c .before .before .before .before .before .nearest .result < 96 = omega (arith, c .before .before .before .before .before .nearest .ensures .bound, c .before .before .before .before .if1 .left) in
+    omega (arith, label-near (c .before .before .before .before .before .before .before .before .before .before .pre .0 .sound) (c .before .before .before .before .before .before .before .before .loop .inv .searching) hv (near .fresh hv .1) .1)
 
 mul-wide : tie.Need-mul-wide Inv-loop μ-loop
 mul-wide c = search needs
@@ -98,21 +104,24 @@ element-copy-out-wide c = search needs
 
 relax-requires : tie.Need-relax-requires Inv-loop μ-loop
 relax-requires c κs =
-    let near = c .before .before .before .before .before .before .before .before .before .before .nearest .ensures in
-    let hv : c .before .before .before .before .before .before .before .before .before .before .nearest .result < 96 = omega (arith, near .bound, c .before .before .before .before .before .before .before .before .before .if1 .left) in
-    relax-ready (c .before .before .before .before .before .before .before .before .before .before .before .before .before .before .before .pre .0 .sound) (c .before .before .before .before .before .before .before .before .before .before .before .before .before .loop .inv) hv (near .fresh hv .1)
+    let near = explore-near (c .before .before .before .before .before .before .before .before .before .before .before .before .before .before .before .before .pre .0 .sound) (c .before .before .before .before .before .before .before .before .before .before .before .before .before .before .loop .inv) (c .before .before .before .before .before .before .before .before .before .before .before .nearest .ensures) in
+    let hv : c .before .before .before .before .before .before .before .before .before .before .before .nearest .result < 96 = omega (arith, c .before .before .before .before .before .before .before .before .before .before .before .nearest .ensures .bound, c .before .before .before .before .before .before .before .before .before .before .if1 .left) in
+    relax-ready (c .before .before .before .before .before .before .before .before .before .before .before .before .before .before .before .before .pre .0 .sound) (c .before .before .before .before .before .before .before .before .before .before .before .before .before .before .loop .inv .searching) hv (near .fresh hv .1) (simp length-set (c .before .before .before .before .before .before .before .before .before .before .before .before .before .before .loop .inv .long-key))
+
+add-turn : tie.Need-add-turn Inv-loop μ-loop
+add-turn c = search needs
 
 loop-less : tie.Need-loop-less Inv-loop μ-loop
-loop-less c =
-    let near = c .before .before .before .before .before .before .before .before .before .before .before .nearest .ensures in
-    let hv : c .before .before .before .before .before .before .before .before .before .before .before .nearest .result < 96 = omega (arith, near .bound, c .before .before .before .before .before .before .before .before .before .before .if1 .left) in
-    search-less (c .before .before .before .before .before .before .before .before .before .before .before .before .before .before .before .before .pre .0 .sound) (c .before .before .before .before .before .before .before .before .before .before .before .before .before .before .loop .inv) hv near (omega (arith, c .before .before .before .before .before .before .before .before .if2 .left)) (c .relax .ensures)
+loop-less c = search needs
 
 loop-again : tie.Need-loop-again Inv-loop μ-loop
 loop-again c =
-    let near = c .before .before .before .before .before .before .before .before .before .before .before .nearest .ensures in
-    let hv : c .before .before .before .before .before .before .before .before .before .before .before .nearest .result < 96 = omega (arith, near .bound, c .before .before .before .before .before .before .before .before .before .before .if1 .left) in
-    search-step (c .before .before .before .before .before .before .before .before .before .before .before .before .before .before .before .before .pre .0 .sound) (c .before .before .before .before .before .before .before .before .before .before .before .before .before .before .loop .inv) hv near (omega (arith, c .before .before .before .before .before .before .before .before .if2 .left)) (c .relax .ensures)
+    let near = explore-near (c .before .before .before .before .before .before .before .before .before .before .before .before .before .before .before .before .before .pre .0 .sound) (c .before .before .before .before .before .before .before .before .before .before .before .before .before .before .before .loop .inv) (c .before .before .before .before .before .before .before .before .before .before .before .before .nearest .ensures) in
+    let hv : c .before .before .before .before .before .before .before .before .before .before .before .before .nearest .result < 96 = omega (arith, c .before .before .before .before .before .before .before .before .before .before .before .before .nearest .ensures .bound, c .before .before .before .before .before .before .before .before .before .before .before .if1 .left) in
+    explore-step (c .before .before .before .before .before .before .before .before .before .before .before .before .before .before .before .before .before .pre .0 .sound) (c .before .before .before .before .before .before .before .before .before .before .before .before .before .before .before .loop .inv) hv near (omega (arith, c .before .before .before .before .before .before .before .before .before .if2 .left)) (c .relax .ensures .0) (c .relax .ensures .1)
+
+returns-3 : tie.Need-returns-3 Inv-loop μ-loop
+returns-3 c = explore-end (c .before .before .before .pre .0 .sound) (c .before .loop .inv) (c .loop-test .left)
 
 pub explore-spec : {M : Type 1} → statement M
 explore-spec =
@@ -128,14 +137,16 @@ explore-spec =
     element-write-hops
     mul-width
     element-write-width
+    mul-key
+    array-write-key
     loop-holds
     nearest-requires
     returns
     mul-if2
     element-copy-out-if2
     returns-2
-    mul-done
-    array-write-done
+    mul-key-2
+    array-write-key-2
     mul-base
     element-copy-out-base
     mul-hop
@@ -144,5 +155,7 @@ explore-spec =
     mul-wide
     element-copy-out-wide
     relax-requires
+    add-turn
     loop-less
-    loop-again)
+    loop-again
+    returns-3)

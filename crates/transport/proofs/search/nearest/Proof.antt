@@ -1,79 +1,58 @@
 -- `transport::search::nearest` meets its contract. Assumes nothing.
-use mathlib.Core.Logic.{⊎-elim}
-use Prim.Native.Nat.{ℕ, _+_, _*_, _-_, _≤_, _<_}
 use native.Mathlib.Omega.{arith}
-use Rattle.transport.specs.engine.Path.{Nearing}
-use Rattle.transport.proofs.Near.{near-start, near-next, near-kept, near-end}
+use Rattle.transport.proofs.Near.{side-terminal, side-source}
 use borrow.Author.Needs.{needs}
 use Rattle.transport.proofs.search.nearest.Statement.{statement}
 use Rattle.transport.proofs.search.nearest.Tie as tie
 use Rattle.transport.proofs.search.nearest.Reads as reads
 use Rattle.transport.proofs.search.nearest.Lts as lts
-use Rattle.transport.proofs.search.gap.Reads as gap-reads
+use Rattle.transport.proofs.search.closest.Reads as closest-reads
 
-abbrev Inv-loop : tie.InvT-loop
-Inv-loop pot dist done best₀ least₀ v₀ best least v = (v ≤ 96) × Nearing pot dist done v best least
+closest-requires : tie.Need-closest-requires
+closest-requires c κs = search needs
 
-abbrev μ-loop : tie.MeasureT-loop
-μ-loop pot dist done best₀ least₀ v₀ best least v = 96 - v
+add-closest : tie.Need-add-closest
+add-closest c = search needs
 
-loop-holds : tie.Need-loop-holds Inv-loop μ-loop
-loop-holds c = (omega arith, near-start _ _ _)
+closest-requires-2 : tie.Need-closest-requires-2
+closest-requires-2 c κs = search needs
 
-mul-gap : tie.Need-mul-gap Inv-loop μ-loop
-mul-gap c = search needs
+returns : tie.Need-returns
+returns c = side-terminal (c .before .before .closest .ensures) (c .before .closest2 .ensures) (λ h. absurd (omega (arith, c .if1 .taken)))
 
-element-copy-out-gap : tie.Need-element-copy-out-gap Inv-loop μ-loop
-element-copy-out-gap c = search needs
+returns-2 : tie.Need-returns-2
+returns-2 c = side-source (c .before .before .before .closest .ensures) (c .before .before .closest2 .ensures) (λ h. absurd (omega (arith, c .if2 .taken)))
 
-mul-gap-2 : tie.Need-mul-gap-2 Inv-loop μ-loop
-mul-gap-2 c = search needs
+mul-if3 : tie.Need-mul-if3
+mul-if3 c = search needs
 
-element-copy-out-gap-2 : tie.Need-element-copy-out-gap-2 Inv-loop μ-loop
-element-copy-out-gap-2 c = search needs
+element-copy-out-if3 : tie.Need-element-copy-out-if3
+element-copy-out-if3 c = search needs
 
-mul-gap-3 : tie.Need-mul-gap-3 Inv-loop μ-loop
-mul-gap-3 c = search needs
+mul-if3-2 : tie.Need-mul-if3-2
+mul-if3-2 c = search needs
 
-element-copy-out-gap-3 : tie.Need-element-copy-out-gap-3 Inv-loop μ-loop
-element-copy-out-gap-3 c = search needs
+element-copy-out-if3-2 : tie.Need-element-copy-out-if3-2
+element-copy-out-if3-2 c = search needs
 
-gap-requires : tie.Need-gap-requires Inv-loop μ-loop
-gap-requires c κs = c .before .before .before .before .before .pre _ (omega arith)
+returns-3 : tie.Need-returns-3
+returns-3 c = side-terminal (c .before .before .before .before .before .before .closest .ensures) (c .before .before .before .before .before .closest2 .ensures) (λ h. (omega (arith, c .before .before .before .before .before .closest2 .ensures .bound, c .before .before .before .if2 .left), omega (arith, c .if3 .taken)))
 
-add-v : tie.Need-add-v Inv-loop μ-loop
-add-v c = search needs
-
-loop-less : tie.Need-loop-less Inv-loop μ-loop
-loop-less c = search needs
-
-loop-again : tie.Need-loop-again Inv-loop μ-loop
-loop-again c = (
-  omega arith,
-  ⊎-elim
-      (λ w. rw (w .1, w .2) (near-next (c .before .before .before .before .before .before .loop .inv .1) (c .before .gap .ensures) (omega arith) (w .0 .taken)))
-      (λ w. rw (w .1, w .2) (near-kept (c .before .before .before .before .before .before .loop .inv .1) (c .before .gap .ensures) (w .0 .left)))
-      (c .if1 .came),
-)
-
-returns : tie.Need-returns Inv-loop μ-loop
-returns c = near-end (c .before .loop .inv .1) (omega arith)
+returns-4 : tie.Need-returns-4
+returns-4 c = side-source (c .before .before .before .before .before .before .closest .ensures) (c .before .before .before .before .before .closest2 .ensures) (λ h. (omega (arith, c .before .before .before .before .before .before .closest .ensures .bound, c .before .before .before .before .if1 .left), c .if3 .left))
 
 pub nearest-spec : {M : Type 1} → statement M
 nearest-spec =
     tie.close
     (tie.spec
-    Inv-loop
-    μ-loop
-    loop-holds
-    mul-gap
-    element-copy-out-gap
-    mul-gap-2
-    element-copy-out-gap-2
-    mul-gap-3
-    element-copy-out-gap-3
-    gap-requires
-    add-v
-    loop-less
-    loop-again
-    returns)
+    closest-requires
+    add-closest
+    closest-requires-2
+    returns
+    returns-2
+    mul-if3
+    element-copy-out-if3
+    mul-if3-2
+    element-copy-out-if3-2
+    returns-3
+    returns-4)
