@@ -30,45 +30,64 @@ struct Paths {
 }
 
 impl Paths {
-    fn offer(&mut self, w: usize, t: u64, from: usize, hop: u64, width: u64) {
+    fn offer(&mut self, w: usize, t: u64, from: usize, hop: u64, width: u64, pot: &Nodes, key: &mut Nodes) {
         if t < self.dist[w] {
             self.dist[w] = t;
             self.prev[w] = from;
             self.hops[w] = hop;
             self.width[w] = width;
+            key[w] = t - pot[w];
         }
     }
 
-    fn relax(&mut self, m: usize, n: usize, v: usize, cost: &Cells, x: &Cells, cap: &Cells) {
+    fn relax(
+        &mut self,
+        m: usize,
+        n: usize,
+        v: usize,
+        cost: &Cells,
+        x: &Cells,
+        cap: &Cells,
+        pot: &Nodes,
+        key: &mut Nodes,
+    ) {
         let (base, hop, wide) = (self.dist[v], self.hops[v] + 1, self.width[v]);
         if v < 32 {
             for j in 0..n {
                 let k = v * 64 + j;
                 if x[k] < cap[k] {
-                    self.offer(32 + j, base + cost[k], v, hop, wide.min(cap[k] - x[k]));
+                    self.offer(32 + j, base + cost[k], v, hop, wide.min(cap[k] - x[k]), pot, key);
                 }
             }
         } else {
             for i in 0..m {
                 let k = i * 64 + v - 32;
                 if 0 < x[k] {
-                    self.offer(i, base - cost[k], v, hop, wide.min(x[k]));
+                    self.offer(i, base - cost[k], v, hop, wide.min(x[k]), pot, key);
                 }
             }
         }
     }
 }
 
-fn nearest(pot: &Nodes, dist: &Nodes, done: &Nodes) -> usize {
+/// The node of the least key from lo up to hi, or none.
+fn closest(lo: usize, hi: usize, key: &Nodes) -> usize {
     let (mut best, mut least) = (NONE, FAR);
-    for v in 0..NODES {
-        let d = if done[v] == 0 && dist[v] < FAR { dist[v] - pot[v] } else { FAR };
-        if d < least {
-            least = d;
+    for v in lo..hi {
+        if key[v] < least {
+            least = key[v];
             best = v;
         }
     }
     best
+}
+
+fn nearest(m: usize, n: usize, key: &Nodes) -> usize {
+    let (source, terminal) = (closest(0, m, key), closest(32, 32 + n, key));
+    if source == NONE || terminal != NONE && key[terminal] < key[source] {
+        return terminal;
+    }
+    source
 }
 
 fn search(
@@ -83,17 +102,19 @@ fn search(
     limit: u64,
 ) -> Paths {
     let mut paths = Paths { goal: NONE, dist: [FAR; NODES], prev: [0; NODES], hops: [0; NODES], width: [0; NODES] };
-    let mut done = [0u64; NODES];
+    // the key of a node that has a label and is not settled is its reduced distance, of any other FAR
+    let mut key = [FAR; NODES];
     paths.dist[start] = pot[start];
     paths.width[start] = limit;
+    key[start] = 0;
     loop {
-        let v = nearest(pot, &paths.dist, &done);
+        let v = nearest(m, n, &key);
         if v == NONE || 0 < room[v] {
             paths.goal = v;
             return paths;
         }
-        done[v] = 1;
-        paths.relax(m, n, v, cost, x, cap);
+        key[v] = FAR;
+        paths.relax(m, n, v, cost, x, cap, pot, &mut key);
     }
 }
 
