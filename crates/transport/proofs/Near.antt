@@ -17,13 +17,13 @@ closing-start K lo = record {
 }
 
 module _ {K : List ℕ} {lo k r least : ℕ} (q : Closing K lo k r least) where
-  pub closing-next : k < 96 → get K k < least → Closing K lo (k + 1) k (get K k)
+  pub closing-next : k < 96 → (get K k ≤ least) × (get K k < far) → Closing K lo (k + 1) k (get K k)
   closing-next b l = record {
     bound = omega arith;
     own = λ h. refl;
-    near = λ h. omega (arith, q .most);
+    near = λ h. l .1;
     some = λ h. b;
-    most = omega (arith, q .most);
+    most = omega (arith, l .1);
     all = λ v a h. elim (ℕ-discrete v k) [ yes z ↦ rw z (omega arith) | no z ↦ omega (arith, q .all v a (omega arith)) ];
   }
 
