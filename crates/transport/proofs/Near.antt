@@ -1,7 +1,7 @@
 -- How the search for the node of the least key goes on by one node, and why that node is the nearest. Assumes nothing.
-use mathlib.Core.Path.{_≡_, refl}
+use mathlib.Core.Path.{refl}
 use mathlib.Core.List.{List}
-use Prim.Native.Nat.{ℕ, suc, _+_, _≤_, _<_}
+use Prim.Native.Nat.{ℕ, _+_, _≤_, _<_}
 use native.Mathlib.Decide.{ℕ-discrete, decLt}
 use native.Mathlib.Omega.{arith}
 use Rattle.transport.specs.engine.Path.{get, far, Key, Nearest, Closest, Closing, ClosestNode}

@@ -1,6 +1,6 @@
 -- `transport::search::closest` meets its contract. Assumes nothing.
 use mathlib.Core.Logic.{⊎-elim}
-use Prim.Native.Nat.{ℕ, _+_, _*_, _-_, _≤_, _<_}
+use Prim.Native.Nat.{_-_}
 use native.Mathlib.Omega.{arith}
 use Rattle.transport.specs.engine.Path.{Closing}
 use Rattle.transport.proofs.Near.{closing-start, closing-next, closing-kept, closing-end}
