@@ -1,5 +1,5 @@
 -- How the keys of a path search follow its labels. Assumes nothing.
-use mathlib.Core.Path.{_≡_, refl, sym, ap, _∙_}
+use mathlib.Core.Path.{_≡_, refl, ap, _∙_}
 use mathlib.Core.Logic.{_≢_}
 use mathlib.Core.List.{List}
 use Prim.Native.Nat.{ℕ, _+_, _-_, _≤_, _<_}
@@ -7,12 +7,11 @@ use native.Mathlib.Decide.{ℕ-discrete}
 use native.Mathlib.Omega.{arith}
 use lib.ListN.{length, set, length-set, replicate, length-replicate, getD-replicate}
 use lib.Seq.{getD-set-same, getD-set-other}
-use Rattle.transport.specs.Sum.{sum}
-use Rattle.transport.specs.engine.Path.{Net, Book, book, get, far, Arc, Offered, Touched, Passed, Rekey, Rekeyed, Key, Nearest, ClosestNode}
+use Rattle.transport.specs.engine.Path.{Net, Book, book, get, far, Offered, Touched, Passed, Rekey, Rekeyed, Key, Nearest, ClosestNode}
 use Rattle.transport.specs.engine.Path.Offered.{kept, won}
 use Rattle.transport.specs.engine.Path.Touched.{stays, gains}
 use Rattle.transport.specs.engine.Path.Rekey.{same, new}
-use Rattle.transport.specs.engine.Search.{Sound, Searching, Exploring, Searched, SearchReady, Blank}
+use Rattle.transport.specs.engine.Search.{Sound, Exploring, Searched, SearchReady, Blank}
 use Rattle.transport.proofs.Sums.{sum-ext, sum-none}
 use Rattle.transport.proofs.Near.{near-key}
 use Rattle.transport.proofs.Settle.{marks-free, arc-near, stay, count, label-near, search-start, search-step, search-stuck}

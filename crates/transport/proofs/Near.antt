@@ -1,7 +1,7 @@
 -- How the search for the node of the least key goes on by one node, and why that node is the nearest. Assumes nothing.
-use mathlib.Core.Path.{_≡_, refl}
+use mathlib.Core.Path.{refl}
 use mathlib.Core.List.{List}
-use Prim.Native.Nat.{ℕ, suc, _+_, _≤_, _<_}
+use Prim.Native.Nat.{ℕ, _+_, _≤_, _<_}
 use native.Mathlib.Decide.{ℕ-discrete, decLt}
 use native.Mathlib.Omega.{arith}
 use Rattle.transport.specs.engine.Path.{get, far, Key, Nearest, Closest, Closing, ClosestNode}
@@ -17,13 +17,13 @@ closing-start K lo = record {
 }
 
 module _ {K : List ℕ} {lo k r least : ℕ} (q : Closing K lo k r least) where
-  pub closing-next : k < 96 → get K k < least → Closing K lo (k + 1) k (get K k)
+  pub closing-next : k < 96 → (get K k ≤ least) × (get K k < far) → Closing K lo (k + 1) k (get K k)
   closing-next b l = record {
     bound = omega arith;
     own = λ h. refl;
-    near = λ h. omega (arith, q .most);
+    near = λ h. l .1;
     some = λ h. b;
-    most = omega (arith, q .most);
+    most = omega (arith, l .1);
     all = λ v a h. elim (ℕ-discrete v k) [ yes z ↦ rw z (omega arith) | no z ↦ omega (arith, q .all v a (omega arith)) ];
   }
 

@@ -1,7 +1,7 @@
 // The path search: labels, one pass over the arcs out of a node, the nearest node, the search.
 ghost use mathlib.Core.Path.{_≡_};
 ghost use Prim.Native.Nat.{min, _≤_, _<_};
-ghost use Rattle.transport.specs.engine.Path.{net, book, OfferReady, Offered, Passed, Rekeyed, RowReady, ColumnReady, RelaxReady, Closest, ClosestNode};
+ghost use Rattle.transport.specs.engine.Path.{Before, net, book, OfferReady, Offered, Passed, Rekeyed, RowReady, ColumnReady, RelaxReady, Closest, ClosestNode};
 ghost use Rattle.transport.specs.engine.Search.{SearchReady, Blank, Searched};
 
 // Above every label.
@@ -165,8 +165,24 @@ fn relax(
     }
 }
 
-// The node of the least key from lo up to hi, or 96.
-fn closest(lo: usize, hi: usize, key: &[u64; 96]) -> usize
+// Does a node of key d and some room go before one of key least? Of equal keys one with room does: the search then ends there.
+fn goes_before(d: u64, least: u64, room: u64) -> bool
+    ensures { λ r. ⌜ Before d least r ⌝ }
+{
+    if least < d {
+        return false;
+    }
+    if d < least {
+        return true;
+    }
+    if room == 0 {
+        return false;
+    }
+    d < FAR
+}
+
+// The node of the least key from lo up to hi, or 96; of equal keys one with room.
+fn closest(lo: usize, hi: usize, key: &[u64; 96], room: &[u64; 96]) -> usize
     requires { ⌜ hi ≤ 96 ⌝ }
     ensures { λ r. ⌜ Closest (now (key .entry)) lo hi r ⌝ }
 {
@@ -174,7 +190,7 @@ fn closest(lo: usize, hi: usize, key: &[u64; 96]) -> usize
     let mut least = FAR;
     for v in lo..hi {
         let d = key[v];
-        if d < least {
+        if goes_before(d, least, room[v]) {
             least = d;
             best = v;
         }
@@ -183,19 +199,19 @@ fn closest(lo: usize, hi: usize, key: &[u64; 96]) -> usize
 }
 
 // The nearest node that is not settled, or 96: of the m sources and the n terminals, since no other node has a label.
-fn nearest(m: usize, n: usize, key: &[u64; 96]) -> usize
+fn nearest(m: usize, n: usize, key: &[u64; 96], room: &[u64; 96]) -> usize
     requires { ⌜ (m ≤ 32) × (n ≤ 64) ⌝ }
     ensures { λ r. ⌜ ClosestNode m n (now (key .entry)) r ⌝ }
 {
-    let source = closest(0, m, key);
-    let terminal = closest(32, 32 + n, key);
+    let source = closest(0, m, key, room);
+    let terminal = closest(32, 32 + n, key, room);
     if source == 96 {
         return terminal;
     }
     if terminal == 96 {
         return source;
     }
-    if key[terminal] < key[source] {
+    if key[terminal] <= key[source] {
         return terminal;
     }
     source
@@ -228,7 +244,7 @@ fn explore(
     width[start] = limit;
     key[start] = 0;
     for turn in 0u64..96 {
-        let v = nearest(m, n, &key);
+        let v = nearest(m, n, &key, room);
         if v == 96 {
             return v;
         }

@@ -1,6 +1,7 @@
 -- What a path search keeps: the arcs of a plan, the labels of the nodes, and one pass over the arcs out of a node. Source i is node i,
 -- terminal j is node 32 + j. Assumes nothing.
 use mathlib.Core.Path.{_≡_}
+use mathlib.Core.Bool.{Bool, true, false}
 use mathlib.Core.List.{List}
 use Prim.Native.Nat.{ℕ, suc, min, _+_, _-_, _*_, _≤_, _<_}
 use lib.ListN.{length, getD, set}
@@ -154,3 +155,8 @@ pub record ClosestNode (m n : ℕ) (K : List ℕ) (r : ℕ) : Type 0 where
 
 abbrev pub Low : List ℕ → List ℕ → Type 0
 Low p T = (v : ℕ) → v < 96 → get p v ≤ get T v
+
+-- r says whether a node of key d goes before one of key least
+pub record Before (d least : ℕ) (r : Bool) : Type 0 where
+  pub goes : r ≡ true → least ≤ far → (d ≤ least) × (d < far)
+  pub stays : r ≡ false → least ≤ d

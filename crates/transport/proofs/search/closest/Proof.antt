@@ -1,6 +1,6 @@
 -- `transport::search::closest` meets its contract. Assumes nothing.
 use mathlib.Core.Logic.{⊎-elim}
-use Prim.Native.Nat.{ℕ, _+_, _*_, _-_, _≤_, _<_}
+use Prim.Native.Nat.{_-_}
 use native.Mathlib.Omega.{arith}
 use Rattle.transport.specs.engine.Path.{Closing}
 use Rattle.transport.proofs.Near.{closing-start, closing-next, closing-kept, closing-end}
@@ -11,10 +11,10 @@ use Rattle.transport.proofs.search.closest.Reads as reads
 use Rattle.transport.proofs.search.closest.Lts as lts
 
 abbrev Inv-loop : tie.InvT-loop
-Inv-loop lo hi key best₀ least₀ v₀ best least v = Closing key lo v best least
+Inv-loop lo hi key room best₀ least₀ v₀ best least v = Closing key lo v best least
 
 abbrev μ-loop : tie.MeasureT-loop
-μ-loop lo hi key best₀ least₀ v₀ best least v = hi - v
+μ-loop lo hi key room best₀ least₀ v₀ best least v = hi - v
 
 loop-holds : tie.Need-loop-holds Inv-loop μ-loop
 loop-holds c = closing-start _ _
@@ -25,6 +25,15 @@ mul-d c = search needs
 element-copy-out-d : tie.Need-element-copy-out-d Inv-loop μ-loop
 element-copy-out-d c = search needs
 
+mul-goes-before : tie.Need-mul-goes-before Inv-loop μ-loop
+mul-goes-before c = search needs
+
+element-copy-out-goes-before : tie.Need-element-copy-out-goes-before Inv-loop μ-loop
+element-copy-out-goes-before c = search needs
+
+goes-before-requires : tie.Need-goes-before-requires Inv-loop μ-loop
+goes-before-requires c κs = search needs
+
 add-v : tie.Need-add-v Inv-loop μ-loop
 add-v c = search needs
 
@@ -33,9 +42,11 @@ loop-less c = search needs
 
 loop-again : tie.Need-loop-again Inv-loop μ-loop
 loop-again c =
+    let q = c .before .before .before .before .before .loop .inv in
+    let b = c .before .goes-before .ensures in
     ⊎-elim
-    (λ w. rw (w .1, w .2) (closing-next (c .before .before .before .loop .inv) (omega arith) (w .0 .taken)))
-    (λ w. rw (w .1, w .2) (closing-kept (c .before .before .before .loop .inv) (w .0 .left)))
+    (λ w. rw (w .1, w .2) (closing-next q (omega arith) (b .goes (w .0 .taken) (q .most))))
+    (λ w. rw (w .1, w .2) (closing-kept q (b .stays (w .0 .left))))
     (c .if1 .came)
 
 returns : tie.Need-returns Inv-loop μ-loop
@@ -50,6 +61,9 @@ closest-spec =
     loop-holds
     mul-d
     element-copy-out-d
+    mul-goes-before
+    element-copy-out-goes-before
+    goes-before-requires
     add-v
     loop-less
     loop-again

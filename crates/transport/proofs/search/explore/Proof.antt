@@ -1,6 +1,5 @@
 -- `transport::search::explore` meets its contract. Assumes nothing.
-use mathlib.Core.Path.{_≡_, refl, _∙_}
-use Prim.Native.Nat.{ℕ, _+_, _*_, _-_, _≤_, _<_}
+use Prim.Native.Nat.{ℕ, _-_, _<_}
 use native.Mathlib.Omega.{arith}
 use lib.ListN.{replicate, length-set, length-replicate, getD-replicate}
 use Rattle.transport.specs.engine.Path.{net, book, far}

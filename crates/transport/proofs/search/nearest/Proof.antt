@@ -36,10 +36,10 @@ element-copy-out-if3-2 : tie.Need-element-copy-out-if3-2
 element-copy-out-if3-2 c = search needs
 
 returns-3 : tie.Need-returns-3
-returns-3 c = side-terminal (c .before .before .before .before .before .before .closest .ensures) (c .before .before .before .before .before .closest2 .ensures) (λ h. (omega (arith, c .before .before .before .before .before .closest2 .ensures .bound, c .before .before .before .if2 .left), omega (arith, c .if3 .taken)))
+returns-3 c = side-terminal (c .before .before .before .before .before .before .closest .ensures) (c .before .before .before .before .before .closest2 .ensures) (λ h. (omega (arith, c .before .before .before .before .before .closest2 .ensures .bound, c .before .before .before .if2 .left), c .if3 .taken))
 
 returns-4 : tie.Need-returns-4
-returns-4 c = side-source (c .before .before .before .before .before .before .closest .ensures) (c .before .before .before .before .before .closest2 .ensures) (λ h. (omega (arith, c .before .before .before .before .before .before .closest .ensures .bound, c .before .before .before .before .if1 .left), c .if3 .left))
+returns-4 c = side-source (c .before .before .before .before .before .before .closest .ensures) (c .before .before .before .before .before .closest2 .ensures) (λ h. (omega (arith, c .before .before .before .before .before .before .closest .ensures .bound, c .before .before .before .before .if1 .left), omega (arith, c .if3 .left)))
 
 pub nearest-spec : {M : Type 1} → statement M
 nearest-spec =

@@ -1,10 +1,10 @@
 -- `transport::search::relax_column` meets its contract. Assumes nothing.
-use mathlib.Core.Path.{_≡_, refl}
-use Prim.Native.Nat.{ℕ, _+_, _*_, _-_, _≤_, _<_}
+use mathlib.Core.Path.{refl}
+use Prim.Native.Nat.{_-_, _≤_}
 use mathlib.Core.Logic.{⊎-elim}
 use native.Mathlib.Omega.{arith}
-use Rattle.transport.specs.engine.Path.Arc.{ahead, back}
-use Rattle.transport.specs.engine.Path.{Arc, net, book, Passing, Rekeyed}
+use Rattle.transport.specs.engine.Path.Arc.{back}
+use Rattle.transport.specs.engine.Path.{net, book, Passing, Rekeyed}
 use Rattle.transport.proofs.Pass.{pass-start, pass-closed, pass-open, pass-column, shut-back}
 use Rattle.transport.proofs.Keys.{rekey-start, rekey-open}
 use borrow.Author.Needs.{needs}

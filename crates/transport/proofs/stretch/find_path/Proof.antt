@@ -1,7 +1,6 @@
 -- `transport::stretch::find_path` meets its contract. Assumes nothing.
 use mathlib.Core.Path.{refl, _∙_}
 use Prim.Native.Nat.{ℕ}
-use native.Mathlib.Omega.{arith}
 use lib.ListN.{replicate, getD-replicate, set}
 use lib.Seq.{getD-set-other}
 use Rattle.transport.proofs.Swing.{Only, path-low, path-done}
