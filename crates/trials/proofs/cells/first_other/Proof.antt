@@ -1,0 +1,30 @@
+-- `trials::cells::first_other` is safe and ends. The measure is what is left of the slice.
+-- Assumes nothing.
+use Prim.Native.Nat.{_-_}
+use borrow.Author.Needs.{needs}
+use lib.ListN.{length}
+use Rattle.trials.proofs.cells.first_other.Statement.{statement}
+use Rattle.trials.proofs.cells.first_other.Tie as tie
+
+abbrev Inv-loop : tie.InvT-loop
+Inv-loop s t k₀ k = Unit {0}
+
+abbrev μ-loop : tie.MeasureT-loop
+μ-loop s t k₀ k = length s - k
+
+pub first-other-spec : {M : Type 1} → statement M
+first-other-spec =
+    tie.close
+    (tie.spec
+    Inv-loop
+    μ-loop
+    (λ c. search needs)
+    (λ c. search needs)
+    (λ c. search needs)
+    (λ c κs. search needs)
+    (λ c κs. search needs)
+    (λ c. search needs)
+    (λ c. search needs)
+    (λ c. search needs)
+    (λ c. search needs)
+    (λ c. search needs))

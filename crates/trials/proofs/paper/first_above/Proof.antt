@@ -1,0 +1,29 @@
+-- `trials::paper::first_above` is safe and ends. The measure is what is left of the slice.
+-- Assumes nothing.
+use Prim.Native.Nat.{_-_}
+use borrow.Author.Needs.{needs}
+use lib.ListN.{length}
+use Rattle.trials.proofs.paper.first_above.Statement.{statement}
+use Rattle.trials.proofs.paper.first_above.Tie as tie
+
+abbrev Inv-loop : tie.InvT-loop
+Inv-loop s limit k₀ k = Unit {0}
+
+abbrev μ-loop : tie.MeasureT-loop
+μ-loop s limit k₀ k = length s - k
+
+pub first-above-spec : {M : Type 1} → statement M
+first-above-spec =
+    tie.close
+    (tie.spec
+    Inv-loop
+    μ-loop
+    (λ c. search needs)
+    (λ c. search needs)
+    (λ c. search needs)
+    (λ c κs. search needs)
+    (λ c. search needs)
+    (λ c. search needs)
+    (λ c. search needs)
+    (λ c. search needs)
+    (λ c. search needs))

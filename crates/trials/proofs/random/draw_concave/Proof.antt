@@ -1,0 +1,34 @@
+-- `trials::random::draw_concave` is safe and ends. The slice keeps its length; the measure is what is left of the count.
+-- Assumes nothing.
+use mathlib.Core.Path.{_≡_}
+use Prim.Native.Nat.{_-_}
+use borrow.Author.Needs.{needs}
+use lib.ListN.{length}
+use Rattle.trials.proofs.random.draw_concave.Statement.{statement}
+use Rattle.trials.proofs.random.draw_concave.Tie as tie
+
+abbrev Inv-loop : tie.InvT-loop
+Inv-loop b₀ cells first entry₀ slope₀ k₀ b entry slope k = length b ≡ length b₀
+
+abbrev μ-loop : tie.MeasureT-loop
+μ-loop b₀ cells first entry₀ slope₀ k₀ b entry slope k = cells - k
+
+pub draw-concave-spec : {M : Type 1} → statement M
+draw-concave-spec =
+    tie.close
+    (tie.spec
+    Inv-loop
+    μ-loop
+    (λ c κs. search needs)
+    (λ c κs. search needs)
+    (λ c. search needs)
+    (λ c κs. search needs)
+    (λ c κs. search needs)
+    (λ c κs. search needs)
+    (λ c κs. search needs)
+    (λ c κs. search needs)
+    (λ c. search needs)
+    (λ c. search needs)
+    (λ c. search needs)
+    (λ c. search needs)
+    (λ c. search needs))

@@ -1,0 +1,147 @@
+// Random small cases, the same at each run.
+use crate::bench::COSTS;
+use crate::bench::COSTS_LEN;
+use crate::bench::DEMANDS;
+use crate::bench::FREIGHTS_LEN;
+use crate::bench::PLAN_LEN;
+use crate::bench::SEED;
+use crate::bench::SOURCES;
+use crate::bench::SPLITS_LEN;
+use crate::bench::SUPPLIES;
+use crate::bench::TABLE;
+use crate::bench::TABLE_LEN;
+use crate::bench::TERMINALS;
+use crate::bench::WIDTH;
+use crate::cells::at;
+use crate::cells::copy;
+use crate::cells::get;
+use crate::cells::minus;
+use crate::cells::part;
+use crate::cells::plus;
+use crate::cells::put;
+use crate::cells::set;
+use crate::cells::smaller;
+use crate::cells::times;
+use crate::paper::set_span;
+
+// A number below the bound, by the generator x · 48,271 modulo 2^31 - 1.
+fn draw(b: &mut [u64], bound: u64) -> u64 {
+    let x = at(b, SEED) % 2_147_483_647 * 48_271 % 2_147_483_647;
+    put(b, SEED, x);
+    if 0 < bound { x / 8 % bound } else { 0 }
+}
+
+// Draws as many cells as `cells`, from start on: numbers from low on, below low + most or less.
+fn draw_cells(b: &mut [u64], start: u64, cells: u64, low: u64, most: u64) {
+    let bound = plus(draw(b, most), 1);
+    let mut k: u64 = 0;
+    while k < cells {
+        let v = plus(low, draw(b, bound));
+        set(b, start, k, v);
+        k += 1;
+    }
+}
+
+// Draws a concave table: a slope, kept 100 higher, that never rises.
+fn draw_concave(b: &mut [u64], cells: u64, first: u64) {
+    let mut entry = first;
+    let mut slope = plus(98, draw(b, 10));
+    let mut k: u64 = 0;
+    while k < cells {
+        set(b, TABLE, k, entry);
+        entry = minus(plus(entry, slope), 100);
+        slope = minus(slope, draw(b, 3));
+        k += 1;
+    }
+}
+
+fn draw_table(b: &mut [u64]) {
+    let cells = plus(at(b, SUPPLIES), 1);
+    put(b, TABLE_LEN, cells);
+    let kind = draw(b, 8);
+    match kind {
+        0 | 1 => draw_cells(b, TABLE, cells, 0, 3),
+        2 => draw_concave(b, cells, 999_999_900),
+        _ => draw_concave(b, cells, 60),
+    }
+}
+
+// Sets a length to what is needed, or to some more.
+fn draw_length(b: &mut [u64], cell: u64, needed: u64) {
+    let spare = draw(b, 3);
+    put(b, cell, plus(needed, spare));
+}
+
+fn draw_lengths(b: &mut [u64], lanes: u64) {
+    set_span(b);
+    let width = at(b, WIDTH);
+    draw_length(b, PLAN_LEN, lanes);
+    draw_length(b, SPLITS_LEN, width);
+    draw_length(b, FREIGHTS_LEN, width);
+}
+
+fn draw_amounts(b: &mut [u64], m: u64, n: u64) {
+    let low = draw(b, 2);
+    draw_cells(b, DEMANDS, n, low, 6);
+    draw_cells(b, SUPPLIES, m, 0, 4);
+    draw_cells(b, SUPPLIES, 2, low, 20);
+}
+
+fn draw_costs(b: &mut [u64], lanes: u64) {
+    let kind = draw(b, 4);
+    let most = if kind == 0 { 1_000_001 } else { 6 };
+    draw_cells(b, COSTS, lanes, 0, most);
+}
+
+// A case with no more than balance and shape of the table left open.
+fn draw_case(b: &mut [u64]) {
+    let m = smaller(plus(draw(b, 5), 2), 4);
+    let n = smaller(plus(draw(b, 5), 1), 3);
+    let lanes = times(m, n);
+    let sizes = [m, n, lanes, m, n];
+    copy(&sizes, b, SOURCES);
+    draw_costs(b, lanes);
+    draw_amounts(b, m, n);
+    draw_table(b);
+    draw_lengths(b, lanes);
+}
+
+// Ways to spoil a case: the first of the cells to choose from, how many there are, and four numbers to choose from.
+const WAYS: u64 = 12;
+const SPOILS: [u64; 72] = [
+    SOURCES, 1, 0, 1, 33, u64::MAX,
+    TERMINALS, 1, 0, 65, 66, u64::MAX,
+    COSTS_LEN, 3, 1, 2, 5, 7,
+    SUPPLIES, 4, 4_000, 4_001, 4_001, u64::MAX,
+    DEMANDS, 3, 4_000, 4_001, 4_001, u64::MAX,
+    COSTS, 12, 1_000_000, 1_000_001, 1_000_001, u64::MAX,
+    TABLE_LEN, 1, 0, 2, 5, 8,
+    SUPPLIES + 2, 2, 9, 15, 20, 25,
+    DEMANDS, 3, 15, 20, 25, 30,
+    TABLE, 8, 1_000_000_000, 1_000_000_001, 1_000_000_001, u64::MAX,
+    TABLE, 8, 0, 1, 70, 1_000,
+    PLAN_LEN, 3, 0, 1, 2, 5,
+];
+
+fn spoil(b: &mut [u64], way: u64) {
+    let rows: &[u64] = &SPOILS;
+    let row = part(rows, times(6, way), 6);
+    let k = draw(b, at(row, 1));
+    let v = get(row, 2, draw(b, 4));
+    set(b, at(row, 0), k, v);
+}
+
+fn spoil_if(b: &mut [u64], on: bool) {
+    if on {
+        let way = draw(b, WAYS);
+        spoil(b, way);
+    }
+}
+
+// The next case. Half of them are spoiled, some of those twice.
+pub fn next_case(b: &mut [u64]) {
+    draw_case(b);
+    let k = draw(b, 8);
+    spoil_if(b, 3 < k);
+    spoil_if(b, 6 < k);
+}

@@ -1,0 +1,43 @@
+// What the trials found, a line for each count of the tally.
+use crate::bench::TALLY;
+use crate::cells::get;
+
+// How many lines there are, and how wide a name is.
+const LINES: usize = 26;
+const WIDTH: usize = 25;
+
+// Writes line k of the names and a number.
+fn say(names: &[u8], k: usize, number: u64) {
+    if k < LINES {
+        let start = k * WIDTH;
+        let end = start + WIDTH;
+        if end <= names.len() {
+            io::write_all(1, &names[start..end]);
+            io::print_decimal(1, number);
+            io::write_all(1, b"\n");
+        }
+    }
+}
+
+// Writes the tally from its cell `first` on.
+fn say_from(names: &[u8], b: &[u64], first: usize) {
+    let mut k = first;
+    while k < LINES {
+        say(names, k, get(b, TALLY, k as u64));
+        k += 1;
+    }
+}
+
+pub fn report(b: &[u64], first: usize) {
+    say_from(
+        b"planned:                 refused 1:               refused 2:               refused 3:               \
+          refused 4:               refused 5:               refused 6:               refused 7:               \
+          refused 8:               refused 9:               refused 10:              refused 11:              \
+          one split:               ties between splits:     ties between plans:      plans listed:            \
+          no depots:               one terminal:            a supply of 0:           a demand of 0:           \
+          balanced, with plans:    unbalanced, no plan:     cases:                   differences:             \
+          first difference: case   first difference: check  ",
+        b,
+        first,
+    );
+}
