@@ -70,11 +70,16 @@ impl Paths {
     }
 }
 
-/// The node of the least key from lo up to hi, or none.
-fn closest(lo: usize, hi: usize, key: &Nodes) -> usize {
+/// Does a node of key d and some room go before one of key least? Of equal keys one with room does.
+fn goes_before(d: u64, least: u64, room: u64) -> bool {
+    d < least || d == least && room != 0 && d < FAR
+}
+
+/// The node of the least key from lo up to hi, or none; of equal keys one with room.
+fn closest(lo: usize, hi: usize, key: &Nodes, room: &Nodes) -> usize {
     let (mut best, mut least) = (NONE, FAR);
     for v in lo..hi {
-        if key[v] < least {
+        if goes_before(key[v], least, room[v]) {
             least = key[v];
             best = v;
         }
@@ -82,9 +87,9 @@ fn closest(lo: usize, hi: usize, key: &Nodes) -> usize {
     best
 }
 
-fn nearest(m: usize, n: usize, key: &Nodes) -> usize {
-    let (source, terminal) = (closest(0, m, key), closest(32, 32 + n, key));
-    if source == NONE || terminal != NONE && key[terminal] < key[source] {
+fn nearest(m: usize, n: usize, key: &Nodes, room: &Nodes) -> usize {
+    let (source, terminal) = (closest(0, m, key, room), closest(32, 32 + n, key, room));
+    if source == NONE || terminal != NONE && key[terminal] <= key[source] {
         return terminal;
     }
     source
@@ -108,7 +113,7 @@ fn search(
     paths.width[start] = limit;
     key[start] = 0;
     loop {
-        let v = nearest(m, n, &key);
+        let v = nearest(m, n, &key, room);
         if v == NONE || 0 < room[v] {
             paths.goal = v;
             return paths;
