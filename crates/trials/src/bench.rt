@@ -4,13 +4,21 @@ use crate::cells::part;
 
 // The case: its sizes, the lengths of the lent slices, and the four slices that are read.
 pub const SOURCES: u64 = 0;
+
 pub const TERMINALS: u64 = 1;
+
 pub const COSTS_LEN: u64 = 2;
+
 pub const SUPPLIES_LEN: u64 = 3;
+
 pub const DEMANDS_LEN: u64 = 4;
+
 pub const TABLE_LEN: u64 = 5;
+
 pub const PLAN_LEN: u64 = 6;
+
 pub const SPLITS_LEN: u64 = 7;
+
 pub const FREIGHTS_LEN: u64 = 8;
 // A cell that nothing reads.
 pub const SPARE: u64 = 9;
@@ -18,28 +26,39 @@ pub const SPARE: u64 = 9;
 pub const SEED: u64 = 10;
 // d, ℓ, u and how many splits there are.
 pub const MADE: u64 = 11;
+
 pub const FIRST: u64 = 12;
+
 pub const LAST: u64 = 13;
+
 pub const WIDTH: u64 = 14;
 // The answer expected and the answer got: number (0 for a plan), place, split, total, freight, stops.
 pub const WANT: u64 = 20;
+
 pub const GOT: u64 = 30;
 // How many splits share the least total.
 pub const SPLIT_TIES: u64 = 40;
+
 pub const TALLY: u64 = 50;
 // The row sums expected of a plan.
 pub const WANT_ROWS: u64 = 23_000;
 
 pub const COSTS: u64 = 100;
+
 pub const SUPPLIES: u64 = 2_300;
+
 pub const DEMANDS: u64 = 2_400;
+
 pub const TABLE: u64 = 2_500;
 // The least freight at each split; NONE where there is no plan.
 pub const BEST: u64 = 6_600;
 // What the planner wrote: three slices with room for any case.
 pub const PLAN: u64 = 10_700;
+
 pub const SPLITS: u64 = 14_800;
+
 pub const FREIGHTS: u64 = 18_900;
+
 pub const ROOM: u64 = 4_100;
 
 pub const NONE: u64 = u64::MAX;

@@ -16,11 +16,7 @@ pub fn put(s: &mut [u64], k: u64, v: u64) {
 
 // a + b, at most the largest number.
 pub fn plus(a: u64, b: u64) -> u64 {
-    if b <= u64::MAX - a {
-        a + b
-    } else {
-        u64::MAX
-    }
+    if b <= u64::MAX - a { a + b } else { u64::MAX }
 }
 
 // a - b, or 0 where b is more.

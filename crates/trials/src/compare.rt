@@ -1,9 +1,6 @@
 // The planner's answer against what is expected, by the least freight at each split. Each check has a number:
 // 1 to 5 number, place, split, total, freight; 6 a cell changed by a refusal; 7 rows; 8 columns; 9 the amounts'
 // freight; 10 stops; 11 a cell changed after a result; 12 the listing; 13 the answer that the scope gives.
-use crate::bench::costs;
-use crate::bench::demands;
-use crate::bench::table;
 use crate::bench::BEST;
 use crate::bench::COSTS_LEN;
 use crate::bench::FIRST;
@@ -16,13 +13,16 @@ use crate::bench::NONE;
 use crate::bench::PLAN;
 use crate::bench::ROOM;
 use crate::bench::SOURCES;
-use crate::bench::SPLITS;
 use crate::bench::SPLIT_TIES;
+use crate::bench::SPLITS;
 use crate::bench::SUPPLIES;
 use crate::bench::TERMINALS;
 use crate::bench::WANT;
 use crate::bench::WANT_ROWS;
 use crate::bench::WIDTH;
+use crate::bench::costs;
+use crate::bench::demands;
+use crate::bench::table;
 use crate::cells::at;
 use crate::cells::first_other;
 use crate::cells::freight;
@@ -44,15 +44,27 @@ struct Choice {
 
 fn better(c: Choice, split: u64, total: u64) -> Choice {
     if total < c.total {
-        return Choice { split, total, ties: 1 };
+        return Choice {
+            split,
+            total,
+            ties: 1,
+        };
     }
     let more = if total == c.total { 1 } else { 0 };
     let ties = plus(c.ties, more);
-    Choice { split: c.split, total: c.total, ties }
+    Choice {
+        split: c.split,
+        total: c.total,
+        ties,
+    }
 }
 
 fn choose(best: &[u64], table: &[u64]) -> Choice {
-    let mut c = Choice { split: 0, total: NONE, ties: 0 };
+    let mut c = Choice {
+        split: 0,
+        total: NONE,
+        ties: 0,
+    };
     let mut k: usize = 0;
     while k < table.len() {
         c = better(c, k as u64, plus(at(best, k as u64), table[k]));

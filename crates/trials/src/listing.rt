@@ -1,7 +1,6 @@
 // A listing of all plans of a small case, judged from the input: row 1 sums to a_1 or less, row 2 to a_2 or less,
 // each depot row to its stock, each column to its demand. Lanes are gone through in row order; at each lane every
 // amount that rows and columns leave room for is tried.
-use crate::bench::costs;
 use crate::bench::BEST;
 use crate::bench::COSTS_LEN;
 use crate::bench::DEMANDS;
@@ -10,6 +9,7 @@ use crate::bench::ROOM;
 use crate::bench::SOURCES;
 use crate::bench::SUPPLIES;
 use crate::bench::TERMINALS;
+use crate::bench::costs;
 use crate::cells::at;
 use crate::cells::count;
 use crate::cells::freight;
@@ -29,10 +29,15 @@ use crate::cells::transfer;
 // The amounts, the next amount to try at each lane, what each row and each column has left, how many cheapest
 // plans each split has, and how many plans there are.
 const AMOUNTS: u64 = 23_100;
+
 const NEXT: u64 = 23_200;
+
 const ROWS: u64 = 23_300;
+
 const COLUMNS: u64 = 23_400;
+
 pub const CHEAPEST: u64 = 23_500;
+
 pub const LISTED: u64 = 23_600;
 // More turns than any case of the trials needs.
 const TURNS: u64 = 100_000_000;
@@ -94,7 +99,10 @@ fn least_of_column(b: &[u64], row: u64, column: u64) -> u64 {
 
 // The least amount left to try at a lane.
 fn least(b: &[u64], lane: u64, row: u64, column: u64) -> u64 {
-    let must = larger(least_of_row(b, row, column), least_of_column(b, row, column));
+    let must = larger(
+        least_of_row(b, row, column),
+        least_of_column(b, row, column),
+    );
     larger(must, get(b, NEXT, lane))
 }
 

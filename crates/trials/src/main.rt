@@ -21,9 +21,9 @@ use crate::cells::repeat;
 use crate::fixed::run_fixed;
 use crate::random::next_case;
 use crate::report::report;
+use crate::trial::CASES;
 use crate::trial::close;
 use crate::trial::run_small;
-use crate::trial::CASES;
 
 const RANDOM_CASES: u64 = 10_000;
 

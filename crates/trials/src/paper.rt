@@ -1,8 +1,4 @@
 // The refusals 1 to 11, judged as the table of the scope says, without the planner's code.
-use crate::bench::costs;
-use crate::bench::demands;
-use crate::bench::supplies;
-use crate::bench::table;
 use crate::bench::COSTS_LEN;
 use crate::bench::DEMANDS_LEN;
 use crate::bench::FIRST;
@@ -18,6 +14,10 @@ use crate::bench::TABLE_LEN;
 use crate::bench::TERMINALS;
 use crate::bench::WANT;
 use crate::bench::WIDTH;
+use crate::bench::costs;
+use crate::bench::demands;
+use crate::bench::supplies;
+use crate::bench::table;
 use crate::cells::at;
 use crate::cells::copy;
 use crate::cells::get;
@@ -44,7 +44,11 @@ pub fn set_span(b: &mut [u64]) {
     let made = minus(all, stock);
     let first = minus(made, get(b, SUPPLIES, 1));
     let last = smaller(at(b, SUPPLIES), made);
-    let width = if all < stock { 0 } else { minus(plus(last, 1), first) };
+    let width = if all < stock {
+        0
+    } else {
+        minus(plus(last, 1), first)
+    };
     let cells = [made, first, last, width];
     copy(&cells, b, MADE);
 }

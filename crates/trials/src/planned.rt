@@ -1,10 +1,6 @@
 // Runs the planner on the case of the bench, and keeps all that it gave.
 ghost use mathlib.Core.Path.{_≡_};
 ghost use lib.ListN.{length};
-use crate::bench::costs;
-use crate::bench::demands;
-use crate::bench::supplies;
-use crate::bench::table;
 use crate::bench::FREIGHTS;
 use crate::bench::FREIGHTS_LEN;
 use crate::bench::GOT;
@@ -15,6 +11,10 @@ use crate::bench::SOURCES;
 use crate::bench::SPLITS;
 use crate::bench::SPLITS_LEN;
 use crate::bench::TERMINALS;
+use crate::bench::costs;
+use crate::bench::demands;
+use crate::bench::supplies;
+use crate::bench::table;
 use crate::cells::at;
 use crate::cells::copy;
 use planner::Answer;
@@ -47,13 +47,22 @@ fn lend_parts(b: &[u64], plan: &mut [u64], splits: &mut [u64], freights: &mut [u
     let s = at(b, SPLITS_LEN) as usize;
     let f = at(b, FREIGHTS_LEN) as usize;
     if plan.len() < p {
-        return Answer::Refused { number: 0, place: 1 };
+        return Answer::Refused {
+            number: 0,
+            place: 1,
+        };
     }
     if splits.len() < s {
-        return Answer::Refused { number: 0, place: 1 };
+        return Answer::Refused {
+            number: 0,
+            place: 1,
+        };
     }
     if freights.len() < f {
-        return Answer::Refused { number: 0, place: 1 };
+        return Answer::Refused {
+            number: 0,
+            place: 1,
+        };
     }
     lend(b, &mut plan[0..p], &mut splits[0..s], &mut freights[0..f])
 }
@@ -61,7 +70,12 @@ fn lend_parts(b: &[u64], plan: &mut [u64], splits: &mut [u64], freights: &mut [u
 // Keeps an answer: number, place, split, total, freight, stops.
 fn keep_answer(b: &mut [u64], answer: Answer) {
     match answer {
-        Answer::Planned { split, total, freight, stops } => {
+        Answer::Planned {
+            split,
+            total,
+            freight,
+            stops,
+        } => {
             let cells = [0, 0, split, total, freight, stops as u64];
             copy(&cells, b, GOT);
         }

@@ -4,6 +4,7 @@ use crate::cells::get;
 
 // How many lines there are, and how wide a name is.
 const LINES: usize = 26;
+
 const WIDTH: usize = 25;
 
 // Writes line k of the names and a number.

@@ -1,12 +1,12 @@
 // One trial: the planner runs on the case of the bench, and its answer is checked and counted.
-use crate::bench::demands;
-use crate::bench::supplies;
 use crate::bench::SOURCES;
 use crate::bench::SPLIT_TIES;
 use crate::bench::TALLY;
 use crate::bench::TERMINALS;
 use crate::bench::WANT;
 use crate::bench::WIDTH;
+use crate::bench::demands;
+use crate::bench::supplies;
 use crate::cells::at;
 use crate::cells::count;
 use crate::cells::get;
@@ -18,26 +18,39 @@ use crate::compare::check;
 use crate::compare::expect_plan;
 use crate::compare::expect_rows;
 use crate::compare::spans;
-use crate::listing::list;
 use crate::listing::CHEAPEST;
 use crate::listing::LISTED;
+use crate::listing::list;
 use crate::paper::judge;
 use crate::planned::run;
 
 // The tally: the expected answers by number (0 for a plan), then these.
 const ONE_SPLIT: u64 = 12;
+
 const TIES: u64 = 13;
+
 const PLAN_TIES: u64 = 14;
+
 const PLANS: u64 = 15;
+
 const NO_DEPOTS: u64 = 16;
+
 const ONE_TERMINAL: u64 = 17;
+
 const NO_SUPPLY: u64 = 18;
+
 const NO_DEMAND: u64 = 19;
+
 const BALANCED: u64 = 20;
+
 const UNBALANCED: u64 = 21;
+
 pub const CASES: u64 = 22;
+
 const DIFFERENCES: u64 = 23;
+
 const FIRST_CASE: u64 = 24;
+
 const FIRST_CHECK: u64 = 25;
 
 // Keeps the first case with a difference.
