@@ -1,0 +1,5 @@
+pub mod Marks
+pub mod Runs
+pub mod Digits
+pub mod Fields
+pub mod Afters

@@ -1,0 +1,10 @@
+// Reads a planning case from its two CSV files, and prints a plan as CSV.
+pub mod field;
+pub mod after;
+pub mod table;
+
+// The two files: tariff.csv and production.csv.
+pub enum Kind {
+    Tariff,
+    Production,
+}
