@@ -11,8 +11,26 @@ use Rattle.casefile.specs.declared.Kind.the-variants.{Tariff, Production
 use Rattle.casefile.specs.declared.after.After.{After}
 use Rattle.casefile.specs.declared.after.After.the-variants.{Field, Record, End, Empty, Refused}
 use Rattle.casefile.specs.Form.{
-  Mark, digit, quote, comma, cr, lf, other, mark, field, fieldOrEmpty, recordOrEnd, closed, lineEnd, lastLineEnd, done, step, mayEnd, isProduction,
-  afterComma, afterLine,
+  Mark,
+  digit,
+  quote,
+  comma,
+  cr,
+  lf,
+  other,
+  mark,
+  field,
+  fieldOrEmpty,
+  recordOrEnd,
+  closed,
+  lineEnd,
+  lastLineEnd,
+  done,
+  step,
+  mayEnd,
+  isProduction,
+  afterComma,
+  afterLine,
 }
 use Rattle.casefile.specs.Records.{reading, run, isFirst, absorb, recordsAtEnd, rowWith, rowsWith}
 use Rattle.casefile.specs.Reader.{AfterRead, afterEnds, onAfter, atField, atComma, atDemand, atCr, atLastCr, atLast, Any, Counted}
@@ -41,7 +59,7 @@ module _ (s : List ℕ) (at : ℕ) where
   demands-none h = record {
     ends = tt;
     meaning = λ v r rs _.
-      refused Tariff (atLastCr Tariff v r rs) s at (no-feed Tariff (isFirst (rowsWith 0 (rowWith v r) rs)) _ _ (seen _) h .1) refl;
+        refused Tariff (atLastCr Tariff v r rs) s at (no-feed Tariff (isFirst (rowsWith 0 (rowWith v r) rs)) _ _ (seen _) h .1) refl;
   }
 
   pub demands-more : at + 1 < length s → getD s at 0 ≡ 10 → AfterRead atLastCr Any Tariff s at (Refused (at + 1))
@@ -49,9 +67,9 @@ module _ (s : List ℕ) (at : ℕ) where
   demands-more h e = record {
     ends = tt;
     meaning = λ v r rs _.
-      here Tariff (atLastCr Tariff v r rs) s at lf (omega arith) (known _ 10 e)
-      ∙ here Tariff (reading done 0 [] (rowsWith 0 (rowWith v r) rs)) s (at + 1) (mark (getD s (at + 1) 0)) h refl
-      ∙ rw (no-done Tariff (isFirst (rowsWith 0 (rowWith v r) rs)) (mark (getD s (at + 1) 0)), onward);
+        here Tariff (atLastCr Tariff v r rs) s at lf (omega arith) (known _ 10 e)
+        ∙ here Tariff (reading done 0 [] (rowsWith 0 (rowWith v r) rs)) s (at + 1) (mark (getD s (at + 1) 0)) h refl
+        ∙ rw (no-done Tariff (isFirst (rowsWith 0 (rowWith v r) rs)) (mark (getD s (at + 1) 0)), onward);
   }
 
   pub demands-end : at < length s → getD s at 0 ≡ 10 → length s ≤ at + 1 → AfterRead atLastCr Any Tariff s at Empty
@@ -59,8 +77,8 @@ module _ (s : List ℕ) (at : ℕ) where
   demands-end h e k = record {
     ends = tt;
     meaning = λ v r rs _.
-      here Tariff (atLastCr Tariff v r rs) s at lf h (known _ 10 e)
-      ∙ at-end Tariff (reading done 0 [] (rowsWith 0 (rowWith v r) rs)) s (at + 1) k;
+        here Tariff (atLastCr Tariff v r rs) s at lf h (known _ 10 e)
+        ∙ at-end Tariff (reading done 0 [] (rowsWith 0 (rowWith v r) rs)) s (at + 1) k;
   }
 
   pub demand-end : length s ≤ at → AfterRead atDemand Any Tariff s at Empty
@@ -79,9 +97,9 @@ module _ (s : List ℕ) (at : ℕ) where
   demand-field h e = record {
     ends = (omega arith, omega arith);
     meaning = λ v r rs _.
-      here Tariff (atDemand Tariff v r rs) s at (mark (getD s at 0)) h refl
-      ∙ on v r rs (mark (getD s at 0)) (seen _)
-      ∙ sym (here Tariff (reading field 0 (rowWith v r) rs) s at (mark (getD s at 0)) h refl);
+        here Tariff (atDemand Tariff v r rs) s at (mark (getD s at 0)) h refl
+        ∙ on v r rs (mark (getD s at 0)) (seen _)
+        ∙ sym (here Tariff (reading field 0 (rowWith v r) rs) s at (mark (getD s at 0)) h refl);
   }
     where
       on : (v : ℕ) (r : List ℕ) (rs : List (List ℕ)) (m : Mark) → Seen (getD s at 0) m →
@@ -132,8 +150,8 @@ module _ (s : List ℕ) (at : ℕ) where
   record-end h e k = record {
     ends = tt;
     meaning = λ v r rs _.
-      here Production (atCr Production v r rs) s at lf h (known _ 10 e)
-      ∙ at-end Production (reading recordOrEnd 0 [] (rowsWith v r rs)) s (at + 1) k;
+        here Production (atCr Production v r rs) s at lf h (known _ 10 e)
+        ∙ at-end Production (reading recordOrEnd 0 [] (rowsWith v r rs)) s (at + 1) k;
   }
 
   pub record-more : at + 1 < length s → getD s at 0 ≡ 10 → AfterRead atCr Any Production s at (Record (at + 1))
@@ -141,10 +159,10 @@ module _ (s : List ℕ) (at : ℕ) where
   record-more h e = record {
     ends = (omega arith, omega arith);
     meaning = λ v r rs _.
-      here Production (atCr Production v r rs) s at lf (omega arith) (known _ 10 e)
-      ∙ here Production (reading recordOrEnd 0 [] (rowsWith v r rs)) s (at + 1) (mark (getD s (at + 1) 0)) h refl
-      ∙ on (rowsWith v r rs) (mark (getD s (at + 1) 0))
-      ∙ sym (here Production (reading field 0 [] (rowsWith v r rs)) s (at + 1) (mark (getD s (at + 1) 0)) h refl);
+        here Production (atCr Production v r rs) s at lf (omega arith) (known _ 10 e)
+        ∙ here Production (reading recordOrEnd 0 [] (rowsWith v r rs)) s (at + 1) (mark (getD s (at + 1) 0)) h refl
+        ∙ on (rowsWith v r rs) (mark (getD s (at + 1) 0))
+        ∙ sym (here Production (reading field 0 [] (rowsWith v r rs)) s (at + 1) (mark (getD s (at + 1) 0)) h refl);
   }
     where
       on : (rs : List (List ℕ)) (m : Mark) →
@@ -179,5 +197,5 @@ module _ (s : List ℕ) (at : ℕ) where
   after-none n kind h c r = record {
     ends = tt;
     meaning = λ v r' rs k.
-      here kind (atField kind v r' rs) s at (mark (getD s at 0)) h refl ∙ rw (no-mark kind (isFirst rs) _ _ (seen (getD s at 0)) c r, onward);
+        here kind (atField kind v r' rs) s at (mark (getD s at 0)) h refl ∙ rw (no-mark kind (isFirst rs) _ _ (seen (getD s at 0)) c r, onward);
   }

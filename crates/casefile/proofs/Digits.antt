@@ -22,8 +22,8 @@ pub record DigitsSoFar (s : List ℕ) (at value next left : ℕ) : Type 0 where
   pub used : next + left ≡ at + 10
   pub small : value < 10 ^ (10 - left)
   pub meaning :
-    (kind : Kind) (q : Bool) (r : List ℕ) (rs : List (List ℕ)) →
-    run kind at (reading (within q 10) 0 r rs) (drop at s) ≡ run kind next (reading (within q left) value r rs) (drop next s)
+      (kind : Kind) (q : Bool) (r : List ℕ) (rs : List (List ℕ)) →
+      run kind at (reading (within q 10) 0 r rs) (drop at s) ≡ run kind next (reading (within q left) value r rs) (drop next s)
 
 powers : (left : ℕ) → left ≤ 10 → 10 ^ (10 - left) ≤ 10 ^ 10
 powers left h = pow-le-pow-right {n = 10} (omega arith) {i = 10 - left} {j = 10} (omega arith)
@@ -50,8 +50,8 @@ module _ (s : List ℕ) (at : ℕ) where
       used = omega (arith, so-far .used);
       small = room _ h k;
       meaning = λ kind q r rs.
-        so-far .meaning kind q r rs
-        ∙ (let e : left ≡ suc (left - 1) = omega arith in
+          so-far .meaning kind q r rs
+          ∙ (let e : left ≡ suc (left - 1) = omega arith in
           ap (λ (n : ℕ). run kind next (reading (within q n) value r rs) (drop next s)) e
           ∙ digits-more kind q (left - 1) value r rs s next _ (inside s next h) (digit-found _ h));
     }
@@ -62,10 +62,10 @@ module _ (s : List ℕ) (at : ℕ) where
       upto = so-far .upto;
       small = omega (arith, so-far .small, powers left (so-far .most));
       some = λ k.
-        elim (decLt at next) [
-          yes lt ↦ lt
-        | no ge ↦ absurd (let e : at ≡ next = omega (arith, so-far .from) in omega (arith, h, ap (λ (i : ℕ). digitOr10 (mark (getD s i 0))) e))
-        ];
+          elim (decLt at next) [
+            | yes lt ↦ lt
+            | no ge ↦ absurd (let e : at ≡ next = omega (arith, so-far .from) in omega (arith, h, ap (λ (i : ℕ). digitOr10 (mark (getD s i 0))) e))
+          ];
       meaning = λ kind q r rs. so-far .meaning kind q r rs ∙ digits-end kind q left value r rs s next (no-digit-found _ h);
     }
 
@@ -76,6 +76,6 @@ module _ (s : List ℕ) (at : ℕ) where
       small = omega (arith, so-far .small, powers left (so-far .most));
       some = λ k. omega (arith, so-far .used);
       meaning = λ kind q r rs.
-        so-far .meaning kind q r rs
-        ∙ (let e : left ≡ 0 = omega arith in ap (λ (n : ℕ). run kind next (reading (within q n) value r rs) (drop next s)) e);
+          so-far .meaning kind q r rs
+          ∙ (let e : left ≡ 0 = omega arith in ap (λ (n : ℕ). run kind next (reading (within q n) value r rs) (drop next s)) e);
     }

@@ -30,9 +30,9 @@ module _ (s : List ℕ) (at : ℕ) where
     quoted-open h = record {
       ends = tt;
       meaning = λ kind r rs.
-        begins-quoted kind r rs s at _ (inside s at found) (digit-found _ found)
-        ∙ read .meaning kind true r rs
-        ∙ refused kind (reading (quoted 0) v r rs) s next (no-quote kind (isFirst rs) _ _ (seen _) h) refl;
+          begins-quoted kind r rs s at _ (inside s at found) (digit-found _ found)
+          ∙ read .meaning kind true r rs
+          ∙ refused kind (reading (quoted 0) v r rs) s next (no-quote kind (isFirst rs) _ _ (seen _) h) refl;
     }
 
     -- the digits and the closing quote
@@ -41,18 +41,18 @@ module _ (s : List ℕ) (at : ℕ) where
     quoted-closed h e = record {
       ends = (omega (arith, read .from), omega arith, read .small);
       meaning = λ kind r rs.
-        begins-quoted kind r rs s at _ (inside s at found) (digit-found _ found)
-        ∙ read .meaning kind true r rs
-        ∙ here kind (reading (quoted 0) v r rs) s next quote h (known _ 34 e);
+          begins-quoted kind r rs s at _ (inside s at found) (digit-found _ found)
+          ∙ read .meaning kind true r rs
+          ∙ here kind (reading (quoted 0) v r rs) s next quote h (known _ 34 e);
     }
 
     pub field-bare : FieldRead field s at (Value v next)
     field-bare = record {
       ends = (read .some found, read .upto, read .small);
       meaning = λ kind r rs.
-        begins-bare kind r rs s at _ (inside s at found) (digit-found _ found)
-        ∙ read .meaning kind false r rs
-        ∙ bare-closed kind v r rs s next;
+          begins-bare kind r rs s at _ (inside s at found) (digit-found _ found)
+          ∙ read .meaning kind false r rs
+          ∙ bare-closed kind v r rs s next;
     }
 
   pub field-quoted : (a : Field) → at < length s → getD s at 0 ≡ 34 → FieldRead opened s (at + 1) a → FieldRead field s at a
@@ -71,7 +71,7 @@ module _ (s : List ℕ) (at : ℕ) where
   field-none q h = record {
     ends = tt;
     meaning = λ kind r rs.
-      refused kind (reading field 0 r rs) s at (no-field kind (isFirst rs) _ _ (seen _) q (no-digit-found _ h)) refl;
+        refused kind (reading field 0 r rs) s at (no-field kind (isFirst rs) _ _ (seen _) q (no-digit-found _ h)) refl;
   }
 
   -- no field at the end of the file

@@ -60,11 +60,11 @@ nothing-ten s at h = rw (List·getD-eq-default s 0 h) (below-ten 0 (omega arith)
 pub no-digit-found : (b : ℕ) → 9 < digitOr10 (mark b) → NotDigit (mark b)
 no-digit-found b h =
     elim (decLe 48 b) [
-      yes lo ↦ elim (decLe b 57) [
-        yes hi ↦ absurd (let e : digitOr10 (mark b) ≡ b - 48 = ap digitOr10 (mark-digit b lo hi) in omega arith)
-      | no hi ↦ above-digit b (omega arith)
+      | yes lo ↦ elim (decLe b 57) [
+        | yes hi ↦ absurd (let e : digitOr10 (mark b) ≡ b - 48 = ap digitOr10 (mark-digit b lo hi) in omega arith)
+        | no hi ↦ above-digit b (omega arith)
       ]
-    | no lo ↦ below-digit b (omega arith)
+      | no lo ↦ below-digit b (omega arith)
     ]
 
 pub digit-found : (m : Mark) → digitOr10 m ≤ 9 → m ≡ digit (digitOr10 m)

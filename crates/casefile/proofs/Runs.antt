@@ -40,8 +40,8 @@ pub refused :
     run kind at r (drop at s) ≡ broken at
 refused kind r s at no-step no-end =
     elim (decLt at (length s)) [
-      yes h ↦ here kind r s at (mark (getD s at 0)) h refl ∙ rw (no-step, onward)
-    | no h ↦ at-end kind r s at (omega arith) ∙ rw (no-end, ended)
+      | yes h ↦ here kind r s at (mark (getD s at 0)) h refl ∙ rw (no-step, onward)
+      | no h ↦ at-end kind r s at (omega arith) ∙ rw (no-end, ended)
     ]
 
 module _ (kind : Kind) (first : Bool) where
@@ -99,8 +99,8 @@ pub digits-end :
 unfolding absorb step recordsAtEnd mayEnd
 digits-end kind q left v r rs s at h =
     elim (decLt at (length s)) [
-      yes k ↦ here kind _ s at _ k refl ∙ on q (mark (getD s at 0)) h ∙ sym (here kind _ s at _ k refl)
-    | no k ↦ at-end kind _ s at (omega arith) ∙ off q ∙ sym (at-end kind _ s at (omega arith))
+      | yes k ↦ here kind _ s at _ k refl ∙ on q (mark (getD s at 0)) h ∙ sym (here kind _ s at _ k refl)
+      | no k ↦ at-end kind _ s at (omega arith) ∙ off q ∙ sym (at-end kind _ s at (omega arith))
     ]
   where
     on : (q : Bool) (m : Mark) → NotDigit m →
@@ -117,6 +117,7 @@ digits-end kind q left v r rs s at h =
     on false lf h = refl
     on true other h = refl
     on false other h = refl
+
     off : (q : Bool) → ended kind (reading (within q left) v r rs) at ≡ ended kind (reading (within q 0) v r rs) at
     off true = refl
     off false = refl
@@ -150,10 +151,10 @@ pub bare-closed :
 unfolding absorb step more recordsAtEnd mayEnd
 bare-closed kind v r rs s at =
     elim (decLt at (length s)) [
-      yes k ↦
-      here kind (reading (bare 0) v r rs) s at (mark (getD s at 0)) k refl ∙ on (mark (getD s at 0))
-      ∙ sym (here kind (reading closed v r rs) s at (mark (getD s at 0)) k refl)
-    | no k ↦ at-end kind (reading (bare 0) v r rs) s at (omega arith) ∙ sym (at-end kind (reading closed v r rs) s at (omega arith))
+      | yes k ↦
+          here kind (reading (bare 0) v r rs) s at (mark (getD s at 0)) k refl ∙ on (mark (getD s at 0))
+          ∙ sym (here kind (reading closed v r rs) s at (mark (getD s at 0)) k refl)
+      | no k ↦ at-end kind (reading (bare 0) v r rs) s at (omega arith) ∙ sym (at-end kind (reading closed v r rs) s at (omega arith))
     ]
   where
     on : (m : Mark) → onward kind (reading (bare 0) v r rs) m s at (at + 1) ≡ onward kind (reading closed v r rs) m s at (at + 1)

@@ -1,3 +1,5 @@
 pub mod Form
 pub mod Records
+pub mod Files
 pub mod Reader
+pub mod Tallies

@@ -11,7 +11,23 @@ use Rattle.casefile.specs.declared.field.Field.the-variants as field-ans
 use Rattle.casefile.specs.declared.after.After as after-answer
 use Rattle.casefile.specs.declared.after.After.the-variants as after-answers
 use Rattle.casefile.specs.Form.{
-  Mark, digit, quote, comma, cr, lf, other, mark, State, field, fieldOrEmpty, bare, quoted, closed, lineEnd, lastLineEnd, afterComma,
+  Mark,
+  digit,
+  quote,
+  comma,
+  cr,
+  lf,
+  other,
+  mark,
+  State,
+  field,
+  fieldOrEmpty,
+  bare,
+  quoted,
+  closed,
+  lineEnd,
+  lastLineEnd,
+  afterComma,
 }
 use Rattle.casefile.specs.Records.{Reading, reading, run, rowWith, rowsWith, isFirst, Form, whole, broken}
 
@@ -36,8 +52,8 @@ pub record DigitsRead (s : List ℕ) (at value next : ℕ) : Type 0 where
   pub small : value < 10 ^ 10
   pub some : digitOr10 (mark (getD s at 0)) ≤ 9 → at < next
   pub meaning :
-    (kind : Kind) (q : Bool) (r : List ℕ) (rs : List (List ℕ)) →
-    run kind at (reading (within q 10) 0 r rs) (drop at s) ≡ run kind next (reading (within q 0) value r rs) (drop next s)
+      (kind : Kind) (q : Bool) (r : List ℕ) (rs : List (List ℕ)) →
+      run kind at (reading (within q 10) 0 r rs) (drop at s) ≡ run kind next (reading (within q 0) value r rs) (drop next s)
 
 -- a field's answer: a value is read, and the run goes on after it; or it is broken
 abbrev pub onField : Kind → List ℕ → List (List ℕ) → List ℕ → field-answer.Field → Form
@@ -51,7 +67,7 @@ fieldEnds s at (field-answers.Refused place) = Unit {0}
 pub record FieldRead (from : State) (s : List ℕ) (at : ℕ) (answer : field-answer.Field) : Type 0 where
   pub ends : fieldEnds s at answer
   pub meaning :
-    (kind : Kind) (r : List ℕ) (rs : List (List ℕ)) → run kind at (reading from 0 r rs) (drop at s) ≡ onField kind r rs s answer
+      (kind : Kind) (r : List ℕ) (rs : List (List ℕ)) → run kind at (reading from 0 r rs) (drop at s) ≡ onField kind r rs s answer
 
 -- what stands after a field of the value v
 abbrev pub onAfter : Kind → ℕ → List ℕ → List (List ℕ) → List ℕ → after-answer.After → Form
@@ -95,7 +111,7 @@ Counted records rs = length rs ≡ records
 pub record AfterRead (from : Kind → ℕ → List ℕ → List (List ℕ) → Reading) (Before : List (List ℕ) → Type 0) (kind : Kind) (s : List ℕ) (at : ℕ) (answer : after-answer.After) : Type 0 where
   pub ends : afterEnds s at answer
   pub meaning :
-    (v : ℕ) (r : List ℕ) (rs : List (List ℕ)) → Before rs → run kind at (from kind v r rs) (drop at s) ≡ onAfter kind v r rs s answer
+      (v : ℕ) (r : List ℕ) (rs : List (List ℕ)) → Before rs → run kind at (from kind v r rs) (drop at s) ≡ onAfter kind v r rs s answer
 
 -- where the file ends after a field
 abbrev pub atLast : Kind → ℕ → after-answer.After

@@ -5,8 +5,27 @@ use mathlib.Core.List.{List, [], _∷_, _++_}
 use Prim.Native.Nat.{ℕ, suc, _+_, _*_}
 use Rattle.casefile.specs.declared.Kind.{Kind}
 use Rattle.casefile.specs.Form.{
-  Mark, digit, quote, comma, cr, lf, other, mark, State, field, fieldOrEmpty, recordOrEnd, opened, bare, quoted, closed, lineEnd, lastLineEnd, done,
-  step, mayEnd,
+  Mark,
+  digit,
+  quote,
+  comma,
+  cr,
+  lf,
+  other,
+  mark,
+  State,
+  field,
+  fieldOrEmpty,
+  recordOrEnd,
+  opened,
+  bare,
+  quoted,
+  closed,
+  lineEnd,
+  lastLineEnd,
+  done,
+  step,
+  mayEnd,
 }
 
 -- what is read so far: the state, the number that the digits of this field make, the fields of this record before it, and the records before this

@@ -1,6 +1,6 @@
 // Reads a planning case from its two CSV files, and prints a plan as CSV.
-pub mod field;
 pub mod after;
+pub mod field;
 pub mod table;
 
 // The two files: tariff.csv and production.csv.

@@ -4,6 +4,10 @@ use crate::after::After;
 use crate::after::read_after;
 use crate::field::Field;
 use crate::field::read_field;
+ghost use mathlib.Core.Path.{_≡_};
+ghost use lib.ListN.{set};
+ghost use Rattle.casefile.specs.Files.{judged};
+ghost use Rattle.casefile.specs.Tallies.{startTally, fieldTally, recordTally, widthOr, oddOr, Countable, handedOn, TableRead};
 
 // The whole file's count of records and of each record's fields, or a refusal.
 pub enum Table {
@@ -22,7 +26,9 @@ pub struct Tally {
 }
 
 impl Tally {
-    pub fn start(kind: Kind) -> Self {
+    pub fn start(kind: Kind) -> Self
+        ensures { λ r. ⌜ r ≡ startTally kind ⌝ }
+    {
         let width = match kind {
             Kind::Tariff => 0,
             Kind::Production => 1,
@@ -37,7 +43,10 @@ impl Tally {
     }
 
     // One more field.
-    pub fn with_field(self) -> Self {
+    pub fn with_field(self) -> Self
+        requires { ⌜ Countable self ⌝ }
+        ensures { λ r. ⌜ r ≡ fieldTally self ⌝ }
+    {
         Self {
             records: self.records,
             fields: self.fields + 1,
@@ -48,7 +57,10 @@ impl Tally {
     }
 
     // The record ends.
-    pub fn with_record(self) -> Self {
+    pub fn with_record(self) -> Self
+        requires { ⌜ Countable self ⌝ }
+        ensures { λ r. ⌜ r ≡ recordTally self ⌝ }
+    {
         let records = self.records + 1;
         let width = expected(self.width, self.fields);
         let odd = first_odd(self.odd, width, self.fields, records);
@@ -61,7 +73,9 @@ impl Tally {
         }
     }
 
-    pub fn table(self) -> Table {
+    pub fn table(self) -> Table
+        ensures { λ r. ⌜ r ≡ judged (self .odd) (self .records) (self .width) ⌝ }
+    {
         let odd = self.odd;
         if odd == 0 {
             Table::Whole {
@@ -77,11 +91,15 @@ impl Tally {
     }
 }
 
-fn expected(width: usize, fields: usize) -> usize {
+fn expected(width: usize, fields: usize) -> usize
+    ensures { λ r. ⌜ r ≡ widthOr width fields ⌝ }
+{
     if width == 0 { fields } else { width }
 }
 
-fn first_odd(odd: usize, width: usize, fields: usize, record: usize) -> usize {
+fn first_odd(odd: usize, width: usize, fields: usize, record: usize) -> usize
+    ensures { λ r. ⌜ r ≡ oddOr odd width fields «record» ⌝ }
+{
     if odd != 0 {
         return odd;
     }
@@ -89,13 +107,17 @@ fn first_odd(odd: usize, width: usize, fields: usize, record: usize) -> usize {
 }
 
 // Stores a value, if there is a cell for it.
-fn put(cells: &mut [u64], at: usize, value: u64) {
+fn put(cells: &mut [u64], at: usize, value: u64)
+    ensures { λ _. ⌜ now (cells .exit) ≡ set (now (cells .entry)) at value ⌝ }
+{
     if at < cells.len() {
         cells[at] = value;
     }
 }
 
-fn handed_on(f: Field) -> Table {
+fn handed_on(f: Field) -> Table
+    ensures { λ r. ⌜ r ≡ handedOn f ⌝ }
+{
     match f {
         Field::Value { value: _, next } => Table::Refused {
             number: 21,
@@ -106,7 +128,9 @@ fn handed_on(f: Field) -> Table {
 }
 
 // Reads a file, and stores its fields in file order as far as there are cells.
-pub fn read_table(kind: Kind, s: &[u8], cells: &mut [u64]) -> Table {
+pub fn read_table(kind: Kind, s: &[u8], cells: &mut [u64]) -> Table
+    ensures { λ r. ⌜ TableRead kind (now (s .entry)) (now (cells .entry)) (now (cells .exit)) r ⌝ }
+{
     if 65_536 < s.len() {
         return Table::Refused {
             number: 20,
