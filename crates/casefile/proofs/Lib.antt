@@ -5,3 +5,6 @@ pub mod Fields
 pub mod Afters
 pub mod Tallies
 pub mod Tables
+pub mod Viable
+pub mod Places
+pub mod Examples
