@@ -3,6 +3,7 @@ pub mod Runs
 pub mod Digits
 pub mod Fields
 pub mod Afters
+pub mod Stores
 pub mod Tallies
 pub mod Tables
 pub mod Viable

@@ -6,6 +6,7 @@ use Prim.Native.Nat.{ℕ, zero, suc, _+_, _≤_, _<_}
 use native.Mathlib.Omega.{arith}
 use borrow.Author.Tests.{lt-ltb, le-ltb}
 use lib.ListN.{length, set, drop, length-append}
+use lib.Seq.{sets, length-sets}
 use Rattle.casefile.specs.declared.Kind.{Kind}
 use Rattle.casefile.specs.declared.field.Field.{Field}
 use Rattle.casefile.specs.declared.field.Field.the-variants as field-answers
@@ -16,10 +17,11 @@ use Rattle.casefile.specs.declared.table.Table.the-variants.{Refused}
 use Rattle.casefile.specs.declared.table.Tally.{Tally}
 use Rattle.casefile.specs.Form.{field, closed}
 use Rattle.casefile.specs.Records.{reading, run, rowWith, rowsWith, Form, whole, broken, formOf}
-use Rattle.casefile.specs.Files.{tableOf, judge, judged, inOrder, overlay, pickTable}
+use Rattle.casefile.specs.Files.{tableOf, judge, judged, inOrder, pickTable}
 use Rattle.casefile.specs.Reader.{FieldRead, AfterRead, atField, Counted}
 use Rattle.casefile.specs.Tallies.{startTally, fieldTally, recordTally, Countable, handedOn, TableRead}
-use Rattle.casefile.proofs.Tallies.{Tallied, tally-start, tally-field, tally-record, overlay-nil, overlay-snoc, inOrder-snoc, length-overlay}
+use Rattle.casefile.proofs.Tallies.{Tallied, tally-start, tally-field, tally-record, inOrder-snoc}
+use Rattle.casefile.proofs.Stores.{sets-snoc}
 
 -- the counts do not outgrow the offset
 pub record Few (t : Tally) (at : ℕ) : Type 0 where
@@ -39,7 +41,7 @@ pub record Along (kind : Kind) (s cells₀ cells : List ℕ) (t : Tally) (at : �
   pub rows : List (List ℕ)
   pub so-far : formOf kind s ≡ run kind at (reading field 0 row rows) (drop at s)
   pub tally : Tallied kind rows row t
-  pub stored : cells ≡ overlay cells₀ (inOrder rows ++ row)
+  pub stored : cells ≡ sets cells₀ 0 (inOrder rows ++ row)
   pub upto : at ≤ length s
   pub few : Few t at
 
@@ -49,7 +51,7 @@ pub record Valued (kind : Kind) (s cells₀ cells : List ℕ) (t : Tally) (v nex
   pub rows : List (List ℕ)
   pub so-far : formOf kind s ≡ run kind next (reading closed v row rows) (drop next s)
   pub tally : Tallied kind rows (rowWith v row) t
-  pub stored : cells ≡ overlay cells₀ (inOrder rows ++ rowWith v row)
+  pub stored : cells ≡ sets cells₀ 0 (inOrder rows ++ rowWith v row)
   pub upto : next ≤ length s
   pub few : Few t next
 
@@ -60,16 +62,16 @@ along-start kind s cells = record {
   rows = [];
   so-far = refl;
   tally = tally-start kind;
-  stored = sym (overlay-nil cells);
+  stored = refl;
   upto = omega arith;
   few = record { values = omega arith; parts = omega arith };
 }
 
 pub along-length : {kind : Kind} {s cells₀ cells : List ℕ} {t : Tally} {at : ℕ} → Along kind s cells₀ cells t at → length cells ≡ length cells₀
-along-length {cells₀ = cells₀} along = ap length (along .stored) ∙ length-overlay cells₀ _
+along-length {cells₀ = cells₀} along = ap length (along .stored) ∙ length-sets cells₀ 0 (inOrder (along .rows) ++ along .row)
 
 pub valued-length : {kind : Kind} {s cells₀ cells : List ℕ} {t : Tally} {v next : ℕ} → Valued kind s cells₀ cells t v next → length cells ≡ length cells₀
-valued-length {cells₀ = cells₀} valued = ap length (valued .stored) ∙ length-overlay cells₀ _
+valued-length {cells₀ = cells₀} {v = v} valued = ap length (valued .stored) ∙ length-sets cells₀ 0 (inOrder (valued .rows) ++ rowWith v (valued .row))
 
 -- a file of the wrong form
 broken-table :
@@ -83,11 +85,11 @@ broken-table kind s cells cells′ place short e = record {
 -- a file of the right form
 whole-table :
     (kind : Kind) (s cells cells′ : List ℕ) (rs : List (List ℕ)) (t : Tally) → length s ≤ 65536 → formOf kind s ≡ whole rs →
-    Tallied kind rs [] t → cells′ ≡ overlay cells (inOrder rs) → TableRead kind s cells cells′ (judged (t .odd) (t .records) (t .width))
+    Tallied kind rs [] t → cells′ ≡ sets cells 0 (inOrder rs) → TableRead kind s cells cells′ (judged (t .odd) (t .records) (t .width))
 unfolding tableOf judge
 whole-table kind s cells cells′ rs t short e k c = record {
   answered = rw (le-ltb 65536 (length s) short, e, k .odd, k .records, k .width) refl;
-  stored = λ rs′ _ w. c ∙ ap (λ (l : List (List ℕ)). overlay cells (inOrder l)) (let z : rs ≡ rs′ = cc in z);
+  stored = λ rs′ _ w. c ∙ ap (λ (l : List (List ℕ)). sets cells 0 (inOrder l)) (let z : rs ≡ rs′ = cc in z);
 }
 
 pub long-table : (kind : Kind) (s cells : List ℕ) → 65536 < length s → TableRead kind s cells cells (Refused 20 0)
@@ -112,15 +114,15 @@ module _ (kind : Kind) (s cells₀ : List ℕ) where
         Valued kind s cells₀ cells′ t′ v next
     field-valued v next t′ cells′ e et ec =
         let known : FieldRead field s at (field-answers.Value v next) = subst (λ (a : Field). FieldRead field s at a) e read in
-        let count : t .values ≡ length (inOrder (along .rows) ++ along .row) = omega (arith, along .tally .values, length-append (inOrder (along .rows)) (along .row)) in
+        let count : t .values ≡ 0 + length (inOrder (along .rows) ++ along .row) = omega (arith, along .tally .values, length-append (inOrder (along .rows)) (along .row)) in
         record {
           row = along .row;
           rows = along .rows;
           so-far = along .so-far ∙ known .meaning kind (along .row) (along .rows);
           tally = subst (λ (a : Tally). Tallied kind (along .rows) (rowWith v (along .row)) a) (sym et) (tally-field kind (along .rows) (along .row) t v (along .tally));
           stored =
-              ec ∙ rw (along .stored, count) (sym (overlay-snoc cells₀ (inOrder (along .rows) ++ along .row) v))
-              ∙ ap (λ (l : List ℕ). overlay cells₀ l) (append-assoc (inOrder (along .rows)) (along .row) (v ∷ []));
+              ec ∙ rw (along .stored, count) (sym (sets-snoc cells₀ 0 (inOrder (along .rows) ++ along .row) v))
+              ∙ ap (λ (l : List ℕ). sets cells₀ 0 l) (append-assoc (inOrder (along .rows)) (along .row) (v ∷ []));
           upto = known .ends .1;
           few = subst (λ (a : Tally). Few a next) (sym et)
               (record { values = omega (arith, along .few, known .ends .0); parts = omega (arith, along .few) });
@@ -166,7 +168,7 @@ module _ (kind : Kind) (s cells₀ : List ℕ) where
           so-far = valued .so-far ∙ known .meaning v (valued .row) (valued .rows) (sym (valued .tally .records));
           tally = subst (λ (x : Tally). Tallied kind (rowsWith v (valued .row) (valued .rows)) [] x) (sym et)
               (tally-record kind (valued .rows) (rowWith v (valued .row)) t row-some (valued .tally));
-          stored = valued .stored ∙ ap (λ (l : List ℕ). overlay cells₀ l) all-values;
+          stored = valued .stored ∙ ap (λ (l : List ℕ). sets cells₀ 0 l) all-values;
           upto = known .ends .1;
           few = subst (λ (x : Tally). Few x start) (sym et)
               (record { values = omega (arith, valued .few, known .ends .0); parts = omega (arith, valued .few, valued .tally .fields, row-some) });
@@ -179,7 +181,7 @@ module _ (kind : Kind) (s cells₀ : List ℕ) where
         (valued .so-far ∙ known .meaning v (valued .row) (valued .rows) (sym (valued .tally .records)))
         (subst (λ (x : Tally). Tallied kind (rowsWith v (valued .row) (valued .rows)) [] x) (sym et)
         (tally-record kind (valued .rows) (rowWith v (valued .row)) t row-some (valued .tally)))
-        (valued .stored ∙ ap (λ (l : List ℕ). overlay cells₀ l) (all-values ∙ append-nil _))
+        (valued .stored ∙ ap (λ (l : List ℕ). sets cells₀ 0 l) (sym (inOrder-snoc (valued .rows) (rowWith v (valued .row)))))
 
     pub on-empty :
         (t′ : Tally) (cells′ : List ℕ) → length s ≤ 65536 → a ≡ after-answers.Empty → t′ ≡ recordTally (fieldTally t) → cells′ ≡ set cells (t .values) 0 →
@@ -187,14 +189,14 @@ module _ (kind : Kind) (s cells₀ : List ℕ) where
     on-empty t′ cells′ short e et ec =
         let known = onward′ after-answers.Empty e in
         let full = rowWith v (valued .row) in
-        let count : t .values ≡ length (inOrder (valued .rows) ++ full) = omega (arith, valued .tally .values, length-append (inOrder (valued .rows)) full) in
+        let count : t .values ≡ 0 + length (inOrder (valued .rows) ++ full) = omega (arith, valued .tally .values, length-append (inOrder (valued .rows)) full) in
         whole-table kind s cells₀ cells′ (rowsWith 0 full (valued .rows)) t′ short
         (valued .so-far ∙ known .meaning v (valued .row) (valued .rows) (sym (valued .tally .records)))
         (subst (λ (x : Tally). Tallied kind (rowsWith 0 full (valued .rows)) [] x) (sym et)
         (tally-record kind (valued .rows) (rowWith 0 full) (fieldTally t) (omega (arith, length-append full (0 ∷ [])))
         (tally-field kind (valued .rows) full t 0 (valued .tally))))
-        (ec ∙ rw (valued .stored, count) (sym (overlay-snoc cells₀ (inOrder (valued .rows) ++ full) 0))
-        ∙ ap (λ (l : List ℕ). overlay cells₀ l) (append-assoc (inOrder (valued .rows)) full (0 ∷ []) ∙ sym (inOrder-snoc (valued .rows) (rowWith 0 full))))
+        (ec ∙ rw (valued .stored, count) (sym (sets-snoc cells₀ 0 (inOrder (valued .rows) ++ full) 0))
+        ∙ ap (λ (l : List ℕ). sets cells₀ 0 l) (append-assoc (inOrder (valued .rows)) full (0 ∷ []) ∙ sym (inOrder-snoc (valued .rows) (rowWith 0 full))))
 
     pub on-refused : (place : ℕ) → length s ≤ 65536 → a ≡ after-answers.Refused place → TableRead kind s cells₀ cells (Refused 21 place)
     on-refused place short e =

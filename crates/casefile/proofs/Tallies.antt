@@ -9,13 +9,13 @@ use native.Mathlib.Numerals.{add-one}
 use native.Mathlib.Nat.{add-zero, zero-add, add-suc, suc-add}
 use borrow.Author.Tests.{eq-eqb, ne-eqb, eqb-true, eqb-false}
 use lib.Dec.{eqb, eqb·suc-zero}
-use lib.ListN.{length, set, length-append}
+use lib.ListN.{length, length-append}
 use Rattle.casefile.specs.declared.Kind.{Kind}
 use Rattle.casefile.specs.declared.Kind.the-variants.{Tariff, Production}
 use Rattle.casefile.specs.declared.table.Table.the-variants.{Refused}
 use Rattle.casefile.specs.declared.table.Tally.{Tally}
 use Rattle.casefile.specs.Records.{rowWith}
-use Rattle.casefile.specs.Files.{pick, judged, wanted, oddFrom, inOrder, overlay}
+use Rattle.casefile.specs.Files.{pick, judged, wanted, oddFrom, inOrder}
 use Rattle.casefile.specs.Tallies.{startTally, fieldTally, widthOr, oddOr, recordTally}
 
 wanted-snoc :
@@ -60,18 +60,6 @@ unfolding inOrder
 inOrder-snoc [] r = append-nil r
 inOrder-snoc (x ∷ rs) r = rw (inOrder-snoc rs r) (sym (append-assoc x (inOrder rs) r))
 
-pub overlay-nil : (cells : List ℕ) → overlay cells [] ≡ cells
-unfolding overlay
-overlay-nil [] = refl
-overlay-nil (c ∷ cells) = refl
-
--- one value more
-pub overlay-snoc : (cells vs : List ℕ) (v : ℕ) → overlay cells (vs ++ (v ∷ [])) ≡ set (overlay cells vs) (length vs) v
-unfolding overlay
-overlay-snoc [] vs v = refl
-overlay-snoc (c ∷ cells) [] v = ap (λ (l : List ℕ). v ∷ l) (overlay-nil cells)
-overlay-snoc (c ∷ cells) (x ∷ vs) v = ap (λ (l : List ℕ). x ∷ l) (overlay-snoc cells vs v)
-
 -- the counts of the records rs and of the fields r of the record after them
 pub record Tallied (kind : Kind) (rs : List (List ℕ)) (r : List ℕ) (t : Tally) : Type 0 where
   pub records : t .records ≡ length rs
@@ -111,9 +99,3 @@ tally-record kind rs r t h k = record {
 pub judged-odd : (odd records fields : ℕ) → (odd ≡ 0 → ⊥) → Refused 22 odd ≡ judged odd records fields
 judged-odd zero records fields h = absurd (h refl)
 judged-odd (suc odd) records fields h = refl
-
-pub length-overlay : (cells vs : List ℕ) → length (overlay cells vs) ≡ length cells
-unfolding overlay
-length-overlay [] vs = refl
-length-overlay (c ∷ cells) [] = refl
-length-overlay (c ∷ cells) (v ∷ vs) = ap suc (length-overlay cells vs)

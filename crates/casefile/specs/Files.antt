@@ -47,9 +47,3 @@ tableOf kind l = pickTable (ltb 65536 (length l)) (Refused 20 0) (judge kind (fo
 unfoldable pub inOrder : List (List ℕ) → List ℕ
 inOrder [] = []
 inOrder (r ∷ rs) = r ++ inOrder rs
-
--- the values vs in the first cells, as far as there are cells
-unfoldable pub overlay : List ℕ → List ℕ → List ℕ
-overlay [] vs = []
-overlay (c ∷ cs) [] = c ∷ cs
-overlay (c ∷ cs) (v ∷ vs) = v ∷ overlay cs vs

@@ -5,6 +5,7 @@ use mathlib.Core.List.{List, []}
 use Prim.Native.Nat.{ℕ, _+_, _≤_, _<_, _^_}
 use lib.Dec.{eqb}
 use lib.ListN.{length}
+use lib.Seq.{sets}
 use Rattle.casefile.specs.declared.Kind.{Kind}
 use Rattle.casefile.specs.declared.Kind.the-variants.{Tariff, Production}
 use Rattle.casefile.specs.declared.field.Field.{Field}
@@ -13,7 +14,7 @@ use Rattle.casefile.specs.declared.table.Table.{Table}
 use Rattle.casefile.specs.declared.table.Table.the-variants.{Refused}
 use Rattle.casefile.specs.declared.table.Tally.{Tally}
 use Rattle.casefile.specs.Records.{Form, whole, formOf}
-use Rattle.casefile.specs.Files.{pick, wanted, oddFrom, tableOf, inOrder, overlay}
+use Rattle.casefile.specs.Files.{pick, wanted, oddFrom, tableOf, inOrder}
 
 abbrev pub startTally : Kind → Tally
 startTally kind = record { records = 0; fields = 0; width = wanted kind []; odd = 0; values = 0 }
@@ -49,4 +50,4 @@ handedOn (answers.Refused place) = Refused 21 place
 -- a file is read: the answer, and the fields in file order in the cells, where the file has the form
 pub record TableRead (kind : Kind) (s cells cells′ : List ℕ) (answer : Table) : Type 0 where
   pub answered : answer ≡ tableOf kind s
-  pub stored : (rs : List (List ℕ)) → length s ≤ 65536 → formOf kind s ≡ whole rs → cells′ ≡ overlay cells (inOrder rs)
+  pub stored : (rs : List (List ℕ)) → length s ≤ 65536 → formOf kind s ≡ whole rs → cells′ ≡ sets cells 0 (inOrder rs)
