@@ -9,3 +9,5 @@ pub mod Tables
 pub mod Viable
 pub mod Places
 pub mod Examples
+pub mod Shares
+pub mod CaseFiles

@@ -20,7 +20,7 @@ use Rattle.casefile.specs.Records.{reading, run, rowWith, rowsWith, Form
 use Rattle.casefile.specs.Files.{tableOf, judge, judged, inOrder, pickTable}
 use Rattle.casefile.specs.Reader.{FieldRead, AfterRead, atField, Counted}
 use Rattle.casefile.specs.Tallies.{startTally, fieldTally, recordTally, Countable, handedOn, TableRead}
-use Rattle.casefile.proofs.Tallies.{Tallied, tally-start, tally-field, tally-record, inOrder-snoc}
+use Rattle.casefile.proofs.Tallies.{Tallied, tally-start, tally-field, tally-record, inOrder-snoc, judged-whole}
 use Rattle.casefile.proofs.Stores.{sets-snoc}
 
 -- the counts do not outgrow the offset
@@ -79,16 +79,20 @@ broken-table :
 unfolding tableOf judge
 broken-table kind s cells cells′ place short e = record {
   answered = rw (le-ltb 65536 (length s) short, e) refl;
+  some = λ records fields w. absurd (let z : _≡_ {A = ℕ} 0 1 = cc in omega arith);
   stored = λ rs _ w. absurd (let z : _≡_ {A = ℕ} 0 1 = cc in omega arith);
 }
 
 -- a file of the right form
 whole-table :
     (kind : Kind) (s cells cells′ : List ℕ) (rs : List (List ℕ)) (t : Tally) → length s ≤ 65536 → formOf kind s ≡ whole rs →
-    Tallied kind rs [] t → cells′ ≡ sets cells 0 (inOrder rs) → TableRead kind s cells cells′ (judged (t .odd) (t .records) (t .width))
+    0 < length rs → Tallied kind rs [] t → cells′ ≡ sets cells 0 (inOrder rs) → TableRead kind s cells cells′ (judged (t .odd) (t .records) (t .width))
 unfolding tableOf judge
-whole-table kind s cells cells′ rs t short e k c = record {
+whole-table kind s cells cells′ rs t short e h k c = record {
   answered = rw (le-ltb 65536 (length s) short, e, k .odd, k .records, k .width) refl;
+  some = λ records fields w.
+      let p = judged-whole (t .odd) (t .records) (t .width) records fields w in
+      (omega (arith, p, k .records), omega (arith, p, k .width, k .some h));
   stored = λ rs′ _ w. c ∙ ap (λ (l : List (List ℕ)). sets cells 0 (inOrder l)) (let z : rs ≡ rs′ = cc in z);
 }
 
@@ -96,6 +100,7 @@ pub long-table : (kind : Kind) (s cells : List ℕ) → 65536 < length s → Tab
 unfolding tableOf
 long-table kind s cells h = record {
   answered = rw (lt-ltb 65536 (length s) h) refl;
+  some = λ records fields w. absurd (let z : _≡_ {A = ℕ} 0 1 = cc in omega arith);
   stored = λ rs short w. absurd (omega arith);
 }
 
@@ -179,6 +184,7 @@ module _ (kind : Kind) (s cells₀ : List ℕ) where
         let known = onward′ after-answers.End e in
         whole-table kind s cells₀ cells (rowsWith v (valued .row) (valued .rows)) t′ short
         (valued .so-far ∙ known .meaning v (valued .row) (valued .rows) (sym (valued .tally .records)))
+        (omega (arith, length-append (valued .rows) (rowWith v (valued .row) ∷ [])))
         (subst (λ (x : Tally). Tallied kind (rowsWith v (valued .row) (valued .rows)) [] x) (sym et)
         (tally-record kind (valued .rows) (rowWith v (valued .row)) t row-some (valued .tally)))
         (valued .stored ∙ ap (λ (l : List ℕ). sets cells₀ 0 l) (sym (inOrder-snoc (valued .rows) (rowWith v (valued .row)))))
@@ -192,6 +198,7 @@ module _ (kind : Kind) (s cells₀ : List ℕ) where
         let count : t .values ≡ 0 + length (inOrder (valued .rows) ++ full) = omega (arith, valued .tally .values, length-append (inOrder (valued .rows)) full) in
         whole-table kind s cells₀ cells′ (rowsWith 0 full (valued .rows)) t′ short
         (valued .so-far ∙ known .meaning v (valued .row) (valued .rows) (sym (valued .tally .records)))
+        (omega (arith, length-append (valued .rows) (rowWith 0 full ∷ [])))
         (subst (λ (x : Tally). Tallied kind (rowsWith 0 full (valued .rows)) [] x) (sym et)
         (tally-record kind (valued .rows) (rowWith 0 full) (fieldTally t) (omega (arith, length-append full (0 ∷ [])))
         (tally-field kind (valued .rows) full t 0 (valued .tally))))

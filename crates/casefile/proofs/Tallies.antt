@@ -12,7 +12,7 @@ use lib.Dec.{eqb, eqb·suc-zero}
 use lib.ListN.{length, length-append}
 use Rattle.casefile.specs.declared.Kind.{Kind}
 use Rattle.casefile.specs.declared.Kind.the-variants.{Tariff, Production}
-use Rattle.casefile.specs.declared.table.Table.the-variants.{Refused}
+use Rattle.casefile.specs.declared.table.Table.the-variants.{Whole, Refused}
 use Rattle.casefile.specs.declared.table.Tally.{Tally}
 use Rattle.casefile.specs.Records.{rowWith}
 use Rattle.casefile.specs.Files.{pick, judged, wanted, oddFrom, inOrder}
@@ -99,3 +99,7 @@ tally-record kind rs r t h k = record {
 pub judged-odd : (odd records fields : ℕ) → (odd ≡ 0 → ⊥) → Refused 22 odd ≡ judged odd records fields
 judged-odd zero records fields h = absurd (h refl)
 judged-odd (suc odd) records fields h = refl
+
+pub judged-whole : (odd records fields records′ fields′ : ℕ) → judged odd records fields ≡ Whole records′ fields′ → (odd ≡ 0) × (records ≡ records′) × (fields ≡ fields′)
+judged-whole zero records fields records′ fields′ e = (refl, cc, cc)
+judged-whole (suc odd) records fields records′ fields′ e = absurd (let z : _≡_ {A = ℕ} 0 1 = cc in omega arith)

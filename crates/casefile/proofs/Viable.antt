@@ -9,7 +9,22 @@ use lib.ListN.{length, take}
 use Rattle.casefile.specs.declared.Kind.{Kind}
 use Rattle.casefile.specs.declared.Kind.the-variants.{Tariff, Production}
 use Rattle.casefile.specs.Form.{
-  mark, State, field, fieldOrEmpty, recordOrEnd, opened, bare, quoted, closed, lineEnd, lastLineEnd, done, step, mayEnd, isProduction, afterComma,
+  mark,
+  State,
+  field,
+  fieldOrEmpty,
+  recordOrEnd,
+  opened,
+  bare,
+  quoted,
+  closed,
+  lineEnd,
+  lastLineEnd,
+  done,
+  step,
+  mayEnd,
+  isProduction,
+  afterComma,
   afterLine,
 }
 use Rattle.casefile.specs.Records.{Reading, reading, run, absorb, recordsAtEnd, rowWith, rowsWith, isFirst, Form, whole, broken, formOf}

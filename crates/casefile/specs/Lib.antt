@@ -3,3 +3,4 @@ pub mod Records
 pub mod Files
 pub mod Reader
 pub mod Tallies
+pub mod CaseFiles

@@ -11,7 +11,7 @@ use Rattle.casefile.specs.declared.Kind.the-variants.{Tariff, Production
 use Rattle.casefile.specs.declared.field.Field.{Field}
 use Rattle.casefile.specs.declared.field.Field.the-variants as answers
 use Rattle.casefile.specs.declared.table.Table.{Table}
-use Rattle.casefile.specs.declared.table.Table.the-variants.{Refused}
+use Rattle.casefile.specs.declared.table.Table.the-variants.{Whole, Refused}
 use Rattle.casefile.specs.declared.table.Tally.{Tally}
 use Rattle.casefile.specs.Records.{Form, whole, formOf}
 use Rattle.casefile.specs.Files.{pick, wanted, oddFrom, tableOf, inOrder}
@@ -50,4 +50,5 @@ handedOn (answers.Refused place) = Refused 21 place
 -- a file is read: the answer, and the fields in file order in the cells, where the file has the form
 pub record TableRead (kind : Kind) (s cells cells′ : List ℕ) (answer : Table) : Type 0 where
   pub answered : answer ≡ tableOf kind s
+  pub some : (records fields : ℕ) → answer ≡ Whole records fields → (0 < records) × (0 < fields)
   pub stored : (rs : List (List ℕ)) → length s ≤ 65536 → formOf kind s ≡ whole rs → cells′ ≡ sets cells 0 (inOrder rs)

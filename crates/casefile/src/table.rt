@@ -4,8 +4,8 @@ use crate::after::After;
 use crate::after::read_after;
 use crate::field::Field;
 use crate::field::read_field;
+use crate::store::put;
 ghost use mathlib.Core.Path.{_≡_};
-ghost use lib.ListN.{set};
 ghost use Rattle.casefile.specs.Files.{judged};
 ghost use Rattle.casefile.specs.Tallies.{startTally, fieldTally, recordTally, widthOr, oddOr, Countable, handedOn, TableRead};
 
@@ -104,15 +104,6 @@ fn first_odd(odd: usize, width: usize, fields: usize, record: usize) -> usize
         return odd;
     }
     if fields == width { 0 } else { record }
-}
-
-// Stores a value, if there is a cell for it.
-fn put(cells: &mut [u64], at: usize, value: u64)
-    ensures { λ _. ⌜ now (cells .exit) ≡ set (now (cells .entry)) at value ⌝ }
-{
-    if at < cells.len() {
-        cells[at] = value;
-    }
 }
 
 fn handed_on(f: Field) -> Table

@@ -18,7 +18,7 @@ use Rattle.casefile.proofs.table.Tally.table.Reads as table-reads
 use Rattle.casefile.proofs.table.Tally.with_field.Reads as with-field-reads
 use Rattle.casefile.proofs.table.Tally.with_record.Reads as with-record-reads
 use Rattle.casefile.proofs.table.handed_on.Reads as handed-on-reads
-use Rattle.casefile.proofs.table.put.Reads as put-reads
+use Rattle.casefile.proofs.store.put.Reads as put-reads
 
 abbrev Inv-loop : tie.InvT-loop
 Inv-loop kind s cells₀ t₀ at₀ cells t at = Along kind s cells₀ cells t at

@@ -1,12 +1,12 @@
--- `casefile::table::put` meets its contract. Assumes nothing.
+-- `casefile::store::put` meets its contract. Assumes nothing.
 use mathlib.Core.Path.{sym}
 use denote.Ref.{now}
 use lib.Seq.{set-out}
 use borrow.Author.Needs.{needs}
-use Rattle.casefile.proofs.table.put.Statement.{statement}
-use Rattle.casefile.proofs.table.put.Tie as tie
-use Rattle.casefile.proofs.table.put.Reads as reads
-use Rattle.casefile.proofs.table.put.Lts as lts
+use Rattle.casefile.proofs.store.put.Statement.{statement}
+use Rattle.casefile.proofs.store.put.Tie as tie
+use Rattle.casefile.proofs.store.put.Reads as reads
+use Rattle.casefile.proofs.store.put.Lts as lts
 
 mul-cells : tie.Need-mul-cells
 mul-cells c = search needs
