@@ -11,3 +11,4 @@ pub mod Places
 pub mod Examples
 pub mod Shares
 pub mod CaseFiles
+pub mod Texts
