@@ -5,12 +5,13 @@ use mathlib.Core.List.{List, [], _∷_, _++_, append-assoc}
 use Prim.Native.Nat.{ℕ, zero, suc, _+_, _*_, _/_, _%_, _≤_, _<_, _^_}
 use native.Mathlib.Omega.{arith}
 use native.Mathlib.Decide.{decLt}
-use native.Mathlib.Nat.{pow-suc, pow-zero}
+use native.Mathlib.Nat.{pow-suc, mul-suc, suc-mul, mul-le-mul-right, zero-mul}
+use native.Mathlib.Numerals.{add-one}
 use borrow.Author.Tests.{lt-ltb, le-ltb}
 use lib.ListN.{length, set, length-append}
-use lib.Seq.{sets, set-out}
-use Rattle.casefile.specs.Text.{digitsOf, decimal}
-use Rattle.casefile.specs.Writing.{Written}
+use lib.Seq.{sets, length-sets}
+use Rattle.casefile.specs.Text.{digitsOf, decimal, each}
+use Rattle.casefile.specs.Writing.{Written, Printable}
 use Rattle.casefile.proofs.Stores.{sets-append}
 
 one-digit : (most n : ℕ) → n < 10 → digitsOf most n ≡ (48 + n) ∷ []
@@ -27,11 +28,11 @@ same-digits zero most′ n h k = one-digit zero n (omega arith) ∙ sym (one-dig
 same-digits (suc most) zero n h k = one-digit (suc most) n (omega arith) ∙ sym (one-digit zero n (omega arith))
 same-digits (suc most) (suc most′) n h k =
     elim (decLt n 10) [
-      yes s ↦ one-digit (suc most) n s ∙ sym (one-digit (suc most′) n s)
-    | no s ↦
-      more-digits most n (omega arith)
-      ∙ ap (λ (l : List ℕ). l ++ ((48 + n % 10) ∷ [])) (same-digits most most′ (n / 10) (omega arith) (omega arith))
-      ∙ sym (more-digits most′ n (omega arith))
+      | yes s ↦ one-digit (suc most) n s ∙ sym (one-digit (suc most′) n s)
+      | no s ↦
+          more-digits most n (omega arith)
+          ∙ ap (λ (l : List ℕ). l ++ ((48 + n % 10) ∷ [])) (same-digits most most′ (n / 10) (omega arith) (omega arith))
+          ∙ sym (more-digits most′ n (omega arith))
     ]
 
 pub decimal-small : (n : ℕ) → n < 10 → decimal n ≡ (48 + n) ∷ []
@@ -48,8 +49,8 @@ unfolding digitsOf
 short-digits zero k n h = omega arith
 short-digits (suc most) k n h =
     elim (decLt n 10) [
-      yes s ↦ omega (arith, ap length (one-digit (suc most) n s))
-    | no s ↦ more (omega arith) k h (λ k′ h′. short-digits most k′ (n / 10) h′)
+      | yes s ↦ omega (arith, ap length (one-digit (suc most) n s))
+      | no s ↦ more (omega arith) k h (λ k′ h′. short-digits most k′ (n / 10) h′)
     ]
   where
     more : 10 ≤ n → (k : ℕ) → n < 10 ^ suc k → ((k′ : ℕ) → n / 10 < 10 ^ suc k′ → length (digitsOf most (n / 10)) ≤ suc k′) → length (digitsOf (suc most) n) ≤ suc k
@@ -91,3 +92,42 @@ written-large {a} {b} {c} {at} {next} {end} n h fit first second =
       ends = omega (arith, w .ends, ap length e);
       short = decimal-short n fit;
     }
+
+-- a looser bound, and the length of the slice
+pub widen : {a b : List ℕ} {at next : ℕ} {x : List ℕ} {k l : ℕ} → k ≤ l → Written a b at next x k → Written a b at next x l
+widen h w = record { bytes = w .bytes; ends = w .ends; short = omega (arith, w .short) }
+
+pub written-length : {a b : List ℕ} {at next : ℕ} {x : List ℕ} {k : ℕ} → Written a b at next x k → length b ≡ length a
+written-length {a} {b} {at} {next} {x} w = ap length (w .bytes) ∙ length-sets a at x
+
+-- a loop that writes f 0, f 1, .., each of at most k bytes
+pub each-start : (f : ℕ → List ℕ) (k : ℕ) (out : List ℕ) (at : ℕ) → Written out out at at (each 0 f) (k * 0)
+unfolding each
+each-start f k out at = record { bytes = refl; ends = omega arith; short = omega arith }
+
+pub each-next :
+    (f : ℕ → List ℕ) (k j : ℕ) {out₀ out out′ : List ℕ} {at next next′ : ℕ} →
+    Written out₀ out at next (each j f) (k * j) → Written out out′ next next′ (f j) k → Written out₀ out′ at next′ (each (j + 1) f) (k * (j + 1))
+unfolding each
+each-next f k j so-far one = rw (add-one j, mul-suc k j) (then so-far one)
+
+pub each-end :
+    (f : ℕ → List ℕ) (k j n : ℕ) {out₀ out : List ℕ} {at next : ℕ} → j ≤ n → n ≤ j → Written out₀ out at next (each j f) (k * j) →
+    Written out₀ out at next (each n f) (k * n)
+each-end f k j n {out₀} {out} {at} {next} h h′ w =
+    let e : j ≡ n = omega arith in
+    subst (λ (x : ℕ). Written out₀ out at next (each x f) (k * x)) e w
+
+-- a source's lanes are among all lanes
+pub row-within : (m n i start : ℕ) → i < m → start ≡ i * n → start + n ≤ m * n
+row-within m n i start h e = let p : suc i * n ≤ m * n = mul-le-mul-right n h in omega (arith, e, suc-mul i n, p)
+
+pub printable-row : (costs plan : List ℕ) (start stop all : ℕ) → stop ≤ all → Printable costs plan 0 all → Printable costs plan start stop
+printable-row costs plan start stop all h p = record {
+  in-costs = omega (arith, p .in-costs);
+  in-plan = omega (arith, p .in-plan);
+  fit = λ k lo hi. p .fit k (omega arith) (omega arith);
+}
+
+pub next-start : (n i start : ℕ) → start ≡ i * n → start + n ≡ (i + 1) * n
+next-start n i start e = omega (arith, e, suc-mul i n, ap (λ (x : ℕ). x * n) (add-one i))
