@@ -3,7 +3,6 @@ pub mod Runs
 pub mod Digits
 pub mod Fields
 pub mod Afters
-pub mod Stores
 pub mod Tallies
 pub mod Tables
 pub mod Viable
@@ -11,4 +10,3 @@ pub mod Places
 pub mod Examples
 pub mod Shares
 pub mod CaseFiles
-pub mod Texts

@@ -9,7 +9,7 @@ use lib.ListN.{length, getD, take, drop, set, length-append, length-set}
 use lib.Seq.{sets, length-sets, drop-drop, getD-drop}
 use Rattle.casefile.specs.Files.{inOrder}
 use Rattle.casefile.specs.CaseFiles.{costRows, supplyRows}
-use Rattle.casefile.proofs.Stores.{sets-append, part-length}
+use Rattle.csvtext.proofs.Stores.{sets-append, part-length}
 
 -- the loop over the sources, after i of them
 pub record Sharing (cells : List ℕ) (m n : ℕ) (costs₀ supplies₀ costs supplies : List ℕ) (start at i : ℕ) : Type 0 where

@@ -21,7 +21,7 @@ use Rattle.casefile.specs.Files.{tableOf, judge, judged, inOrder, pickTa
 use Rattle.casefile.specs.Reader.{FieldRead, AfterRead, atField, Counted}
 use Rattle.casefile.specs.Tallies.{startTally, fieldTally, recordTally, Countable, handedOn, TableRead}
 use Rattle.casefile.proofs.Tallies.{Tallied, tally-start, tally-field, tally-record, inOrder-snoc, judged-whole}
-use Rattle.casefile.proofs.Stores.{sets-snoc}
+use Rattle.csvtext.proofs.Stores.{sets-snoc}
 
 -- the counts do not outgrow the offset
 pub record Few (t : Tally) (at : ℕ) : Type 0 where

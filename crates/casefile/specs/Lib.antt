@@ -4,5 +4,3 @@ pub mod Files
 pub mod Reader
 pub mod Tallies
 pub mod CaseFiles
-pub mod Text
-pub mod Writing

@@ -5,7 +5,7 @@ use borrow.Author.Needs.{needs}
 use denote.Ref.{now}
 use mathlib.Core.Path.{sym}
 use lib.ListN.{length, take, drop}
-use Rattle.casefile.proofs.Stores.{Storing, storing-start, storing-next, storing-end, part-at, part-length}
+use Rattle.csvtext.proofs.Stores.{Storing, storing-start, storing-next, storing-end, part-at, part-length}
 use borrow.Author.Needs.{needs}
 use Rattle.casefile.proofs.store.copy.Statement.{statement}
 use Rattle.casefile.proofs.store.copy.Tie as tie

@@ -1,14 +1,14 @@
--- `casefile::text::put_plan` meets its contract. Assumes nothing.
-use Rattle.casefile.specs.Text.{planText, planHeader}
-use Rattle.casefile.proofs.Texts.{then}
+-- `csvtext::put_plan` meets its contract. Assumes nothing.
+use Rattle.csvtext.specs.Text.{planText, planHeader}
+use Rattle.csvtext.proofs.Texts.{then}
 use borrow.Author.Needs.{needs}
-use Rattle.casefile.proofs.text.put_plan.Statement.{statement}
-use Rattle.casefile.proofs.text.put_plan.Tie as tie
-use Rattle.casefile.proofs.text.put_plan.Reads as reads
-use Rattle.casefile.proofs.text.put_plan.Lts as lts
-use Rattle.casefile.proofs.text.put_bytes.Reads as put-bytes-reads
-use Rattle.casefile.proofs.text.put_lanes.Reads as put-lanes-reads
-use Rattle.casefile.proofs.text.put_record.Reads as put-record-reads
+use Rattle.csvtext.proofs.put_plan.Statement.{statement}
+use Rattle.csvtext.proofs.put_plan.Tie as tie
+use Rattle.csvtext.proofs.put_plan.Reads as reads
+use Rattle.csvtext.proofs.put_plan.Lts as lts
+use Rattle.csvtext.proofs.put_bytes.Reads as put-bytes-reads
+use Rattle.csvtext.proofs.put_lanes.Reads as put-lanes-reads
+use Rattle.csvtext.proofs.put_record.Reads as put-record-reads
 
 put-bytes-requires : tie.Need-put-bytes-requires
 put-bytes-requires c κs = search needs

@@ -1,19 +1,19 @@
--- `casefile::text::put_row` meets its contract. Assumes nothing.
+-- `csvtext::put_row` meets its contract. Assumes nothing.
 use mathlib.Core.Path.{_≡_, refl}
 use Prim.Native.Nat.{ℕ, _+_, _*_, _-_, _≤_, _<_, _^_}
 use native.Mathlib.Omega.{arith}
 use borrow.Author.Needs.{needs}
 use denote.Ref.{now}
 use lib.ListN.{length, getD}
-use Rattle.casefile.specs.Text.{each, laneText, rowText}
-use Rattle.casefile.specs.Writing.{Written}
-use Rattle.casefile.proofs.Texts.{each-start, each-next, each-end, written-length}
+use Rattle.csvtext.specs.Text.{each, laneText, rowText}
+use Rattle.csvtext.specs.Writing.{Written}
+use Rattle.csvtext.proofs.Texts.{each-start, each-next, each-end, written-length}
 use borrow.Author.Needs.{needs}
-use Rattle.casefile.proofs.text.put_row.Statement.{statement}
-use Rattle.casefile.proofs.text.put_row.Tie as tie
-use Rattle.casefile.proofs.text.put_row.Reads as reads
-use Rattle.casefile.proofs.text.put_row.Lts as lts
-use Rattle.casefile.proofs.text.put_record.Reads as put-record-reads
+use Rattle.csvtext.proofs.put_row.Statement.{statement}
+use Rattle.csvtext.proofs.put_row.Tie as tie
+use Rattle.csvtext.proofs.put_row.Reads as reads
+use Rattle.csvtext.proofs.put_row.Lts as lts
+use Rattle.csvtext.proofs.put_record.Reads as put-record-reads
 
 abbrev Inv-loop : tie.InvT-loop
 Inv-loop out₀ at i start n costs plan next₀ j₀ out next j =

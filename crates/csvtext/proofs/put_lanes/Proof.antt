@@ -1,4 +1,4 @@
--- `casefile::text::put_lanes` meets its contract. Assumes nothing.
+-- `csvtext::put_lanes` meets its contract. Assumes nothing.
 use mathlib.Core.Path.{_≡_, refl, sym, subst}
 use Prim.Native.Nat.{ℕ, _+_, _*_, _-_, _≤_}
 use native.Mathlib.Omega.{arith}
@@ -6,15 +6,15 @@ use native.Mathlib.Nat.{zero-mul}
 use borrow.Author.Needs.{needs}
 use denote.Ref.{now}
 use lib.ListN.{length}
-use Rattle.casefile.specs.Text.{each, rowText, lanesText}
-use Rattle.casefile.specs.Writing.{Written}
-use Rattle.casefile.proofs.Texts.{each-start, each-next, each-end, widen, written-length, row-within, printable-row, next-start}
+use Rattle.csvtext.specs.Text.{each, rowText, lanesText}
+use Rattle.csvtext.specs.Writing.{Written}
+use Rattle.csvtext.proofs.Texts.{each-start, each-next, each-end, widen, written-length, row-within, printable-row, next-start}
 use borrow.Author.Needs.{needs}
-use Rattle.casefile.proofs.text.put_lanes.Statement.{statement}
-use Rattle.casefile.proofs.text.put_lanes.Tie as tie
-use Rattle.casefile.proofs.text.put_lanes.Reads as reads
-use Rattle.casefile.proofs.text.put_lanes.Lts as lts
-use Rattle.casefile.proofs.text.put_row.Reads as put-row-reads
+use Rattle.csvtext.proofs.put_lanes.Statement.{statement}
+use Rattle.csvtext.proofs.put_lanes.Tie as tie
+use Rattle.csvtext.proofs.put_lanes.Reads as reads
+use Rattle.csvtext.proofs.put_lanes.Lts as lts
+use Rattle.csvtext.proofs.put_row.Reads as put-row-reads
 
 abbrev Inv-loop : tie.InvT-loop
 Inv-loop out₀ at m n costs plan next₀ start₀ i₀ out next start i =

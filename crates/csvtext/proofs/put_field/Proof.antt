@@ -1,13 +1,13 @@
--- `casefile::text::put_field` meets its contract. Assumes nothing.
-use Rattle.casefile.specs.Text.{fieldText}
-use Rattle.casefile.proofs.Texts.{then}
+-- `csvtext::put_field` meets its contract. Assumes nothing.
+use Rattle.csvtext.specs.Text.{fieldText}
+use Rattle.csvtext.proofs.Texts.{then}
 use borrow.Author.Needs.{needs}
-use Rattle.casefile.proofs.text.put_field.Statement.{statement}
-use Rattle.casefile.proofs.text.put_field.Tie as tie
-use Rattle.casefile.proofs.text.put_field.Reads as reads
-use Rattle.casefile.proofs.text.put_field.Lts as lts
-use Rattle.casefile.proofs.text.put_byte.Reads as put-byte-reads
-use Rattle.casefile.proofs.text.put_number.Reads as put-number-reads
+use Rattle.csvtext.proofs.put_field.Statement.{statement}
+use Rattle.csvtext.proofs.put_field.Tie as tie
+use Rattle.csvtext.proofs.put_field.Reads as reads
+use Rattle.csvtext.proofs.put_field.Lts as lts
+use Rattle.csvtext.proofs.put_byte.Reads as put-byte-reads
+use Rattle.csvtext.proofs.put_number.Reads as put-number-reads
 
 put-number-requires : tie.Need-put-number-requires
 put-number-requires c κs = search needs

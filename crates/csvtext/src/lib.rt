@@ -2,8 +2,8 @@
 ghost use mathlib.Core.List.{[], _∷_};
 ghost use Prim.Native.Nat.{_+_, _*_, _≤_, _<_, _^_};
 ghost use lib.ListN.{length};
-ghost use Rattle.casefile.specs.Text.{decimal, fieldText, recordText, rowText, lanesText, planText, refusalText};
-ghost use Rattle.casefile.specs.Writing.{Written, Printable};
+ghost use Rattle.csvtext.specs.Text.{decimal, fieldText, recordText, rowText, lanesText, planText, refusalText};
+ghost use Rattle.csvtext.specs.Writing.{Written, Printable};
 
 // Writes a byte, and gives the next offset.
 fn put_byte(out: &mut [u8], at: usize, b: u8) -> usize

@@ -10,9 +10,9 @@ use native.Mathlib.Numerals.{add-one}
 use borrow.Author.Tests.{lt-ltb, le-ltb}
 use lib.ListN.{length, set, length-append}
 use lib.Seq.{sets, length-sets}
-use Rattle.casefile.specs.Text.{digitsOf, decimal, each}
-use Rattle.casefile.specs.Writing.{Written, Printable}
-use Rattle.casefile.proofs.Stores.{sets-append}
+use Rattle.csvtext.specs.Text.{digitsOf, decimal, each}
+use Rattle.csvtext.specs.Writing.{Written, Printable}
+use Rattle.csvtext.proofs.Stores.{sets-append}
 
 one-digit : (most n : ℕ) → n < 10 → digitsOf most n ≡ (48 + n) ∷ []
 unfolding digitsOf
