@@ -110,11 +110,12 @@ pub fn read_after(kind: Kind, records: usize, s: &[u8], at: usize) -> After
         return after_all(kind, at);
     }
     let b = s[at];
+    let next = at + 1;
     if b == 44 {
-        return after_comma(kind, records, s, at + 1);
+        return after_comma(kind, records, s, next);
     }
     if b == 13 {
-        return after_record(kind, s, at + 1);
+        return after_record(kind, s, next);
     }
     After::Refused { place: at }
 }

@@ -20,17 +20,14 @@ returns c = let a = c .before .before .before .args in rw (c .after-all .ensures
 shared-slice-read-b : tie.Need-shared-slice-read-b
 shared-slice-read-b c = search needs
 
-add-after-comma : tie.Need-add-after-comma
-add-after-comma c = search needs
+add-next : tie.Need-add-next
+add-next c = search needs
 
 after-comma-requires : tie.Need-after-comma-requires
 after-comma-requires c κs = search needs
 
 returns-2 : tie.Need-returns-2
 returns-2 c = let a = c .before .before .before .before .before .args in after-comma (now (a .s)) (a .at) (a .records) (a .kind) _ (c .before .before .before .if1 .left) (c .before .if2 .taken) (c .after-comma .ensures)
-
-add-after-record : tie.Need-add-after-record
-add-after-record c = search needs
 
 after-record-requires : tie.Need-after-record-requires
 after-record-requires c κs = search needs
@@ -48,10 +45,9 @@ read-after-spec =
     after-all-requires
     returns
     shared-slice-read-b
-    add-after-comma
+    add-next
     after-comma-requires
     returns-2
-    add-after-record
     after-record-requires
     returns-3
     returns-4)
