@@ -1,0 +1,12 @@
+pub mod Marks
+pub mod Runs
+pub mod Digits
+pub mod Fields
+pub mod Afters
+pub mod Tallies
+pub mod Tables
+pub mod Viable
+pub mod Places
+pub mod Examples
+pub mod Shares
+pub mod CaseFiles

@@ -1,0 +1,6 @@
+pub mod Form
+pub mod Records
+pub mod Files
+pub mod Reader
+pub mod Tallies
+pub mod CaseFiles

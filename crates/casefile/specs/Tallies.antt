@@ -1,0 +1,54 @@
+-- What is counted on the way through a file: contracts of private functions. Assumes nothing.
+use mathlib.Core.Path.{_≡_}
+use mathlib.Core.Bool.{Bool, true, false}
+use mathlib.Core.List.{List, []}
+use Prim.Native.Nat.{ℕ, _+_, _≤_, _<_, _^_}
+use lib.Dec.{eqb}
+use lib.ListN.{length}
+use lib.Seq.{sets}
+use Rattle.casefile.specs.declared.Kind.{Kind}
+use Rattle.casefile.specs.declared.Kind.the-variants.{Tariff, Production}
+use Rattle.casefile.specs.declared.field.Field.{Field}
+use Rattle.casefile.specs.declared.field.Field.the-variants as answers
+use Rattle.casefile.specs.declared.table.Table.{Table}
+use Rattle.casefile.specs.declared.table.Table.the-variants.{Whole, Refused}
+use Rattle.casefile.specs.declared.table.Tally.{Tally}
+use Rattle.casefile.specs.Records.{Form, whole, formOf}
+use Rattle.casefile.specs.Files.{pick, wanted, oddFrom, tableOf, inOrder}
+
+abbrev pub startTally : Kind → Tally
+startTally kind = record { records = 0; fields = 0; width = wanted kind []; odd = 0; values = 0 }
+
+abbrev pub fieldTally : Tally → Tally
+fieldTally t = record { records = t .records; fields = t .fields + 1; width = t .width; odd = t .odd; values = t .values + 1 }
+
+abbrev pub widthOr : ℕ → ℕ → ℕ
+widthOr width fields = pick (eqb width 0) fields width
+
+abbrev pub oddOr : ℕ → ℕ → ℕ → ℕ → ℕ
+oddOr odd width fields record′ = pick (eqb odd 0) (pick (eqb fields width) 0 record′) odd
+
+abbrev pub recordTally : Tally → Tally
+recordTally t = record {
+  records = t .records + 1;
+  fields = 0;
+  width = widthOr (t .width) (t .fields);
+  odd = oddOr (t .odd) (widthOr (t .width) (t .fields)) (t .fields) (t .records + 1);
+  values = t .values;
+}
+
+-- counts that one can be added to
+pub record Countable (t : Tally) : Type 0 where
+  pub records : t .records + 1 < 2 ^ 64
+  pub fields : t .fields + 1 < 2 ^ 64
+  pub values : t .values + 1 < 2 ^ 64
+
+abbrev pub handedOn : Field → Table
+handedOn (answers.Value value next) = Refused 21 next
+handedOn (answers.Refused place) = Refused 21 place
+
+-- a file is read: the answer, and the fields in file order in the cells, where the file has the form
+pub record TableRead (kind : Kind) (s cells cells′ : List ℕ) (answer : Table) : Type 0 where
+  pub answered : answer ≡ tableOf kind s
+  pub some : (records fields : ℕ) → answer ≡ Whole records fields → (0 < records) × (0 < fields)
+  pub stored : (rs : List (List ℕ)) → length s ≤ 65536 → formOf kind s ≡ whole rs → cells′ ≡ sets cells 0 (inOrder rs)

@@ -1,0 +1,12 @@
+// Reads a planning case from its two CSV files.
+mod after;
+pub mod case;
+mod field;
+mod store;
+mod table;
+
+// The two files: tariff.csv and production.csv.
+pub enum Kind {
+    Tariff,
+    Production,
+}

@@ -1,0 +1,163 @@
+// A file: its records, counted, and their fields in file order.
+use crate::Kind;
+use crate::after::After;
+use crate::after::read_after;
+use crate::field::Field;
+use crate::field::read_field;
+use crate::store::put;
+ghost use mathlib.Core.Path.{_≡_};
+ghost use Rattle.casefile.specs.Files.{judged};
+ghost use Rattle.casefile.specs.Tallies.{startTally, fieldTally, recordTally, widthOr, oddOr, Countable, handedOn, TableRead};
+
+// The whole file's count of records and of each record's fields, or a refusal.
+pub enum Table {
+    Whole { records: usize, fields: usize },
+    Refused { number: u64, place: usize },
+}
+
+// What is counted on the way: the records before this one, the fields of this one, the fields that each is to have (0 where that is not known
+// yet), the first record with another count (0 where there is none), and all fields.
+pub struct Tally {
+    pub records: usize,
+    pub fields: usize,
+    pub width: usize,
+    pub odd: usize,
+    pub values: usize,
+}
+
+impl Tally {
+    pub fn start(kind: Kind) -> Self
+        ensures { λ r. ⌜ r ≡ startTally kind ⌝ }
+    {
+        let width = match kind {
+            Kind::Tariff => 0,
+            Kind::Production => 1,
+        };
+        Self {
+            records: 0,
+            fields: 0,
+            width,
+            odd: 0,
+            values: 0,
+        }
+    }
+
+    // One more field.
+    pub fn with_field(self) -> Self
+        requires { ⌜ Countable self ⌝ }
+        ensures { λ r. ⌜ r ≡ fieldTally self ⌝ }
+    {
+        Self {
+            records: self.records,
+            fields: self.fields + 1,
+            width: self.width,
+            odd: self.odd,
+            values: self.values + 1,
+        }
+    }
+
+    // The record ends.
+    pub fn with_record(self) -> Self
+        requires { ⌜ Countable self ⌝ }
+        ensures { λ r. ⌜ r ≡ recordTally self ⌝ }
+    {
+        let records = self.records + 1;
+        let width = expected(self.width, self.fields);
+        let odd = first_odd(self.odd, width, self.fields, records);
+        Self {
+            records,
+            fields: 0,
+            width,
+            odd,
+            values: self.values,
+        }
+    }
+
+    pub fn table(self) -> Table
+        ensures { λ r. ⌜ r ≡ judged (self .odd) (self .records) (self .width) ⌝ }
+    {
+        let odd = self.odd;
+        if odd == 0 {
+            Table::Whole {
+                records: self.records,
+                fields: self.width,
+            }
+        } else {
+            Table::Refused {
+                number: 22,
+                place: odd,
+            }
+        }
+    }
+}
+
+fn expected(width: usize, fields: usize) -> usize
+    ensures { λ r. ⌜ r ≡ widthOr width fields ⌝ }
+{
+    if width == 0 { fields } else { width }
+}
+
+fn first_odd(odd: usize, width: usize, fields: usize, record: usize) -> usize
+    ensures { λ r. ⌜ r ≡ oddOr odd width fields «record» ⌝ }
+{
+    if odd != 0 {
+        return odd;
+    }
+    if fields == width { 0 } else { record }
+}
+
+fn handed_on(f: Field) -> Table
+    ensures { λ r. ⌜ r ≡ handedOn f ⌝ }
+{
+    match f {
+        Field::Value { value: _, next } => Table::Refused {
+            number: 21,
+            place: next,
+        },
+        Field::Refused { place } => Table::Refused { number: 21, place },
+    }
+}
+
+// Reads a file, and stores its fields in file order as far as there are cells.
+pub fn read_table(kind: Kind, s: &[u8], cells: &mut [u64]) -> Table
+    ensures { λ r. ⌜ TableRead kind (now (s .entry)) (now (cells .entry)) (now (cells .exit)) r ⌝ }
+{
+    if 65_536 < s.len() {
+        return Table::Refused {
+            number: 20,
+            place: 0,
+        };
+    }
+    let mut t = Tally::start(kind);
+    let mut at: usize = 0;
+    loop {
+        let f = read_field(s, at);
+        let Field::Value { value, next } = f else {
+            return handed_on(f);
+        };
+        let k = t.values;
+        put(cells, k, value);
+        t = t.with_field();
+        let records = t.records;
+        let a = read_after(kind, records, s, next);
+        match a {
+            After::Field { next: start } => {
+                at = start;
+            }
+            After::Record { next: start } => {
+                t = t.with_record();
+                at = start;
+            }
+            After::End => {
+                return t.with_record().table();
+            }
+            After::Empty => {
+                put(cells, k + 1, 0);
+                return t.with_field().with_record().table();
+            }
+            After::Refused { place } => {
+                return Table::Refused { number: 21, place };
+            }
+        }
+    }
+}

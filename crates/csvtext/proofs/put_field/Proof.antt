@@ -1,0 +1,26 @@
+-- `csvtext::put_field` meets its contract. Assumes nothing.
+use Rattle.csvtext.specs.Text.{fieldText}
+use Rattle.csvtext.proofs.Texts.{then}
+use borrow.Author.Needs.{needs}
+use Rattle.csvtext.proofs.put_field.Statement.{statement}
+use Rattle.csvtext.proofs.put_field.Tie as tie
+use Rattle.csvtext.proofs.put_field.Reads as reads
+use Rattle.csvtext.proofs.put_field.Lts as lts
+use Rattle.csvtext.proofs.put_byte.Reads as put-byte-reads
+use Rattle.csvtext.proofs.put_number.Reads as put-number-reads
+
+put-number-requires : tie.Need-put-number-requires
+put-number-requires c κs = search needs
+
+put-byte-requires : tie.Need-put-byte-requires
+put-byte-requires c κs = search needs
+
+same-length : tie.Need-same-length
+same-length c = search needs
+
+returns : tie.Need-returns
+unfolding fieldText
+returns c = then (c .before .before .before .before .before .before .put-number .ensures) (c .before .before .put-byte .ensures)
+
+pub put-field-spec : {M : Type 1} → statement M
+put-field-spec = tie.close (tie.spec put-number-requires put-byte-requires same-length returns)

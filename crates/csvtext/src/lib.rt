@@ -1,0 +1,139 @@
+// Prints as CSV into a lent slice, as far as there is room.
+ghost use mathlib.Core.List.{[], _∷_};
+ghost use Prim.Native.Nat.{_+_, _*_, _≤_, _<_, _^_};
+ghost use lib.ListN.{length};
+ghost use Rattle.csvtext.specs.Text.{decimal, fieldText, recordText, rowText, lanesText, planText, refusalText};
+ghost use Rattle.csvtext.specs.Writing.{Written, Printable};
+
+// Writes a byte, and gives the next offset.
+fn put_byte(out: &mut [u8], at: usize, b: u8) -> usize
+    requires { ⌜ at < 2 ^ 63 ⌝ }
+    ensures { λ r. ⌜ Written (now (out .entry)) (now (out .exit)) at r (b ∷ []) 1 ⌝ }
+{
+    if at < out.len() {
+        out[at] = b;
+        return at + 1;
+    }
+    at + 1
+}
+
+// Writes a number in decimal.
+fn put_number(out: &mut [u8], at: usize, n: u64) -> usize
+    requires { ⌜ at < 2 ^ 62 ⌝ }
+    ensures { λ r. ⌜ Written (now (out .entry)) (now (out .exit)) at r (decimal n) 20 ⌝ }
+{
+    if n < 10 {
+        return put_byte(out, at, 48 + (n % 10) as u8);
+    }
+    let next = put_number(out, at, n / 10);
+    put_byte(out, next, 48 + (n % 10) as u8)
+}
+
+// Writes a number and the byte after it.
+fn put_field(out: &mut [u8], at: usize, n: u64, b: u8) -> usize
+    requires { ⌜ at < 2 ^ 62 ⌝ }
+    ensures { λ r. ⌜ Written (now (out .entry)) (now (out .exit)) at r (fieldText n b) 21 ⌝ }
+{
+    let next = put_number(out, at, n);
+    put_byte(out, next, b)
+}
+
+// Writes a record of two numbers.
+fn put_pair(out: &mut [u8], at: usize, a: u64, b: u64) -> usize
+    requires { ⌜ at < 2 ^ 61 ⌝ }
+    ensures { λ r. ⌜ Written (now (out .entry)) (now (out .exit)) at r (recordText (a ∷ b ∷ [])) 43 ⌝ }
+{
+    let second = put_field(out, at, a, 44);
+    let end = put_field(out, second, b, 13);
+    put_byte(out, end, 10)
+}
+
+// Writes a record of four numbers.
+fn put_record(out: &mut [u8], at: usize, a: u64, b: u64, c: u64, d: u64) -> usize
+    requires { ⌜ at < 2 ^ 60 ⌝ }
+    ensures { λ r. ⌜ Written (now (out .entry)) (now (out .exit)) at r (recordText (a ∷ b ∷ c ∷ d ∷ [])) 85 ⌝ }
+{
+    let second = put_field(out, at, a, 44);
+    let third = put_field(out, second, b, 44);
+    put_pair(out, third, c, d)
+}
+
+// Writes bytes as they are.
+fn put_bytes(out: &mut [u8], at: usize, text: &[u8]) -> usize
+    requires { ⌜ at < 2 ^ 60 ⌝ }
+    requires { ⌜ length (now text) ≤ 100 ⌝ }
+    ensures { λ r. ⌜ Written (now (out .entry)) (now (out .exit)) at r (now (text .entry)) 100 ⌝ }
+{
+    for j in 0..text.len() {
+        put_byte(out, at + j, text[j]);
+    }
+    at + text.len()
+}
+
+// Writes the lanes of source i, whose first has the place start in row order.
+fn put_row(
+    out: &mut [u8],
+    at: usize,
+    i: usize,
+    start: usize,
+    n: usize,
+    costs: &[u64],
+    plan: &[u64],
+) -> usize
+    requires { ⌜ (at < 2 ^ 50) × (i < 32) × (n ≤ 64) ⌝ }
+    requires { ⌜ Printable (now costs) (now plan) start (start + n) ⌝ }
+    ensures { λ r. ⌜ Written (now (out .entry)) (now (out .exit)) at r (rowText (now (costs .entry)) (now (plan .entry)) n i start) (85 * n) ⌝ }
+{
+    let mut next = at;
+    for j in 0..n {
+        let k = start + j;
+        let amount = plan[k];
+        let cost = amount * costs[k];
+        next = put_record(out, next, i as u64 + 1, j as u64 + 1, amount, cost);
+    }
+    next
+}
+
+// Writes all lanes in row order.
+fn put_lanes(out: &mut [u8], at: usize, m: usize, n: usize, costs: &[u64], plan: &[u64]) -> usize
+    requires { ⌜ (at < 2 ^ 40) × (m ≤ 32) × (n ≤ 64) ⌝ }
+    requires { ⌜ Printable (now costs) (now plan) 0 (m * n) ⌝ }
+    ensures { λ r. ⌜ Written (now (out .entry)) (now (out .exit)) at r (lanesText (now (costs .entry)) (now (plan .entry)) m n) (5440 * m) ⌝ }
+{
+    let mut next = at;
+    let mut start: usize = 0;
+    for i in 0..m {
+        next = put_row(out, next, i, start, n, costs, plan);
+        start = start + n;
+    }
+    next
+}
+
+// Writes a plan: the header, the production record and all lanes. Gives the length of the text.
+pub fn put_plan(
+    out: &mut [u8],
+    m: usize,
+    n: usize,
+    costs: &[u64],
+    plan: &[u64],
+    split: u64,
+    entry: u64,
+) -> usize
+    requires { ⌜ (m ≤ 32) × (n ≤ 64) ⌝ }
+    requires { ⌜ Printable (now costs) (now plan) 0 (m * n) ⌝ }
+    ensures { λ r. ⌜ Written (now (out .entry)) (now (out .exit)) 0 r (planText m n (now (costs .entry)) (now (plan .entry)) split «entry») (185 + 5440 * m) ⌝ }
+{
+    let header = b"source,terminal,amount,cost\r\n";
+    let first = put_bytes(out, 0, header);
+    let lanes = put_record(out, first, 0, 0, split, entry);
+    put_lanes(out, lanes, m, n, costs, plan)
+}
+
+// Writes a refusal. Gives the length of the text.
+pub fn put_refusal(out: &mut [u8], number: u64, place: u64) -> usize
+    ensures { λ r. ⌜ Written (now (out .entry)) (now (out .exit)) 0 r (refusalText number place) 143 ⌝ }
+{
+    let header = b"refusal,place\r\n";
+    let first = put_bytes(out, 0, header);
+    put_pair(out, first, number, place)
+}
