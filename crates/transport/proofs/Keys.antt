@@ -1,57 +1,121 @@
 -- How the keys of a path search follow its labels. Assumes nothing.
-use mathlib.Core.Path.{_≡_, refl, ap, _∙_}
-use mathlib.Core.Logic.{_≢_}
+use mathlib.Core.Path.{_≡_, refl, sym, ap, _∙_}
+use mathlib.Core.Logic.{_≢_, _⊎_, inl, inr}
+use mathlib.Core.Bool.{Bool, true, false, false≢true}
 use mathlib.Core.List.{List}
-use Prim.Native.Nat.{ℕ, _+_, _-_, _≤_, _<_}
-use native.Mathlib.Decide.{ℕ-discrete}
+use Prim.Native.Nat.{ℕ, zero, suc, _+_, _-_, _*_, _≤_, _<_}
+use native.Mathlib.Decide.{ℕ-discrete, decLt}
 use native.Mathlib.Omega.{arith}
 use lib.ListN.{length, set, length-set, replicate, length-replicate, getD-replicate}
 use lib.Seq.{getD-set-same, getD-set-other}
-use Rattle.transport.specs.engine.Path.{Net, Book, book, get, far, Offered, Touched, Passed, Rekey, Rekeyed, Key, Nearest, ClosestNode}
+use Rattle.transport.specs.Sum.{sum}
+use Rattle.transport.specs.Plan.{Table, col}
+use Rattle.transport.specs.engine.Path.{
+  Net,
+  Book,
+  book,
+  get,
+  far,
+  shut,
+  Arc,
+  Keyed,
+  Tagged,
+  Lone,
+  Offered,
+  Touched,
+  Passed,
+  Rekey,
+  Rekeyed,
+  Next,
+  Named,
+  Key,
+  Nearest,
+  Chosen,
+}
+use Rattle.transport.specs.engine.Path.Arc.{ahead, back}
+use Rattle.transport.specs.engine.Path.Named.{other, this}
 use Rattle.transport.specs.engine.Path.Offered.{kept, won}
 use Rattle.transport.specs.engine.Path.Touched.{stays, gains}
-use Rattle.transport.specs.engine.Path.Rekey.{same, new}
-use Rattle.transport.specs.engine.Search.{Sound, Exploring, Searched, SearchReady, Blank}
-use Rattle.transport.proofs.Sums.{sum-ext, sum-none}
-use Rattle.transport.proofs.Near.{near-key}
+use Rattle.transport.specs.engine.Path.Rekey.{same, new, lone}
+use Rattle.transport.specs.engine.Search.{Sound, Wanted, Searching, Exploring, Searched, SearchReady, Blank}
+use Rattle.transport.proofs.Sums.{sum-pair}
+use Rattle.transport.proofs.Near.{near-chosen}
 use Rattle.transport.proofs.Settle.{marks-free, arc-near, stay, count, label-near, search-start, search-step, search-stuck}
 
 -- ---- a pass
 
-pub rekey-start : {p T K : List ℕ} → length K ≡ 96 → Rekeyed p T T K K
+pub rekey-start : {N : Net} {want p T K : List ℕ} {v : ℕ} → length K ≡ 96 → Rekeyed N want v p T T K K
 rekey-start e = record { long = e; each = λ w h. same refl refl }
 
--- a node is offered a label
-pub rekey-open : {w t v hop l : ℕ} {p T K₀ K K' : List ℕ} {B B' : Book} → Rekeyed p T (B .dist) K₀ K → length (B .dist) ≡ 96 → w < 96 → get p w ≤ t
-    → Offered w t v hop l p B B' K K' → Rekeyed p T (B' .dist) K₀ K'
-rekey-open q e b h (kept l eb ek) = rw (eb, ek) q
-rekey-open {w} {t} {p = p} {T} {K₀} {K} {B = B} q e b h (won l eb ek) = rw (eb, ek) (record { long = length-set K w (t - get p w) ∙ q .long; each = each })
+-- a node is offered a label and a key
+pub rekey-open : {N : Net} {want : List ℕ} {w t v hop l f : ℕ} {take : Bool} {p T K₀ K K' : List ℕ} {B B' : Book}
+    → Rekeyed N want v p T (B .dist) K₀ K → length (B .dist) ≡ 96 → w < 96 → (take ≡ true → t < get (B .dist) w)
+    → (take ≡ true → Keyed t (get p w) f ⊎ ((f ≡ shut) × Lone N want v w))
+    → Offered take w t v hop l f B B' K K' → Rekeyed N want v p T (B' .dist) K₀ K'
+rekey-open q e b less made (kept h eb ek) = rw (eb, ek) q
+rekey-open {N} {want} {w} {t} {v} {f = f} {p = p} {T} {K₀} {K} {B = B} q e b less made (won h eb ek) =
+    rw (eb, ek) (record { long = length-set K w f ∙ q .long; each = each })
   where
-    below : Rekey (get p w) (get T w) (get (B .dist) w) (get K₀ w) (get K w) → t < get T w
-    below (same a c) = omega arith
-    below (new a c) = omega arith
+    below : Rekey N want v w (get p w) (get T w) (get (B .dist) w) (get K₀ w) (get K w) → t < get T w
+    below (same a c) = omega (arith, less h)
+    below (new a c) = omega (arith, less h)
+    below (lone a c d) = omega (arith, less h)
 
-    here : Rekey (get p w) (get T w) (get (set (B .dist) w t) w) (get K₀ w) (get (set K w (t - get p w)) w)
-    here =
-        rw (getD-set-same (B .dist) w t 0 (omega arith), getD-set-same K w (t - get p w) 0 (omega (arith, q .long)))
-        (new (below (q .each w b)) (omega arith))
+    fresh : Keyed t (get p w) f ⊎ ((f ≡ shut) × Lone N want v w) → Rekey N want v w (get p w) (get T w) t (get K₀ w) f
+    fresh (inl k) = new (below (q .each w b)) k
+    fresh (inr k) = lone (below (q .each w b)) (k .0) (k .1)
 
-    off : (u : ℕ) → u ≢ w → Rekey (get p u) (get T u) (get (B .dist) u) (get K₀ u) (get K u)
-        → Rekey (get p u) (get T u) (get (set (B .dist) w t) u) (get K₀ u) (get (set K w (t - get p w)) u)
-    off u z r = rw (getD-set-other (B .dist) w u t 0 z, getD-set-other K w u (t - get p w) 0 z) r
+    here : Rekey N want v w (get p w) (get T w) (get (set (B .dist) w t) w) (get K₀ w) (get (set K w f) w)
+    here = rw (getD-set-same (B .dist) w t 0 (omega arith), getD-set-same K w f 0 (omega (arith, q .long))) (fresh (made h))
 
-    each : (u : ℕ) → u < 96 → Rekey (get p u) (get T u) (get (set (B .dist) w t) u) (get K₀ u) (get (set K w (t - get p w)) u)
+    off : (u : ℕ) → u ≢ w → Rekey N want v u (get p u) (get T u) (get (B .dist) u) (get K₀ u) (get K u)
+        → Rekey N want v u (get p u) (get T u) (get (set (B .dist) w t) u) (get K₀ u) (get (set K w f) u)
+    off u z r = rw (getD-set-other (B .dist) w u t 0 z, getD-set-other K w u f 0 z) r
+
+    each : (u : ℕ) → u < 96 → Rekey N want v u (get p u) (get T u) (get (set (B .dist) w t) u) (get K₀ u) (get (set K w f) u)
     each u hu = elim (ℕ-discrete u w) [ yes z ↦ rw z here | no z ↦ off u z (q .each u hu) ]
+
+-- ---- the node that a pass names
+
+pub next-start : {K : List ℕ} {level k : ℕ} → Next K level k 96
+next-start = record { bound = omega arith; past = λ h. absurd (omega arith); near = λ h. absurd (omega arith) }
+
+pub next-most : {K : List ℕ} {level k k' r : ℕ} → Next K level k r → k ≤ k' → Next K level k' r
+next-most q h = record { bound = q .bound; past = λ o. omega (arith, q .past o); near = q .near }
+
+pub next-kept : {K : List ℕ} {level k r : ℕ} → Next K level k r → Next K level (k + 1) r
+next-kept q = next-most q (omega arith)
+
+pub next-open : {w t v hop l f level next r : ℕ} {take : Bool} {K K' : List ℕ} {B B' : Book} → Next K level w next → length K ≡ 96 → w < 96 → f < shut
+    → Offered take w t v hop l f B B' K K' → Named take f level w next r → Next K' level (w + 1) r
+next-open q e h s (kept a eb ek) (other z) = rw (ek, z) (next-kept q)
+next-open q e h s (kept a eb ek) (this z o d) = absurd (false≢true (sym a ∙ o))
+next-open {w} {f = f} {next = next} {K = K} q e h s (won a eb ek) (other z) = rw (ek, z) (record {
+  bound = q .bound;
+  past = λ o. omega (arith, q .past o);
+  near = λ o. rw (getD-set-other K w next f 0 (λ y. absurd (omega (arith, q .past o)))) (q .near o);
+})
+next-open {w} {f = f} {K = K} q e h s (won a eb ek) (this z o d) = rw (ek, z) (record {
+  bound = omega arith;
+  past = λ o. omega arith;
+  near = λ o. rw (getD-set-same K w f 0 (omega arith)) (d, s);
+})
 
 -- ---- the start
 
 pub explore-start : {N : Net} {p room : List ℕ} {s limit : ℕ} {B : Book} (K : List ℕ) → SearchReady N p s limit → Blank B → length K ≡ 96
-    → ((v : ℕ) → v < 96 → get K v ≡ far)
-    → Exploring N p room s limit (book (set (B .dist) s (get p s)) (B .prev) (set (B .hops) s 0) (set (B .width) s limit)) (set K s 0) 0
+    → ((v : ℕ) → v < 96 → get K v ≡ shut)
+    → Exploring N p room s limit (book (set (B .dist) s (get p s)) (B .prev) (set (B .hops) s 0) (set (B .width) s limit)) (set K s 0) s 0
 explore-start {N} {p} {room} {s} {limit} {B} K r k e z = record {
   marks = replicate 96 0;
   searching = search-start r k (length-replicate {A = ℕ} 96 0) zeros;
-  count = sum-ext 96 (λ w. get (replicate 96 0) w) (λ w. 0) zeros ∙ sum-none 96;
+  count = omega arith;
+  most = λ v h. elim (ℕ-discrete v s) [ yes d ↦ rw d (omega (arith, own, r .sound .high s hs)) | no d ↦ omega (arith, apart v d, k .dists v h) ];
+  hint = λ h. record {
+    bound = omega arith;
+    fresh = λ l. (zeros s hs, omega (arith, own, r .sound .high s hs));
+    least = λ v l d t. elim (ℕ-discrete v s) [ yes d ↦ rw d (hs, omega arith) | no d ↦ absurd (omega (arith, apart v d, k .dists v l)) ];
+  };
   long-key = length-set K s 0 ∙ e;
   keys = λ v h. elim (ℕ-discrete v s) [ yes d ↦ rw d here | no d ↦ off v h d ];
 }
@@ -62,23 +126,35 @@ explore-start {N} {p} {room} {s} {limit} {B} K r k e z = record {
     hs : s < 96
     hs = omega (arith, r .start, r .sound .sources)
 
+    own : get (set (B .dist) s (get p s)) s ≡ get p s
+    own = getD-set-same (B .dist) s (get p s) 0 (omega (arith, k .long .dists, hs))
+
+    apart : (v : ℕ) → v ≢ s → get (set (B .dist) s (get p s)) v ≡ get (B .dist) v
+    apart v d = getD-set-other (B .dist) s v (get p s) 0 d
+
     here : Key (get (replicate 96 0) s) (get (set (B .dist) s (get p s)) s) (get p s) (get (set K s 0) s)
     here =
-        rw (zeros s hs, getD-set-same (B .dist) s (get p s) 0 (omega (arith, k .long .dists, hs)), getD-set-same K s 0 0 (omega (arith, hs)))
-        (record { fresh = λ a b. omega arith; shut = λ a. (refl, omega (arith, r .sound .high s hs), omega arith) })
+        rw (zeros s hs, own, getD-set-same K s 0 0 (omega (arith, hs)))
+        (record { fresh = λ a b. (omega arith, omega arith); some = λ a. (refl, omega (arith, r .sound .high s hs)) })
 
     off : (v : ℕ) → v < 96 → v ≢ s → Key (get (replicate 96 0) v) (get (set (B .dist) s (get p s)) v) (get p v) (get (set K s 0) v)
     off v h d =
-        rw (getD-set-other (B .dist) s v (get p s) 0 d, getD-set-other K s v 0 0 d)
-        (record { fresh = λ a b. absurd (omega (arith, k .dists v h)); shut = λ a. absurd (omega (arith, z v h)) })
+        rw (apart v d, getD-set-other K s v 0 0 d)
+        (record { fresh = λ a b. absurd (omega (arith, k .dists v h)); some = λ a. absurd (omega (arith, z v h)) })
 
 -- ---- one turn
 
-module _ {N : Net} {p room : List ℕ} {s limit : ℕ} {B : Book} {K : List ℕ} {turns : ℕ} (so : Sound N p) (q : Exploring N p room s limit B K turns) where
-  pub explore-near : {v : ℕ} → ClosestNode (N .m) (N .n) K v → Nearest p (B .dist) (q .marks) v
+col-pair : {m : ℕ} (x : Table) (i l j : ℕ) → i < m → l < m → i ≢ l → x i j + x l j ≤ col m x j
+unfolding col
+col-pair {m} x i l j h o d = sum-pair m i l (λ i. x i j) h o d
+
+module _ {N : Net} {p room : List ℕ} {s limit : ℕ} {B : Book} {K : List ℕ} {next turns : ℕ} (so : Sound N p)
+    (q : Exploring N p room s limit B K next turns) where
+  pub explore-near : {v : ℕ} → Chosen (N .m) (N .n) K next v → Nearest p (B .dist) (q .marks) v
   explore-near c =
-      near-key
-      (record { source = λ v h l. q .searching .label v h l .source; terminal = λ v h l. q .searching .label v h l .terminal }) (q .keys) c
+      near-chosen
+      (record { source = λ v h l. q .searching .label v h l .source; terminal = λ v h l. q .searching .label v h l .terminal }) (q .keys)
+      (q .hint) c
 
   -- all nodes are settled
   pub explore-end : 96 ≤ turns → Searched N p room s limit B 96
@@ -90,18 +166,31 @@ module _ {N : Net} {p room : List ℕ} {s limit : ℕ} {B : Book} {K : List ℕ}
         least = λ v l e t. absurd (omega (arith, marks-free 96 v (λ w. get (q .marks) w) (q .searching .zero-one) l e, q .count));
       }) refl
 
-  module _ {B' : Book} {K' : List ℕ} {v : ℕ} (hv : v < 96) (near : Nearest p (B .dist) (q .marks) v) (none : get room v ≡ 0)
-      (pass : Passed N v (get (B .dist) v) (get (B .hops) v + 1) (get (B .width) v) B B') (k : Rekeyed p (B .dist) (B' .dist) (set K v far) K') where
+  module _ {demand full want : List ℕ} {B' : Book} {K' : List ℕ} {v next' : ℕ} (ceilings : (i j : ℕ) → i < N .m → j < N .n → N .u i j ≤ 4000000000) (wanted : Wanted N demand)
+      (tagged : Tagged room demand full want) (hv : v < 96) (near : Nearest p (B .dist) (q .marks) v) (none : get room v ≡ 0)
+      (pass : Passed N v (get (B .dist) v) (get (B .hops) v + 1) (get (B .width) v) B B') (k : Rekeyed N want v p (B .dist) (B' .dist) (set K v shut) K')
+      (named : Next K' (get K v) (N .m) next') where
     D : List ℕ
-    D = q .marks
+    D = set (q .marks) v 1
 
-    settled : (w : ℕ) → w < 96 → w ≢ v → get D w ≡ 1 → get (B' .dist) w ≡ get (B .dist) w
+    first : Searching N p room s limit B' D
     unfolding D
-    settled w hw z e = stay so (q .searching) hv near none pass w hw (getD-set-other (q .marks) v w 1 0 z ∙ e) .dists
+    first = search-step so (q .searching) hv near none pass
 
-    here : get (set D v 1) v ≡ 1
+    here : get D v ≡ 1
     unfolding D
     here = getD-set-same (q .marks) v 1 0 (omega (arith, q .searching .marks))
+
+    own-dist : get (B' .dist) v ≡ get (B .dist) v
+    unfolding D
+    own-dist = stay so (q .searching) hv near none pass v hv here .dists
+
+    settled : (w : ℕ) → w < 96 → get D w ≡ 1 → get (B' .dist) w ≡ get (B .dist) w
+    unfolding D
+    settled w hw e = stay so (q .searching) hv near none pass w hw e .dists
+
+    one : (w : ℕ) → w < 96 → get D w ≢ 0 → get D w ≡ 1
+    one w hw e = omega (arith, first .zero-one w hw)
 
     -- a new label is below far
     near-label : (w : ℕ) → Touched N v (get (B .dist) v) (get (B .hops) v + 1) (get (B .width) v) B B' w → get (B' .dist) w < get (B .dist) w
@@ -109,39 +198,164 @@ module _ {N : Net} {p room : List ℕ} {s limit : ℕ} {B : Book} {K : List ℕ}
     near-label w (stays e₁ e₂ e₃ e₄) h = absurd (omega arith)
     near-label w (gains t k a l e₁ e₂ e₃ e₄) h = omega (arith, arc-near so a, label-near so (q .searching) hv (near .fresh hv .1))
 
-    own : Rekey (get p v) (get (B .dist) v) (get (B' .dist) v) (get (set K v far) v) (get K' v)
-        → Key (get (set D v 1) v) (get (B' .dist) v) (get p v) (get K' v)
-    unfolding D
-    own (same a c) = record {
-      fresh = λ e t. absurd (omega (arith, here));
-      shut = λ l. absurd (omega (arith, getD-set-same K v far 0 (omega (arith, q .long-key))));
+    most : (w : ℕ) → w < 96 → Touched N v (get (B .dist) v) (get (B .hops) v + 1) (get (B .width) v) B B' w → get (B' .dist) w ≤ far
+    most w hw (stays e₁ e₂ e₃ e₄) = omega (arith, q .most w hw)
+    most w hw (gains t k a l e₁ e₂ e₃ e₄) = omega (arith, q .most w hw)
+
+    -- ---- a lone terminal is settled with its source
+
+    module _ (w : ℕ) (hw : w < 96) (less : get (B' .dist) w < get (B .dist) w) (o : Lone N want v w) where
+      full? : (get room w ≡ 0) × (0 < N .x v (o .j)) × (N .x v (o .j) ≡ get demand w)
+      full? = tagged .whole w hw (N .x v (o .j)) (omega (arith, o .free, ceilings v (o .j) (o .source) (o .terminal))) (o .all)
+
+      label : Touched N v (get (B .dist) v) (get (B .hops) v + 1) (get (B .width) v) B B' w → get (B' .dist) w ≡ get (B .dist) v + N .c v (o .j)
+      label (stays e₁ e₂ e₃ e₄) = absurd (omega arith)
+      label (gains t k (ahead j a e f g h i) l e₁ e₂ e₃ e₄) =
+          let z : j ≡ o .j = omega (arith, o .node) in omega (arith, e₁, h, ap (λ j. N .c v j) z)
+      label (gains t k (back j a e f g h i) l e₁ e₂ e₃ e₄) = absurd (omega (arith, o .node, so .sources))
+
+      -- it is as near as its source
+      even : get (B' .dist) w + get p v ≡ get (B' .dist) v + get p w
+      even =
+          let lane = so .slack v (o .j) (o .source) (o .terminal) in
+          omega (arith, label (pass .each w), own-dist, lane .ahead (o .free), lane .back (full? .1), ap (λ z. get p z) (o .node))
+
+      -- and no other source serves it
+      pub lone-pass : {hop wide : ℕ} → Passed N w (get (B' .dist) w) hop wide B' B'
+      lone-pass = record { long = pass .long; each = λ u. stays refl refl refl refl; offers = λ u t k a. go u t k a }
+        where
+          go : (u t k : ℕ) → Arc N w u (get (B' .dist) w) t k → get (B' .dist) u ≤ t
+          go u t k (ahead j a e f g h i) = absurd (omega (arith, o .node, so .sources))
+          go u t k (back j a e f g h i) =
+              let z : j ≡ o .j = omega (arith, o .node) in
+              elim (ℕ-discrete u v) [
+                | yes y ↦ rw y (omega (arith, own-dist, label (pass .each w), h, ap (λ j. N .c u j) z, ap (λ u. N .c u (o .j)) y))
+                | no y ↦ absurd (omega (
+                  arith,
+                  col-pair (N .x) u v (o .j) a (o .source) y,
+                  wanted (o .j) (o .terminal),
+                  full? .2,
+                  g,
+                  ap (λ j. N .x u j) z,
+                  ap (λ z. get demand z) (o .node),
+                ))
+              ]
+
+      pub lone-near : {D : List ℕ} → Searching N p room s limit B' D → get D v ≡ 1 → get D w ≡ 0 → Nearest p (B' .dist) D w
+      lone-near r e z = record {
+        bound = omega arith;
+        fresh = λ h. (z, near-label w (pass .each w) less);
+        least = λ u hu y l. (hw, omega (arith, r .order v u hv hu e y, even));
+      }
+
+      pub lone-empty : get room w ≡ 0
+      lone-empty = full? .0
+
+    -- ---- the marks below u are right
+
+    record Marked (u : ℕ) : Type 0 where
+      marks : List ℕ
+      searching : Searching N p room s limit B' marks
+      more : sum 96 (λ w. get D w) ≤ sum 96 (λ w. get marks w)
+      own : get marks v ≡ 1
+      keys : (w : ℕ) → w < u → Key (get marks w) (get (B' .dist) w) (get p w) (get K' w)
+      rest : (w : ℕ) → u ≤ w → get marks w ≡ get D w
+
+    module _ (u : ℕ) (hu : u < 96) (r : Marked u) where
+      stands : Key (get (r .marks) u) (get (B' .dist) u) (get p u) (get K' u) → Marked (suc u)
+      stands o = record {
+        marks = r .marks;
+        searching = r .searching;
+        more = r .more;
+        own = r .own;
+        keys = λ w h. elim (ℕ-discrete w u) [ yes z ↦ rw z o | no z ↦ r .keys w (omega arith) ];
+        rest = λ w h. r .rest w (omega arith);
+      }
+
+      kept-key : Key (get D u) (get (B' .dist) u) (get p u) (get K' u) → Marked (suc u)
+      kept-key o = stands (rw (r .rest u (omega arith)) o)
+
+      own-key : u ≡ v → get K' u ≡ get (set K v shut) u → Key (get D u) (get (B' .dist) u) (get p u) (get K' u)
+      own-key z e = record {
+        fresh = λ d t. absurd (omega (arith, here, ap (λ z. get D z) z));
+        some = λ l. absurd (omega (arith, getD-set-same K v shut 0 (omega (arith, q .long-key)), e, ap (λ z. get (set K v shut) z) z));
+      }
+
+      other-key : u ≢ v → get (B' .dist) u ≡ get (B .dist) u → get K' u ≡ get (set K v shut) u → Key (get D u) (get (B' .dist) u) (get p u) (get K' u)
+      unfolding D
+      other-key z a c = rw (getD-set-other (q .marks) v u 1 0 z, a, c, getD-set-other K v u shut 0 z) (q .keys u hu)
+
+      fresh-label : get (B' .dist) u < get (B .dist) u → get D u ≡ 0
+      fresh-label a = elim (ℕ-discrete (get D u) 0) [ yes e ↦ e | no e ↦ absurd (omega (arith, settled u hu (one u hu e))) ]
+
+      go : Rekey N want v u (get p u) (get (B .dist) u) (get (B' .dist) u) (get (set K v shut) u) (get K' u) → Marked (suc u)
+      go (same a c) = kept-key (elim (ℕ-discrete u v) [ yes z ↦ own-key z c | no z ↦ other-key z a c ])
+      go (new a c) = kept-key (record { fresh = λ d t. c; some = λ l. (fresh-label a, near-label u (pass .each u) a) })
+      go (lone a c o) = record {
+        marks = set (r .marks) u 1;
+        searching = search-step so (r .searching) hu near' (lone-empty u hu a o) (lone-pass u hu a o);
+        more = omega (arith, r .more, count so (r .searching) hu near' (lone-empty u hu a o) (lone-pass u hu a o));
+        own = elim (ℕ-discrete v u) [ yes z ↦ absurd (omega (arith, o .node, o .source, so .sources)) | no z ↦ getD-set-other (r .marks) u v 1 0 z ∙ r .own ];
+        keys = λ w h. elim (ℕ-discrete w u) [
+          | yes z ↦ rw z (record { fresh = λ d t. absurd (omega (arith, marked)); some = λ l. absurd (omega arith) })
+          | no z ↦ rw (getD-set-other (r .marks) u w 1 0 z) (r .keys w (omega arith))
+        ];
+        rest = λ w h. getD-set-other (r .marks) u w 1 0 (omega arith) ∙ r .rest w (omega arith);
+      }
+        where
+          zero? : get (r .marks) u ≡ 0
+          zero? = r .rest u (omega arith) ∙ fresh-label a
+
+          near' : Nearest p (B' .dist) (r .marks) u
+          near' = lone-near u hu a o (r .searching) (r .own) zero?
+
+          marked : get (set (r .marks) u 1) u ≡ 1
+          marked = getD-set-same (r .marks) u 1 0 (omega (arith, r .searching .marks))
+
+      mark : Marked (suc u)
+      mark = go (k .each u hu)
+
+    all-marked : (u : ℕ) → u ≤ 96 → Marked u
+    all-marked zero h = record {
+      marks = D;
+      searching = first;
+      more = omega arith;
+      own = here;
+      keys = λ w h. absurd (omega arith);
+      rest = λ w h. refl;
     }
-    own (new a c) = absurd (omega (arith, stay so (q .searching) hv near none pass v hv here .dists))
+    all-marked (suc u) h = mark u (omega arith) (all-marked u (omega arith))
 
-    one : (w : ℕ) → w < 96 → get D w ≢ 0 → get D w ≡ 1
-    unfolding D
-    one w hw e = omega (arith, q .searching .zero-one w hw)
-
-    other : (w : ℕ) → w < 96 → w ≢ v → Key (get D w) (get (B .dist) w) (get p w) (get K w)
-        → Rekey (get p w) (get (B .dist) w) (get (B' .dist) w) (get (set K v far) w) (get K' w)
-        → Key (get (set D v 1) w) (get (B' .dist) w) (get p w) (get K' w)
-    other w hw z o (same a c) = rw (getD-set-other D v w 1 0 z, a, c, getD-set-other K v w far 0 z) o
-    other w hw z o (new a c) =
-        rw (getD-set-other D v w 1 0 z)
-        (record {
-          fresh = λ e t. c;
-          shut = λ l. elim (ℕ-discrete (get D w) 0) [
-            | yes e ↦ (e, near-label w (pass .each w) a, c)
-            | no e ↦ absurd (omega (arith, settled w hw z (one w hw e)))
-          ];
-        })
-
-    pub explore-step : Exploring N p room s limit B' K' (turns + 1)
+    pub explore-step : Exploring N p room s limit B' K' next' (turns + 1)
     unfolding D
     explore-step = record {
-      marks = set (q .marks) v 1;
-      searching = search-step so (q .searching) hv near none pass;
-      count = count so (q .searching) hv near none pass ∙ ap (λ z. z + 1) (q .count);
+      marks = r .marks;
+      searching = r .searching;
+      count = omega (arith, r .more, count so (q .searching) hv near none pass, q .count);
+      most = λ w h. most w h (pass .each w);
+      hint = λ h.
+          let d = keys next' h .some (named .near h .1) in
+          record {
+            bound = omega arith;
+            fresh = λ l. d;
+            least = λ u hu e l. (
+              h,
+              omega (
+                arith,
+                named .near h .0,
+                keys next' h .fresh (d .0) (d .1),
+                q .keys v hv .fresh (near .fresh hv .0) (near .fresh hv .1),
+                own-dist,
+                r .searching .order v u hv hu (r .own) e,
+              ),
+            );
+          };
       long-key = k .long;
-      keys = λ w h. elim (ℕ-discrete w v) [ yes z ↦ rw z (own (k .each v hv)) | no z ↦ other w h z (q .keys w h) (k .each w h) ];
+      keys = keys;
     }
+      where
+        r : Marked 96
+        r = all-marked 96 (omega arith)
+
+        keys : (w : ℕ) → w < 96 → Key (get (r .marks) w) (get (B' .dist) w) (get p w) (get K' w)
+        keys w h = r .keys w h

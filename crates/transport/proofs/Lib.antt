@@ -9,6 +9,7 @@ pub mod CellStores
 pub mod Least
 pub mod Pass
 pub mod Near
+pub mod Tagging
 pub mod Settle
 pub mod Keys
 pub mod Falls

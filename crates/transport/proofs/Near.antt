@@ -4,9 +4,9 @@ use mathlib.Core.List.{List}
 use Prim.Native.Nat.{ℕ, _+_, _≤_, _<_}
 use native.Mathlib.Decide.{ℕ-discrete, decLt}
 use native.Mathlib.Omega.{arith}
-use Rattle.transport.specs.engine.Path.{get, far, Key, Nearest, Closest, Closing, ClosestNode}
+use Rattle.transport.specs.engine.Path.{get, far, shut, Key, Nearest, Closest, Closing, ClosestNode, Chosen}
 
-pub closing-start : (K : List ℕ) (lo : ℕ) → Closing K lo lo 96 far
+pub closing-start : (K : List ℕ) (lo : ℕ) → Closing K lo lo 96 shut
 closing-start K lo = record {
   bound = omega arith;
   own = λ h. absurd (omega arith);
@@ -17,7 +17,7 @@ closing-start K lo = record {
 }
 
 module _ {K : List ℕ} {lo k r least : ℕ} (q : Closing K lo k r least) where
-  pub closing-next : k < 96 → (get K k ≤ least) × (get K k < far) → Closing K lo (k + 1) k (get K k)
+  pub closing-next : k < 96 → (get K k ≤ least) × (get K k < shut) → Closing K lo (k + 1) k (get K k)
   closing-next b l = record {
     bound = omega arith;
     own = λ h. refl;
@@ -75,11 +75,20 @@ pub near-key : {m n : ℕ} {p T D K : List ℕ} {r : ℕ} → Placed m n T → (
     → ClosestNode m n K r → Nearest p T D r
 near-key {m} {n} {p} {T} {D} {K} {r} at keys c = record {
   bound = c .bound;
-  fresh = λ h. let k = keys r h .shut (c .near h) in (k .0, k .1);
+  fresh = λ h. keys r h .some (c .near h);
   least = λ v h e l.
       let k = keys v h .fresh e l in
-      let o = least v h l (omega arith) in (o .0, omega (arith, o .1, keys r (o .0) .shut (c .near (o .0))));
+      let o = least v h l (omega arith) in
+      let d = keys r (o .0) .some (c .near (o .0)) in (o .0, omega (arith, o .1, keys r (o .0) .fresh (d .0) (d .1)));
 }
   where
-    least : (v : ℕ) → v < 96 → get T v < far → get K v < far → (r < 96) × (get K r ≤ get K v)
+    least : (v : ℕ) → v < 96 → get T v < far → get K v < shut → (r < 96) × (get K r ≤ get K v)
     least v h l k = elim (decLt v 32) [ yes o ↦ c .sources v (at .source v h l o) k | no o ↦ c .terminals v (omega arith) (at .terminal v h l (omega arith)) k ]
+
+-- the node chosen, where the one named is nearest
+pub near-chosen : {m n : ℕ} {p T D K : List ℕ} {next r : ℕ} → Placed m n T → ((v : ℕ) → v < 96 → Key (get D v) (get T v) (get p v) (get K v))
+    → (next < 96 → Nearest p T D next) → Chosen m n K next r → Nearest p T D r
+near-chosen {next = next} at keys hint c = elim (decLt next 96) [
+  | yes l ↦ rw (c .named l) (hint l)
+  | no l ↦ near-key at keys (c .least (omega arith))
+]

@@ -1,13 +1,31 @@
 -- How a pass over the arcs out of a node goes on by one node. Assumes nothing.
 use mathlib.Core.Path.{_≡_, refl, sym, ap, _∙_}
-use mathlib.Core.Logic.{_≢_}
+use mathlib.Core.Logic.{_≢_, _⊎_, inl, inr}
+use mathlib.Core.Bool.{Bool, true, false, cond}
 use mathlib.Core.List.{List}
 use Prim.Native.Nat.{ℕ, suc, min, _+_, _-_, _*_, _≤_, _<_}
 use native.Mathlib.Decide.{ℕ-discrete}
 use native.Mathlib.Omega.{arith}
 use lib.ListN.{length, getD, set, length-set}
 use lib.Seq.{getD-set-same, getD-set-other}
-use Rattle.transport.specs.engine.Path.{Net, Book, book, get, Long, Arc, Offered, Touched, Passing, Passed}
+use Rattle.transport.specs.engine.Path.{
+  Net,
+  Book,
+  book,
+  get,
+  far,
+  shut,
+  Long,
+  Arc,
+  Keyed,
+  Lone,
+  Wins,
+  RowKey,
+  Offered,
+  Touched,
+  Passing,
+  Passed,
+}
 use Rattle.transport.specs.engine.Path.Arc.{ahead, back}
 use Rattle.transport.specs.engine.Path.Offered.{kept, won}
 use Rattle.transport.specs.engine.Path.Touched.{stays, gains}
@@ -42,18 +60,20 @@ module _ {N : Net} {v b hop wide lo hi : ℕ} {B B' : Book} where
     ];
   }
 
-  pub pass-open : {hi' t k l : ℕ} {B'' : Book} → Passing N v b hop wide lo hi B B' → hi' ≡ hi + 1 → N .m ≤ 32 → hi < 96 → Arc N v hi b t k
-      → l ≡ min wide k → {p K K' : List ℕ} → Offered hi t v hop l p B' B'' K K' → Passing N v b hop wide lo hi' B B''
-  pass-open {t = t} {k = k} p e s big arc el (kept h q eq) = rw q (record {
+  pub pass-open : {hi' t k l f : ℕ} {take : Bool} {B'' : Book} → Passing N v b hop wide lo hi B B' → hi' ≡ hi + 1 → N .m ≤ 32 → hi < 96 → l ≡ min wide k
+      → (take ≡ true → Arc N v hi b t k × (t < get (B' .dist) hi))
+      → (take ≡ false → (t' k' : ℕ) → Arc N v hi b t' k' → get (B' .dist) hi ≤ t')
+      → {K K' : List ℕ} → Offered take hi t v hop l f B' B'' K K' → Passing N v b hop wide lo hi' B B''
+  pass-open p e s big el won? left? (kept h q eq) = rw q (record {
     long = p .long;
     each = p .each;
     rest = λ w h. p .rest w (omega arith);
     offers = λ w t' k' o o' a. elim (ℕ-discrete w hi) [
-      | yes z ↦ rw z (omega (arith, arc-same N s v hi b t k t' k' arc (rw z at a)))
+      | yes z ↦ rw z (left? h t' k' (rw z at a))
       | no z ↦ p .offers w t' k' o (omega arith) a
     ];
   })
-  pass-open {t = t} {k = k} {l = l} p e s big arc el (won h q eq) = rw q (record {
+  pass-open {t = t} {k = k} {l = l} p e s big el won? left? (won h q eq) = rw q (record {
     long = record {
       dists = length-set (B' .dist) hi t ∙ p .long .dists;
       prevs = length-set (B' .prev) hi v ∙ p .long .prevs;
@@ -68,6 +88,9 @@ module _ {N : Net} {v b hop wide lo hi : ℕ} {B B' : Book} where
     ];
   })
     where
+      arc : Arc N v hi b t k
+      arc = won? h .0
+
       off : (l : List ℕ) (w a : ℕ) → w ≢ hi → getD (set l hi a) w 0 ≡ getD l w 0
       off l w a z = getD-set-other l hi w a 0 z
 
@@ -85,7 +108,7 @@ module _ {N : Net} {v b hop wide lo hi : ℕ} {B B' : Book} where
 
       here : Touched N v b hop wide B C hi
       here =
-          gains t k arc (omega (arith, p .rest hi (omega arith)))
+          gains t k arc (omega (arith, won? h .1, p .rest hi (omega arith)))
           (same (B' .dist) t (p .long .dists))
           (same (B' .prev) v (p .long .prevs))
           (same (B' .hops) hop (p .long .hopss))
@@ -122,3 +145,35 @@ shut-ahead j s hv e l t k (back j' a a' f g h i) = omega arith
 pub shut-back : {N : Net} {v w b : ℕ} (j : ℕ) → N .m ≤ 32 → w < N .m → v ≡ 32 + j → N .x w j ≤ 0 → (t k : ℕ) → Arc N v w b t k → ⊥
 shut-back j s hw e l t k (ahead j' a a' f g h i) = omega arith
 shut-back {N} {w = w} j s hw e l t k (back j' a a' f g h i) = let z : j ≡ j' = omega arith in omega (arith, ap (λ j. N .x w j) z)
+
+-- ---- the label and the key of an offer
+
+-- the label that stands after an offer can have a key
+pub pick-low : {take : Bool} {t old x u p r : ℕ} → Wins t old x u take → (x < u → p ≤ t) → p ≤ old → old ≤ far → r ≡ cond take t old → (p ≤ r) × (r ≤ far)
+pick-low {take = true} w a b c e = (omega (arith, a (w .taken refl .1)), omega (arith, w .taken refl .0))
+pick-low {take = false} w a b c e = (omega arith, omega arith)
+
+-- a label that is not taken is no smaller than the old one, or the lane is at its ceiling
+pub row-left : (N : Net) (j : ℕ) {v b t old t' k' : ℕ} {take : Bool} → Wins t old (N .x v j) (N .u v j) take → t ≡ b + N .c v j → N .m ≤ 32 → v < N .m
+    → take ≡ false → Arc N v (32 + j) b t' k' → old ≤ t'
+row-left N j {v} {b} w e s hv h (ahead i a o f g p q) =
+    let z : i ≡ j = omega arith in omega (arith, w .left h (omega (arith, ap (λ j. N .x v j) z, ap (λ j. N .u v j) z)), ap (λ j. N .c v j) z)
+row-left N j w e s hv h (back i a o f g p q) = absurd (omega arith)
+
+-- the same of a lane in use backwards
+pub column-left : (N : Net) (j : ℕ) {v i b t old t' k' : ℕ} {take : Bool} → Wins t old 0 (N .x i j) take → t + N .c i j ≡ b → N .m ≤ 32 → v ≡ 32 + j
+    → 0 < N .x i j → take ≡ false → Arc N v i b t' k' → old ≤ t'
+column-left N j w e s ev o h (ahead l a z f g p q) = absurd (omega arith)
+column-left N j {i = i} w e s ev o h (back l a z f g p q) =
+    let y : l ≡ j = omega arith in omega (arith, w .left h o, ap (λ j. N .c i j) y)
+
+-- the key of an offer that is taken
+pub row-made : {N : Net} {want : List ℕ} {v w j t old p r f : ℕ} {take : Bool} → Wins t old (N .x v j) (N .u v j) take → r ≡ cond take t old
+    → RowKey (N .x v j) (get want w) r p f → v < N .m → j < N .n → w ≡ 32 + j → take ≡ true → Keyed t p f ⊎ ((f ≡ shut) × Lone N want v w)
+row-made {N} {want} {v} {w} {j} {t} {old} {p} {r} {f} {take} wins e k hv hj ew h = elim (ℕ-discrete (N .x v j) (get want w)) [
+  | yes z ↦ inr (k .alone z, record { j = j; source = hv; terminal = hj; node = ew; free = wins .taken h .1; all = z })
+  | no z ↦ inl (omega (arith, k .apart z .0, same), omega (arith, k .apart z .1, same))
+]
+  where
+    same : r ≡ t
+    same = e ∙ ap (λ b. cond b t old) h

@@ -275,8 +275,9 @@ module _ {N : Net} {p room : List ℕ} {s limit : ℕ} {B : Book} {D : List ℕ}
   pub label-near : {v : ℕ} → v < 96 → get (B .dist) v < far → (get (B .dist) v ≤ 1000000000) × (get (B .hops) v ≤ 96)
   label-near {v} hv l = omega (arith, q .label v hv l .up, q .label v hv l .count, counted, so .high s (q .start))
 
-  pub relax-ready : {v : ℕ} {K : List ℕ} → v < 96 → get (B .dist) v < far → length K ≡ 96 → RelaxReady N p v (get (B .dist) v) B K
-  relax-ready {v} hv l e = record {
+  pub relax-ready : {v : ℕ} {K : List ℕ} → ((i j : ℕ) → i < N .m → j < N .n → N .u i j ≤ 4000000000) → ((w : ℕ) → w < 96 → get (B .dist) w ≤ far)
+      → v < 96 → get (B .dist) v < far → length K ≡ 96 → RelaxReady N p v (get (B .dist) v) B K
+  relax-ready {v} ceilings most hv l e = record {
     long = q .long;
     long-key = e;
     sources = so .sources;
@@ -285,6 +286,9 @@ module _ {N : Net} {p room : List ℕ} {s limit : ℕ} {B : Book} {D : List ℕ}
     terminal = q .label v hv l .terminal;
     near = label-near hv l .0;
     costs = so .costs;
+    ceilings = ceilings;
+    low = q .low;
+    most = most;
     ahead = λ j a b o. omega (arith, so .slack v j a b .ahead o, q .low v hv);
     back = λ i j a b e o. omega (arith, so .slack i j a b .back o, q .low v hv, ap (λ v. get p v) e);
   }

@@ -1,7 +1,7 @@
 // Step 1: a cheapest plan at the first split.
 ghost use Prim.Native.Nat.{_<_};
 ghost use Rattle.transport.specs.engine.Path.{net};
-ghost use Rattle.transport.specs.engine.Ship.{Stocked, ShipDone, BaseReady, Enough, BaseDone};
+ghost use Rattle.transport.specs.engine.Ship.{Stocked, Short, ShipDone, Asked, BaseReady, Enough, BaseDone};
 use super::send::send;
 
 // Sends amount from a source to the terminals that have room; what is left.
@@ -10,6 +10,7 @@ fn ship(
     n: usize,
     cost: &[u64; 2048],
     cap: &[u64; 2048],
+    demand: &[u64; 96],
     start: usize,
     amount: u64,
     x: &mut [u64; 2048],
@@ -18,11 +19,12 @@ fn ship(
 ) -> u64
     requires { ⌜ start < m ⌝ }
     requires { ⌜ Stocked (net m n (now cost) (now cap) (now x)) (now pot) (now room) (now x) ⌝ }
+    requires { ⌜ Short (net m n (now cost) (now cap) (now x)) (now room) (now demand) ⌝ }
     ensures { λ r. ⌜ ShipDone (net m n (now (cost .entry)) (now (cap .entry)) (now (x .entry))) (now (room .entry)) start amount (now (pot .exit)) (now (room .exit)) (now (x .exit)) r ⌝ }
 {
     let mut left = amount;
     while 0 < left {
-        let sent = send(m, n, cost, cap, room, start, left, x, pot);
+        let sent = send(m, n, cost, cap, room, demand, start, left, x, pot);
         let goal = sent.goal;
         let part = sent.amount;
         if goal == 96 {
@@ -41,17 +43,19 @@ pub fn plan_base(
     cost: &[u64; 2048],
     cap: &[u64; 2048],
     amounts: &[u64; 32],
+    demand: &[u64; 96],
     x: &mut [u64; 2048],
     pot: &mut [u64; 96],
     room: &mut [u64; 96],
 )
     requires { ⌜ BaseReady (net m n (now cost) (now cap) (now x)) (now room) (now x) ⌝ }
     requires { ⌜ Enough (net m n (now cost) (now cap) (now x)) (now amounts) (now room) ⌝ }
+    requires { ⌜ Asked n (now room) (now demand) ⌝ }
     ensures { λ _. ⌜ BaseDone (net m n (now (cost .entry)) (now (cap .entry)) (now (x .entry))) (now (amounts .entry)) (now (room .entry)) (now (pot .exit)) (now (room .exit)) (now (x .exit)) ⌝ }
 {
     *pot = [800_000_000u64; 96];
     for k in 0..m {
         let i = m - 1 - k;
-        ship(m, n, cost, cap, i, amounts[i], x, pot, room);
+        ship(m, n, cost, cap, demand, i, amounts[i], x, pot, room);
     }
 }

@@ -7,6 +7,8 @@ ghost use Rattle.transport.specs.Sweep.{amountIn, demandIn, SweepReady, 
 ghost use Rattle.transport.specs.engine.Cells.{cells};
 ghost use Rattle.transport.specs.engine.Stops.{NoteReady, Noted, Marked, turned};
 ghost use Rattle.transport.specs.engine.Climb.{ClimbReady};
+ghost use Rattle.transport.specs.engine.Path.{net};
+ghost use Rattle.transport.specs.engine.Search.{Wanted};
 use super::base::plan_base;
 use super::freight::freight_of;
 use super::stretch::stretch;
@@ -65,6 +67,7 @@ fn climb(
     lo: u64,
     hi: u64,
     freight: u64,
+    demand: &[u64; 96],
     table: &[u64],
     splits: &mut [u64],
     freights: &mut [u64],
@@ -73,6 +76,7 @@ fn climb(
     kept: &mut [u64; 2048],
 ) -> Curve
     requires { ⌜ ClimbReady m n (now cost) (now cap) (now x) (now pot) lo hi freight (now table) (now splits) (now freights) ⌝ }
+    requires { ⌜ Wanted (net m n (now cost) (now cap) (now x)) (now demand) ⌝ }
     ensures { λ r. ⌜ Swept m n (cells (now (cost .entry))) (row n (cells (now (x .entry)))) (col m (cells (now (x .entry)))) lo hi (now (table .entry)) (now (splits .entry)) (now (freights .entry)) (now (splits .exit)) (now (freights .exit)) (now (kept .exit)) (r .split) (r .total) (r .freight) (r .stops) ⌝ }
 {
     let at = lo as usize;
@@ -88,7 +92,21 @@ fn climb(
     let mut rise: u64 = 0;
     let mut fall: u64 = 0;
     while y < hi {
-        let moved = stretch(m, n, cost, cap, table, y, value, hi - y, best, x, pot, kept);
+        let moved = stretch(
+            m,
+            n,
+            cost,
+            cap,
+            table,
+            y,
+            value,
+            hi - y,
+            best,
+            demand,
+            x,
+            pot,
+            kept,
+        );
         let stop = turn(y, lo, moved.gain, moved.loss, rise, fall);
         count = mark(stop, count, y, value, splits, freights);
         rise = moved.gain;
@@ -128,7 +146,17 @@ pub fn sweep(
     let mut x = [0u64; 2048];
     let mut pot = [0u64; 96];
     let mut room = *demand;
-    plan_base(m, n, cost, cap, amounts, &mut x, &mut pot, &mut room);
+    plan_base(
+        m,
+        n,
+        cost,
+        cap,
+        amounts,
+        demand,
+        &mut x,
+        &mut pot,
+        &mut room,
+    );
     let freight = freight_of(m, n, cost, &x);
     climb(
         m,
@@ -138,6 +166,7 @@ pub fn sweep(
         lo,
         hi,
         freight,
+        demand,
         table,
         splits,
         freights,

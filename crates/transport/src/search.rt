@@ -1,11 +1,16 @@
 // The path search: labels, one pass over the arcs out of a node, the nearest node, the search.
 ghost use mathlib.Core.Path.{_≡_};
-ghost use Prim.Native.Nat.{min, _≤_, _<_};
-ghost use Rattle.transport.specs.engine.Path.{Before, net, book, OfferReady, Offered, Passed, Rekeyed, RowReady, ColumnReady, RelaxReady, Closest, ClosestNode};
-ghost use Rattle.transport.specs.engine.Search.{SearchReady, Blank, Searched};
+ghost use mathlib.Core.Bool.{cond};
+ghost use Prim.Native.Nat.{min, _+_, _-_, _*_, _≤_, _<_};
+ghost use lib.ListN.{length};
+ghost use Rattle.transport.specs.engine.Path.{net, book, far, Offered, Passed, Rekeyed, Next, Wins, Named, RowKey, Whole, Tags, Tagged, RowReady, ColumnReady, RelaxReady, Closest, ClosestNode, Chosen};
+ghost use Rattle.transport.specs.engine.Search.{SearchReady, Wanted, Blank, Searched};
 
 // Above every label.
-pub const FAR: u64 = 1_000_000_000_000_000;
+pub const FAR: u64 = 2_000_000_000;
+
+// Above every key.
+const SHUT: u64 = 4_000_000_000;
 
 pub fn smaller(a: u64, b: u64) -> u64
     ensures { λ r. ⌜ r ≡ min a b ⌝ }
@@ -13,29 +18,77 @@ pub fn smaller(a: u64, b: u64) -> u64
     if a < b { a } else { b }
 }
 
-// Offers node w a label; a smaller one than it has is taken, and its key is then the label less the potential.
+// a where take says so, else b.
+fn pick(take: bool, a: u64, b: u64) -> u64
+    ensures { λ r. ⌜ r ≡ cond take a b ⌝ }
+{
+    if take { a } else { b }
+}
+
+// How many drums more a lane of x drums can carry.
+fn spare(x: u64, cap: u64) -> u64
+    ensures { λ r. ⌜ r ≡ cap - x ⌝ }
+{
+    if x < cap { cap - x } else { 0 }
+}
+
+// Is a label t over a lane of x drums to be taken in place of old?
+fn wins(t: u64, old: u64, x: u64, cap: u64) -> bool
+    ensures { λ r. ⌜ Wins t old x cap r ⌝ }
+{
+    if old <= t {
+        return false;
+    }
+    if cap <= x {
+        return false;
+    }
+    true
+}
+
+// The key of a label: twice what it is above the potential, and one more at a node without room, so that of two nodes as near one with room
+// comes first.
+fn key_of(t: u64, pot: u64, full: u64) -> u64
+    requires { ⌜ (pot ≤ t) × (t ≤ far) × (full ≤ 1) ⌝ }
+    ensures { λ r. ⌜ r ≡ 2 * (t - pot) + full ⌝ }
+{
+    2 * (t - pot) + full
+}
+
+// The same of a terminal that a lane of x drums leads to. Where these are all that it gets, no way leads on from it, and it has no key.
+fn row_key(x: u64, want: u64, t: u64, pot: u64, full: u64) -> u64
+    requires { ⌜ (pot ≤ t) × (t ≤ far) × (full ≤ 1) ⌝ }
+    ensures { λ r. ⌜ RowKey x want t pot r ⌝ }
+{
+    if x == want {
+        return SHUT;
+    }
+    key_of(t, pot, full)
+}
+
+// Offers node w a label and a key.
 fn offer(
     w: usize,
+    take: bool,
     t: u64,
     from: usize,
     hop: u64,
     k: u64,
-    pot: &[u64; 96],
+    f: u64,
     dist: &mut [u64; 96],
     prev: &mut [usize; 96],
     hops: &mut [u64; 96],
     width: &mut [u64; 96],
     key: &mut [u64; 96],
 )
-    requires { ⌜ OfferReady w t (now pot) ⌝ }
-    ensures { λ _. ⌜ Offered w t from hop k (now (pot .entry)) (book (now (dist .entry)) (now (prev .entry)) (now (hops .entry)) (now (width .entry))) (book (now (dist .exit)) (now (prev .exit)) (now (hops .exit)) (now (width .exit))) (now (key .entry)) (now (key .exit)) ⌝ }
+    requires { ⌜ w < 96 ⌝ }
+    ensures { λ _. ⌜ Offered take w t from hop k f (book (now (dist .entry)) (now (prev .entry)) (now (hops .entry)) (now (width .entry))) (book (now (dist .exit)) (now (prev .exit)) (now (hops .exit)) (now (width .exit))) (now (key .entry)) (now (key .exit)) ⌝ }
 {
-    if t < dist[w] {
+    if take {
         dist[w] = t;
         prev[w] = from;
         hops[w] = hop;
         width[w] = k;
-        key[w] = t - pot[w];
+        key[w] = f;
     }
 }
 
@@ -51,6 +104,8 @@ fn relax_row(
     hop: u64,
     wide: u64,
     pot: &[u64; 96],
+    full: &[u64; 96],
+    want: &[u64; 96],
     dist: &mut [u64; 96],
     prev: &mut [usize; 96],
     hops: &mut [u64; 96],
@@ -58,20 +113,36 @@ fn relax_row(
     key: &mut [u64; 96],
 )
     requires { ⌜ RowReady (net m n (now cost) (now cap) (now x)) (now pot) i base (book (now dist) (now prev) (now hops) (now width)) (now key) ⌝ }
+    requires { ⌜ Tags (now full) (now want) ⌝ }
     ensures { λ _. ⌜ Passed (net m n (now (cost .entry)) (now (cap .entry)) (now (x .entry))) i base hop wide (book (now (dist .entry)) (now (prev .entry)) (now (hops .entry)) (now (width .entry))) (book (now (dist .exit)) (now (prev .exit)) (now (hops .exit)) (now (width .exit))) ⌝ }
-    ensures { λ _. ⌜ Rekeyed (now (pot .entry)) (now (dist .entry)) (now (dist .exit)) (now (key .entry)) (now (key .exit)) ⌝ }
+    ensures { λ _. ⌜ Rekeyed (net m n (now (cost .entry)) (now (cap .entry)) (now (x .entry))) (now (want .entry)) i (now (pot .entry)) (now (dist .entry)) (now (dist .exit)) (now (key .entry)) (now (key .exit)) ⌝ }
 {
     for j in 0..n {
         let k = i * 64 + j;
-        if x[k] < cap[k] {
-            let t = base + cost[k];
-            let left = smaller(wide, cap[k] - x[k]);
-            offer(32 + j, t, i, hop, left, pot, dist, prev, hops, width, key);
-        }
+        let w = 32 + j;
+        let t = base + cost[k];
+        let drums = x[k];
+        let old = dist[w];
+        let take = wins(t, old, drums, cap[k]);
+        let f = row_key(drums, want[w], pick(take, t, old), pot[w], full[w]);
+        let left = smaller(wide, spare(drums, cap[k]));
+        offer(w, take, t, i, hop, left, f, dist, prev, hops, width, key);
     }
 }
 
-// Offers each source that serves terminal v - 32 a path back through that terminal.
+// Node i in place of next, where its label was taken and its key is at most level.
+fn named(take: bool, d: u64, level: u64, i: usize, next: usize) -> usize
+    ensures { λ r. ⌜ Named take d level i next r ⌝ }
+{
+    if take {
+        if d <= level {
+            return i;
+        }
+    }
+    next
+}
+
+// Offers each source that serves terminal v - 32 a path back through that terminal. One of them that is as near as the terminal, or 96.
 fn relax_column(
     m: usize,
     n: usize,
@@ -82,29 +153,39 @@ fn relax_column(
     base: u64,
     hop: u64,
     wide: u64,
+    level: u64,
     pot: &[u64; 96],
+    full: &[u64; 96],
+    want: &[u64; 96],
     dist: &mut [u64; 96],
     prev: &mut [usize; 96],
     hops: &mut [u64; 96],
     width: &mut [u64; 96],
     key: &mut [u64; 96],
-)
+) -> usize
     requires { ⌜ ColumnReady (net m n (now cost) (now cap) (now x)) (now pot) v base (book (now dist) (now prev) (now hops) (now width)) (now key) ⌝ }
-    ensures { λ _. ⌜ Passed (net m n (now (cost .entry)) (now (cap .entry)) (now (x .entry))) v base hop wide (book (now (dist .entry)) (now (prev .entry)) (now (hops .entry)) (now (width .entry))) (book (now (dist .exit)) (now (prev .exit)) (now (hops .exit)) (now (width .exit))) ⌝ }
-    ensures { λ _. ⌜ Rekeyed (now (pot .entry)) (now (dist .entry)) (now (dist .exit)) (now (key .entry)) (now (key .exit)) ⌝ }
+    requires { ⌜ Tags (now full) (now want) ⌝ }
+    ensures { λ r. ⌜ Passed (net m n (now (cost .entry)) (now (cap .entry)) (now (x .entry))) v base hop wide (book (now (dist .entry)) (now (prev .entry)) (now (hops .entry)) (now (width .entry))) (book (now (dist .exit)) (now (prev .exit)) (now (hops .exit)) (now (width .exit))) ⌝ }
+    ensures { λ r. ⌜ Rekeyed (net m n (now (cost .entry)) (now (cap .entry)) (now (x .entry))) (now (want .entry)) v (now (pot .entry)) (now (dist .entry)) (now (dist .exit)) (now (key .entry)) (now (key .exit)) ⌝ }
+    ensures { λ r. ⌜ Next (now (key .exit)) level m r ⌝ }
 {
     let j = v - 32;
+    let mut next: usize = 96;
     for i in 0..m {
         let k = i * 64 + j;
         if 0 < x[k] {
             let t = base - cost[k];
+            let take = wins(t, dist[i], 0, x[k]);
+            let f = key_of(t, pot[i], full[i]);
             let left = smaller(wide, x[k]);
-            offer(i, t, v, hop, left, pot, dist, prev, hops, width, key);
+            offer(i, take, t, v, hop, left, f, dist, prev, hops, width, key);
+            next = named(take, f, level, i, next);
         }
     }
+    next
 }
 
-// Offers each node that an open arc out of v leads to a path through v.
+// Offers each node that an open arc out of v leads to a path through v. A node that is as near as v, or 96.
 fn relax(
     m: usize,
     n: usize,
@@ -115,16 +196,21 @@ fn relax(
     base: u64,
     hop: u64,
     wide: u64,
+    level: u64,
     pot: &[u64; 96],
+    full: &[u64; 96],
+    want: &[u64; 96],
     dist: &mut [u64; 96],
     prev: &mut [usize; 96],
     hops: &mut [u64; 96],
     width: &mut [u64; 96],
     key: &mut [u64; 96],
-)
+) -> usize
     requires { ⌜ RelaxReady (net m n (now cost) (now cap) (now x)) (now pot) v base (book (now dist) (now prev) (now hops) (now width)) (now key) ⌝ }
-    ensures { λ _. ⌜ Passed (net m n (now (cost .entry)) (now (cap .entry)) (now (x .entry))) v base hop wide (book (now (dist .entry)) (now (prev .entry)) (now (hops .entry)) (now (width .entry))) (book (now (dist .exit)) (now (prev .exit)) (now (hops .exit)) (now (width .exit))) ⌝ }
-    ensures { λ _. ⌜ Rekeyed (now (pot .entry)) (now (dist .entry)) (now (dist .exit)) (now (key .entry)) (now (key .exit)) ⌝ }
+    requires { ⌜ Tags (now full) (now want) ⌝ }
+    ensures { λ r. ⌜ Passed (net m n (now (cost .entry)) (now (cap .entry)) (now (x .entry))) v base hop wide (book (now (dist .entry)) (now (prev .entry)) (now (hops .entry)) (now (width .entry))) (book (now (dist .exit)) (now (prev .exit)) (now (hops .exit)) (now (width .exit))) ⌝ }
+    ensures { λ r. ⌜ Rekeyed (net m n (now (cost .entry)) (now (cap .entry)) (now (x .entry))) (now (want .entry)) v (now (pot .entry)) (now (dist .entry)) (now (dist .exit)) (now (key .entry)) (now (key .exit)) ⌝ }
+    ensures { λ r. ⌜ Next (now (key .exit)) level m r ⌝ }
 {
     if v < 32 {
         relax_row(
@@ -138,59 +224,48 @@ fn relax(
             hop,
             wide,
             pot,
+            full,
+            want,
             dist,
             prev,
             hops,
             width,
             key,
         );
-    } else {
-        relax_column(
-            m,
-            n,
-            v,
-            cost,
-            x,
-            cap,
-            base,
-            hop,
-            wide,
-            pot,
-            dist,
-            prev,
-            hops,
-            width,
-            key,
-        );
+        return 96;
     }
+    relax_column(
+        m,
+        n,
+        v,
+        cost,
+        x,
+        cap,
+        base,
+        hop,
+        wide,
+        level,
+        pot,
+        full,
+        want,
+        dist,
+        prev,
+        hops,
+        width,
+        key,
+    )
 }
 
-// Does a node of key d and some room go before one of key least? Of equal keys one with room does: the search then ends there.
-fn goes_before(d: u64, least: u64, room: u64) -> bool
-    ensures { λ r. ⌜ Before d least r ⌝ }
-{
-    if least < d {
-        return false;
-    }
-    if d < least {
-        return true;
-    }
-    if room == 0 {
-        return false;
-    }
-    d < FAR
-}
-
-// The node of the least key from lo up to hi, or 96; of equal keys one with room.
-fn closest(lo: usize, hi: usize, key: &[u64; 96], room: &[u64; 96]) -> usize
+// The node of the least key from lo up to hi, or 96.
+fn closest(lo: usize, hi: usize, key: &[u64; 96]) -> usize
     requires { ⌜ hi ≤ 96 ⌝ }
     ensures { λ r. ⌜ Closest (now (key .entry)) lo hi r ⌝ }
 {
     let mut best: usize = 96;
-    let mut least = FAR;
+    let mut least = SHUT;
     for v in lo..hi {
         let d = key[v];
-        if goes_before(d, least, room[v]) {
+        if d < least {
             least = d;
             best = v;
         }
@@ -199,12 +274,12 @@ fn closest(lo: usize, hi: usize, key: &[u64; 96], room: &[u64; 96]) -> usize
 }
 
 // The nearest node that is not settled, or 96: of the m sources and the n terminals, since no other node has a label.
-fn nearest(m: usize, n: usize, key: &[u64; 96], room: &[u64; 96]) -> usize
+fn nearest(m: usize, n: usize, key: &[u64; 96]) -> usize
     requires { ⌜ (m ≤ 32) × (n ≤ 64) ⌝ }
     ensures { λ r. ⌜ ClosestNode m n (now (key .entry)) r ⌝ }
 {
-    let source = closest(0, m, key, room);
-    let terminal = closest(32, 32 + n, key, room);
+    let source = closest(0, m, key);
+    let terminal = closest(32, 32 + n, key);
     if source == 96 {
         return terminal;
     }
@@ -217,8 +292,19 @@ fn nearest(m: usize, n: usize, key: &[u64; 96], room: &[u64; 96]) -> usize
     source
 }
 
+// The node named, or if none is, the nearest.
+fn choose(m: usize, n: usize, next: usize, key: &[u64; 96]) -> usize
+    requires { ⌜ (m ≤ 32) × (n ≤ 64) ⌝ }
+    ensures { λ r. ⌜ Chosen m n (now (key .entry)) next r ⌝ }
+{
+    if next < 96 {
+        return next;
+    }
+    nearest(m, n, key)
+}
+
 // Settles node after node, nearest first by reduced costs, up to the first that has room: that node, or 96. The key of a node that
-// has a label and is not settled is its reduced distance, of any other FAR.
+// has a label and is not settled comes from its reduced distance, of any other it is SHUT.
 fn explore(
     m: usize,
     n: usize,
@@ -227,6 +313,9 @@ fn explore(
     cap: &[u64; 2048],
     pot: &[u64; 96],
     room: &[u64; 96],
+    demand: &[u64; 96],
+    full: &[u64; 96],
+    want: &[u64; 96],
     start: usize,
     limit: u64,
     dist: &mut [u64; 96],
@@ -235,27 +324,31 @@ fn explore(
     width: &mut [u64; 96],
 ) -> usize
     requires { ⌜ SearchReady (net m n (now cost) (now cap) (now x)) (now pot) start limit ⌝ }
+    requires { ⌜ Wanted (net m n (now cost) (now cap) (now x)) (now demand) ⌝ }
+    requires { ⌜ Tagged (now room) (now demand) (now full) (now want) ⌝ }
     requires { ⌜ Blank (book (now dist) (now prev) (now hops) (now width)) ⌝ }
     ensures { λ r. ⌜ Searched (net m n (now (cost .entry)) (now (cap .entry)) (now (x .entry))) (now (pot .entry)) (now (room .entry)) start limit (book (now (dist .exit)) (now (prev .exit)) (now (hops .exit)) (now (width .exit))) r ⌝ }
 {
-    let mut key = [FAR; 96];
+    let mut key = [SHUT; 96];
     dist[start] = pot[start];
     hops[start] = 0;
     width[start] = limit;
     key[start] = 0;
+    let mut next = start;
     for turn in 0u64..96 {
-        let v = nearest(m, n, &key, room);
+        let v = choose(m, n, next, &key);
         if v == 96 {
             return v;
         }
         if 0 < room[v] {
             return v;
         }
-        key[v] = FAR;
+        let level = key[v];
+        key[v] = SHUT;
         let base = dist[v];
         let hop = hops[v] + 1;
         let wide = width[v];
-        relax(
+        next = relax(
             m,
             n,
             v,
@@ -265,7 +358,10 @@ fn explore(
             base,
             hop,
             wide,
+            level,
             pot,
+            full,
+            want,
             dist,
             prev,
             hops,
@@ -274,6 +370,37 @@ fn explore(
         );
     }
     96
+}
+
+// 1 where there is no room.
+fn full_bit(room: u64) -> u64
+    ensures { λ r. ⌜ r ≤ 1 ⌝ }
+{
+    if room == 0 { 1 } else { 0 }
+}
+
+// All that a terminal without room gets; SHUT where it has room or gets nothing.
+fn whole(room: u64, demand: u64) -> u64
+    ensures { λ r. ⌜ Whole room demand r ⌝ }
+{
+    if 0 < room {
+        return SHUT;
+    }
+    if demand == 0 {
+        return SHUT;
+    }
+    demand
+}
+
+// The nodes as the passes see them.
+fn tag(room: &[u64; 96], demand: &[u64; 96], full: &mut [u64; 96], want: &mut [u64; 96])
+    requires { ⌜ (length (now full) ≡ 96) × (length (now want) ≡ 96) ⌝ }
+    ensures { λ _. ⌜ Tagged (now (room .entry)) (now (demand .entry)) (now (full .exit)) (now (want .exit)) ⌝ }
+{
+    for v in 0..96 {
+        full[v] = full_bit(room[v]);
+        want[v] = whole(room[v], demand[v]);
+    }
 }
 
 // What a search found: the goal (96: none), and for each node its distance, the node before it, the number of arcs to it
@@ -295,12 +422,17 @@ pub fn search(
     cap: &[u64; 2048],
     pot: &[u64; 96],
     room: &[u64; 96],
+    demand: &[u64; 96],
     start: usize,
     limit: u64,
 ) -> Paths
     requires { ⌜ SearchReady (net m n (now cost) (now cap) (now x)) (now pot) start limit ⌝ }
+    requires { ⌜ Wanted (net m n (now cost) (now cap) (now x)) (now demand) ⌝ }
     ensures { λ r. ⌜ Searched (net m n (now (cost .entry)) (now (cap .entry)) (now (x .entry))) (now (pot .entry)) (now (room .entry)) start limit (book (r .dist) (r .prev) (r .hops) (r .width)) (r .goal) ⌝ }
 {
+    let mut full = [0u64; 96];
+    let mut want = [0u64; 96];
+    tag(room, demand, &mut full, &mut want);
     let mut dist = [FAR; 96];
     let mut prev = [0usize; 96];
     let mut hops = [0u64; 96];
@@ -313,6 +445,9 @@ pub fn search(
         cap,
         pot,
         room,
+        demand,
+        &full,
+        &want,
         start,
         limit,
         &mut dist,

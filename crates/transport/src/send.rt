@@ -4,6 +4,7 @@ ghost use Prim.Native.Nat.{_+_, _-_, _≤_, _<_};
 ghost use lib.ListN.{getD, set};
 ghost use Rattle.transport.specs.engine.Path.{net};
 ghost use Rattle.transport.specs.engine.Send.{LowerReady, Lowered, CarryReady, Carried, Walkable, Walked, SendReady, SendDone};
+ghost use Rattle.transport.specs.engine.Search.{Wanted};
 use super::search::search;
 use super::search::smaller;
 
@@ -71,15 +72,17 @@ pub fn send(
     cost: &[u64; 2048],
     cap: &[u64; 2048],
     room: &[u64; 96],
+    demand: &[u64; 96],
     start: usize,
     limit: u64,
     x: &mut [u64; 2048],
     pot: &mut [u64; 96],
 ) -> Sent
     requires { ⌜ SendReady (net m n (now cost) (now cap) (now x)) (now pot) (now room) start limit (now x) ⌝ }
+    requires { ⌜ Wanted (net m n (now cost) (now cap) (now x)) (now demand) ⌝ }
     ensures { λ r. ⌜ SendDone (net m n (now (cost .entry)) (now (cap .entry)) (now (x .entry))) (now (pot .entry)) (now (room .entry)) start limit (now (x .entry)) (now (x .exit)) (now (pot .exit)) (r .goal) (r .amount) ⌝ }
 {
-    let found = search(m, n, cost, x, cap, pot, room, start, limit);
+    let found = search(m, n, cost, x, cap, pot, room, demand, start, limit);
     let goal = found.goal;
     if goal == 96 {
         return Sent { goal, amount: 0 };

@@ -3,6 +3,7 @@ ghost use Prim.Native.Nat.{_-_};
 ghost use Rattle.transport.specs.engine.Path.{net};
 ghost use Rattle.transport.specs.engine.Send.{Walkable};
 ghost use Rattle.transport.specs.engine.Stretch.{ShiftReady, PathDone, KeepDone, StretchReady, StretchDone};
+ghost use Rattle.transport.specs.engine.Search.{Wanted};
 use super::scan::scan;
 use super::search::search;
 use super::search::smaller;
@@ -27,15 +28,17 @@ fn find_path(
     cost: &[u64; 2048],
     cap: &[u64; 2048],
     limit: u64,
+    demand: &[u64; 96],
     x: &[u64; 2048],
     pot: &[u64; 96],
 ) -> Path
     requires { ⌜ ShiftReady (net m n (now cost) (now cap) (now x)) (now pot) (now x) limit ⌝ }
+    requires { ⌜ Wanted (net m n (now cost) (now cap) (now x)) (now demand) ⌝ }
     ensures { λ r. ⌜ PathDone (net m n (now (cost .entry)) (now (cap .entry)) (now (x .entry))) (now (pot .entry)) (now (x .entry)) limit (r .dist) (r .prev) (r .count) (r .gap) (r .amount) ⌝ }
 {
     let mut room = [0u64; 96];
     room[1] = limit;
-    let found = search(m, n, cost, x, cap, pot, &room, 0, limit);
+    let found = search(m, n, cost, x, cap, pot, &room, demand, 0, limit);
     let dist = found.dist;
     let prev = found.prev;
     let hops = found.hops;
@@ -84,14 +87,16 @@ pub fn stretch(
     freight: u64,
     limit: u64,
     best: Incumbent,
+    demand: &[u64; 96],
     x: &mut [u64; 2048],
     pot: &mut [u64; 96],
     kept: &mut [u64; 2048],
 ) -> Moved
     requires { ⌜ StretchReady (net m n (now cost) (now cap) (now x)) (now pot) (now x) (now table) y freight limit best ⌝ }
+    requires { ⌜ Wanted (net m n (now cost) (now cap) (now x)) (now demand) ⌝ }
     ensures { λ r. ⌜ StretchDone (net m n (now (cost .entry)) (now (cap .entry)) (now (x .entry))) (now (pot .entry)) (now (table .entry)) y freight limit best (now (kept .entry)) (now (pot .exit)) (now (x .exit)) (now (kept .exit)) (r .amount) (r .gain) (r .loss) (r .best) ⌝ }
 {
-    let path = find_path(m, n, cost, cap, limit, x, pot);
+    let path = find_path(m, n, cost, cap, limit, demand, x, pot);
     let amount = path.amount;
     let count = path.count;
     let gap = path.gap;

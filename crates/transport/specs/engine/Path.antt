@@ -2,6 +2,7 @@
 -- terminal j is node 32 + j. Assumes nothing.
 use mathlib.Core.Path.{_≡_}
 use mathlib.Core.Bool.{Bool, true, false}
+use mathlib.Core.Logic.{_≢_}
 use mathlib.Core.List.{List}
 use Prim.Native.Nat.{ℕ, suc, min, _+_, _-_, _*_, _≤_, _<_}
 use lib.ListN.{length, getD, set}
@@ -43,15 +44,11 @@ pub data Arc (N : Net) (v w b t k : ℕ) : Type 0 where
   ahead : (j : ℕ) → v < N .m → j < N .n → w ≡ 32 + j → N .x v j < N .u v j → t ≡ b + N .c v j → k ≡ N .u v j - N .x v j → Arc N v w b t k
   back : (j : ℕ) → w < N .m → j < N .n → v ≡ 32 + j → 0 < N .x w j → t + N .c w j ≡ b → k ≡ N .x w j → Arc N v w b t k
 
-pub record OfferReady (w t : ℕ) (p : List ℕ) : Type 0 where
-  pub node : w < 96
-  pub low : get p w ≤ t
-
--- one offer of the label t to w, and what becomes of the keys K: a node that takes the label has its distance less its potential as key
-pub data Offered (w t from hop k : ℕ) (p : List ℕ) (B B' : Book) (K K' : List ℕ) : Type 0 where
-  kept : get (B .dist) w ≤ t → B' ≡ B → K' ≡ K → Offered w t from hop k p B B' K K'
-  won : t < get (B .dist) w → B' ≡ book (set (B .dist) w t) (set (B .prev) w from) (set (B .hops) w hop) (set (B .width) w k)
-      → K' ≡ set K w (t - get p w) → Offered w t from hop k p B B' K K'
+-- one offer of the label t and the key f to w: it is left, or taken
+pub data Offered (take : Bool) (w t from hop k f : ℕ) (B B' : Book) (K K' : List ℕ) : Type 0 where
+  kept : take ≡ false → B' ≡ B → K' ≡ K → Offered take w t from hop k f B B' K K'
+  won : take ≡ true → B' ≡ book (set (B .dist) w t) (set (B .prev) w from) (set (B .hops) w hop) (set (B .width) w k)
+      → K' ≡ set K w f → Offered take w t from hop k f B B' K K'
 
 -- what became of the label of w in a pass over the arcs out of v
 pub data Touched (N : Net) (v b hop wide : ℕ) (B B' : Book) (w : ℕ) : Type 0 where
@@ -73,15 +70,79 @@ pub record Passed (N : Net) (v b hop wide : ℕ) (B B' : Book) : Type 0 where
   pub each : (w : ℕ) → Touched N v b hop wide B B' w
   pub offers : (w t k : ℕ) → Arc N v w b t k → get (B' .dist) w ≤ t
 
--- what became of the key k of a node of potential p whose label was t
-pub data Rekey (p t t' k k' : ℕ) : Type 0 where
-  same : t' ≡ t → k' ≡ k → Rekey p t t' k k'
-  new : t' < t → k' + p ≡ t' → Rekey p t t' k k'
+-- above every label
+abbrev pub far : ℕ
+far = 2000000000
+
+-- above every key
+abbrev pub shut : ℕ
+shut = 4000000000
+
+-- k is a key of a node of label t and potential p: twice what t is above p, and at most one more
+abbrev pub Keyed : ℕ → ℕ → ℕ → Type 0
+Keyed t p k = (2 * t ≤ k + 2 * p) × (k + 2 * p ≤ 2 * t + 1)
+
+-- the nodes as a pass sees them: a key has one more where full says 1
+pub record Tags (full want : List ℕ) : Type 0 where
+  pub long-full : length full ≡ 96
+  pub long-want : length want ≡ 96
+  pub bit : (v : ℕ) → v < 96 → get full v ≤ 1
+
+-- where want says x, for an x below shut, v is full and x is all that it gets
+abbrev pub Whole : ℕ → ℕ → ℕ → Type 0
+Whole room demand want = (x : ℕ) → x < shut → x ≡ want → (room ≡ 0) × (0 < x) × (x ≡ demand)
+
+pub record Tagged (room demand full want : List ℕ) : Type 0 where
+  pub tags : Tags full want
+  pub whole : (v : ℕ) → v < 96 → Whole (get room v) (get demand v) (get want v)
+
+-- the same of the nodes below k
+pub record Tagging (room demand full want : List ℕ) (k : ℕ) : Type 0 where
+  pub long-full : length full ≡ 96
+  pub long-want : length want ≡ 96
+  pub bit : (v : ℕ) → v < k → get full v ≤ 1
+  pub whole : (v : ℕ) → v < k → Whole (get room v) (get demand v) (get want v)
+
+-- the lane from source v to terminal w has room, and carries what want says
+pub record Lone (N : Net) (want : List ℕ) (v w : ℕ) : Type 0 where
+  pub j : ℕ
+  pub source : v < N .m
+  pub terminal : j < N .n
+  pub node : w ≡ 32 + j
+  pub free : N .x v j < N .u v j
+  pub all : N .x v j ≡ get want w
+
+-- what became of the key k of a node w of potential p whose label was t, in a pass over the arcs out of v
+pub data Rekey (N : Net) (want : List ℕ) (v w p t t' k k' : ℕ) : Type 0 where
+  same : t' ≡ t → k' ≡ k → Rekey N want v w p t t' k k'
+  new : t' < t → Keyed t' p k' → Rekey N want v w p t t' k k'
+  lone : t' < t → k' ≡ shut → Lone N want v w → Rekey N want v w p t t' k k'
 
 -- what a pass makes of the keys K, where it makes T' of the labels T
-pub record Rekeyed (p T T' K K' : List ℕ) : Type 0 where
+pub record Rekeyed (N : Net) (want : List ℕ) (v : ℕ) (p T T' K K' : List ℕ) : Type 0 where
   pub long : length K' ≡ 96
-  pub each : (w : ℕ) → w < 96 → Rekey (get p w) (get T w) (get T' w) (get K w) (get K' w)
+  pub each : (w : ℕ) → w < 96 → Rekey N want v w (get p w) (get T w) (get T' w) (get K w) (get K' w)
+
+-- a pass over the nodes below k names one, r, that has a key of at most level, or none (96)
+pub record Next (K : List ℕ) (level k r : ℕ) : Type 0 where
+  pub bound : r ≤ 96
+  pub past : r < 96 → r < k
+  pub near : r < 96 → (get K r ≤ level) × (get K r < shut)
+
+-- whether a label t over a lane of x drums and ceiling u is to be taken in place of old
+pub record Wins (t old x u : ℕ) (r : Bool) : Type 0 where
+  pub taken : r ≡ true → (t < old) × (x < u)
+  pub left : r ≡ false → x < u → old ≤ t
+
+-- r is the key of a terminal that a lane of x drums leads to
+pub record RowKey (x want t p r : ℕ) : Type 0 where
+  pub alone : x ≡ want → r ≡ shut
+  pub apart : x ≢ want → Keyed t p r
+
+-- a node i of key d is named in place of next
+pub data Named (take : Bool) (d level i next r : ℕ) : Type 0 where
+  other : r ≡ next → Named take d level i next r
+  this : r ≡ i → take ≡ true → d ≤ level → Named take d level i next r
 
 -- what a pass asks
 pub record RowReady (N : Net) (p : List ℕ) (v b : ℕ) (B : Book) (K : List ℕ) : Type 0 where
@@ -92,6 +153,9 @@ pub record RowReady (N : Net) (p : List ℕ) (v b : ℕ) (B : Book) (K : List �
   pub source : v < N .m
   pub near : b ≤ 1000000000
   pub costs : (i j : ℕ) → i < N .m → j < N .n → N .c i j ≤ 2000000
+  pub ceilings : (i j : ℕ) → i < N .m → j < N .n → N .u i j ≤ 4000000000
+  pub low : (w : ℕ) → w < 96 → get p w ≤ get (B .dist) w
+  pub most : (w : ℕ) → w < 96 → get (B .dist) w ≤ far
   pub ahead : (j : ℕ) → j < N .n → N .x v j < N .u v j → get p (32 + j) ≤ b + N .c v j
 
 pub record ColumnReady (N : Net) (p : List ℕ) (v b : ℕ) (B : Book) (K : List ℕ) : Type 0 where
@@ -101,6 +165,7 @@ pub record ColumnReady (N : Net) (p : List ℕ) (v b : ℕ) (B : Book) (K : List
   pub terminals : N .n ≤ 64
   pub low : 32 ≤ v
   pub high : v < 32 + N .n
+  pub near : b ≤ 1000000000
   pub back : (i j : ℕ) → i < N .m → j < N .n → v ≡ 32 + j → 0 < N .x i j → get p i + N .c i j ≤ b
 
 -- what a pass asks, at a source or a terminal
@@ -113,17 +178,16 @@ pub record RelaxReady (N : Net) (p : List ℕ) (v b : ℕ) (B : Book) (K : List 
   pub terminal : 32 ≤ v → v < 32 + N .n
   pub near : b ≤ 1000000000
   pub costs : (i j : ℕ) → i < N .m → j < N .n → N .c i j ≤ 2000000
+  pub ceilings : (i j : ℕ) → i < N .m → j < N .n → N .u i j ≤ 4000000000
+  pub low : (w : ℕ) → w < 96 → get p w ≤ get (B .dist) w
+  pub most : (w : ℕ) → w < 96 → get (B .dist) w ≤ far
   pub ahead : (j : ℕ) → v < N .m → j < N .n → N .x v j < N .u v j → get p (32 + j) ≤ b + N .c v j
   pub back : (i j : ℕ) → i < N .m → j < N .n → v ≡ 32 + j → 0 < N .x i j → get p i + N .c i j ≤ b
 
--- above every label
-abbrev pub far : ℕ
-far = 1000000000000000
-
--- k is the key of a node of potential p: where it has a label t and is not settled (its mark d is 0), what t is above p, else far
+-- k is the key of a node of potential p: where it has a label t and is not settled (its mark d is 0), one of t, else shut
 pub record Key (d t p k : ℕ) : Type 0 where
-  pub fresh : d ≡ 0 → t < far → k + p ≡ t
-  pub shut : k < far → (d ≡ 0) × (t < far) × (k + p ≡ t)
+  pub fresh : d ≡ 0 → t < far → Keyed t p k
+  pub some : k < shut → (d ≡ 0) × (t < far)
 
 -- r is the nearest node that is not settled (96: none)
 pub record Nearest (p T D : List ℕ) (r : ℕ) : Type 0 where
@@ -131,32 +195,32 @@ pub record Nearest (p T D : List ℕ) (r : ℕ) : Type 0 where
   pub fresh : r < 96 → (get D r ≡ 0) × (get T r < far)
   pub least : (v : ℕ) → v < 96 → get D v ≡ 0 → get T v < far → (r < 96) × (get T r + get p v ≤ get T v + get p r)
 
--- r has the least key below far of the nodes from lo up to hi (96: none has)
+-- r has the least key below shut of the nodes from lo up to hi (96: none has)
 pub record Closest (K : List ℕ) (lo hi r : ℕ) : Type 0 where
   pub bound : r ≤ 96
-  pub near : r < 96 → get K r < far
-  pub least : (v : ℕ) → lo ≤ v → v < hi → get K v < far → (r < 96) × (get K r ≤ get K v)
+  pub near : r < 96 → get K r < shut
+  pub least : (v : ℕ) → lo ≤ v → v < hi → get K v < shut → (r < 96) × (get K r ≤ get K v)
 
 -- the same up to k, with its key
 pub record Closing (K : List ℕ) (lo k r least : ℕ) : Type 0 where
   pub bound : r ≤ 96
   pub own : r < 96 → get K r ≡ least
-  pub near : r < 96 → least < far
-  pub some : least < far → r < 96
-  pub most : least ≤ far
+  pub near : r < 96 → least < shut
+  pub some : least < shut → r < 96
+  pub most : least ≤ shut
   pub all : (v : ℕ) → lo ≤ v → v < k → least ≤ get K v
 
 -- the same of all sources and terminals
 pub record ClosestNode (m n : ℕ) (K : List ℕ) (r : ℕ) : Type 0 where
   pub bound : r ≤ 96
-  pub near : r < 96 → get K r < far
-  pub sources : (v : ℕ) → v < m → get K v < far → (r < 96) × (get K r ≤ get K v)
-  pub terminals : (v : ℕ) → 32 ≤ v → v < 32 + n → get K v < far → (r < 96) × (get K r ≤ get K v)
+  pub near : r < 96 → get K r < shut
+  pub sources : (v : ℕ) → v < m → get K v < shut → (r < 96) × (get K r ≤ get K v)
+  pub terminals : (v : ℕ) → 32 ≤ v → v < 32 + n → get K v < shut → (r < 96) × (get K r ≤ get K v)
+
+-- the node to be settled next: the one named, or one of the least key
+pub record Chosen (m n : ℕ) (K : List ℕ) (next r : ℕ) : Type 0 where
+  pub named : next < 96 → r ≡ next
+  pub least : 96 ≤ next → ClosestNode m n K r
 
 abbrev pub Low : List ℕ → List ℕ → Type 0
 Low p T = (v : ℕ) → v < 96 → get p v ≤ get T v
-
--- r says whether a node of key d goes before one of key least
-pub record Before (d least : ℕ) (r : Bool) : Type 0 where
-  pub goes : r ≡ true → least ≤ far → (d ≤ least) × (d < far)
-  pub stays : r ≡ false → least ≤ d

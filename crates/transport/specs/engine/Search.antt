@@ -4,9 +4,9 @@ use mathlib.Core.List.{List}
 use Prim.Native.Nat.{ℕ, suc, min, _+_, _-_, _*_, _≤_, _<_}
 use lib.ListN.{length, getD, set}
 use Rattle.transport.specs.Sum.{sum}
-use Rattle.transport.specs.Plan.{Table}
+use Rattle.transport.specs.Plan.{Table, col}
 use Rattle.transport.specs.engine.Slack.{Slack}
-use Rattle.transport.specs.engine.Path.{Net, Book, get, Long, Arc, far, Low, Key}
+use Rattle.transport.specs.engine.Path.{Net, Book, get, Long, Arc, far, Low, Key, Nearest}
 
 -- a slack plan of the size that the engine admits, and potentials of at most 800,000,000
 pub record Sound (N : Net) (p : List ℕ) : Type 0 where
@@ -15,6 +15,10 @@ pub record Sound (N : Net) (p : List ℕ) : Type 0 where
   pub costs : (i j : ℕ) → i < N .m → j < N .n → N .c i j ≤ 2000000
   pub slack : Slack (N .m) (N .n) (N .c) (N .u) (N .x) (λ i. get p i) (λ j. get p (32 + j))
   pub high : (v : ℕ) → v < 96 → get p v ≤ 800000000
+
+-- no terminal gets more than its demand
+abbrev pub Wanted : Net → List ℕ → Type 0
+Wanted N demand = (j : ℕ) → j < N .n → col (N .m) (N .x) j ≤ get demand (32 + j)
 
 -- how the path to v came there: v is the start, or it came over an arc from a node of S
 pub data Prev (N : Net) (s : ℕ) (S : ℕ → Type 0) (B : Book) (v : ℕ) : Type 0 where
@@ -49,11 +53,13 @@ pub record Searching (N : Net) (p room : List ℕ) (s limit : ℕ) (B : Book) (D
   pub order : (v w : ℕ) → v < 96 → w < 96 → get D v ≡ 1 → get D w ≡ 0 → get (B .dist) v + get p w ≤ get (B .dist) w + get p v
   pub relaxed : (v w t k : ℕ) → v < 96 → w < 96 → get D v ≡ 1 → Arc N v w (get (B .dist) v) t k → get (B .dist) w ≤ t
 
--- the same after some turns, each of which has settled one node; K has the keys
-pub record Exploring (N : Net) (p room : List ℕ) (s limit : ℕ) (B : Book) (K : List ℕ) (turns : ℕ) : Type 0 where
+-- the same after some turns, each of which has settled a node or more; K has the keys, and next, if not 96, is nearest
+pub record Exploring (N : Net) (p room : List ℕ) (s limit : ℕ) (B : Book) (K : List ℕ) (next turns : ℕ) : Type 0 where
   pub marks : List ℕ
   pub searching : Searching N p room s limit B marks
-  pub count : sum 96 (λ w. get marks w) ≡ turns
+  pub count : turns ≤ sum 96 (λ w. get marks w)
+  pub most : (v : ℕ) → v < 96 → get (B .dist) v ≤ far
+  pub hint : next < 96 → Nearest p (B .dist) marks next
   pub long-key : length K ≡ 96
   pub keys : (v : ℕ) → v < 96 → Key (get marks v) (get (B .dist) v) (get p v) (get K v)
 
@@ -89,10 +95,11 @@ pub record Searched (N : Net) (p room : List ℕ) (s limit : ℕ) (B : Book) (r 
 -- what a search asks: limit drums are at source s
 pub record SearchReady (N : Net) (p : List ℕ) (s limit : ℕ) : Type 0 where
   pub sound : Sound N p
+  pub ceilings : (i j : ℕ) → i < N .m → j < N .n → N .u i j ≤ 4000000000
   pub start : s < N .m
   pub positive : 0 < limit
 
 -- no node has a label
 pub record Blank (B : Book) : Type 0 where
   pub long : Long B
-  pub dists : (v : ℕ) → v < 96 → far ≤ get (B .dist) v
+  pub dists : (v : ℕ) → v < 96 → get (B .dist) v ≡ far

@@ -23,6 +23,13 @@ pub record Stocked (N : Net) (p room x : List ℕ) : Type 0 where
   pub floor : (v : ℕ) → v < 96 → 416000000 ≤ get p v
   pub quiet : (v : ℕ) → v < 32 → get room v ≡ 0
 
+-- what a terminal gets and its unmet demand are no more than its demand
+abbrev pub Short : Net → List ℕ → List ℕ → Type 0
+Short N room demand = (j : ℕ) → j < N .n → col (N .m) (N .x) j + get room (32 + j) ≤ get demand (32 + j)
+
+abbrev pub Asked : ℕ → List ℕ → List ℕ → Type 0
+Asked n room demand = (j : ℕ) → j < n → get room (32 + j) ≤ get demand (32 + j)
+
 -- the same lanes with another plan
 abbrev pub again : Net → List ℕ → Net
 again N x = record { m = N .m; n = N .n; c = N .c; u = N .u; x = cells x }

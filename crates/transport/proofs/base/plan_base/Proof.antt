@@ -15,10 +15,10 @@ use Rattle.transport.proofs.base.plan_base.Lts as lts
 use Rattle.transport.proofs.base.ship.Reads as ship-reads
 
 abbrev Inv-loop : tie.InvT-loop
-Inv-loop m n cost cap amounts x₀ pot₀ room₀ k₀ x pot room k = (k ≤ m) × Based (net m n cost cap x₀) amounts room₀ k pot room x
+Inv-loop m n cost cap amounts demand x₀ pot₀ room₀ k₀ x pot room k = (k ≤ m) × Based (net m n cost cap x₀) amounts room₀ k pot room x
 
 abbrev μ-loop : tie.MeasureT-loop
-μ-loop m n cost cap amounts x₀ pot₀ room₀ k₀ x pot room k = m - k
+μ-loop m n cost cap amounts demand x₀ pot₀ room₀ k₀ x pot room k = m - k
 
 loop-holds : tie.Need-loop-holds Inv-loop μ-loop
 loop-holds c = (omega arith, base-start (c .before .pre .0) refl refl (λ v h. getD-replicate {A = ℕ} 96 v 800000000 0 h))
@@ -36,7 +36,7 @@ element-copy-out-ship : tie.Need-element-copy-out-ship Inv-loop μ-loop
 element-copy-out-ship c = omega (arith, c .before .before .before .pre .0 .sources, c .loop-test .taken)
 
 ship-requires : tie.Need-ship-requires Inv-loop μ-loop
-ship-requires c κs = (omega (arith, c .before .before .before .before .loop-test .taken), c .before .before .before .before .before .loop .inv .1 .stocked)
+ship-requires c κs = (omega (arith, c .before .before .before .before .loop-test .taken), (c .before .before .before .before .before .loop .inv .1 .stocked, λ j h. omega (arith, c .before .before .before .before .before .loop .inv .1 .cols j h, c .before .before .before .before .before .before .before .pre .1 .1 j h)))
 
 add-k : tie.Need-add-k Inv-loop μ-loop
 add-k c = search needs
@@ -49,7 +49,7 @@ loop-again c =
     let inv = c .before .before .before .before .before .before .loop .inv .1 in
     let l = c .before .before .before .before .before .loop-test .taken in
     let s = c .ship .ensures in
-    (omega arith, base-next inv (omega arith) (s .shipped) (never-stuck (c .before .before .before .before .before .before .before .before .pre .1) inv (omega arith) (s .shipped) (s .none)))
+    (omega arith, base-next inv (omega arith) (s .shipped) (never-stuck (c .before .before .before .before .before .before .before .before .pre .1 .0) inv (omega arith) (s .shipped) (s .none)))
 
 returns : tie.Need-returns Inv-loop μ-loop
 returns c = base-end (c .before .loop .inv .1) (omega (arith, c .loop-test .left))

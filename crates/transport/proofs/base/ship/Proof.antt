@@ -13,16 +13,16 @@ use Rattle.transport.proofs.base.ship.Lts as lts
 use Rattle.transport.proofs.send.send.Reads as send-reads
 
 abbrev Inv-loop : tie.InvT-loop
-Inv-loop m n cost cap start amount x₀ pot₀ room₀ left₀ x pot room left = Shipped (net m n cost cap x₀) room₀ start amount pot room x left
+Inv-loop m n cost cap demand start amount x₀ pot₀ room₀ left₀ x pot room left = Shipped (net m n cost cap x₀) room₀ start amount pot room x left
 
 abbrev μ-loop : tie.MeasureT-loop
-μ-loop m n cost cap start amount x₀ pot₀ room₀ left₀ x pot room left = left
+μ-loop m n cost cap demand start amount x₀ pot₀ room₀ left₀ x pot room left = left
 
 loop-holds : tie.Need-loop-holds Inv-loop μ-loop
-loop-holds c = ship-start (c .args .start) (c .args .amount) (c .pre .1) refl
+loop-holds c = ship-start (c .args .start) (c .args .amount) (c .pre .1 .0) refl
 
 send-requires : tie.Need-send-requires Inv-loop μ-loop
-send-requires c κs = send-ready (c .before .before .before .before .loop .inv .stocked) (c .before .before .before .before .before .pre .0) (c .before .before .before .loop-test .taken)
+send-requires c κs = (send-ready (c .before .before .before .before .loop .inv .stocked) (c .before .before .before .before .before .pre .0) (c .before .before .before .loop-test .taken), λ j h. omega (arith, c .before .before .before .before .loop .inv .cols j h, c .before .before .before .before .before .pre .1 .1 j h))
 
 returns : tie.Need-returns Inv-loop μ-loop
 returns c = ship-none (c .before .before .before .before .before .before .loop .inv) (c .before .send .ensures .none (c .if1 .taken))

@@ -1,5 +1,6 @@
 -- `transport::curve::sweep` meets its contract. Assumes nothing.
 use Prim.Native.Nat.{ℕ}
+use native.Mathlib.Omega.{arith}
 use lib.ListN.{length-replicate, getD-replicate}
 use Rattle.transport.proofs.Begin.{base-ready, base-enough, base-rows, base-cols, freight-ready, climb-ready, swept-same}
 use borrow.Author.Needs.{needs}
@@ -8,13 +9,16 @@ use Rattle.transport.proofs.curve.sweep.Tie as tie
 
 plan-base-requires : tie.Need-plan-base-requires
 plan-base-requires c κs =
-    let r = c .before .before .before .before .before .before .before .pre in (base-ready r (length-replicate {A = ℕ} 2048 0) (λ k h. getD-replicate {A = ℕ} 2048 k 0 0 h), base-enough r)
+    let r = c .before .before .before .before .before .before .before .pre in (base-ready r (length-replicate {A = ℕ} 2048 0) (λ k h. getD-replicate {A = ℕ} 2048 k 0 0 h), (base-enough r, λ j h. omega arith))
 
 freight-of-requires : tie.Need-freight-of-requires
 freight-of-requires c κs = freight-ready (c .before .before .before .before .before .before .before .before .before .pre) (c .before .plan-base .ensures)
 
 climb-requires : tie.Need-climb-requires
-climb-requires c κs = climb-ready (c .before .before .before .before .before .before .before .before .before .before .before .before .before .before .before .pre) (c .before .before .before .before .before .before .before .plan-base .ensures) (c .before .before .before .before .before .freight-of .ensures)
+climb-requires c κs =
+    let r = c .before .before .before .before .before .before .before .before .before .before .before .before .before .before .before .pre in
+    let b = c .before .before .before .before .before .before .before .plan-base .ensures in
+    (climb-ready r b (c .before .before .before .before .before .freight-of .ensures), λ j h. omega (arith, b .cols j h))
 
 same-length : tie.Need-same-length
 same-length c = search needs

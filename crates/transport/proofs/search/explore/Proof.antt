@@ -2,7 +2,7 @@
 use Prim.Native.Nat.{ℕ, _-_, _<_}
 use native.Mathlib.Omega.{arith}
 use lib.ListN.{replicate, length-set, length-replicate, getD-replicate}
-use Rattle.transport.specs.engine.Path.{net, book, far}
+use Rattle.transport.specs.engine.Path.{net, book, shut}
 use Rattle.transport.specs.engine.Search.{Exploring}
 use Rattle.transport.proofs.Settle.{label-near, relax-ready, search-found, search-stuck}
 use Rattle.transport.proofs.Keys.{explore-start, explore-near, explore-step, explore-end}
@@ -11,14 +11,14 @@ use Rattle.transport.proofs.search.explore.Statement.{statement}
 use Rattle.transport.proofs.search.explore.Tie as tie
 use Rattle.transport.proofs.search.explore.Reads as reads
 use Rattle.transport.proofs.search.explore.Lts as lts
-use Rattle.transport.proofs.search.nearest.Reads as nearest-reads
+use Rattle.transport.proofs.search.choose.Reads as choose-reads
 use Rattle.transport.proofs.search.relax.Reads as relax-reads
 
 abbrev Inv-loop : tie.InvT-loop
-Inv-loop m n cost x cap pot room start limit dist₀ prev₀ hops₀ width₀ key₀ turn₀ dist prev hops width key turn = Exploring (net m n cost cap x) pot room start limit (book dist prev hops width) key turn
+Inv-loop m n cost x cap pot room demand full want start limit dist₀ prev₀ hops₀ width₀ key₀ next₀ turn₀ dist prev hops width key next turn = Exploring (net m n cost cap x) pot room start limit (book dist prev hops width) key next turn
 
 abbrev μ-loop : tie.MeasureT-loop
-μ-loop m n cost x cap pot room start limit dist₀ prev₀ hops₀ width₀ key₀ turn₀ dist prev hops width key turn = 96 - turn
+μ-loop m n cost x cap pot room demand full want start limit dist₀ prev₀ hops₀ width₀ key₀ next₀ turn₀ dist prev hops width key next turn = 96 - turn
 
 mul-dist : tie.Need-mul-dist Inv-loop μ-loop
 mul-dist c = search needs
@@ -51,61 +51,103 @@ array-write-key : tie.Need-array-write-key Inv-loop μ-loop
 array-write-key c = search needs
 
 loop-holds : tie.Need-loop-holds Inv-loop μ-loop
-loop-holds c = explore-start (replicate {A = ℕ} 96 far) (c .before .pre .0) (c .before .pre .1) (length-replicate {A = ℕ} 96 far) (λ v h. getD-replicate {A = ℕ} 96 v far 0 h)
+loop-holds c = explore-start (replicate {A = ℕ} 96 shut) (c .before .pre .0) (c .before .pre .1 .1 .1) (length-replicate {A = ℕ} 96 shut) (λ v h. getD-replicate {A = ℕ} 96 v shut 0 h)
 
-nearest-requires : tie.Need-nearest-requires Inv-loop μ-loop
-nearest-requires c κs = search needs
+choose-requires : tie.Need-choose-requires Inv-loop μ-loop
+choose-requires c κs = search needs
 
 returns : tie.Need-returns Inv-loop μ-loop
-returns c = search-stuck (c .before .before .before .before .before .before .pre .0 .sound) (c .before .before .before .before .loop .inv .searching) (explore-near (c .before .before .before .before .before .before .pre .0 .sound) (c .before .before .before .before .loop .inv) (c .before .nearest .ensures)) (c .if1 .taken)
+returns c = search-stuck (c .before .before .before .before .before .before .pre .0 .sound) (c .before .before .before .before .loop .inv .searching) (explore-near (c .before .before .before .before .before .before .pre .0 .sound) (c .before .before .before .before .loop .inv) (c .before .choose .ensures)) (c .if1 .taken)
 
 mul-if2 : tie.Need-mul-if2 Inv-loop μ-loop
-mul-if2 c = search needs
+mul-if2 c =
+    let near = explore-near (c .before .before .before .before .before .before .pre .0 .sound) (c .before .before .before .before .loop .inv) (c .before .choose .ensures) in
+    let hv : c .before .choose .result < 96 = omega (arith, near .bound, c .if1 .left) in
+    search needs
 
 element-copy-out-if2 : tie.Need-element-copy-out-if2 Inv-loop μ-loop
-element-copy-out-if2 c = search needs
+element-copy-out-if2 c =
+    let near = explore-near (c .before .before .before .before .before .before .pre .0 .sound) (c .before .before .before .before .loop .inv) (c .before .choose .ensures) in
+    let hv : c .before .choose .result < 96 = omega (arith, near .bound, c .if1 .left) in
+    search needs
 
 returns-2 : tie.Need-returns-2 Inv-loop μ-loop
 returns-2 c =
-    let near = explore-near (c .before .before .before .before .before .before .before .before .pre .0 .sound) (c .before .before .before .before .before .before .loop .inv) (c .before .before .before .nearest .ensures) in
-    let hv : c .before .before .before .nearest .result < 96 = omega (arith, c .before .before .before .nearest .ensures .bound, c .before .before .if1 .left) in
+    let near = explore-near (c .before .before .before .before .before .before .before .before .pre .0 .sound) (c .before .before .before .before .before .before .loop .inv) (c .before .before .before .choose .ensures) in
+    let hv : c .before .before .before .choose .result < 96 = omega (arith, near .bound, c .before .before .if1 .left) in
     search-found (c .before .before .before .before .before .before .before .before .pre .0 .sound) (c .before .before .before .before .before .before .loop .inv .searching) near hv (c .if2 .taken)
 
+mul-level : tie.Need-mul-level Inv-loop μ-loop
+mul-level c =
+    let near = explore-near (c .before .before .before .before .before .before .before .before .pre .0 .sound) (c .before .before .before .before .before .before .loop .inv) (c .before .before .before .choose .ensures) in
+    let hv : c .before .before .before .choose .result < 96 = omega (arith, near .bound, c .before .before .if1 .left) in
+    search needs
+
+array-read-level : tie.Need-array-read-level Inv-loop μ-loop
+array-read-level c =
+    let near = explore-near (c .before .before .before .before .before .before .before .before .pre .0 .sound) (c .before .before .before .before .before .before .loop .inv) (c .before .before .before .choose .ensures) in
+    let hv : c .before .before .before .choose .result < 96 = omega (arith, near .bound, c .before .before .if1 .left) in
+    search needs
+
 mul-key-2 : tie.Need-mul-key-2 Inv-loop μ-loop
-mul-key-2 c = search needs
+mul-key-2 c =
+    let near = explore-near (c .before .before .before .before .before .before .before .before .pre .0 .sound) (c .before .before .before .before .before .before .loop .inv) (c .before .before .before .choose .ensures) in
+    let hv : c .before .before .before .choose .result < 96 = omega (arith, near .bound, c .before .before .if1 .left) in
+    search needs
 
 array-write-key-2 : tie.Need-array-write-key-2 Inv-loop μ-loop
-array-write-key-2 c = search needs
+array-write-key-2 c =
+    let near = explore-near (c .before .before .before .before .before .before .before .before .pre .0 .sound) (c .before .before .before .before .before .before .loop .inv) (c .before .before .before .choose .ensures) in
+    let hv : c .before .before .before .choose .result < 96 = omega (arith, near .bound, c .before .before .if1 .left) in
+    search needs
 
 mul-base : tie.Need-mul-base Inv-loop μ-loop
-mul-base c = search needs
+mul-base c =
+    let near = explore-near (c .before .before .before .before .before .before .before .before .pre .0 .sound) (c .before .before .before .before .before .before .loop .inv) (c .before .before .before .choose .ensures) in
+    let hv : c .before .before .before .choose .result < 96 = omega (arith, near .bound, c .before .before .if1 .left) in
+    search needs
 
 element-copy-out-base : tie.Need-element-copy-out-base Inv-loop μ-loop
-element-copy-out-base c = search needs
+element-copy-out-base c =
+    let near = explore-near (c .before .before .before .before .before .before .before .before .pre .0 .sound) (c .before .before .before .before .before .before .loop .inv) (c .before .before .before .choose .ensures) in
+    let hv : c .before .before .before .choose .result < 96 = omega (arith, near .bound, c .before .before .if1 .left) in
+    search needs
 
 mul-hop : tie.Need-mul-hop Inv-loop μ-loop
-mul-hop c = search needs
+mul-hop c =
+    let near = explore-near (c .before .before .before .before .before .before .before .before .before .pre .0 .sound) (c .before .before .before .before .before .before .before .loop .inv) (c .before .before .before .before .choose .ensures) in
+    let hv : c .before .before .before .before .choose .result < 96 = omega (arith, near .bound, c .before .before .before .if1 .left) in
+    search needs
 
 element-copy-out-hop : tie.Need-element-copy-out-hop Inv-loop μ-loop
-element-copy-out-hop c = search needs
+element-copy-out-hop c =
+    let near = explore-near (c .before .before .before .before .before .before .before .before .before .pre .0 .sound) (c .before .before .before .before .before .before .before .loop .inv) (c .before .before .before .before .choose .ensures) in
+    let hv : c .before .before .before .before .choose .result < 96 = omega (arith, near .bound, c .before .before .before .if1 .left) in
+    search needs
 
 add-hop : tie.Need-add-hop Inv-loop μ-loop
 add-hop c =
-    let near = explore-near (c .before .before .before .before .before .before .before .before .before .before .pre .0 .sound) (c .before .before .before .before .before .before .before .before .loop .inv) (c .before .before .before .before .before .nearest .ensures) in
-    let hv : c .before .before .before .before .before .nearest .result < 96 = omega (arith, c .before .before .before .before .before .nearest .ensures .bound, c .before .before .before .before .if1 .left) in
+    let near = explore-near (c .before .before .before .before .before .before .before .before .before .before .pre .0 .sound) (c .before .before .before .before .before .before .before .before .loop .inv) (c .before .before .before .before .before .choose .ensures) in
+    let hv : c .before .before .before .before .before .choose .result < 96 = omega (arith, near .bound, c .before .before .before .before .if1 .left) in
     omega (arith, label-near (c .before .before .before .before .before .before .before .before .before .before .pre .0 .sound) (c .before .before .before .before .before .before .before .before .loop .inv .searching) hv (near .fresh hv .1) .1)
 
 mul-wide : tie.Need-mul-wide Inv-loop μ-loop
-mul-wide c = search needs
+mul-wide c =
+    let near = explore-near (c .before .before .before .before .before .before .before .before .before .before .pre .0 .sound) (c .before .before .before .before .before .before .before .before .loop .inv) (c .before .before .before .before .before .choose .ensures) in
+    let hv : c .before .before .before .before .before .choose .result < 96 = omega (arith, near .bound, c .before .before .before .before .if1 .left) in
+    search needs
 
 element-copy-out-wide : tie.Need-element-copy-out-wide Inv-loop μ-loop
-element-copy-out-wide c = search needs
+element-copy-out-wide c =
+    let near = explore-near (c .before .before .before .before .before .before .before .before .before .before .pre .0 .sound) (c .before .before .before .before .before .before .before .before .loop .inv) (c .before .before .before .before .before .choose .ensures) in
+    let hv : c .before .before .before .before .before .choose .result < 96 = omega (arith, near .bound, c .before .before .before .before .if1 .left) in
+    search needs
 
 relax-requires : tie.Need-relax-requires Inv-loop μ-loop
 relax-requires c κs =
-    let near = explore-near (c .before .before .before .before .before .before .before .before .before .before .before .before .before .before .before .before .pre .0 .sound) (c .before .before .before .before .before .before .before .before .before .before .before .before .before .before .loop .inv) (c .before .before .before .before .before .before .before .before .before .before .before .nearest .ensures) in
-    let hv : c .before .before .before .before .before .before .before .before .before .before .before .nearest .result < 96 = omega (arith, c .before .before .before .before .before .before .before .before .before .before .before .nearest .ensures .bound, c .before .before .before .before .before .before .before .before .before .before .if1 .left) in
-    relax-ready (c .before .before .before .before .before .before .before .before .before .before .before .before .before .before .before .before .pre .0 .sound) (c .before .before .before .before .before .before .before .before .before .before .before .before .before .before .loop .inv .searching) hv (near .fresh hv .1) (simp length-set (c .before .before .before .before .before .before .before .before .before .before .before .before .before .before .loop .inv .long-key))
+    let near = explore-near (c .before .before .before .before .before .before .before .before .before .before .before .before .before .before .before .before .pre .0 .sound) (c .before .before .before .before .before .before .before .before .before .before .before .before .before .before .loop .inv) (c .before .before .before .before .before .before .before .before .before .before .before .choose .ensures) in
+    let hv : c .before .before .before .before .before .before .before .before .before .before .before .choose .result < 96 = omega (arith, near .bound, c .before .before .before .before .before .before .before .before .before .before .if1 .left) in
+    (relax-ready (c .before .before .before .before .before .before .before .before .before .before .before .before .before .before .before .before .pre .0 .sound) (c .before .before .before .before .before .before .before .before .before .before .before .before .before .before .loop .inv .searching) (c .before .before .before .before .before .before .before .before .before .before .before .before .before .before .before .before .pre .0 .ceilings) (c .before .before .before .before .before .before .before .before .before .before .before .before .before .before .loop .inv .most) hv (near .fresh hv .1) (simp length-set (c .before .before .before .before .before .before .before .before .before .before .before .before .before .before .loop .inv .long-key)), c .before .before .before .before .before .before .before .before .before .before .before .before .before .before .before .before .pre .1 .1 .0 .tags)
 
 add-turn : tie.Need-add-turn Inv-loop μ-loop
 add-turn c = search needs
@@ -115,9 +157,9 @@ loop-less c = search needs
 
 loop-again : tie.Need-loop-again Inv-loop μ-loop
 loop-again c =
-    let near = explore-near (c .before .before .before .before .before .before .before .before .before .before .before .before .before .before .before .before .before .pre .0 .sound) (c .before .before .before .before .before .before .before .before .before .before .before .before .before .before .before .loop .inv) (c .before .before .before .before .before .before .before .before .before .before .before .before .nearest .ensures) in
-    let hv : c .before .before .before .before .before .before .before .before .before .before .before .before .nearest .result < 96 = omega (arith, c .before .before .before .before .before .before .before .before .before .before .before .before .nearest .ensures .bound, c .before .before .before .before .before .before .before .before .before .before .before .if1 .left) in
-    explore-step (c .before .before .before .before .before .before .before .before .before .before .before .before .before .before .before .before .before .pre .0 .sound) (c .before .before .before .before .before .before .before .before .before .before .before .before .before .before .before .loop .inv) hv near (omega (arith, c .before .before .before .before .before .before .before .before .before .if2 .left)) (c .relax .ensures .0) (c .relax .ensures .1)
+    let near = explore-near (c .before .before .before .before .before .before .before .before .before .before .before .before .before .before .before .before .before .pre .0 .sound) (c .before .before .before .before .before .before .before .before .before .before .before .before .before .before .before .loop .inv) (c .before .before .before .before .before .before .before .before .before .before .before .before .choose .ensures) in
+    let hv : c .before .before .before .before .before .before .before .before .before .before .before .before .choose .result < 96 = omega (arith, near .bound, c .before .before .before .before .before .before .before .before .before .before .before .if1 .left) in
+    explore-step (c .before .before .before .before .before .before .before .before .before .before .before .before .before .before .before .before .before .pre .0 .sound) (c .before .before .before .before .before .before .before .before .before .before .before .before .before .before .before .loop .inv) (c .before .before .before .before .before .before .before .before .before .before .before .before .before .before .before .before .before .pre .0 .ceilings) (c .before .before .before .before .before .before .before .before .before .before .before .before .before .before .before .before .before .pre .1 .0) (c .before .before .before .before .before .before .before .before .before .before .before .before .before .before .before .before .before .pre .1 .1 .0) hv near (omega (arith, c .before .before .before .before .before .before .before .before .before .if2 .left)) (c .relax .ensures .0) (c .relax .ensures .1 .0) (c .relax .ensures .1 .1)
 
 returns-3 : tie.Need-returns-3 Inv-loop μ-loop
 returns-3 c = explore-end (c .before .before .before .pre .0 .sound) (c .before .loop .inv) (c .loop-test .left)
@@ -139,11 +181,13 @@ explore-spec =
     mul-key
     array-write-key
     loop-holds
-    nearest-requires
+    choose-requires
     returns
     mul-if2
     element-copy-out-if2
     returns-2
+    mul-level
+    array-read-level
     mul-key-2
     array-write-key-2
     mul-base

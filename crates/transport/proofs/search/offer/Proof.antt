@@ -1,4 +1,3 @@
--- `transport::search::offer` meets its contract. Assumes nothing.
 use mathlib.Core.Path.{refl}
 use Rattle.transport.specs.engine.Path.Offered.{kept, won}
 use borrow.Author.Needs.{needs}
@@ -7,54 +6,51 @@ use Rattle.transport.proofs.search.offer.Tie as tie
 use Rattle.transport.proofs.search.offer.Reads as reads
 use Rattle.transport.proofs.search.offer.Lts as lts
 
-mul-if1 : tie.Need-mul-if1
-mul-if1 c = search needs
-
-element-copy-out-if1 : tie.Need-element-copy-out-if1
-element-copy-out-if1 c = search needs
-
+-- src/search.rt:70:9
 mul-dist : tie.Need-mul-dist
 mul-dist c = search needs
 
+-- src/search.rt:70:9
 element-write-dist : tie.Need-element-write-dist
 element-write-dist c = search needs
 
+-- src/search.rt:71:9
 mul-prev : tie.Need-mul-prev
 mul-prev c = search needs
 
+-- src/search.rt:71:9
 element-write-prev : tie.Need-element-write-prev
 element-write-prev c = search needs
 
+-- src/search.rt:72:9
 mul-hops : tie.Need-mul-hops
 mul-hops c = search needs
 
+-- src/search.rt:72:9
 element-write-hops : tie.Need-element-write-hops
 element-write-hops c = search needs
 
+-- src/search.rt:73:9
 mul-width : tie.Need-mul-width
 mul-width c = search needs
 
+-- src/search.rt:73:9
 element-write-width : tie.Need-element-write-width
 element-write-width c = search needs
 
+-- src/search.rt:74:9
 mul-key : tie.Need-mul-key
 mul-key c = search needs
 
-element-copy-out-key : tie.Need-element-copy-out-key
-element-copy-out-key c = search needs
-
-sub-key : tie.Need-sub-key
-sub-key c = search needs
-
-mul-key-2 : tie.Need-mul-key-2
-mul-key-2 c = search needs
-
+-- src/search.rt:74:9
 element-write-key : tie.Need-element-write-key
 element-write-key c = search needs
 
+-- src/search.rt:52:1
 returns : tie.Need-returns
-returns c = won (c .before .if1 .taken) refl refl
+returns c = won (c .if1 .taken) refl refl
 
+-- src/search.rt:52:1
 returns-2 : tie.Need-returns-2
 returns-2 c = kept (c .if1 .left) refl refl
 
@@ -62,8 +58,6 @@ pub offer-spec : {M : Type 1} → statement M
 offer-spec =
     tie.close
     (tie.spec
-    mul-if1
-    element-copy-out-if1
     mul-dist
     element-write-dist
     mul-prev
@@ -73,9 +67,6 @@ offer-spec =
     mul-width
     element-write-width
     mul-key
-    element-copy-out-key
-    sub-key
-    mul-key-2
     element-write-key
     returns
     returns-2)

@@ -50,7 +50,7 @@ push-requires : tie.Need-push-requires
 push-requires c κs =
     let q = c .before .before .before .before .before .before .before .before .before .search .ensures in
     let hg : c .before .before .before .before .before .before .before .before .before .search .result .goal < 96 = omega (arith, q .bound, c .before .before .before .before .before .before .before .before .if1 .left) in
-    push-ready (c .before .before .before .before .before .before .before .before .before .before .before .before .pre) q hg refl (omega (arith, c .before .before .smaller .ensures))
+    push-ready (c .before .before .before .before .before .before .before .before .before .before .before .before .pre .0) q hg refl (omega (arith, c .before .before .smaller .ensures))
 
 mul-gap : tie.Need-mul-gap
 mul-gap c = search needs
@@ -74,7 +74,7 @@ lower-requires : tie.Need-lower-requires
 lower-requires c κs =
     let q = c .before .before .before .before .before .before .before .before .before .before .before .before .before .search .ensures in
     let hg : c .before .before .before .before .before .before .before .before .before .before .before .before .before .search .result .goal < 96 = omega (arith, q .bound, c .before .before .before .before .before .before .before .before .before .before .before .before .if1 .left) in
-    lower-ready (c .before .before .before .before .before .before .before .before .before .before .before .before .before .before .before .before .pre) q hg refl
+    lower-ready (c .before .before .before .before .before .before .before .before .before .before .before .before .before .before .before .before .pre .0) q hg refl
 
 returns-2 : tie.Need-returns-2
 returns-2 c =
@@ -83,8 +83,8 @@ returns-2 c =
     record {
       bound = q .bound;
       found = λ h.
-          delivered (c .before .before .before .before .before .before .before .before .before .before .before .before .before .before .before .before .before .pre) q h refl (c .lower .ensures) small
-          (pushed (c .before .before .before .before .before .before .before .before .before .before .before .before .before .before .before .before .before .pre) q h refl (omega (arith, small)) (c .before .before .before .before .push .ensures));
+          delivered (c .before .before .before .before .before .before .before .before .before .before .before .before .before .before .before .before .before .pre .0) q h refl (c .lower .ensures) small
+          (pushed (c .before .before .before .before .before .before .before .before .before .before .before .before .before .before .before .before .before .pre .0) q h refl (omega (arith, small)) (c .before .before .before .before .push .ensures));
       none = λ e. absurd (c .before .before .before .before .before .before .before .before .before .before .before .before .before .if1 .left e);
     }
 

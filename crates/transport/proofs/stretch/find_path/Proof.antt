@@ -4,6 +4,7 @@ use Prim.Native.Nat.{ℕ}
 use lib.ListN.{replicate, getD-replicate, set}
 use lib.Seq.{getD-set-other}
 use Rattle.transport.proofs.Swing.{Only, path-low, path-done}
+use native.Mathlib.Omega.{arith}
 use borrow.Author.Needs.{needs}
 use Rattle.transport.proofs.stretch.find_path.Statement.{statement}
 use Rattle.transport.proofs.stretch.find_path.Tie as tie
@@ -22,7 +23,9 @@ array-write-room : tie.Need-array-write-room
 array-write-room c = search needs
 
 search-requires : tie.Need-search-requires
-search-requires c κs = search needs
+search-requires c κs =
+    let r = c .before .pre .0 in
+    (record { sound = r .swinging .sound; ceilings = r .swinging .ceilings; start = omega (arith, r .swinging .plants); positive = r .some }, c .before .pre .1)
 
 array-read-smaller : tie.Need-array-read-smaller
 array-read-smaller c = search needs
@@ -40,10 +43,10 @@ element-copy-out-gap : tie.Need-element-copy-out-gap
 element-copy-out-gap c = search needs
 
 sub-gap : tie.Need-sub-gap
-sub-gap c = path-low (c .before .before .before .before .before .before .before .before .pre) (only (c .before .before .before .before .before .before .before .before .args .limit)) (c .before .before .before .before .before .before .search .ensures)
+sub-gap c = path-low (c .before .before .before .before .before .before .before .before .pre .0) (only (c .before .before .before .before .before .before .before .before .args .limit)) (c .before .before .before .before .before .before .search .ensures)
 
 returns : tie.Need-returns
-returns c = path-done (c .before .before .before .before .before .before .before .before .pre) (only (c .before .before .before .before .before .before .before .before .args .limit)) (c .before .before .before .before .before .before .search .ensures) refl refl (c .before .smaller .ensures)
+returns c = path-done (c .before .before .before .before .before .before .before .before .pre .0) (only (c .before .before .before .before .before .before .before .before .args .limit)) (c .before .before .before .before .before .before .search .ensures) refl refl (c .before .smaller .ensures)
 
 pub find-path-spec : {M : Type 1} → statement M
 find-path-spec =

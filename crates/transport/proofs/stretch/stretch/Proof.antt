@@ -22,13 +22,13 @@ element-copy-out-loss : tie.Need-element-copy-out-loss
 element-copy-out-loss c = search needs
 
 sub-loss : tie.Need-sub-loss
-sub-loss c = loss-ready (c .before .before .before .before .before .before .before .before .pre) (c .before .before .before .before .find-path .ensures)
+sub-loss c = loss-ready (c .before .before .before .before .before .before .before .before .pre .0) (c .before .before .before .before .find-path .ensures)
 
 scan-requires : tie.Need-scan-requires
-scan-requires c κs = scan-ready (c .before .before .before .before .before .before .before .before .pre) (c .before .before .before .before .find-path .ensures)
+scan-requires c κs = scan-ready (c .before .before .before .before .before .before .before .before .pre .0) (c .before .before .before .before .find-path .ensures)
 
 keep-requires : tie.Need-keep-requires
-keep-requires c κs = keep-ready (c .before .before .before .before .before .before .before .before .before .before .before .before .pre) (c .before .before .before .before .before .before .before .before .find-path .ensures) (c .before .before .before .scan .ensures)
+keep-requires c κs = keep-ready (c .before .before .before .before .before .before .before .before .before .before .before .before .pre .0) (c .before .before .before .before .before .before .before .before .find-path .ensures) (c .before .before .before .scan .ensures)
 
 push-requires : tie.Need-push-requires
 push-requires c κs = c .before .before .before .before .before .before .before .before .before .before .before .find-path .ensures .able _ (omega arith)
@@ -37,7 +37,7 @@ lower-requires : tie.Need-lower-requires
 lower-requires c κs = search needs
 
 returns : tie.Need-returns
-returns c = stretch-done (c .before .before .before .before .before .before .before .before .before .before .before .before .before .before .before .before .before .before .before .pre) (c .before .before .before .before .before .before .before .before .before .before .before .before .before .before .before .find-path .ensures) (c .before .before .before .before .before .before .before .before .before .before .scan .ensures) (c .before .before .before .before .before .before .keep .ensures) (c .before .before .before .push .ensures) (c .lower .ensures)
+returns c = stretch-done (c .before .before .before .before .before .before .before .before .before .before .before .before .before .before .before .before .before .before .before .pre .0) (c .before .before .before .before .before .before .before .before .before .before .before .before .before .before .before .find-path .ensures) (c .before .before .before .before .before .before .before .before .before .before .scan .ensures) (c .before .before .before .before .before .before .keep .ensures) (c .before .before .before .push .ensures) (c .lower .ensures)
 
 pub stretch-spec : {M : Type 1} → statement M
 stretch-spec =
