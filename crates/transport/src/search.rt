@@ -5,9 +5,9 @@ ghost use Rattle.transport.specs.engine.Path.{Before, net, book, OfferRe
 ghost use Rattle.transport.specs.engine.Search.{SearchReady, Blank, Searched};
 
 // Above every label.
-pub const FAR: u64 = 1_000_000_000_000_000;
+pub const FAR: u32 = 2_000_000_000;
 
-pub fn smaller(a: u64, b: u64) -> u64
+pub fn smaller(a: u32, b: u32) -> u32
     ensures { λ r. ⌜ r ≡ min a b ⌝ }
 {
     if a < b { a } else { b }
@@ -16,23 +16,24 @@ pub fn smaller(a: u64, b: u64) -> u64
 // Offers node w a label; a smaller one than it has is taken, and its key is then the label less the potential.
 fn offer(
     w: usize,
-    t: u64,
+    t: u32,
     from: usize,
-    hop: u64,
-    k: u64,
-    pot: &[u64; 96],
-    dist: &mut [u64; 96],
-    prev: &mut [usize; 96],
-    hops: &mut [u64; 96],
-    width: &mut [u64; 96],
-    key: &mut [u64; 96],
+    hop: u32,
+    k: u32,
+    pot: &[u32; 96],
+    dist: &mut [u32; 96],
+    prev: &mut [u32; 96],
+    hops: &mut [u32; 96],
+    width: &mut [u32; 96],
+    key: &mut [u32; 96],
 )
     requires { ⌜ OfferReady w t (now pot) ⌝ }
+    requires { ⌜ from < 96 ⌝ }
     ensures { λ _. ⌜ Offered w t from hop k (now (pot .entry)) (book (now (dist .entry)) (now (prev .entry)) (now (hops .entry)) (now (width .entry))) (book (now (dist .exit)) (now (prev .exit)) (now (hops .exit)) (now (width .exit))) (now (key .entry)) (now (key .exit)) ⌝ }
 {
     if t < dist[w] {
         dist[w] = t;
-        prev[w] = from;
+        prev[w] = from as u32;
         hops[w] = hop;
         width[w] = k;
         key[w] = t - pot[w];
@@ -44,18 +45,18 @@ fn relax_row(
     m: usize,
     n: usize,
     i: usize,
-    cost: &[u64; 2048],
-    x: &[u64; 2048],
-    cap: &[u64; 2048],
-    base: u64,
-    hop: u64,
-    wide: u64,
-    pot: &[u64; 96],
-    dist: &mut [u64; 96],
-    prev: &mut [usize; 96],
-    hops: &mut [u64; 96],
-    width: &mut [u64; 96],
-    key: &mut [u64; 96],
+    cost: &[u32; 2048],
+    x: &[u32; 2048],
+    cap: &[u32; 2048],
+    base: u32,
+    hop: u32,
+    wide: u32,
+    pot: &[u32; 96],
+    dist: &mut [u32; 96],
+    prev: &mut [u32; 96],
+    hops: &mut [u32; 96],
+    width: &mut [u32; 96],
+    key: &mut [u32; 96],
 )
     requires { ⌜ RowReady (net m n (now cost) (now cap) (now x)) (now pot) i base (book (now dist) (now prev) (now hops) (now width)) (now key) ⌝ }
     ensures { λ _. ⌜ Passed (net m n (now (cost .entry)) (now (cap .entry)) (now (x .entry))) i base hop wide (book (now (dist .entry)) (now (prev .entry)) (now (hops .entry)) (now (width .entry))) (book (now (dist .exit)) (now (prev .exit)) (now (hops .exit)) (now (width .exit))) ⌝ }
@@ -76,18 +77,18 @@ fn relax_column(
     m: usize,
     n: usize,
     v: usize,
-    cost: &[u64; 2048],
-    x: &[u64; 2048],
-    cap: &[u64; 2048],
-    base: u64,
-    hop: u64,
-    wide: u64,
-    pot: &[u64; 96],
-    dist: &mut [u64; 96],
-    prev: &mut [usize; 96],
-    hops: &mut [u64; 96],
-    width: &mut [u64; 96],
-    key: &mut [u64; 96],
+    cost: &[u32; 2048],
+    x: &[u32; 2048],
+    cap: &[u32; 2048],
+    base: u32,
+    hop: u32,
+    wide: u32,
+    pot: &[u32; 96],
+    dist: &mut [u32; 96],
+    prev: &mut [u32; 96],
+    hops: &mut [u32; 96],
+    width: &mut [u32; 96],
+    key: &mut [u32; 96],
 )
     requires { ⌜ ColumnReady (net m n (now cost) (now cap) (now x)) (now pot) v base (book (now dist) (now prev) (now hops) (now width)) (now key) ⌝ }
     ensures { λ _. ⌜ Passed (net m n (now (cost .entry)) (now (cap .entry)) (now (x .entry))) v base hop wide (book (now (dist .entry)) (now (prev .entry)) (now (hops .entry)) (now (width .entry))) (book (now (dist .exit)) (now (prev .exit)) (now (hops .exit)) (now (width .exit))) ⌝ }
@@ -109,18 +110,18 @@ fn relax(
     m: usize,
     n: usize,
     v: usize,
-    cost: &[u64; 2048],
-    x: &[u64; 2048],
-    cap: &[u64; 2048],
-    base: u64,
-    hop: u64,
-    wide: u64,
-    pot: &[u64; 96],
-    dist: &mut [u64; 96],
-    prev: &mut [usize; 96],
-    hops: &mut [u64; 96],
-    width: &mut [u64; 96],
-    key: &mut [u64; 96],
+    cost: &[u32; 2048],
+    x: &[u32; 2048],
+    cap: &[u32; 2048],
+    base: u32,
+    hop: u32,
+    wide: u32,
+    pot: &[u32; 96],
+    dist: &mut [u32; 96],
+    prev: &mut [u32; 96],
+    hops: &mut [u32; 96],
+    width: &mut [u32; 96],
+    key: &mut [u32; 96],
 )
     requires { ⌜ RelaxReady (net m n (now cost) (now cap) (now x)) (now pot) v base (book (now dist) (now prev) (now hops) (now width)) (now key) ⌝ }
     ensures { λ _. ⌜ Passed (net m n (now (cost .entry)) (now (cap .entry)) (now (x .entry))) v base hop wide (book (now (dist .entry)) (now (prev .entry)) (now (hops .entry)) (now (width .entry))) (book (now (dist .exit)) (now (prev .exit)) (now (hops .exit)) (now (width .exit))) ⌝ }
@@ -166,7 +167,7 @@ fn relax(
 }
 
 // Does a node of key d and some room go before one of key least? Of equal keys one with room does: the search then ends there.
-fn goes_before(d: u64, least: u64, room: u64) -> bool
+fn goes_before(d: u32, least: u32, room: u32) -> bool
     ensures { λ r. ⌜ Before d least r ⌝ }
 {
     if least < d {
@@ -182,7 +183,7 @@ fn goes_before(d: u64, least: u64, room: u64) -> bool
 }
 
 // The node of the least key from lo up to hi, or 96; of equal keys one with room.
-fn closest(lo: usize, hi: usize, key: &[u64; 96], room: &[u64; 96]) -> usize
+fn closest(lo: usize, hi: usize, key: &[u32; 96], room: &[u32; 96]) -> usize
     requires { ⌜ hi ≤ 96 ⌝ }
     ensures { λ r. ⌜ Closest (now (key .entry)) lo hi r ⌝ }
 {
@@ -199,7 +200,7 @@ fn closest(lo: usize, hi: usize, key: &[u64; 96], room: &[u64; 96]) -> usize
 }
 
 // The nearest node that is not settled, or 96: of the m sources and the n terminals, since no other node has a label.
-fn nearest(m: usize, n: usize, key: &[u64; 96], room: &[u64; 96]) -> usize
+fn nearest(m: usize, n: usize, key: &[u32; 96], room: &[u32; 96]) -> usize
     requires { ⌜ (m ≤ 32) × (n ≤ 64) ⌝ }
     ensures { λ r. ⌜ ClosestNode m n (now (key .entry)) r ⌝ }
 {
@@ -222,17 +223,17 @@ fn nearest(m: usize, n: usize, key: &[u64; 96], room: &[u64; 96]) -> usize
 fn explore(
     m: usize,
     n: usize,
-    cost: &[u64; 2048],
-    x: &[u64; 2048],
-    cap: &[u64; 2048],
-    pot: &[u64; 96],
-    room: &[u64; 96],
+    cost: &[u32; 2048],
+    x: &[u32; 2048],
+    cap: &[u32; 2048],
+    pot: &[u32; 96],
+    room: &[u32; 96],
     start: usize,
-    limit: u64,
-    dist: &mut [u64; 96],
-    prev: &mut [usize; 96],
-    hops: &mut [u64; 96],
-    width: &mut [u64; 96],
+    limit: u32,
+    dist: &mut [u32; 96],
+    prev: &mut [u32; 96],
+    hops: &mut [u32; 96],
+    width: &mut [u32; 96],
 ) -> usize
     requires { ⌜ SearchReady (net m n (now cost) (now cap) (now x)) (now pot) start limit ⌝ }
     requires { ⌜ Blank (book (now dist) (now prev) (now hops) (now width)) ⌝ }
@@ -280,31 +281,31 @@ fn explore(
 // and the smallest ceiling on them.
 pub struct Paths {
     pub goal: usize,
-    pub dist: [u64; 96],
-    pub prev: [usize; 96],
-    pub hops: [u64; 96],
-    pub width: [u64; 96],
+    pub dist: [u32; 96],
+    pub prev: [u32; 96],
+    pub hops: [u32; 96],
+    pub width: [u32; 96],
 }
 
 // Cheapest paths from a source to the nearest node that has room.
 pub fn search(
     m: usize,
     n: usize,
-    cost: &[u64; 2048],
-    x: &[u64; 2048],
-    cap: &[u64; 2048],
-    pot: &[u64; 96],
-    room: &[u64; 96],
+    cost: &[u32; 2048],
+    x: &[u32; 2048],
+    cap: &[u32; 2048],
+    pot: &[u32; 96],
+    room: &[u32; 96],
     start: usize,
-    limit: u64,
+    limit: u32,
 ) -> Paths
     requires { ⌜ SearchReady (net m n (now cost) (now cap) (now x)) (now pot) start limit ⌝ }
     ensures { λ r. ⌜ Searched (net m n (now (cost .entry)) (now (cap .entry)) (now (x .entry))) (now (pot .entry)) (now (room .entry)) start limit (book (r .dist) (r .prev) (r .hops) (r .width)) (r .goal) ⌝ }
 {
     let mut dist = [FAR; 96];
-    let mut prev = [0usize; 96];
-    let mut hops = [0u64; 96];
-    let mut width = [0u64; 96];
+    let mut prev = [0u32; 96];
+    let mut hops = [0u32; 96];
+    let mut width = [0u32; 96];
     let goal = explore(
         m,
         n,

@@ -118,7 +118,7 @@ pub record RelaxReady (N : Net) (p : List ℕ) (v b : ℕ) (B : Book) (K : List 
 
 -- above every label
 abbrev pub far : ℕ
-far = 1000000000000000
+far = 2000000000
 
 -- k is the key of a node of potential p: where it has a label t and is not settled (its mark d is 0), what t is above p, else far
 pub record Key (d t p k : ℕ) : Type 0 where

@@ -19,6 +19,9 @@ mul-dist c = search needs
 element-write-dist : tie.Need-element-write-dist
 element-write-dist c = search needs
 
+cast-prev : tie.Need-cast-prev
+cast-prev c = search needs
+
 mul-prev : tie.Need-mul-prev
 mul-prev c = search needs
 
@@ -66,6 +69,7 @@ offer-spec =
     element-copy-out-if1
     mul-dist
     element-write-dist
+    cast-prev
     mul-prev
     element-write-prev
     mul-hops

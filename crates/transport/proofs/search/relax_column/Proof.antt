@@ -58,7 +58,7 @@ smaller-requires : tie.Need-smaller-requires Inv-loop μ-loop
 smaller-requires c κs = search needs
 
 offer-requires : tie.Need-offer-requires Inv-loop μ-loop
-offer-requires c κs = record { node = omega (arith, c .before .before .before .before .before .before .before .before .before .before .before .before .pre .sources); low = omega (arith, c .before .before .before .before .before .before .before .before .before .before .before .before .pre .back _ _ (c .before .before .before .before .before .before .before .before .before .before .loop-test .taken) (omega arith) (omega arith) (c .before .before .before .before .before .before .before .before .if1 .taken)) }
+offer-requires c κs = (record { node = omega (arith, c .before .before .before .before .before .before .before .before .before .before .before .before .pre .sources); low = omega (arith, c .before .before .before .before .before .before .before .before .before .before .before .before .pre .back _ _ (c .before .before .before .before .before .before .before .before .before .before .loop-test .taken) (omega arith) (omega arith) (c .before .before .before .before .before .before .before .before .if1 .taken)) }, omega (arith, c .before .before .before .before .before .before .before .before .before .before .before .before .pre .high, c .before .before .before .before .before .before .before .before .before .before .before .before .pre .terminals))
 
 add-i : tie.Need-add-i Inv-loop μ-loop
 add-i c = search needs

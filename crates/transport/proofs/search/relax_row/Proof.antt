@@ -73,7 +73,7 @@ add-offer : tie.Need-add-offer Inv-loop μ-loop
 add-offer c = search needs
 
 offer-requires : tie.Need-offer-requires Inv-loop μ-loop
-offer-requires c κs = record { node = omega (arith, c .before .before .before .before .before .before .before .before .before .before .before .before .before .before .pre .terminals); low = c .before .before .before .before .before .before .before .before .before .before .before .before .before .before .pre .ahead _ (c .before .before .before .before .before .before .before .before .before .before .before .before .loop-test .taken) (c .before .before .before .before .before .before .before .before .before .if1 .taken) }
+offer-requires c κs = (record { node = omega (arith, c .before .before .before .before .before .before .before .before .before .before .before .before .before .before .pre .terminals); low = c .before .before .before .before .before .before .before .before .before .before .before .before .before .before .pre .ahead _ (c .before .before .before .before .before .before .before .before .before .before .before .before .loop-test .taken) (c .before .before .before .before .before .before .before .before .before .if1 .taken) }, omega (arith, c .before .before .before .before .before .before .before .before .before .before .before .before .before .before .pre .source, c .before .before .before .before .before .before .before .before .before .before .before .before .before .before .pre .sources))
 
 add-j : tie.Need-add-j Inv-loop μ-loop
 add-j c = search needs
