@@ -7,7 +7,8 @@ use native.Mathlib.Decide.{ℕ-discrete, decLt}
 use native.Mathlib.Omega.{arith}
 use lib.ListN.{length, getD, set, length-set, take, drop, length-take, length-drop}
 use lib.Seq.{getD-set-same, getD-set-other, getD-take, getD-drop}
-use Rattle.planner.specs.Copy.{Copied, RowsMoved, FirstAmounts}
+use Rattle.planner.specs.Copy.{Narrow, Copied, RowsMoved, FirstAmounts}
+use Rattle.planner.proofs.Rows.{row-at}
 
 -- the first k cells are copied
 pub record Copying (s : List ℕ) (at k : ℕ) (d e : List ℕ) : Type 0 where
@@ -47,6 +48,9 @@ move-start n p q s d = record { long = refl; rows = λ i j h. absurd (omega arit
 
 pub part-size : (f n : ℕ) (s : List ℕ) → f + n ≤ length s → length (take (f + n - f) (drop f s)) ≡ n
 part-size f n s h = simp (length-take, length-drop) (omega arith)
+
+pub narrow-part : (f n : ℕ) (s : List ℕ) → f + n ≤ length s → Narrow s → Narrow (take (f + n - f) (drop f s))
+narrow-part f n s h q k l = let z = part-size f n s h in omega (arith, q (f + k) (omega (arith, z)), row-at s f n k (omega (arith, z)))
 
 -- row k lies at f in the source and goes to t
 pub move-next : {n p q k : ℕ} {s d e e' : List ℕ} (f t : ℕ) → Moving n p q k s d e → n ≤ q → f ≡ k * p → t ≡ k * q → f + n ≤ length s

@@ -19,7 +19,7 @@ use Rattle.planner.specs.Plans.{PlanAt, rowSum, columnSum, freightOf, le
 use Rattle.planner.specs.Outcome.{Outcome, planned, refused, refusalOf, planOf, outcomeOf, formRefusal, test12}
 use Rattle.planner.specs.Promise.{Cheapest, BalanceRule}
 use Rattle.planner.specs.Answer.{Slices, slices, Written, Answered}
-use Rattle.planner.specs.Copy.{RowsMoved, FirstAmounts, Wanted}
+use Rattle.planner.specs.Copy.{Narrow, RowsMoved, FirstAmounts, Wanted}
 use Rattle.planner.specs.Ready.{OnSplits, Accepts}
 use Rattle.planner.proofs.Passed.{Formed, formed, Balanced, balanced, small-entry, Roomy, roomy, second-decides}
 use Rattle.planner.proofs.Splits.{first-two, last-split}
@@ -63,12 +63,26 @@ module _ {c : Case} {lo hi all : ℕ} (s : OnSplits c lo hi all) where
   unfolding greatestSplit
   most = (omega (arith, s .high, s .whole), omega (arith, s .high), form .small-supply 0 (omega (arith, form .two-sources)))
 
+  pub whole-most : all ≤ 8000
+  whole-most =
+      omega (arith, s .whole, even .reach, form .small-supply 0 (omega (arith, form .two-sources)), form .small-supply 1 (omega (arith, form .two-sources)))
+
   pub gap : hi - lo ≡ steps c
   unfolding steps
   gap = omega (arith, s .low, s .high)
 
   pub inside : hi < length (c .table)
   inside = omega (arith, form .table-long, most)
+
+-- what the slices hold fits the working arrays
+pub narrow-costs : {c : Case} → Formed c → Narrow (c .costs)
+narrow-costs f k h = omega (arith, f .small-cost k (omega (arith, f .costs-long)))
+
+pub narrow-supplies : {c : Case} → Formed c → Narrow (c .supplies)
+narrow-supplies f k h = omega (arith, f .small-supply k (omega (arith, f .supplies-long)))
+
+pub narrow-demands : {c : Case} → Formed c → Narrow (c .demands)
+narrow-demands f k h = omega (arith, f .small-demand k (omega (arith, f .demands-long)))
 
 -- from what the working arrays' functions say
 pub prepare : {c : Case} {lo hi all : ℕ} {cost cap amounts wants : List ℕ} → Accepts c lo hi all → RowsMoved (c .m) (c .n) (c .n) 64 (c .costs) cost

@@ -4,7 +4,11 @@ use mathlib.Core.List.{List}
 use Prim.Native.Nat.{ℕ, _+_, _*_, _≤_, _<_}
 use lib.ListN.{length, getD}
 
--- the cells of `from` stand in `after` from `at` on, the other cells are those of `before`
+-- each number fits 32 bits
+abbrev pub Narrow : List ℕ → Type 0
+Narrow l = (k : ℕ) → k < length l → getD l k 0 < 4294967296
+
+-- the cells of `source` stand in `after` from `at` on, the other cells are those of `before`
 pub record Copied (source : List ℕ) (at : ℕ) (before after : List ℕ) : Type 0 where
   pub long : length after ≡ length before
   pub here : (k : ℕ) → k < length source → getD after (at + k) 0 ≡ getD source k 0

@@ -36,7 +36,7 @@ fn solve(
     let cap = ceilings();
     let amounts = first_amounts(supplies, lo, all - lo);
     let wants = wanted(demands);
-    let mut kept = [0u64; 2048];
+    let mut kept = [0u32; 2048];
     let best = sweep(
         m,
         n,

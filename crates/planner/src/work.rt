@@ -1,24 +1,36 @@
-// Copies between the lent slices, whose rows have n cells, and the working arrays, whose rows have 64.
+// Copies between the lent slices, whose rows have n cells of 64 bits, and the working arrays, whose rows have 64 cells of 32 bits.
 ghost use mathlib.Core.Path.{_≡_};
 ghost use Prim.Native.Nat.{ℕ, _+_, _*_, _≤_, _<_};
 ghost use lib.ListN.{length, getD};
-ghost use Rattle.planner.specs.Copy.{Copied, RowsMoved, FirstAmounts, Wanted};
+ghost use Rattle.planner.specs.Copy.{Narrow, Copied, RowsMoved, FirstAmounts, Wanted};
 
-// Copies a slice into another from index `at` on.
-pub fn copy_into(source: &[u64], at: usize, to: &mut [u64])
-    requires { ⌜ at + length (now source) ≤ length (now to) ⌝ }
+// Copies a slice whose numbers fit 32 bits into working cells from index `at` on.
+pub fn copy_into(source: &[u64], at: usize, to: &mut [u32])
+    requires { ⌜ (at + length (now source) ≤ length (now to)) × Narrow (now source) ⌝ }
     ensures { λ _. ⌜ Copied (now (source .entry)) at (now (to .entry)) (now (to .exit)) ⌝ }
 {
     let mut k: usize = 0;
     while k < source.len() {
-        to[at + k] = source[k];
+        to[at + k] = source[k] as u32;
+        k += 1;
+    }
+}
+
+// Copies working cells into a slice from index `at` on.
+pub fn copy_out(cells: &[u32], at: usize, to: &mut [u64])
+    requires { ⌜ at + length (now cells) ≤ length (now to) ⌝ }
+    ensures { λ _. ⌜ Copied (now (cells .entry)) at (now (to .entry)) (now (to .exit)) ⌝ }
+{
+    let mut k: usize = 0;
+    while k < cells.len() {
+        to[at + k] = cells[k] as u64;
         k += 1;
     }
 }
 
 // Copies the m rows of n unit costs into rows of 64.
-pub fn spread_rows(m: usize, n: usize, costs: &[u64], to: &mut [u64; 2048])
-    requires { ⌜ (m ≤ 32) × (n ≤ 64) × (length (now costs) ≡ m * n) × (length (now to) ≡ 2048) ⌝ }
+pub fn spread_rows(m: usize, n: usize, costs: &[u64], to: &mut [u32; 2048])
+    requires { ⌜ (m ≤ 32) × (n ≤ 64) × (length (now costs) ≡ m * n) × (length (now to) ≡ 2048) × Narrow (now costs) ⌝ }
     ensures { λ _. ⌜ RowsMoved m n n 64 (now (costs .entry)) (now (to .exit)) × (length (now (to .exit)) ≡ 2048) ⌝ }
 {
     let mut start: usize = 0;
@@ -30,7 +42,7 @@ pub fn spread_rows(m: usize, n: usize, costs: &[u64], to: &mut [u64; 2048])
 }
 
 // Copies m rows of n amounts out of rows of 64; later cells are left as they are.
-pub fn gather_rows(m: usize, n: usize, cells: &[u64; 2048], to: &mut [u64])
+pub fn gather_rows(m: usize, n: usize, cells: &[u32; 2048], to: &mut [u64])
     requires { ⌜ (m ≤ 32) × (n ≤ 64) × (m * n ≤ length (now to)) × (length (now cells) ≡ 2048) ⌝ }
     ensures { λ _. ⌜ RowsMoved m n 64 n (now (cells .entry)) (now (to .exit)) × (length (now (to .exit)) ≡ length (now (to .entry))) × ((k : ℕ) → m * n ≤ k → getD (now (to .exit)) k 0 ≡ getD (now (to .entry)) k 0) ⌝ }
 {
@@ -39,46 +51,46 @@ pub fn gather_rows(m: usize, n: usize, cells: &[u64; 2048], to: &mut [u64])
     for i in 0..m {
         let start = i * 64;
         let end = start + n;
-        copy_into(&all[start..end], at, to);
+        copy_out(&all[start..end], at, to);
         at = at + n;
     }
 }
 
 // The unit costs in rows of 64.
-pub fn cost_rows(m: usize, n: usize, costs: &[u64]) -> [u64; 2048]
-    requires { ⌜ (m ≤ 32) × (n ≤ 64) × (length (now costs) ≡ m * n) ⌝ }
+pub fn cost_rows(m: usize, n: usize, costs: &[u64]) -> [u32; 2048]
+    requires { ⌜ (m ≤ 32) × (n ≤ 64) × (length (now costs) ≡ m * n) × Narrow (now costs) ⌝ }
     ensures { λ r. ⌜ RowsMoved m n n 64 (now (costs .entry)) r ⌝ }
 {
-    let mut cost = [0u64; 2048];
+    let mut cost = [0u32; 2048];
     spread_rows(m, n, costs, &mut cost);
     cost
 }
 
 // A ceiling on each lane that no amount reaches.
-pub fn ceilings() -> [u64; 2048]
+pub fn ceilings() -> [u32; 2048]
     ensures { λ r. ⌜ ((k : ℕ) → k < 2048 → getD r k 0 ≡ 4000) ⌝ }
 {
-    [4_000u64; 2048]
+    [4_000u32; 2048]
 }
 
 // What each source sends at the first split: plant 1 first, plant 2 second, the depots their stock.
-pub fn first_amounts(supplies: &[u64], first: u64, second: u64) -> [u64; 32]
-    requires { ⌜ length (now supplies) ≤ 32 ⌝ }
+pub fn first_amounts(supplies: &[u64], first: u64, second: u64) -> [u32; 32]
+    requires { ⌜ (length (now supplies) ≤ 32) × Narrow (now supplies) × (first < 4294967296) × (second < 4294967296) ⌝ }
     ensures { λ r. ⌜ FirstAmounts (now (supplies .entry)) first second r ⌝ }
 {
-    let mut amounts = [0u64; 32];
+    let mut amounts = [0u32; 32];
     copy_into(supplies, 0, &mut amounts);
-    amounts[0] = first;
-    amounts[1] = second;
+    amounts[0] = first as u32;
+    amounts[1] = second as u32;
     amounts
 }
 
 // The demands at the terminals' nodes, 32 and up.
-pub fn wanted(demands: &[u64]) -> [u64; 96]
-    requires { ⌜ length (now demands) ≤ 64 ⌝ }
+pub fn wanted(demands: &[u64]) -> [u32; 96]
+    requires { ⌜ (length (now demands) ≤ 64) × Narrow (now demands) ⌝ }
     ensures { λ r. ⌜ Wanted (now (demands .entry)) r ⌝ }
 {
-    let mut wants = [0u64; 96];
+    let mut wants = [0u32; 96];
     copy_into(demands, 32, &mut wants);
     wants
 }

@@ -163,6 +163,9 @@ module _ {N : Net} {p x table : List ℕ} {y v limit : ℕ} {best : Incumbent} {
     within : held .split - y ≤ d
     within = elim (decLt y (held .split)) [ yes h ↦ omega (arith, seen .new h .0) | no h ↦ omega arith ]
 
+    pub keep-near : held .split ≤ y + 4000
+    keep-near = omega (arith, within, scan-ready .few)
+
     pub keep-ready : Walkable prev (held .split - y) count 1 x
     keep-ready = s .able (held .split - y) within
 

@@ -7,7 +7,7 @@ use Prim.Native.Nat.{ℕ, suc, min, _+_, _-_, _*_, _≤_, _<_}
 use native.Mathlib.Decide.{ℕ-discrete}
 use native.Mathlib.Omega.{arith}
 use lib.ListN.{length, getD, set, length-set}
-use lib.Seq.{getD-set-same, getD-set-other}
+use lib.Seq.{getD-set-same, getD-set-other, set-getD}
 use Rattle.transport.specs.engine.Path.{
   Net,
   Book,
@@ -147,6 +147,17 @@ shut-back j s hw e l t k (ahead j' a a' f g h i) = omega arith
 shut-back {N} {w = w} j s hw e l t k (back j' a a' f g h i) = let z : j ≡ j' = omega arith in omega (arith, ap (λ j. N .x w j) z)
 
 -- ---- the label and the key of an offer
+
+-- each cell is stored anew, as it was where the offer is left
+pub offer-made : (take : Bool) (w t from hop k f : ℕ) (B : Book) (K : List ℕ) {r₁ r₂ r₃ r₄ r₅ : ℕ} → r₁ ≡ cond take t (get (B .dist) w)
+    → r₂ ≡ cond take from (get (B .prev) w) → r₃ ≡ cond take hop (get (B .hops) w) → r₄ ≡ cond take k (get (B .width) w) → r₅ ≡ cond take f (get K w)
+    → Offered take w t from hop k f B (book (set (B .dist) w r₁) (set (B .prev) w r₂) (set (B .hops) w r₃) (set (B .width) w r₄)) K (set K w r₅)
+offer-made true w t from hop k f B K e₁ e₂ e₃ e₄ e₅ = won refl (rw (e₁, e₂, e₃, e₄) refl) (rw e₅ refl)
+offer-made false w t from hop k f B K e₁ e₂ e₃ e₄ e₅ =
+    kept refl (rw (same (B .dist) e₁, same (B .prev) e₂, same (B .hops) e₃, same (B .width) e₄) refl) (same K e₅)
+  where
+    same : (l : List ℕ) {r : ℕ} → r ≡ get l w → set l w r ≡ l
+    same l e = ap (λ z. set l w z) e ∙ set-getD l w 0
 
 -- the label that stands after an offer can have a key
 pub pick-low : {take : Bool} {t old x u p r : ℕ} → Wins t old x u take → (x < u → p ≤ t) → p ≤ old → old ≤ far → r ≡ cond take t old → (p ≤ r) × (r ≤ far)

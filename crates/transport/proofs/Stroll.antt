@@ -212,6 +212,11 @@ module _ (P : List ℕ) (d v : ℕ) (x : List ℕ) where
   turn-node zero l w = absurd (omega arith)
   turn-node (suc h) l w = (w .0, w .1)
 
+  pub turn-prev : (h : ℕ) → 0 < h → Walkable P d h v x → get P v < 96
+  turn-prev h l w =
+      let c = turn-node h l w .1 in
+      elim (decLt v 32) [ yes k ↦ c .less k .1 | no k ↦ omega (arith, c .more (omega arith) .0) ]
+
   pub turn-able : (h : ℕ) → 0 < h → Walkable P d h v x → (y : List ℕ) → Carried v (get P v) d x y → Walkable P d (h - 1) (get P v) y
   unfolding Walkable
   turn-able zero l w y c = absurd (omega arith)

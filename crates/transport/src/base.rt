@@ -8,15 +8,15 @@ use super::send::send;
 fn ship(
     m: usize,
     n: usize,
-    cost: &[u64; 2048],
-    cap: &[u64; 2048],
-    demand: &[u64; 96],
+    cost: &[u32; 2048],
+    cap: &[u32; 2048],
+    demand: &[u32; 96],
     start: usize,
-    amount: u64,
-    x: &mut [u64; 2048],
-    pot: &mut [u64; 96],
-    room: &mut [u64; 96],
-) -> u64
+    amount: u32,
+    x: &mut [u32; 2048],
+    pot: &mut [u32; 96],
+    room: &mut [u32; 96],
+) -> u32
     requires { ⌜ start < m ⌝ }
     requires { ⌜ Stocked (net m n (now cost) (now cap) (now x)) (now pot) (now room) (now x) ⌝ }
     requires { ⌜ Short (net m n (now cost) (now cap) (now x)) (now room) (now demand) ⌝ }
@@ -40,20 +40,20 @@ fn ship(
 pub fn plan_base(
     m: usize,
     n: usize,
-    cost: &[u64; 2048],
-    cap: &[u64; 2048],
-    amounts: &[u64; 32],
-    demand: &[u64; 96],
-    x: &mut [u64; 2048],
-    pot: &mut [u64; 96],
-    room: &mut [u64; 96],
+    cost: &[u32; 2048],
+    cap: &[u32; 2048],
+    amounts: &[u32; 32],
+    demand: &[u32; 96],
+    x: &mut [u32; 2048],
+    pot: &mut [u32; 96],
+    room: &mut [u32; 96],
 )
     requires { ⌜ BaseReady (net m n (now cost) (now cap) (now x)) (now room) (now x) ⌝ }
     requires { ⌜ Enough (net m n (now cost) (now cap) (now x)) (now amounts) (now room) ⌝ }
     requires { ⌜ Asked n (now room) (now demand) ⌝ }
     ensures { λ _. ⌜ BaseDone (net m n (now (cost .entry)) (now (cap .entry)) (now (x .entry))) (now (amounts .entry)) (now (room .entry)) (now (pot .exit)) (now (room .exit)) (now (x .exit)) ⌝ }
 {
-    *pot = [800_000_000u64; 96];
+    *pot = [800_000_000u32; 96];
     for k in 0..m {
         let i = m - 1 - k;
         ship(m, n, cost, cap, demand, i, amounts[i], x, pot, room);

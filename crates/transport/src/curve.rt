@@ -62,18 +62,18 @@ pub struct Curve {
 fn climb(
     m: usize,
     n: usize,
-    cost: &[u64; 2048],
-    cap: &[u64; 2048],
+    cost: &[u32; 2048],
+    cap: &[u32; 2048],
     lo: u64,
     hi: u64,
     freight: u64,
-    demand: &[u64; 96],
+    demand: &[u32; 96],
     table: &[u64],
     splits: &mut [u64],
     freights: &mut [u64],
-    x: &mut [u64; 2048],
-    pot: &mut [u64; 96],
-    kept: &mut [u64; 2048],
+    x: &mut [u32; 2048],
+    pot: &mut [u32; 96],
+    kept: &mut [u32; 2048],
 ) -> Curve
     requires { ⌜ ClimbReady m n (now cost) (now cap) (now x) (now pot) lo hi freight (now table) (now splits) (now freights) ⌝ }
     requires { ⌜ Wanted (net m n (now cost) (now cap) (now x)) (now demand) ⌝ }
@@ -92,6 +92,7 @@ fn climb(
     let mut rise: u64 = 0;
     let mut fall: u64 = 0;
     while y < hi {
+        let left = (hi - y) as u32;
         let moved = stretch(
             m,
             n,
@@ -100,7 +101,7 @@ fn climb(
             table,
             y,
             value,
-            hi - y,
+            left,
             best,
             demand,
             x,
@@ -129,22 +130,22 @@ fn climb(
 pub fn sweep(
     m: usize,
     n: usize,
-    cost: &[u64; 2048],
-    cap: &[u64; 2048],
-    amounts: &[u64; 32],
-    demand: &[u64; 96],
+    cost: &[u32; 2048],
+    cap: &[u32; 2048],
+    amounts: &[u32; 32],
+    demand: &[u32; 96],
     lo: u64,
     hi: u64,
     table: &[u64],
     splits: &mut [u64],
     freights: &mut [u64],
-    kept: &mut [u64; 2048],
+    kept: &mut [u32; 2048],
 ) -> Curve
     requires { ⌜ SweepReady m n (now cost) (now cap) (now amounts) (now demand) lo hi (now table) (now splits) (now freights) ⌝ }
     ensures { λ r. ⌜ Swept m n (byRow 64 (now (cost .entry))) (amountIn (now (amounts .entry))) (demandIn (now (demand .entry))) lo hi (now (table .entry)) (now (splits .entry)) (now (freights .entry)) (now (splits .exit)) (now (freights .exit)) (now (kept .exit)) (r .split) (r .total) (r .freight) (r .stops) ⌝ }
 {
-    let mut x = [0u64; 2048];
-    let mut pot = [0u64; 96];
+    let mut x = [0u32; 2048];
+    let mut pot = [0u32; 96];
     let mut room = *demand;
     plan_base(
         m,

@@ -7,33 +7,33 @@ ghost use Rattle.transport.specs.engine.Path.{net, book, far, Offered, P
 ghost use Rattle.transport.specs.engine.Search.{SearchReady, Wanted, Blank, Searched};
 
 // Above every label.
-pub const FAR: u64 = 2_000_000_000;
+pub const FAR: u32 = 2_000_000_000;
 
 // Above every key.
-const SHUT: u64 = 4_000_000_000;
+const SHUT: u32 = 4_000_000_000;
 
-pub fn smaller(a: u64, b: u64) -> u64
+pub fn smaller(a: u32, b: u32) -> u32
     ensures { λ r. ⌜ r ≡ min a b ⌝ }
 {
     if a < b { a } else { b }
 }
 
 // a where take says so, else b.
-fn pick(take: bool, a: u64, b: u64) -> u64
+fn pick(take: bool, a: u32, b: u32) -> u32
     ensures { λ r. ⌜ r ≡ cond take a b ⌝ }
 {
     if take { a } else { b }
 }
 
 // How many drums more a lane of x drums can carry.
-fn spare(x: u64, cap: u64) -> u64
+fn spare(x: u32, cap: u32) -> u32
     ensures { λ r. ⌜ r ≡ cap - x ⌝ }
 {
     if x < cap { cap - x } else { 0 }
 }
 
 // Is a label t over a lane of x drums to be taken in place of old?
-fn wins(t: u64, old: u64, x: u64, cap: u64) -> bool
+fn wins(t: u32, old: u32, x: u32, cap: u32) -> bool
     ensures { λ r. ⌜ Wins t old x cap r ⌝ }
 {
     if old <= t {
@@ -47,7 +47,7 @@ fn wins(t: u64, old: u64, x: u64, cap: u64) -> bool
 
 // The key of a label: twice what it is above the potential, and one more at a node without room, so that of two nodes as near one with room
 // comes first.
-fn key_of(t: u64, pot: u64, full: u64) -> u64
+fn key_of(t: u32, pot: u32, full: u32) -> u32
     requires { ⌜ (pot ≤ t) × (t ≤ far) × (full ≤ 1) ⌝ }
     ensures { λ r. ⌜ r ≡ 2 * (t - pot) + full ⌝ }
 {
@@ -55,7 +55,7 @@ fn key_of(t: u64, pot: u64, full: u64) -> u64
 }
 
 // The same of a terminal that a lane of x drums leads to. Where these are all that it gets, no way leads on from it, and it has no key.
-fn row_key(x: u64, want: u64, t: u64, pot: u64, full: u64) -> u64
+fn row_key(x: u32, want: u32, t: u32, pot: u32, full: u32) -> u32
     requires { ⌜ (pot ≤ t) × (t ≤ far) × (full ≤ 1) ⌝ }
     ensures { λ r. ⌜ RowKey x want t pot r ⌝ }
 {
@@ -69,27 +69,25 @@ fn row_key(x: u64, want: u64, t: u64, pot: u64, full: u64) -> u64
 fn offer(
     w: usize,
     take: bool,
-    t: u64,
-    from: usize,
-    hop: u64,
-    k: u64,
-    f: u64,
-    dist: &mut [u64; 96],
-    prev: &mut [usize; 96],
-    hops: &mut [u64; 96],
-    width: &mut [u64; 96],
-    key: &mut [u64; 96],
+    t: u32,
+    from: u32,
+    hop: u32,
+    k: u32,
+    f: u32,
+    dist: &mut [u32; 96],
+    prev: &mut [u32; 96],
+    hops: &mut [u32; 96],
+    width: &mut [u32; 96],
+    key: &mut [u32; 96],
 )
     requires { ⌜ w < 96 ⌝ }
     ensures { λ _. ⌜ Offered take w t from hop k f (book (now (dist .entry)) (now (prev .entry)) (now (hops .entry)) (now (width .entry))) (book (now (dist .exit)) (now (prev .exit)) (now (hops .exit)) (now (width .exit))) (now (key .entry)) (now (key .exit)) ⌝ }
 {
-    if take {
-        dist[w] = t;
-        prev[w] = from;
-        hops[w] = hop;
-        width[w] = k;
-        key[w] = f;
-    }
+    dist[w] = pick(take, t, dist[w]);
+    prev[w] = pick(take, from, prev[w]);
+    hops[w] = pick(take, hop, hops[w]);
+    width[w] = pick(take, k, width[w]);
+    key[w] = pick(take, f, key[w]);
 }
 
 // Offers each terminal that source i still has room to serve a path through that source.
@@ -97,20 +95,20 @@ fn relax_row(
     m: usize,
     n: usize,
     i: usize,
-    cost: &[u64; 2048],
-    x: &[u64; 2048],
-    cap: &[u64; 2048],
-    base: u64,
-    hop: u64,
-    wide: u64,
-    pot: &[u64; 96],
-    full: &[u64; 96],
-    want: &[u64; 96],
-    dist: &mut [u64; 96],
-    prev: &mut [usize; 96],
-    hops: &mut [u64; 96],
-    width: &mut [u64; 96],
-    key: &mut [u64; 96],
+    cost: &[u32; 2048],
+    x: &[u32; 2048],
+    cap: &[u32; 2048],
+    base: u32,
+    hop: u32,
+    wide: u32,
+    pot: &[u32; 96],
+    full: &[u32; 96],
+    want: &[u32; 96],
+    dist: &mut [u32; 96],
+    prev: &mut [u32; 96],
+    hops: &mut [u32; 96],
+    width: &mut [u32; 96],
+    key: &mut [u32; 96],
 )
     requires { ⌜ RowReady (net m n (now cost) (now cap) (now x)) (now pot) i base (book (now dist) (now prev) (now hops) (now width)) (now key) ⌝ }
     requires { ⌜ Tags (now full) (now want) ⌝ }
@@ -126,12 +124,25 @@ fn relax_row(
         let take = wins(t, old, drums, cap[k]);
         let f = row_key(drums, want[w], pick(take, t, old), pot[w], full[w]);
         let left = smaller(wide, spare(drums, cap[k]));
-        offer(w, take, t, i, hop, left, f, dist, prev, hops, width, key);
+        offer(
+            w,
+            take,
+            t,
+            i as u32,
+            hop,
+            left,
+            f,
+            dist,
+            prev,
+            hops,
+            width,
+            key,
+        );
     }
 }
 
 // Node i in place of next, where its label was taken and its key is at most level.
-fn named(take: bool, d: u64, level: u64, i: usize, next: usize) -> usize
+fn named(take: bool, d: u32, level: u32, i: usize, next: usize) -> usize
     ensures { λ r. ⌜ Named take d level i next r ⌝ }
 {
     if take {
@@ -147,21 +158,21 @@ fn relax_column(
     m: usize,
     n: usize,
     v: usize,
-    cost: &[u64; 2048],
-    x: &[u64; 2048],
-    cap: &[u64; 2048],
-    base: u64,
-    hop: u64,
-    wide: u64,
-    level: u64,
-    pot: &[u64; 96],
-    full: &[u64; 96],
-    want: &[u64; 96],
-    dist: &mut [u64; 96],
-    prev: &mut [usize; 96],
-    hops: &mut [u64; 96],
-    width: &mut [u64; 96],
-    key: &mut [u64; 96],
+    cost: &[u32; 2048],
+    x: &[u32; 2048],
+    cap: &[u32; 2048],
+    base: u32,
+    hop: u32,
+    wide: u32,
+    level: u32,
+    pot: &[u32; 96],
+    full: &[u32; 96],
+    want: &[u32; 96],
+    dist: &mut [u32; 96],
+    prev: &mut [u32; 96],
+    hops: &mut [u32; 96],
+    width: &mut [u32; 96],
+    key: &mut [u32; 96],
 ) -> usize
     requires { ⌜ ColumnReady (net m n (now cost) (now cap) (now x)) (now pot) v base (book (now dist) (now prev) (now hops) (now width)) (now key) ⌝ }
     requires { ⌜ Tags (now full) (now want) ⌝ }
@@ -178,7 +189,20 @@ fn relax_column(
             let take = wins(t, dist[i], 0, x[k]);
             let f = key_of(t, pot[i], full[i]);
             let left = smaller(wide, x[k]);
-            offer(i, take, t, v, hop, left, f, dist, prev, hops, width, key);
+            offer(
+                i,
+                take,
+                t,
+                v as u32,
+                hop,
+                left,
+                f,
+                dist,
+                prev,
+                hops,
+                width,
+                key,
+            );
             next = named(take, f, level, i, next);
         }
     }
@@ -190,21 +214,21 @@ fn relax(
     m: usize,
     n: usize,
     v: usize,
-    cost: &[u64; 2048],
-    x: &[u64; 2048],
-    cap: &[u64; 2048],
-    base: u64,
-    hop: u64,
-    wide: u64,
-    level: u64,
-    pot: &[u64; 96],
-    full: &[u64; 96],
-    want: &[u64; 96],
-    dist: &mut [u64; 96],
-    prev: &mut [usize; 96],
-    hops: &mut [u64; 96],
-    width: &mut [u64; 96],
-    key: &mut [u64; 96],
+    cost: &[u32; 2048],
+    x: &[u32; 2048],
+    cap: &[u32; 2048],
+    base: u32,
+    hop: u32,
+    wide: u32,
+    level: u32,
+    pot: &[u32; 96],
+    full: &[u32; 96],
+    want: &[u32; 96],
+    dist: &mut [u32; 96],
+    prev: &mut [u32; 96],
+    hops: &mut [u32; 96],
+    width: &mut [u32; 96],
+    key: &mut [u32; 96],
 ) -> usize
     requires { ⌜ RelaxReady (net m n (now cost) (now cap) (now x)) (now pot) v base (book (now dist) (now prev) (now hops) (now width)) (now key) ⌝ }
     requires { ⌜ Tags (now full) (now want) ⌝ }
@@ -257,7 +281,7 @@ fn relax(
 }
 
 // The node of the least key from lo up to hi, or 96.
-fn closest(lo: usize, hi: usize, key: &[u64; 96]) -> usize
+fn closest(lo: usize, hi: usize, key: &[u32; 96]) -> usize
     requires { ⌜ hi ≤ 96 ⌝ }
     ensures { λ r. ⌜ Closest (now (key .entry)) lo hi r ⌝ }
 {
@@ -274,7 +298,7 @@ fn closest(lo: usize, hi: usize, key: &[u64; 96]) -> usize
 }
 
 // The nearest node that is not settled, or 96: of the m sources and the n terminals, since no other node has a label.
-fn nearest(m: usize, n: usize, key: &[u64; 96]) -> usize
+fn nearest(m: usize, n: usize, key: &[u32; 96]) -> usize
     requires { ⌜ (m ≤ 32) × (n ≤ 64) ⌝ }
     ensures { λ r. ⌜ ClosestNode m n (now (key .entry)) r ⌝ }
 {
@@ -293,7 +317,7 @@ fn nearest(m: usize, n: usize, key: &[u64; 96]) -> usize
 }
 
 // The node named, or if none is, the nearest.
-fn choose(m: usize, n: usize, next: usize, key: &[u64; 96]) -> usize
+fn choose(m: usize, n: usize, next: usize, key: &[u32; 96]) -> usize
     requires { ⌜ (m ≤ 32) × (n ≤ 64) ⌝ }
     ensures { λ r. ⌜ Chosen m n (now (key .entry)) next r ⌝ }
 {
@@ -308,20 +332,20 @@ fn choose(m: usize, n: usize, next: usize, key: &[u64; 96]) -> usize
 fn explore(
     m: usize,
     n: usize,
-    cost: &[u64; 2048],
-    x: &[u64; 2048],
-    cap: &[u64; 2048],
-    pot: &[u64; 96],
-    room: &[u64; 96],
-    demand: &[u64; 96],
-    full: &[u64; 96],
-    want: &[u64; 96],
+    cost: &[u32; 2048],
+    x: &[u32; 2048],
+    cap: &[u32; 2048],
+    pot: &[u32; 96],
+    room: &[u32; 96],
+    demand: &[u32; 96],
+    full: &[u32; 96],
+    want: &[u32; 96],
     start: usize,
-    limit: u64,
-    dist: &mut [u64; 96],
-    prev: &mut [usize; 96],
-    hops: &mut [u64; 96],
-    width: &mut [u64; 96],
+    limit: u32,
+    dist: &mut [u32; 96],
+    prev: &mut [u32; 96],
+    hops: &mut [u32; 96],
+    width: &mut [u32; 96],
 ) -> usize
     requires { ⌜ SearchReady (net m n (now cost) (now cap) (now x)) (now pot) start limit ⌝ }
     requires { ⌜ Wanted (net m n (now cost) (now cap) (now x)) (now demand) ⌝ }
@@ -373,14 +397,14 @@ fn explore(
 }
 
 // 1 where there is no room.
-fn full_bit(room: u64) -> u64
+fn full_bit(room: u32) -> u32
     ensures { λ r. ⌜ r ≤ 1 ⌝ }
 {
     if room == 0 { 1 } else { 0 }
 }
 
 // All that a terminal without room gets; SHUT where it has room or gets nothing.
-fn whole(room: u64, demand: u64) -> u64
+fn whole(room: u32, demand: u32) -> u32
     ensures { λ r. ⌜ Whole room demand r ⌝ }
 {
     if 0 < room {
@@ -393,7 +417,7 @@ fn whole(room: u64, demand: u64) -> u64
 }
 
 // The nodes as the passes see them.
-fn tag(room: &[u64; 96], demand: &[u64; 96], full: &mut [u64; 96], want: &mut [u64; 96])
+fn tag(room: &[u32; 96], demand: &[u32; 96], full: &mut [u32; 96], want: &mut [u32; 96])
     requires { ⌜ (length (now full) ≡ 96) × (length (now want) ≡ 96) ⌝ }
     ensures { λ _. ⌜ Tagged (now (room .entry)) (now (demand .entry)) (now (full .exit)) (now (want .exit)) ⌝ }
 {
@@ -407,36 +431,36 @@ fn tag(room: &[u64; 96], demand: &[u64; 96], full: &mut [u64; 96], want: &mut [u
 // and the smallest ceiling on them.
 pub struct Paths {
     pub goal: usize,
-    pub dist: [u64; 96],
-    pub prev: [usize; 96],
-    pub hops: [u64; 96],
-    pub width: [u64; 96],
+    pub dist: [u32; 96],
+    pub prev: [u32; 96],
+    pub hops: [u32; 96],
+    pub width: [u32; 96],
 }
 
 // Cheapest paths from a source to the nearest node that has room.
 pub fn search(
     m: usize,
     n: usize,
-    cost: &[u64; 2048],
-    x: &[u64; 2048],
-    cap: &[u64; 2048],
-    pot: &[u64; 96],
-    room: &[u64; 96],
-    demand: &[u64; 96],
+    cost: &[u32; 2048],
+    x: &[u32; 2048],
+    cap: &[u32; 2048],
+    pot: &[u32; 96],
+    room: &[u32; 96],
+    demand: &[u32; 96],
     start: usize,
-    limit: u64,
+    limit: u32,
 ) -> Paths
     requires { ⌜ SearchReady (net m n (now cost) (now cap) (now x)) (now pot) start limit ⌝ }
     requires { ⌜ Wanted (net m n (now cost) (now cap) (now x)) (now demand) ⌝ }
     ensures { λ r. ⌜ Searched (net m n (now (cost .entry)) (now (cap .entry)) (now (x .entry))) (now (pot .entry)) (now (room .entry)) start limit (book (r .dist) (r .prev) (r .hops) (r .width)) (r .goal) ⌝ }
 {
-    let mut full = [0u64; 96];
-    let mut want = [0u64; 96];
+    let mut full = [0u32; 96];
+    let mut want = [0u32; 96];
     tag(room, demand, &mut full, &mut want);
     let mut dist = [FAR; 96];
-    let mut prev = [0usize; 96];
-    let mut hops = [0u64; 96];
-    let mut width = [0u64; 96];
+    let mut prev = [0u32; 96];
+    let mut hops = [0u32; 96];
+    let mut width = [0u32; 96];
     let goal = explore(
         m,
         n,

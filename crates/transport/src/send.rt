@@ -9,7 +9,7 @@ use super::search::search;
 use super::search::smaller;
 
 // Lowers the potential of each node that is nearer than gap by what it is nearer.
-pub fn lower(gap: u64, dist: &[u64; 96], pot: &mut [u64; 96])
+pub fn lower(gap: u32, dist: &[u32; 96], pot: &mut [u32; 96])
     requires { ⌜ LowerReady gap (now dist) (now pot) ⌝ }
     ensures { λ _. ⌜ Lowered gap (now (dist .entry)) (now (pot .entry)) 96 (now (pot .exit)) ⌝ }
 {
@@ -18,14 +18,14 @@ pub fn lower(gap: u64, dist: &[u64; 96], pot: &mut [u64; 96])
     }
 }
 
-fn take(k: usize, amount: u64, x: &mut [u64; 2048])
+fn take(k: usize, amount: u32, x: &mut [u32; 2048])
     requires { ⌜ (k < 2048) × (amount ≤ getD (now x) k 0) ⌝ }
     ensures { λ _. ⌜ now (x .exit) ≡ set (now (x .entry)) k (getD (now (x .entry)) k 0 - amount) ⌝ }
 {
     x[k] = x[k] - amount;
 }
 
-fn give(k: usize, amount: u64, x: &mut [u64; 2048])
+fn give(k: usize, amount: u32, x: &mut [u32; 2048])
     requires { ⌜ (k < 2048) × (getD (now x) k 0 + amount ≤ 4000000000) ⌝ }
     ensures { λ _. ⌜ now (x .exit) ≡ set (now (x .entry)) k (getD (now (x .entry)) k 0 + amount) ⌝ }
 {
@@ -33,7 +33,7 @@ fn give(k: usize, amount: u64, x: &mut [u64; 2048])
 }
 
 // Carries amount over the arc from w to v.
-fn carry(v: usize, w: usize, amount: u64, x: &mut [u64; 2048])
+fn carry(v: usize, w: usize, amount: u32, x: &mut [u32; 2048])
     requires { ⌜ CarryReady v w amount (now x) ⌝ }
     ensures { λ _. ⌜ Carried v w amount (now (x .entry)) (now (x .exit)) ⌝ }
 {
@@ -45,14 +45,14 @@ fn carry(v: usize, w: usize, amount: u64, x: &mut [u64; 2048])
 }
 
 // Carries amount over the last count arcs of the path to goal.
-pub fn push(prev: &[usize; 96], count: u64, goal: usize, amount: u64, x: &mut [u64; 2048])
+pub fn push(prev: &[u32; 96], count: u32, goal: usize, amount: u32, x: &mut [u32; 2048])
     requires { ⌜ Walkable (now prev) amount count goal (now x) ⌝ }
     ensures { λ _. ⌜ Walked (now (prev .entry)) amount count goal (now (x .entry)) (now (x .exit)) ⌝ }
 {
     let mut v = goal;
     let mut left = count;
     while 0 < left {
-        let w = prev[v];
+        let w = prev[v] as usize;
         carry(v, w, amount, x);
         v = w;
         left = left - 1;
@@ -62,21 +62,21 @@ pub fn push(prev: &[usize; 96], count: u64, goal: usize, amount: u64, x: &mut [u
 // Where a send went (96: nowhere), and how much.
 pub struct Sent {
     pub goal: usize,
-    pub amount: u64,
+    pub amount: u32,
 }
 
 // Sends up to limit along a cheapest path from a source to a node that has room.
 pub fn send(
     m: usize,
     n: usize,
-    cost: &[u64; 2048],
-    cap: &[u64; 2048],
-    room: &[u64; 96],
-    demand: &[u64; 96],
+    cost: &[u32; 2048],
+    cap: &[u32; 2048],
+    room: &[u32; 96],
+    demand: &[u32; 96],
     start: usize,
-    limit: u64,
-    x: &mut [u64; 2048],
-    pot: &mut [u64; 96],
+    limit: u32,
+    x: &mut [u32; 2048],
+    pot: &mut [u32; 96],
 ) -> Sent
     requires { ⌜ SendReady (net m n (now cost) (now cap) (now x)) (now pot) (now room) start limit (now x) ⌝ }
     requires { ⌜ Wanted (net m n (now cost) (now cap) (now x)) (now demand) ⌝ }

@@ -1,5 +1,5 @@
 // Step 3: one stretch of the freight curve, from a split to the next stop (substeps 1° to 3° of report 4.1).
-ghost use Prim.Native.Nat.{_-_};
+ghost use Prim.Native.Nat.{_+_, _-_, _≤_};
 ghost use Rattle.transport.specs.engine.Path.{net};
 ghost use Rattle.transport.specs.engine.Send.{Walkable};
 ghost use Rattle.transport.specs.engine.Stretch.{ShiftReady, PathDone, KeepDone, StretchReady, StretchDone};
@@ -14,29 +14,29 @@ use crate::Incumbent;
 // A path from plant 0 to plant 1: how many drums can go along it, its arcs, its reduced cost, and for each node
 // the distance and the node before it.
 pub struct Path {
-    pub amount: u64,
-    pub count: u64,
-    pub gap: u64,
-    pub dist: [u64; 96],
-    pub prev: [usize; 96],
+    pub amount: u32,
+    pub count: u32,
+    pub gap: u32,
+    pub dist: [u32; 96],
+    pub prev: [u32; 96],
 }
 
 // 1° A cheapest path from plant 0 to plant 1. 2° As many drums as its smallest ceiling, and limit at most, can go along it.
 fn find_path(
     m: usize,
     n: usize,
-    cost: &[u64; 2048],
-    cap: &[u64; 2048],
-    limit: u64,
-    demand: &[u64; 96],
-    x: &[u64; 2048],
-    pot: &[u64; 96],
+    cost: &[u32; 2048],
+    cap: &[u32; 2048],
+    limit: u32,
+    demand: &[u32; 96],
+    x: &[u32; 2048],
+    pot: &[u32; 96],
 ) -> Path
     requires { ⌜ ShiftReady (net m n (now cost) (now cap) (now x)) (now pot) (now x) limit ⌝ }
     requires { ⌜ Wanted (net m n (now cost) (now cap) (now x)) (now demand) ⌝ }
     ensures { λ r. ⌜ PathDone (net m n (now (cost .entry)) (now (cap .entry)) (now (x .entry))) (now (pot .entry)) (now (x .entry)) limit (r .dist) (r .prev) (r .count) (r .gap) (r .amount) ⌝ }
 {
-    let mut room = [0u64; 96];
+    let mut room = [0u32; 96];
     room[1] = limit;
     let found = search(m, n, cost, x, cap, pot, &room, demand, 0, limit);
     let dist = found.dist;
@@ -56,15 +56,16 @@ fn find_path(
 }
 
 // Keeps the plan at a split beyond y: x with split - y drums moved along the path.
-fn keep(prev: &[usize; 96], count: u64, split: u64, y: u64, x: &[u64; 2048], kept: &mut [u64; 2048])
+fn keep(prev: &[u32; 96], count: u32, split: u64, y: u64, x: &[u32; 2048], kept: &mut [u32; 2048])
     requires { ⌜ Walkable (now prev) (split - y) count 1 (now x) ⌝ }
+    requires { ⌜ split ≤ y + 4000 ⌝ }
     ensures { λ _. ⌜ KeepDone (now (prev .entry)) count split y (now (x .entry)) (now (kept .entry)) (now (kept .exit)) ⌝ }
 {
     if split <= y {
         return;
     }
     *kept = *x;
-    push(prev, count, 1, split - y, kept);
+    push(prev, count, 1, (split - y) as u32, kept);
 }
 
 // How far a stretch went, what each of its drums adds to the freight and takes off it, and the incumbent after it.
@@ -80,17 +81,17 @@ pub struct Moved {
 pub fn stretch(
     m: usize,
     n: usize,
-    cost: &[u64; 2048],
-    cap: &[u64; 2048],
+    cost: &[u32; 2048],
+    cap: &[u32; 2048],
     table: &[u64],
     y: u64,
     freight: u64,
-    limit: u64,
+    limit: u32,
     best: Incumbent,
-    demand: &[u64; 96],
-    x: &mut [u64; 2048],
-    pot: &mut [u64; 96],
-    kept: &mut [u64; 2048],
+    demand: &[u32; 96],
+    x: &mut [u32; 2048],
+    pot: &mut [u32; 96],
+    kept: &mut [u32; 2048],
 ) -> Moved
     requires { ⌜ StretchReady (net m n (now cost) (now cap) (now x)) (now pot) (now x) (now table) y freight limit best ⌝ }
     requires { ⌜ Wanted (net m n (now cost) (now cap) (now x)) (now demand) ⌝ }
@@ -102,15 +103,16 @@ pub fn stretch(
     let gap = path.gap;
     let dist = path.dist;
     let prev = path.prev;
-    let gain = pot[1];
-    let loss = pot[0] - gap;
-    let held = scan(table, y, amount, freight, gain, loss, best);
+    let gain = pot[1] as u64;
+    let loss = (pot[0] - gap) as u64;
+    let drums = amount as u64;
+    let held = scan(table, y, drums, freight, gain, loss, best);
     let split = held.split;
     keep(&prev, count, split, y, x, kept);
     push(&prev, count, 1, amount, x);
     lower(gap, &dist, pot);
     Moved {
-        amount,
+        amount: drums,
         gain,
         loss,
         best: held,

@@ -7,7 +7,7 @@ use denote.Ref.{now}
 use native.Mathlib.Omega.{arith}
 use Rattle.planner.specs.Verdict.{lent}
 use Rattle.planner.proofs.Passed.{Formed, formed, roomy}
-use Rattle.planner.proofs.Solution.{Prepared, prepare, ready, answered, in-order, most}
+use Rattle.planner.proofs.Solution.{Prepared, prepare, ready, narrow-costs, narrow-supplies, narrow-demands, answered, in-order, most, whole-most}
 use Rattle.planner.proofs.solve.solve.Statement.{statement}
 use Rattle.planner.proofs.solve.solve.Tie as tie
 use Rattle.planner.proofs.solve.solve.Reads as reads
@@ -25,7 +25,7 @@ prepared :
 prepared c = prepare (c .before .before .before .before .before .before .before .before .before .before .before .before .before .before .before .before .before .before .pre) (c .before .before .before .before .before .before .before .before .before .before .cost-rows .ensures) (c .before .before .before .before .before .before .before .before .before .ceilings .ensures) (c .before .before .before .before .before .before .before .before .first-amounts .ensures) (c .before .before .before .before .before .before .before .wanted .ensures)
 
 cost-rows-requires : tie.Need-cost-rows-requires
-cost-rows-requires c κs = let f = formed (lent (c .before .before .before .before .before .before .before .args .m) (c .before .before .before .before .before .before .before .args .n) (now (c .before .before .before .before .before .before .before .args .costs)) (now (c .before .before .before .before .before .before .before .args .supplies)) (now (c .before .before .before .before .before .before .before .args .demands)) (now (c .before .before .before .before .before .before .before .args .table)) (length (now (c .before .before .before .before .before .before .before .args .plan))) (length (now (c .before .before .before .before .before .before .before .args .splits))) (length (now (c .before .before .before .before .before .before .before .args .freights)))) (c .before .before .before .before .before .before .before .pre .on .form) in (f .few-sources, f .few-terminals, f .costs-long)
+cost-rows-requires c κs = let f = formed (lent (c .before .before .before .before .before .before .before .args .m) (c .before .before .before .before .before .before .before .args .n) (now (c .before .before .before .before .before .before .before .args .costs)) (now (c .before .before .before .before .before .before .before .args .supplies)) (now (c .before .before .before .before .before .before .before .args .demands)) (now (c .before .before .before .before .before .before .before .args .table)) (length (now (c .before .before .before .before .before .before .before .args .plan))) (length (now (c .before .before .before .before .before .before .before .args .splits))) (length (now (c .before .before .before .before .before .before .before .args .freights)))) (c .before .before .before .before .before .before .before .pre .on .form) in (f .few-sources, f .few-terminals, f .costs-long, narrow-costs f)
 
 ceilings-requires : tie.Need-ceilings-requires
 ceilings-requires c κs = search needs
@@ -34,10 +34,10 @@ sub-first-amounts : tie.Need-sub-first-amounts
 sub-first-amounts c = let h = most (c .before .before .before .before .before .before .before .before .before .pre .on) in omega (arith, h, in-order (c .before .before .before .before .before .before .before .before .before .pre .on))
 
 first-amounts-requires : tie.Need-first-amounts-requires
-first-amounts-requires c κs = let f = formed (lent (c .before .before .before .before .before .before .before .before .before .args .m) (c .before .before .before .before .before .before .before .before .before .args .n) (now (c .before .before .before .before .before .before .before .before .before .args .costs)) (now (c .before .before .before .before .before .before .before .before .before .args .supplies)) (now (c .before .before .before .before .before .before .before .before .before .args .demands)) (now (c .before .before .before .before .before .before .before .before .before .args .table)) (length (now (c .before .before .before .before .before .before .before .before .before .args .plan))) (length (now (c .before .before .before .before .before .before .before .before .before .args .splits))) (length (now (c .before .before .before .before .before .before .before .before .before .args .freights)))) (c .before .before .before .before .before .before .before .before .before .pre .on .form) in omega (arith, f .supplies-long, f .few-sources)
+first-amounts-requires c κs = let f = formed (lent (c .before .before .before .before .before .before .before .before .before .args .m) (c .before .before .before .before .before .before .before .before .before .args .n) (now (c .before .before .before .before .before .before .before .before .before .args .costs)) (now (c .before .before .before .before .before .before .before .before .before .args .supplies)) (now (c .before .before .before .before .before .before .before .before .before .args .demands)) (now (c .before .before .before .before .before .before .before .before .before .args .table)) (length (now (c .before .before .before .before .before .before .before .before .before .args .plan))) (length (now (c .before .before .before .before .before .before .before .before .before .args .splits))) (length (now (c .before .before .before .before .before .before .before .before .before .args .freights)))) (c .before .before .before .before .before .before .before .before .before .pre .on .form) in (omega (arith, f .supplies-long, f .few-sources), narrow-supplies f, omega (arith, in-order (c .before .before .before .before .before .before .before .before .before .pre .on), most (c .before .before .before .before .before .before .before .before .before .pre .on)), omega (arith, whole-most (c .before .before .before .before .before .before .before .before .before .pre .on)))
 
 wanted-requires : tie.Need-wanted-requires
-wanted-requires c κs = let f = formed (lent (c .before .before .before .before .before .before .before .before .before .before .args .m) (c .before .before .before .before .before .before .before .before .before .before .args .n) (now (c .before .before .before .before .before .before .before .before .before .before .args .costs)) (now (c .before .before .before .before .before .before .before .before .before .before .args .supplies)) (now (c .before .before .before .before .before .before .before .before .before .before .args .demands)) (now (c .before .before .before .before .before .before .before .before .before .before .args .table)) (length (now (c .before .before .before .before .before .before .before .before .before .before .args .plan))) (length (now (c .before .before .before .before .before .before .before .before .before .before .args .splits))) (length (now (c .before .before .before .before .before .before .before .before .before .before .args .freights)))) (c .before .before .before .before .before .before .before .before .before .before .pre .on .form) in omega (arith, f .demands-long, f .few-terminals)
+wanted-requires c κs = let f = formed (lent (c .before .before .before .before .before .before .before .before .before .before .args .m) (c .before .before .before .before .before .before .before .before .before .before .args .n) (now (c .before .before .before .before .before .before .before .before .before .before .args .costs)) (now (c .before .before .before .before .before .before .before .before .before .before .args .supplies)) (now (c .before .before .before .before .before .before .before .before .before .before .args .demands)) (now (c .before .before .before .before .before .before .before .before .before .before .args .table)) (length (now (c .before .before .before .before .before .before .before .before .before .before .args .plan))) (length (now (c .before .before .before .before .before .before .before .before .before .before .args .splits))) (length (now (c .before .before .before .before .before .before .before .before .before .before .args .freights)))) (c .before .before .before .before .before .before .before .before .before .before .pre .on .form) in (omega (arith, f .demands-long, f .few-terminals), narrow-demands f)
 
 sweep-requires : tie.Need-sweep-requires
 sweep-requires c κs = ready (c .before .before .before .before .before .before .before .before .before .before .before .before .before .before .before .before .before .before .pre) (prepared c) _ _ refl refl

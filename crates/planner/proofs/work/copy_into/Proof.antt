@@ -25,6 +25,9 @@ mul-to c = omega arith
 shared-slice-read-to : tie.Need-shared-slice-read-to Inv-loop μ-loop
 shared-slice-read-to c = omega arith
 
+cast-to : tie.Need-cast-to Inv-loop μ-loop
+cast-to c = omega (arith, c .before .before .before .pre .1 (c .before .before .loop .k) (c .before .loop-test .taken))
+
 add-to : tie.Need-add-to Inv-loop μ-loop
 add-to c = omega arith
 
@@ -58,6 +61,7 @@ copy-into-spec =
     loop-holds
     mul-to
     shared-slice-read-to
+    cast-to
     add-to
     mul-to-2
     slice-write-to

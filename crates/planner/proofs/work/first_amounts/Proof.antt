@@ -14,8 +14,14 @@ slice-aggregate-copy-into c = search needs
 copy-into-requires : tie.Need-copy-into-requires
 copy-into-requires c κs = search needs
 
+cast-amounts : tie.Need-cast-amounts
+cast-amounts c = search needs
+
 array-write-amounts : tie.Need-array-write-amounts
 array-write-amounts c = search needs
+
+cast-amounts-2 : tie.Need-cast-amounts-2
+cast-amounts-2 c = search needs
 
 array-write-amounts-2 : tie.Need-array-write-amounts-2
 array-write-amounts-2 c = search needs
@@ -29,6 +35,8 @@ first-amounts-spec =
     (tie.spec
     slice-aggregate-copy-into
     copy-into-requires
+    cast-amounts
     array-write-amounts
+    cast-amounts-2
     array-write-amounts-2
     returns)

@@ -11,7 +11,7 @@ use Rattle.planner.proofs.work.gather_rows.Statement.{statement}
 use Rattle.planner.proofs.work.gather_rows.Tie as tie
 use Rattle.planner.proofs.work.gather_rows.Reads as reads
 use Rattle.planner.proofs.work.gather_rows.Lts as lts
-use Rattle.planner.proofs.work.copy_into.Reads as copy-into-reads
+use Rattle.planner.proofs.work.copy_out.Reads as copy-out-reads
 
 abbrev Inv-loop : tie.InvT-loop
 Inv-loop m n cells to₀ all at₀ i₀ to at i = Moving n 64 n i cells to₀ to × (i ≤ m) × (at ≡ i * n)
@@ -36,20 +36,20 @@ mul-start c = omega (arith, c .before .before .before .before .pre .0)
 add-end : tie.Need-add-end Inv-loop μ-loop
 add-end c = omega (arith, c .before .before .before .before .pre .0, c .before .before .before .before .pre .1)
 
-mul-copy-into : tie.Need-mul-copy-into Inv-loop μ-loop
-mul-copy-into c = omega (arith, c .before .before .before .before .pre .0)
+mul-copy-out : tie.Need-mul-copy-out Inv-loop μ-loop
+mul-copy-out c = omega (arith, c .before .before .before .before .pre .0)
 
-sub-copy-into : tie.Need-sub-copy-into Inv-loop μ-loop
-sub-copy-into c = omega arith
+sub-copy-out : tie.Need-sub-copy-out Inv-loop μ-loop
+sub-copy-out c = omega arith
 
-part-copy-into-start : tie.Need-part-copy-into-start Inv-loop μ-loop
-part-copy-into-start c = omega arith
+part-copy-out-start : tie.Need-part-copy-out-start Inv-loop μ-loop
+part-copy-out-start c = omega arith
 
-part-copy-into-end : tie.Need-part-copy-into-end Inv-loop μ-loop
-part-copy-into-end c = omega (arith, c .before .before .before .before .pre .0, c .before .before .before .before .pre .1, c .before .before .before .before .pre .3)
+part-copy-out-end : tie.Need-part-copy-out-end Inv-loop μ-loop
+part-copy-out-end c = omega (arith, c .before .before .before .before .pre .0, c .before .before .before .before .pre .1, c .before .before .before .before .pre .3)
 
-copy-into-requires : tie.Need-copy-into-requires Inv-loop μ-loop
-copy-into-requires c κs =
+copy-out-requires : tie.Need-copy-out-requires Inv-loop μ-loop
+copy-out-requires c κs =
     let s = part-size (c .before .before .before .loop .i * 64) (c .before .before .before .before .before .before .args .n) (now (c .before .before .before .before .before .before .args .cells)) (inside (c .before .before)) in
     omega (arith, s, fits (c .before .before), c .before .before .before .loop .inv .0 .long)
 
@@ -64,7 +64,7 @@ loop-less c = omega arith
 
 loop-again : tie.Need-loop-again Inv-loop μ-loop
 loop-again c = (
-  move-next _ _ (c .before .before .before .before .before .before .loop .inv .0) (omega arith) refl (c .before .before .before .before .before .before .loop .inv .2) (inside (c .before .before .before .before .before)) (c .before .before .copy-into .ensures),
+  move-next _ _ (c .before .before .before .before .before .before .loop .inv .0) (omega arith) refl (c .before .before .before .before .before .before .loop .inv .2) (inside (c .before .before .before .before .before)) (c .before .before .copy-out .ensures),
   omega arith,
   row-start _ _ _ (c .before .before .before .before .before .before .loop .inv .2),
 )
@@ -87,11 +87,11 @@ gather-rows-spec =
     loop-holds
     mul-start
     add-end
-    mul-copy-into
-    sub-copy-into
-    part-copy-into-start
-    part-copy-into-end
-    copy-into-requires
+    mul-copy-out
+    sub-copy-out
+    part-copy-out-start
+    part-copy-out-end
+    copy-out-requires
     add-at
     add-i
     loop-less

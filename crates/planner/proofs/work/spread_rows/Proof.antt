@@ -6,7 +6,7 @@ use native.Mathlib.Omega.{arith}
 use borrow.Author.Needs.{needs}
 use denote.Ref.{now}
 use lib.ListN.{length}
-use Rattle.planner.proofs.Copies.{Moving, move-start, move-next, move-end, part-size, row-within, row-start}
+use Rattle.planner.proofs.Copies.{Moving, move-start, move-next, move-end, part-size, narrow-part, row-within, row-start}
 use Rattle.planner.proofs.work.spread_rows.Statement.{statement}
 use Rattle.planner.proofs.work.spread_rows.Tie as tie
 use Rattle.planner.proofs.work.spread_rows.Reads as reads
@@ -47,8 +47,10 @@ mul-copy-into-2 c = omega (arith, c .before .before .before .before .pre .0)
 copy-into-requires : tie.Need-copy-into-requires Inv-loop μ-loop
 copy-into-requires c κs =
     let h = fits (c .before .before) in
-    let s = part-size (c .before .before .before .loop .start) (c .before .before .before .before .before .args .n) (now (c .before .before .before .before .before .args .costs)) h in
-    omega (arith, s, c .before .before .before .loop .inv .0 .long, c .before .before .before .before .before .pre .0, c .before .before .before .before .before .pre .1, c .before .before .before .before .before .pre .3)
+    let s = part-size (c .before .before .before .loop .start) (c .before .before .before .before .before .args .n) (now (c .before .before .before .before .before .args .costs)) h in (
+      omega (arith, s, c .before .before .before .loop .inv .0 .long, c .before .before .before .before .before .pre .0, c .before .before .before .before .before .pre .1, c .before .before .before .before .before .pre .3),
+      narrow-part (c .before .before .before .loop .start) (c .before .before .before .before .before .args .n) (now (c .before .before .before .before .before .args .costs)) h (c .before .before .before .before .before .pre .4),
+    )
 
 add-i : tie.Need-add-i Inv-loop μ-loop
 add-i c = omega arith

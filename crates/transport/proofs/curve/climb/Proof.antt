@@ -20,20 +20,23 @@ abbrev μ-loop : tie.MeasureT-loop
 μ-loop m n cost cap lo hi freight demand table splits₀ freights₀ x₀ pot₀ kept₀ at best₀ y₀ value₀ count₀ rise₀ fall₀ splits freights x pot kept best y value count rise fall =
     hi - y
 
-mul-t24 : tie.Need-mul-t24 Inv-loop μ-loop
-mul-t24 c = omega (arith, c .before .before .before .pre .0 .entries, c .before .before .before .pre .0 .order, c .before .before .before .good)
+mul-t25 : tie.Need-mul-t25 Inv-loop μ-loop
+mul-t25 c = omega (arith, c .before .before .before .pre .0 .entries, c .before .before .before .pre .0 .order, c .before .before .before .good)
 
-shared-slice-read-t26 : tie.Need-shared-slice-read-t26 Inv-loop μ-loop
-shared-slice-read-t26 c = omega (arith, c .before .before .before .before .pre .0 .entries, c .before .before .before .before .pre .0 .order)
+shared-slice-read-t27 : tie.Need-shared-slice-read-t27 Inv-loop μ-loop
+shared-slice-read-t27 c = omega (arith, c .before .before .before .before .pre .0 .entries, c .before .before .before .before .pre .0 .order)
 
-add-t27 : tie.Need-add-t27 Inv-loop μ-loop
-add-t27 c = let r = c .before .before .before .before .pre .0 in omega (arith, value-most r (stand-start r), r .small (c .before .before .before .before .args .lo) (omega arith) (r .order))
+add-t28 : tie.Need-add-t28 Inv-loop μ-loop
+add-t28 c = let r = c .before .before .before .before .pre .0 in omega (arith, value-most r (stand-start r), r .small (c .before .before .before .before .args .lo) (omega arith) (r .order))
 
 loop-holds : tie.Need-loop-holds Inv-loop μ-loop
 loop-holds c = let r = c .before .before .before .before .before .pre .0 in (stand-start r, ascend-start r, omega arith, omega arith)
 
-sub-stretch : tie.Need-sub-stretch Inv-loop μ-loop
-sub-stretch c = omega (arith, c .loop-test .taken)
+sub-left : tie.Need-sub-left Inv-loop μ-loop
+sub-left c = omega (arith, c .loop-test .taken)
+
+cast-left : tie.Need-cast-left Inv-loop μ-loop
+cast-left c = omega (arith, c .before .before .before .before .before .before .before .pre .0 .short, c .before .loop .inv .1 .low)
 
 stretch-requires : tie.Need-stretch-requires Inv-loop μ-loop
 stretch-requires c κs = let i = c .before .before .before .before .loop .inv in (
@@ -123,11 +126,12 @@ climb-spec =
     (tie.spec
     Inv-loop
     μ-loop
-    mul-t24
-    shared-slice-read-t26
-    add-t27
+    mul-t25
+    shared-slice-read-t27
+    add-t28
     loop-holds
-    sub-stretch
+    sub-left
+    cast-left
     stretch-requires
     turn-requires
     mark-requires

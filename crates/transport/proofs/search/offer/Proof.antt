@@ -1,72 +1,117 @@
-use mathlib.Core.Path.{refl}
-use Rattle.transport.specs.engine.Path.Offered.{kept, won}
+-- `transport::search::offer` meets its contract. Assumes nothing.
+use Rattle.transport.proofs.Pass.{offer-made}
 use borrow.Author.Needs.{needs}
 use Rattle.transport.proofs.search.offer.Statement.{statement}
 use Rattle.transport.proofs.search.offer.Tie as tie
 use Rattle.transport.proofs.search.offer.Reads as reads
 use Rattle.transport.proofs.search.offer.Lts as lts
+use Rattle.transport.proofs.search.pick.Reads as pick-reads
 
--- src/search.rt:70:9
+mul-pick : tie.Need-mul-pick
+mul-pick c = search needs
+
+element-copy-out-pick : tie.Need-element-copy-out-pick
+element-copy-out-pick c = search needs
+
+pick-requires : tie.Need-pick-requires
+pick-requires c κs = search needs
+
 mul-dist : tie.Need-mul-dist
 mul-dist c = search needs
 
--- src/search.rt:70:9
 element-write-dist : tie.Need-element-write-dist
 element-write-dist c = search needs
 
--- src/search.rt:71:9
+mul-pick-2 : tie.Need-mul-pick-2
+mul-pick-2 c = search needs
+
+element-copy-out-pick-2 : tie.Need-element-copy-out-pick-2
+element-copy-out-pick-2 c = search needs
+
+pick-requires-2 : tie.Need-pick-requires-2
+pick-requires-2 c κs = search needs
+
 mul-prev : tie.Need-mul-prev
 mul-prev c = search needs
 
--- src/search.rt:71:9
 element-write-prev : tie.Need-element-write-prev
 element-write-prev c = search needs
 
--- src/search.rt:72:9
+mul-pick-3 : tie.Need-mul-pick-3
+mul-pick-3 c = search needs
+
+element-copy-out-pick-3 : tie.Need-element-copy-out-pick-3
+element-copy-out-pick-3 c = search needs
+
+pick-requires-3 : tie.Need-pick-requires-3
+pick-requires-3 c κs = search needs
+
 mul-hops : tie.Need-mul-hops
 mul-hops c = search needs
 
--- src/search.rt:72:9
 element-write-hops : tie.Need-element-write-hops
 element-write-hops c = search needs
 
--- src/search.rt:73:9
+mul-pick-4 : tie.Need-mul-pick-4
+mul-pick-4 c = search needs
+
+element-copy-out-pick-4 : tie.Need-element-copy-out-pick-4
+element-copy-out-pick-4 c = search needs
+
+pick-requires-4 : tie.Need-pick-requires-4
+pick-requires-4 c κs = search needs
+
 mul-width : tie.Need-mul-width
 mul-width c = search needs
 
--- src/search.rt:73:9
 element-write-width : tie.Need-element-write-width
 element-write-width c = search needs
 
--- src/search.rt:74:9
+mul-pick-5 : tie.Need-mul-pick-5
+mul-pick-5 c = search needs
+
+element-copy-out-pick-5 : tie.Need-element-copy-out-pick-5
+element-copy-out-pick-5 c = search needs
+
+pick-requires-5 : tie.Need-pick-requires-5
+pick-requires-5 c κs = search needs
+
 mul-key : tie.Need-mul-key
 mul-key c = search needs
 
--- src/search.rt:74:9
 element-write-key : tie.Need-element-write-key
 element-write-key c = search needs
 
--- src/search.rt:52:1
 returns : tie.Need-returns
-returns c = won (c .if1 .taken) refl refl
-
--- src/search.rt:52:1
-returns-2 : tie.Need-returns-2
-returns-2 c = kept (c .if1 .left) refl refl
+returns c = offer-made _ _ _ _ _ _ _ _ _ (c .before .before .before .before .before .before .before .before .pick .ensures) (c .before .before .before .before .before .before .pick2 .ensures) (c .before .before .before .before .pick3 .ensures) (c .before .before .pick4 .ensures) (c .pick5 .ensures)
 
 pub offer-spec : {M : Type 1} → statement M
 offer-spec =
     tie.close
     (tie.spec
+    mul-pick
+    element-copy-out-pick
+    pick-requires
     mul-dist
     element-write-dist
+    mul-pick-2
+    element-copy-out-pick-2
+    pick-requires-2
     mul-prev
     element-write-prev
+    mul-pick-3
+    element-copy-out-pick-3
+    pick-requires-3
     mul-hops
     element-write-hops
+    mul-pick-4
+    element-copy-out-pick-4
+    pick-requires-4
     mul-width
     element-write-width
+    mul-pick-5
+    element-copy-out-pick-5
+    pick-requires-5
     mul-key
     element-write-key
-    returns
-    returns-2)
+    returns)

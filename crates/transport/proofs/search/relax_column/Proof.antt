@@ -92,6 +92,9 @@ element-copy-out-smaller c = search needs
 smaller-requires : tie.Need-smaller-requires Inv-loop μ-loop
 smaller-requires c κs = search needs
 
+cast-offer : tie.Need-cast-offer Inv-loop μ-loop
+cast-offer c = omega (arith, c .before .before .before .before .before .before .before .before .before .before .before .before .before .pre .0 .high, c .before .before .before .before .before .before .before .before .before .before .before .before .before .pre .0 .terminals)
+
 offer-requires : tie.Need-offer-requires Inv-loop μ-loop
 offer-requires c κs = omega (arith, c .before .before .before .before .before .before .before .before .before .before .before .before .before .before .before .before .before .before .pre .0 .sources)
 
@@ -168,6 +171,7 @@ relax-column-spec =
     mul-smaller
     element-copy-out-smaller
     smaller-requires
+    cast-offer
     offer-requires
     named-requires
     add-i

@@ -107,6 +107,9 @@ spare-requires c κs = search needs
 smaller-requires : tie.Need-smaller-requires Inv-loop μ-loop
 smaller-requires c κs = search needs
 
+cast-offer : tie.Need-cast-offer Inv-loop μ-loop
+cast-offer c = omega (arith, c .before .before .before .before .before .before .before .before .before .before .before .before .before .before .before .pre .0 .source, c .before .before .before .before .before .before .before .before .before .before .before .before .before .before .before .pre .0 .sources)
+
 offer-requires : tie.Need-offer-requires Inv-loop μ-loop
 offer-requires c κs = search needs
 
@@ -167,6 +170,7 @@ relax-row-spec =
     element-copy-out-spare
     spare-requires
     smaller-requires
+    cast-offer
     offer-requires
     add-j
     loop-less
