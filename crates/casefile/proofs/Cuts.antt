@@ -30,6 +30,14 @@ use Rattle.casefile.proofs.Refusals.{Alike, alike-equal, alike-refused,
 pub few-lanes : (m n : ℕ) → min m 32 * min n 64 ≤ 2048
 few-lanes m n = mul-le-mul {n₁ = min m 32} {m₁ = min n 64} {n₂ = 32} {m₂ = 64} (omega arith) (omega arith)
 
+-- a case lent in parts that have these lengths is the cut case
+pub cut-printed :
+    (m n entries a b e : ℕ) (costs supplies demands table out out′ : List ℕ) (answer : Printed) → a ≡ min m 32 → b ≡ min n 64 → e ≡ min entries 4002 →
+    OutcomePrinted (lent m n (take (a * b) costs) (take a supplies) (take b demands) (take e table) 2048 4001 4001)
+    (outcomeOf (lent m n (take (a * b) costs) (take a supplies) (take b demands) (take e table) 2048 4001 4001)) m n out out′ answer →
+    OutcomePrinted (cutCase m n entries costs supplies demands table) (outcomeOf (cutCase m n entries costs supplies demands table)) m n out out′ answer
+cut-printed m n entries a b e costs supplies demands table out out′ answer ea eb ee p = rw (sym ea, sym eb, sym ee) p
+
 -- cells with a list stored from the first on, cut to its length
 cut-stored : (l cells : List ℕ) (k : ℕ) → length l ≡ k → k ≤ length cells → take k (sets cells 0 l) ≡ l
 cut-stored l cells k e h = rw (sets-eq l cells 0 (omega arith)) (take-at l (drop (0 + length l) cells) k e)

@@ -3,7 +3,7 @@ use mathlib.Core.Path.{_≡_, sym, ap₂}
 use Prim.Native.Nat.{ℕ, min, _*_}
 use native.Mathlib.Omega.{arith}
 use lib.Seq.{length-take-le}
-use Rattle.casefile.proofs.Cuts.{few-lanes}
+use Rattle.casefile.proofs.Cuts.{few-lanes, cut-printed}
 use borrow.Author.Needs.{needs}
 use Rattle.casefile.proofs.planned.print_stored.Statement.{statement}
 use Rattle.casefile.proofs.planned.print_stored.Tie as tie
@@ -43,7 +43,7 @@ same-length : tie.Need-same-length
 same-length c = search needs
 
 returns : tie.Need-returns
-returns c = let d = c .before .before .before .before .before .before .before .before in rw (sym (d .before .before .smaller .ensures), sym (d .before .smaller2 .ensures), sym (d .smaller3 .ensures)) (c .before .before .print-case .ensures)
+returns c = let d = c .before .before .before .before .before .before .before .before in cut-printed _ _ _ _ _ _ _ _ _ _ _ _ _ (d .before .before .smaller .ensures) (d .before .smaller2 .ensures) (d .smaller3 .ensures) (c .before .before .print-case .ensures)
 
 pub print-stored-spec : {M : Type 1} → statement M
 print-stored-spec =
