@@ -1,15 +1,15 @@
 -- The stored case, cut to what it has, is answered as the case of the two files. Assumes nothing.
 use mathlib.Core.Path.{_≡_, refl, sym, ap, _∙_, subst}
-use mathlib.Core.List.{List, _++_}
+use mathlib.Core.List.{List}
 use Prim.Native.Nat.{ℕ, min, _+_, _*_, _≤_, _<_}
-use native.Mathlib.Nat.{min-eq-left, min-eq-right, mul-le-mul}
+use native.Mathlib.Nat.{min-eq-left, mul-le-mul}
 use native.Mathlib.Decide.{decLt}
 use native.Mathlib.Omega.{arith}
 use lib.ListN.{length, take, drop}
 use lib.Seq.{sets, sets-eq, take-at, length-sets, length-take-le}
 use Rattle.csvtext.specs.Text.{refusalText}
 use Rattle.planner.specs.Case.{Case}
-use Rattle.planner.specs.Outcome.{Outcome, planned, refused, outcomeOf}
+use Rattle.planner.specs.Outcome.{refused, outcomeOf}
 use Rattle.planner.specs.Verdict.{lent}
 use Rattle.planner.specs.Size.{checkedOf}
 use Rattle.planner.specs.declared.limits.Checked.{Checked}
@@ -18,12 +18,12 @@ use Rattle.planner.proofs.FormLaws.{Limits, lanes, in-limits, by-size}
 use Rattle.casefile.specs.declared.case.CaseAnswer.{CaseAnswer}
 use Rattle.casefile.specs.declared.case.CaseAnswer.the-variants as answers
 use Rattle.casefile.specs.declared.planned.Printed.{Printed}
-use Rattle.casefile.specs.Records.{whole}
 use Rattle.casefile.specs.Files.{inOrder}
 use Rattle.casefile.specs.CaseFiles.{costsIn, suppliesIn, demandsIn, caseAnswer, TariffStored, CaseStored}
-use Rattle.casefile.specs.Printed.{recordsOf, caseOf, fileCase, outcomeFor, fileOutcome, sourcesTold, terminalsTold, Told, PlanPrinted, OutcomePrinted, FilesPrinted}
+use Rattle.casefile.specs.Printed.{caseOf, fileCase, fileOutcome, Told, PlanPrinted, OutcomePrinted, FilesPrinted}
 use Rattle.casefile.specs.Cuts.{cutCase, Stored}
 use Rattle.casefile.proofs.Lengths.{BothStand, both-stand}
+use Rattle.casefile.proofs.Printing.{printed-refusal}
 use Rattle.casefile.proofs.Refusals.{Alike, alike-equal, alike-refused, alike-long}
 
 -- how many cells are kept
@@ -130,13 +130,6 @@ pub refused-files :
     CaseStored t p costs supplies demands table costs′ supplies′ demands′ table′ answer → {out out′ : List ℕ} {r : Printed} →
     Told number place 0 0 (refusalText number place) out out′ r → FilesPrinted t p out out′ r
 unfolding fileOutcome
-refused-files t p costs supplies demands table costs′ supplies′ demands′ table′ {number} {place} told stored {out} {out′} {r} printed =
+refused-files t p costs supplies demands table costs′ supplies′ demands′ table′ {number} {place} told stored printed =
     let e : caseAnswer t p ≡ answers.Refused number place = sym (stored .answered) ∙ told in
-    rw e (record {
-      refusal = λ number′ place′ h.
-          let en : number ≡ number′ = cc in
-          let ep : place ≡ place′ = cc in
-          subst (λ (x : ℕ). Told x place′ 0 0 (refusalText x place′) out out′ r) en
-          (subst (λ (y : ℕ). Told number y 0 0 (refusalText number y) out out′ r) ep printed);
-      plan = λ s t f k h. absurd (let z : _≡_ {A = ℕ} 0 1 = cc in omega arith);
-    })
+    rw e (printed-refusal (fileCase t p) (refused number place) refl printed)

@@ -1,5 +1,5 @@
 -- How long the lists of a case are that two accepted files make. Assumes nothing.
-use mathlib.Core.Path.{_≡_, refl, ap, ap₂, sym, _∙_, subst}
+use mathlib.Core.Path.{_≡_, refl, ap, ap₂, sym, _∙_}
 use mathlib.Core.List.{List, [], _∷_, map}
 use Prim.Native.Nat.{ℕ, zero, suc, _-_, _*_, _≤_, _<_}
 use native.Mathlib.Omega.{arith}
@@ -12,7 +12,7 @@ use Rattle.casefile.specs.declared.case.CaseAnswer.the-variants as answe
 use Rattle.casefile.specs.Records.{whole, formOf}
 use Rattle.casefile.specs.Files.{wanted, tableOf, inOrder}
 use Rattle.casefile.specs.CaseFiles.{sourcesIn, terminalsIn, sourceRecords, costsIn, suppliesIn, demandsIn, answerOf, caseAnswer}
-use Rattle.casefile.proofs.CaseFiles.{Even, Accepted, accepted, even-length}
+use Rattle.casefile.proofs.CaseFiles.{Even, accepted, even-length}
 
 -- the first k fields of each of the first m records
 even-take : (w k m : ℕ) (rs : List (List ℕ)) → k ≤ w → Even w rs → Even k (map (λ (r : List ℕ). take k r) (take m rs))

@@ -1,13 +1,12 @@
 -- From the planner's answer on a lent case to what is printed of it. Assumes nothing.
-use mathlib.Core.Path.{_≡_, refl, sym, ap, _∙_, subst}
-use mathlib.Core.List.{List, _++_}
-use Prim.Native.Nat.{ℕ, _+_, _*_, _/_, _%_, _≤_, _<_, _^_}
+use mathlib.Core.Path.{_≡_, sym, ap, _∙_, subst}
+use mathlib.Core.List.{List}
+use Prim.Native.Nat.{ℕ, _+_, _*_, _/_, _%_, _≤_, _<_}
 use native.Mathlib.Nat.{div-add-mod', mod-lt, div-lt-iff-lt-mul, mul-le-mul}
 use native.Mathlib.Omega.{arith}
 use lib.ListN.{length, getD, take, drop, length-append}
 use lib.Seq.{take-at}
 use Rattle.transport.specs.Plan.{byRow, col}
-use Rattle.transport.specs.Curve.{written}
 use Rattle.transport.proofs.Sums.{sum-at}
 use Rattle.csvtext.specs.Text.{planText, refusalText}
 use Rattle.csvtext.specs.Writing.{Printable}
@@ -31,6 +30,18 @@ small-amount c s x f p k h =
     let li : i < c .m = div-lt-iff-lt-mul (f .one-terminal) .1 h in
     let cell : getD x (i * c .n + j) 0 ≡ getD x k 0 = ap (λ (a : ℕ). getD x a 0) (div-add-mod' k (c .n)) in
     omega (arith, cell, sum-at (c .m) i (λ a. byRow (c .n) x a j) li, p .columns j lj, f .small-demand j lj)
+
+-- an outcome that is a refusal
+pub printed-refusal : (c : Case) (o : Outcome) {number place sources terminals : ℕ} {out out′ : List ℕ} {answer : Printed} → o ≡ refused number place
+    → Told number place sources terminals (refusalText number place) out out′ answer → OutcomePrinted c o sources terminals out out′ answer
+printed-refusal c o {number} {place} {sources} {terminals} {out} {out′} {answer} e told = record {
+  refusal = λ number′ place′ h.
+      let en : number ≡ number′ = cc in
+      let ep : place ≡ place′ = cc in
+      subst (λ (x : ℕ). Told x place′ sources terminals (refusalText x place′) out out′ answer) en
+      (subst (λ (y : ℕ). Told number y sources terminals (refusalText number y) out out′ answer) ep told);
+  plan = λ s t f k h. absurd (let z : _≡_ {A = ℕ} 0 1 = cc in omega arith);
+}
 
 -- a case, lent with so many cells, and the planner's answer
 module _ {m n : ℕ} {costs supplies demands table : List ℕ} {p q u : ℕ} {before after : Slices} {o : Outcome}
@@ -91,16 +102,7 @@ module _ {m n : ℕ} {costs supplies demands table : List ℕ} {p q u : ℕ} {be
 
   refusal-lent : {number place : ℕ} → o ≡ refused number place → {out out′ : List ℕ} {answer : Printed} → Told number place m n (refusalText number place) out out′ answer
       → OutcomePrinted C (outcomeOf C) m n out out′ answer
-  refusal-lent {number} {place} e {out} {out′} {answer} told =
-      let g : outcomeOf C ≡ refused number place = sym (a .answer) ∙ e in
-      record {
-        refusal = λ number′ place′ h.
-            let en : number ≡ number′ = cc in
-            let ep : place ≡ place′ = cc in
-            subst (λ (x : ℕ). Told x place′ m n (refusalText x place′) out out′ answer) en
-            (subst (λ (y : ℕ). Told number y m n (refusalText number y) out out′ answer) ep told);
-        plan = λ s t f k h. absurd (let z : _≡_ {A = ℕ} 0 1 = cc in omega arith);
-      }
+  refusal-lent e told = printed-refusal C _ (sym (a .answer) ∙ e) told
 
   -- with 2,048 cells for the lanes and 4,001 for the stops
   module _ (ep : p ≡ 2048) (eq : q ≡ 4001) (eu : u ≡ 4001) {out out′ : List ℕ} {answer : Printed} where

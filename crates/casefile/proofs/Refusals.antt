@@ -1,19 +1,21 @@
 -- Where the outcome of a case is a plan, all tests pass; two cases alike in their outcome. Assumes nothing.
-use mathlib.Core.Path.{_≡_, refl, sym, ap, _∙_, subst}
+use mathlib.Core.Path.{_≡_, refl, sym, ap, _∙_}
 use mathlib.Core.Bool.{Bool, true, false}
 use mathlib.Core.Option.{Option, none, some}
 use mathlib.Core.List.{List, [], _∷_}
 use Prim.Native.Nat.{ℕ, _+_, _*_, _≤_, _<_}
+use native.Mathlib.Nat.{mul-le-mul}
 use native.Mathlib.Omega.{arith}
 use lib.ListN.{length, getD}
-use Rattle.planner.specs.Case.{Case}
+use borrow.Author.Tests.{le-ltb}
+use Rattle.planner.specs.Case.{Case, steps, greatestSplit}
 use Rattle.planner.specs.Outcome.{Outcome, planned, refused, refuseIf, refuseAt, _orElse_, formRefusal, refusalOf, planOf, outcomeOf}
 use Rattle.planner.specs.Outcome.{test1, test2, test3, test4, test5, test6, test7, test8, test9, test10, test11, test12}
 use Rattle.planner.specs.Verdict.{lent, firstAbove, amountsRefusal, AtMost}
 use Rattle.planner.proofs.Passed.{some≢none, Formed, formed, accepted}
 use Rattle.planner.proofs.Promise.{refused-outcome}
 use Rattle.planner.proofs.Decide.{form-decides}
-use Rattle.planner.proofs.TestLaws.{amounts-none}
+use Rattle.planner.proofs.TestLaws.{unmet, amounts-none}
 use Rattle.planner.proofs.FormLaws.{Limits, by-amounts, by-cost, by-table}
 
 -- ---- no test answers a plan
@@ -99,3 +101,20 @@ module _ (m n : ℕ) (costs s d t t′ : List ℕ) (p q r : ℕ) (h : Limits m n
           alike-refused _ _ (refused 6 0)
           (by-table m n costs s d t p q r h lc ls ld ea eb (λ e. omega (arith, small)))
           (by-table m n costs s d t′ p q r h lc ls ld ea eb (λ e. omega (arith, small)))
+
+-- ---- 2,048 cells for lanes and 4,001 for stops are enough: of a case that passes tests 1 to 6, test 11 refuses none
+
+pub never-11 :
+    (c : Case) → c .planCells ≡ 2048 → c .splitCells ≡ 4001 → c .freightCells ≡ 4001 → formRefusal c ≡ none → test11 c ≡ none
+unfolding test11 steps greatestSplit
+never-11 c ep es ef e =
+    let f = formed c e in
+    let lanes : c .m * c .n ≤ 32 * 64 = mul-le-mul (f .few-sources) (f .few-terminals) in
+    let first = f .small-supply 0 (omega (arith, f .two-sources)) in
+    let stops : steps c + 1 ≤ 4001 = omega arith in
+    unmet 11 _
+    (simp (
+      le-ltb (c .planCells) (c .m * c .n) (omega arith),
+      le-ltb (c .splitCells) (steps c + 1) (omega arith),
+      le-ltb (c .freightCells) (steps c + 1) (omega arith),
+    ))

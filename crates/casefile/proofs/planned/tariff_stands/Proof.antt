@@ -1,5 +1,5 @@
 -- `casefile::planned::tariff_stands` meets its contract. Assumes nothing.
-use mathlib.Core.Path.{_≡_, sym, ap, _∙_}
+use mathlib.Core.Path.{sym, ap, _∙_}
 use Rattle.casefile.specs.Printed.{stands}
 use borrow.Author.Needs.{needs}
 use Rattle.casefile.proofs.planned.tariff_stands.Statement.{statement}
