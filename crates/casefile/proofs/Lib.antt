@@ -10,3 +10,7 @@ pub mod Places
 pub mod Examples
 pub mod Shares
 pub mod CaseFiles
+pub mod Lengths
+pub mod Refusals
+pub mod Printing
+pub mod Cuts

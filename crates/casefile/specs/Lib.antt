@@ -4,3 +4,5 @@ pub mod Files
 pub mod Reader
 pub mod Tallies
 pub mod CaseFiles
+pub mod Printed
+pub mod Cuts

@@ -2,6 +2,7 @@
 mod after;
 pub mod case;
 mod field;
+pub mod planned;
 mod store;
 mod table;
 

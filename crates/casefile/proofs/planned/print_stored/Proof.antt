@@ -1,0 +1,62 @@
+-- `casefile::planned::print_stored` meets its contract. Assumes nothing.
+use mathlib.Core.Path.{_≡_, sym, ap₂}
+use Prim.Native.Nat.{ℕ, min, _*_}
+use native.Mathlib.Omega.{arith}
+use lib.Seq.{length-take-le}
+use Rattle.casefile.proofs.Cuts.{few-lanes, cut-printed}
+use borrow.Author.Needs.{needs}
+use Rattle.casefile.proofs.planned.print_stored.Statement.{statement}
+use Rattle.casefile.proofs.planned.print_stored.Tie as tie
+
+-- the lanes that are kept
+product : (c : tie.After-smaller3) → c .before .before .smaller .result * c .before .smaller2 .result ≡ min (c .before .before .before .before .before .before .before .before .args .m) 32 * min (c .before .before .before .before .before .before .before .before .args .n) 64
+product c = ap₂ (λ (x y : ℕ). x * y) (c .before .before .smaller .ensures) (c .before .smaller2 .ensures)
+
+smaller-requires : tie.Need-smaller-requires
+smaller-requires c κs = search needs
+
+smaller-requires-2 : tie.Need-smaller-requires-2
+smaller-requires-2 c κs = search needs
+
+smaller-requires-3 : tie.Need-smaller-requires-3
+smaller-requires-3 c κs = search needs
+
+mul-lanes : tie.Need-mul-lanes
+mul-lanes c = let a = c .before .before .before .before .before .before .before .before .args in record { fits = omega (arith, few-lanes (a .m) (a .n), product c) }
+
+slice-aggregate-print-case : tie.Need-slice-aggregate-print-case
+slice-aggregate-print-case c = let s = c .before .before .before .before .before .before .before .before .before in sym (length-take-le _ _ (omega (arith, few-lanes (s .args .m) (s .args .n), product (c .before), s .pre .lanes)))
+
+slice-aggregate-print-case-2 : tie.Need-slice-aggregate-print-case-2
+slice-aggregate-print-case-2 c = let s = c .before .before .before .before .before .before .before .before .before .before in sym (length-take-le _ _ (omega (arith, c .before .before .before .before .smaller .ensures, s .pre .sources)))
+
+slice-aggregate-print-case-3 : tie.Need-slice-aggregate-print-case-3
+slice-aggregate-print-case-3 c = let s = c .before .before .before .before .before .before .before .before .before .before .before in sym (length-take-le _ _ (omega (arith, c .before .before .before .before .smaller2 .ensures, s .pre .terminals)))
+
+slice-aggregate-print-case-4 : tie.Need-slice-aggregate-print-case-4
+slice-aggregate-print-case-4 c = let s = c .before .before .before .before .before .before .before .before .before .before .before .before in sym (length-take-le _ _ (omega (arith, c .before .before .before .before .smaller3 .ensures, s .pre .entries)))
+
+print-case-requires : tie.Need-print-case-requires
+print-case-requires c κs = search needs
+
+same-length : tie.Need-same-length
+same-length c = search needs
+
+returns : tie.Need-returns
+returns c = let d = c .before .before .before .before .before .before .before .before in cut-printed _ _ _ _ _ _ _ _ _ _ _ _ _ (d .before .before .smaller .ensures) (d .before .smaller2 .ensures) (d .smaller3 .ensures) (c .before .before .print-case .ensures)
+
+pub print-stored-spec : {M : Type 1} → statement M
+print-stored-spec =
+    tie.close
+    (tie.spec
+    smaller-requires
+    smaller-requires-2
+    smaller-requires-3
+    mul-lanes
+    slice-aggregate-print-case
+    slice-aggregate-print-case-2
+    slice-aggregate-print-case-3
+    slice-aggregate-print-case-4
+    print-case-requires
+    same-length
+    returns)

@@ -1,0 +1,83 @@
+-- What is printed of two files: the case that they are, its outcome, and the bytes. Assumes nothing.
+use mathlib.Core.Path.{_≡_}
+use mathlib.Core.Bool.{Bool, true, false}
+use mathlib.Core.List.{List, []}
+use Prim.Native.Nat.{ℕ}
+use lib.ListN.{length}
+use lib.Seq.{sets}
+use Rattle.csvtext.specs.Text.{planText, refusalText}
+use Rattle.planner.specs.Case as planner-case
+use Rattle.planner.specs.Plans.{PlanAt, freightOf, leastFreightAt}
+use Rattle.planner.specs.Outcome.{Outcome, planned, refused, outcomeOf}
+use Rattle.planner.specs.Promise.{Cheapest}
+use Rattle.planner.specs.Verdict.{lent}
+use Rattle.casefile.specs.declared.Kind.the-variants.{Tariff, Production}
+use Rattle.casefile.specs.declared.table.Table.{Table}
+use Rattle.casefile.specs.declared.table.Table.the-variants as tables
+use Rattle.casefile.specs.declared.case.CaseAnswer.{CaseAnswer}
+use Rattle.casefile.specs.declared.case.CaseAnswer.the-variants.{Case, Refused}
+use Rattle.casefile.specs.declared.planned.Printed.{Printed}
+use Rattle.casefile.specs.Records.{Form, whole, broken, formOf}
+use Rattle.casefile.specs.Files.{inOrder}
+use Rattle.casefile.specs.CaseFiles.{sourcesIn, terminalsIn, costsIn, suppliesIn, demandsIn, caseAnswer}
+
+-- the records of a file, none where it has not the form
+abbrev pub recordsOf : Form → List (List ℕ)
+recordsOf (whole rs) = rs
+recordsOf (broken place) = []
+
+-- the case of a tariff's and a production file's records, with room for 2,048 lanes and 4,001 stops
+unfoldable pub caseOf : List (List ℕ) → List (List ℕ) → planner-case.Case
+caseOf rs qs = lent (sourcesIn rs) (terminalsIn rs) (costsIn rs) (suppliesIn rs) (demandsIn rs) (inOrder qs) 2048 4001 4001
+
+unfoldable pub fileCase : List ℕ → List ℕ → planner-case.Case
+fileCase t p = caseOf (recordsOf (formOf Tariff t)) (recordsOf (formOf Production p))
+
+-- refusals 20 to 22 of the files, then the outcome of the case
+abbrev pub outcomeFor : CaseAnswer → planner-case.Case → Outcome
+outcomeFor (Refused number place) c = refused number place
+outcomeFor (Case m n entries) c = outcomeOf c
+
+unfoldable pub fileOutcome : List ℕ → List ℕ → Outcome
+fileOutcome t p = outcomeFor (caseAnswer t p) (fileCase t p)
+
+-- m and n of the case, 0 where a file is refused
+abbrev pub sourcesTold : CaseAnswer → ℕ
+sourcesTold (Refused number place) = 0
+sourcesTold (Case m n entries) = m
+
+abbrev pub terminalsTold : CaseAnswer → ℕ
+terminalsTold (Refused number place) = 0
+terminalsTold (Case m n entries) = n
+
+-- the text is printed as far as there is room, every later cell is as it was, and the answer has the text's length and these numbers
+pub record Told (number place sources terminals : ℕ) (text out out′ : List ℕ) (answer : Printed) : Type 0 where
+  pub bytes : out′ ≡ sets out 0 text
+  pub ends : answer .length ≡ length text
+  pub number-told : answer .number ≡ number
+  pub place-told : answer .place ≡ place
+  pub sources-told : answer .sources ≡ sources
+  pub terminals-told : answer .terminals ≡ terminals
+
+-- a plan is printed: the lane amounts are left to the program, so they are named, with what holds of them
+pub record PlanPrinted (c : planner-case.Case) (split total : ℕ) (out out′ : List ℕ) (answer : Printed) : Type 0 where
+  pub amounts : List ℕ
+  pub plan : PlanAt c split amounts
+  pub freight : freightOf c amounts ≡ leastFreightAt c split
+  pub cheapest : Cheapest c amounts split total
+  pub text : Told 0 0 (c .m) (c .n) (planText (c .m) (c .n) (c .costs) amounts split (planner-case.entry c split)) out out′ answer
+
+-- what is printed of a case with the outcome o: the refusal's two numbers, or the plan
+pub record OutcomePrinted (c : planner-case.Case) (o : Outcome) (sources terminals : ℕ) (out out′ : List ℕ) (answer : Printed) : Type 0 where
+  pub refusal : (number place : ℕ) → o ≡ refused number place → Told number place sources terminals (refusalText number place) out out′ answer
+  pub plan : (split total freight stops : ℕ) → o ≡ planned split total freight stops → PlanPrinted c split total out out′ answer
+
+-- what is printed of two files
+abbrev pub FilesPrinted : List ℕ → List ℕ → List ℕ → List ℕ → Printed → Type 0
+FilesPrinted t p out out′ answer =
+    OutcomePrinted (fileCase t p) (fileOutcome t p) (sourcesTold (caseAnswer t p)) (terminalsTold (caseAnswer t p)) out out′ answer
+
+-- a file is not refused by 20 to 22
+abbrev pub stands : Table → Bool
+stands (tables.Whole records fields) = true
+stands (tables.Refused number place) = false

@@ -1,0 +1,199 @@
+// From two files to the printed plan.
+use crate::Kind;
+use crate::case::CaseAnswer;
+use crate::case::read_case;
+use crate::table::Table;
+use crate::table::read_table;
+use csvtext::put_plan;
+use csvtext::put_refusal;
+use planner::Answer;
+ghost use mathlib.Core.Path.{_≡_};
+ghost use Prim.Native.Nat.{min, _*_, _≤_};
+ghost use lib.ListN.{length, take};
+ghost use Rattle.csvtext.specs.Text.{planText, refusalText};
+ghost use Rattle.csvtext.specs.Writing.{Printable};
+ghost use Rattle.planner.specs.Outcome.{outcomeOf};
+ghost use Rattle.planner.specs.Verdict.{lent};
+ghost use Rattle.casefile.specs.declared.Kind.the-variants as kinds;
+ghost use Rattle.casefile.specs.Files.{tableOf};
+ghost use Rattle.casefile.specs.Printed.{Told, OutcomePrinted, FilesPrinted, stands};
+ghost use Rattle.casefile.specs.Cuts.{cutCase, Stored};
+
+// What was printed: the text's length; 0, or the refusal's number and place; m and n of the case, 0 where a file is refused.
+pub struct Printed {
+    pub length: usize,
+    pub number: u64,
+    pub place: u64,
+    pub sources: usize,
+    pub terminals: usize,
+}
+
+fn lane_cells() -> [u64; 2048] {
+    [0; 2048]
+}
+
+// One cell more than the longest table has entries.
+fn entry_cells() -> [u64; 4002] {
+    [0; 4002]
+}
+
+fn stop_cells() -> [u64; 4001] {
+    [0; 4001]
+}
+
+fn smaller(a: usize, b: usize) -> usize
+    ensures { λ r. ⌜ r ≡ min a b ⌝ }
+{
+    if a < b { a } else { b }
+}
+
+fn print_refusal(out: &mut [u8], number: u64, place: u64, m: usize, n: usize) -> Printed
+    ensures { λ r. ⌜ Told number place m n (refusalText number place) (now (out .entry)) (now (out .exit)) r ⌝ }
+{
+    let length = put_refusal(out, number, place);
+    Printed {
+        length,
+        number,
+        place,
+        sources: m,
+        terminals: n,
+    }
+}
+
+// Prints the plan in the first m × n cells.
+fn print_plan(
+    out: &mut [u8],
+    m: usize,
+    n: usize,
+    costs: &[u64],
+    plan: &[u64],
+    split: u64,
+    entry: u64,
+) -> Printed
+    requires { ⌜ (m ≤ 32) × (n ≤ 64) × (m * n ≤ length (now plan)) ⌝ }
+    requires { ⌜ Printable (now costs) (take (m * n) (now plan)) 0 (m * n) ⌝ }
+    ensures { λ r. ⌜ Told 0 0 m n (planText m n (now (costs .entry)) (take (m * n) (now (plan .entry))) split «entry») (now (out .entry)) (now (out .exit)) r ⌝ }
+{
+    let lanes = m * n;
+    let amounts = &plan[..lanes];
+    let length = put_plan(out, m, n, costs, amounts, split, entry);
+    Printed {
+        length,
+        number: 0,
+        place: 0,
+        sources: m,
+        terminals: n,
+    }
+}
+
+// Plans a lent case, and prints the plan or the refusal.
+fn print_case(
+    m: usize,
+    n: usize,
+    costs: &[u64],
+    supplies: &[u64],
+    demands: &[u64],
+    table: &[u64],
+    out: &mut [u8],
+) -> Printed
+    ensures { λ r. ⌜ OutcomePrinted (lent m n (now (costs .entry)) (now (supplies .entry)) (now (demands .entry)) (now (table .entry)) 2048 4001 4001) (outcomeOf (lent m n (now (costs .entry)) (now (supplies .entry)) (now (demands .entry)) (now (table .entry)) 2048 4001 4001)) m n (now (out .entry)) (now (out .exit)) r ⌝ }
+{
+    let mut plan = lane_cells();
+    let mut splits = stop_cells();
+    let mut freights = stop_cells();
+    let answer = planner::plan(
+        m,
+        n,
+        costs,
+        supplies,
+        demands,
+        table,
+        &mut plan,
+        &mut splits,
+        &mut freights,
+    );
+    match answer {
+        Answer::Refused { number, place } => print_refusal(out, number, place, m, n),
+        Answer::Planned {
+            split,
+            total: _,
+            freight: _,
+            stops: _,
+        } => {
+            let at = split as usize;
+            let entry = table[at];
+            print_plan(out, m, n, costs, &plan, split, entry)
+        }
+    }
+}
+
+// Cuts the stored case to what it has, and prints its plan or its refusal.
+fn print_stored(
+    m: usize,
+    n: usize,
+    entries: usize,
+    costs: &[u64],
+    supplies: &[u64],
+    demands: &[u64],
+    table: &[u64],
+    out: &mut [u8],
+) -> Printed
+    requires { ⌜ Stored (now costs) (now supplies) (now demands) (now table) ⌝ }
+    ensures { λ r. ⌜ OutcomePrinted (cutCase m n entries (now (costs .entry)) (now (supplies .entry)) (now (demands .entry)) (now (table .entry))) (outcomeOf (cutCase m n entries (now (costs .entry)) (now (supplies .entry)) (now (demands .entry)) (now (table .entry)))) m n (now (out .entry)) (now (out .exit)) r ⌝ }
+{
+    let a = smaller(m, 32);
+    let b = smaller(n, 64);
+    let e = smaller(entries, 4002);
+    let lanes = a * b;
+    print_case(
+        m,
+        n,
+        &costs[..lanes],
+        &supplies[..a],
+        &demands[..b],
+        &table[..e],
+        out,
+    )
+}
+
+// Plans the case that the two files are, and prints the plan or the refusal as far as there is room.
+pub fn plan_files(tariff: &[u8], production: &[u8], out: &mut [u8]) -> Printed
+    ensures { λ r. ⌜ FilesPrinted (now (tariff .entry)) (now (production .entry)) (now (out .entry)) (now (out .exit)) r ⌝ }
+{
+    let mut costs = lane_cells();
+    let mut supplies = [0u64; 32];
+    let mut demands = [0u64; 64];
+    let mut table = entry_cells();
+    let answer = read_case(
+        tariff,
+        production,
+        &mut costs,
+        &mut supplies,
+        &mut demands,
+        &mut table,
+    );
+    match answer {
+        CaseAnswer::Refused { number, place } => print_refusal(out, number, place as u64, 0, 0),
+        CaseAnswer::Case { m, n, entries } => {
+            print_stored(m, n, entries, &costs, &supplies, &demands, &table, out)
+        }
+    }
+}
+
+// Whether the tariff is accepted by 20 to 22: a refusal by these is then about the production file.
+pub fn tariff_stands(tariff: &[u8]) -> bool
+    ensures { λ r. ⌜ r ≡ stands (tableOf kinds.Tariff (now (tariff .entry))) ⌝ }
+{
+    let mut cells = [0u64; 1];
+    let t = read_table(Kind::Tariff, tariff, &mut cells);
+    match t {
+        Table::Whole {
+            records: _,
+            fields: _,
+        } => true,
+        Table::Refused {
+            number: _,
+            place: _,
+        } => false,
+    }
+}
