@@ -1,0 +1,4 @@
+// The command asked for help: it writes nothing to standard output.
+fn main() {
+    command::run();
+}
