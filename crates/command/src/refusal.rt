@@ -99,8 +99,8 @@ fn explain_byte(path: &[u8], place: u64, size: u64) {
     say_with(b" ends too soon, after ", place, b" bytes.\n");
 }
 
-// The refusals of a file, by its path and its size.
-fn explain_file(number: u64, place: u64, path: &[u8], size: u64) {
+// The refusals of a file, by its path, its size and the fields that its records must have.
+fn explain_file(number: u64, place: u64, path: &[u8], size: u64, fields: &[u8]) {
     match number {
         20 => {
             say(path);
@@ -110,7 +110,7 @@ fn explain_file(number: u64, place: u64, path: &[u8], size: u64) {
         _ => {
             say_with(b"record ", place, b" of ");
             say(path);
-            say(b" does not have as many fields as it must.\n");
+            say(fields);
         }
     }
 }
@@ -139,8 +139,20 @@ pub fn explain(
         return;
     }
     if tariff_stands(tariff) {
-        explain_file(number, place, production_path, production.len() as u64);
+        explain_file(
+            number,
+            place,
+            production_path,
+            production.len() as u64,
+            b" has more than one field.\n",
+        );
         return;
     }
-    explain_file(number, place, tariff_path, tariff.len() as u64);
+    explain_file(
+        number,
+        place,
+        tariff_path,
+        tariff.len() as u64,
+        b" has another count of fields than record 1.\n",
+    );
 }
