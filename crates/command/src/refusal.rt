@@ -86,8 +86,7 @@ fn explain_case(number: u64, place: u64, m: u64, n: u64) {
 }
 
 // Refusal 21: a byte by its offset, or the end of the file.
-fn explain_byte(path: &[u8], place: u64, size: u64) {
-    say(path);
+fn explain_byte(place: u64, size: u64) {
     if place < size {
         say_with(
             b" has a byte at offset ",
@@ -99,20 +98,45 @@ fn explain_byte(path: &[u8], place: u64, size: u64) {
     say_with(b" ends too soon, after ", place, b" bytes.\n");
 }
 
-// The refusals of a file, by its path, its size and the fields that its records must have.
-fn explain_file(number: u64, place: u64, path: &[u8], size: u64, fields: &[u8]) {
-    match number {
-        20 => {
-            say(path);
-            say(b" cannot be opened and read, or is longer than 65,536 bytes.\n");
-        }
-        21 => explain_byte(path, place, size),
-        _ => {
-            say_with(b"record ", place, b" of ");
-            say(path);
-            say(fields);
-        }
+// The refusals of a file, by its size and what is said of a record with a wrong count of fields.
+fn explain_file(number: u64, place: u64, file: &[u8], path: &[u8], size: u64, wrong: &[u8]) {
+    if number == 22 {
+        say_with(b"record ", place, b" of ");
     }
+    say(file);
+    say(path);
+    match number {
+        20 => say(b" cannot be opened and read, or is longer than 65,536 bytes.\n"),
+        21 => explain_byte(place, size),
+        _ => say(wrong),
+    }
+}
+
+// The refusals of the two files: the tariff is judged first.
+fn explain_files(
+    number: u64,
+    place: u64,
+    tariff: &[u8],
+    production: &[u8],
+    tariff_path: &[u8],
+    production_path: &[u8],
+) {
+    if tariff_stands(tariff) {
+        let size = production.len() as u64;
+        let wrong = b" has more than one field.\n";
+        explain_file(
+            number,
+            place,
+            b"the production file ",
+            production_path,
+            size,
+            wrong,
+        );
+        return;
+    }
+    let size = tariff.len() as u64;
+    let wrong = b" has another count of fields than record 1.\n";
+    explain_file(number, place, b"the tariff file ", tariff_path, size, wrong);
 }
 
 // Says what a refusal means; nothing of a plan.
@@ -138,21 +162,12 @@ pub fn explain(
         );
         return;
     }
-    if tariff_stands(tariff) {
-        explain_file(
-            number,
-            place,
-            production_path,
-            production.len() as u64,
-            b" has more than one field.\n",
-        );
-        return;
-    }
-    explain_file(
+    explain_files(
         number,
         place,
+        tariff,
+        production,
         tariff_path,
-        tariff.len() as u64,
-        b" has another count of fields than record 1.\n",
+        production_path,
     );
 }
