@@ -1,8 +1,8 @@
 // The arguments, and the usage text.
-use crate::bytes::alike;
-use crate::bytes::first;
+use crate::file::first;
 use crate::file::plan_paths;
 use crate::message::say;
+use check::same;
 
 // Writes the usage text to standard error.
 pub fn usage() {
@@ -15,11 +15,11 @@ pub fn usage() {
 
 // Plans the files of two paths, unless one is the word for help.
 fn plan_or_help(tariff: &[u8], production: &[u8]) {
-    if alike(tariff, b"--help") {
+    if same(tariff, b"--help") {
         usage();
         return;
     }
-    if alike(production, b"--help") {
+    if same(production, b"--help") {
         usage();
         return;
     }

@@ -1,5 +1,4 @@
 // Reads the files, plans, and writes the answer.
-use crate::bytes::first;
 use crate::message::say;
 use crate::refusal::explain;
 use casefile::planned::plan_files;
@@ -18,6 +17,14 @@ fn text_room() -> [u8; 174265]
     ensures { λ r. ⌜ 174265 ≡ length r ⌝ }
 {
     [0; 174265]
+}
+
+// The first n bytes; all where there are no more.
+pub fn first(s: &[u8], n: usize) -> &[u8] {
+    if s.len() < n {
+        return s;
+    }
+    &s[0..n]
 }
 
 // Reads to the end of the file or of the room, and gives how many bytes there are; the whole room where a read fails.

@@ -1,7 +1,6 @@
 // The command `plan`: reads the two files, writes the printed plan or refusal to standard output, and says what a refusal means on
 // standard error.
 mod arguments;
-mod bytes;
 mod file;
 mod message;
 mod refusal;

@@ -4,6 +4,7 @@ use crate::files::add_number;
 use crate::files::edit;
 use crate::files::first;
 use casefile::planned::plan_files;
+use check::same;
 
 // The tally: the answers by number, then these.
 pub const CASES: usize = 24;
@@ -25,21 +26,6 @@ fn count(tally: &mut [u64; 32], k: usize) {
     }
 }
 
-// Whether two slices have the same bytes.
-fn alike(s: &[u8], t: &[u8]) -> bool {
-    if s.len() != t.len() {
-        return false;
-    }
-    let mut k: usize = 0;
-    while k < s.len() {
-        if s[k] != t[k] {
-            return false;
-        }
-        k += 1;
-    }
-    true
-}
-
 // Writes the text of a refusal, and gives its length.
 fn add_refusal(text: &mut [u8], number: u64, place: u64) -> usize {
     let number_at = add(text, 0, b"refusal,place\r\n");
@@ -52,11 +38,11 @@ fn add_refusal(text: &mut [u8], number: u64, place: u64) -> usize {
 // Whether a text is the header of a plan or, where the number is not 0, the whole text of the refusal.
 fn reads(text: &[u8], number: u64, place: u64) -> bool {
     if number == 0 {
-        return alike(first(text, 29), b"source,terminal,amount,cost\r\n");
+        return same(first(text, 29), b"source,terminal,amount,cost\r\n");
     }
     let mut wanted = io::buffer();
     let length = add_refusal(&mut wanted, number, place);
-    alike(text, first(&wanted, length))
+    same(text, first(&wanted, length))
 }
 
 fn say(text: &[u8], n: u64) {

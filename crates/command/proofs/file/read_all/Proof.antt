@@ -1,4 +1,5 @@
--- `command::file::read_all` is safe and ends. The offset stays within the room, which keeps its length; the measure is what is left of the room. Assumes nothing.
+-- `command::file::read_all` is safe and ends. The offset stays within the room, which keeps its length; the measure is what is
+-- left of the room. Assumes nothing.
 use mathlib.Core.Path.{_≡_}
 use Prim.Native.Nat.{_-_, _≤_}
 use borrow.Author.Needs.{needs}
