@@ -29,19 +29,19 @@ fn explain_amount(place: u64, m: u64) {
 
 // Refusal 5: a lane by its source and its terminal.
 fn explain_lane(place: u64, n: u64) {
-    if n == 0 {
-        return;
+    if 0 < n {
+        if 0 < place {
+            say_with(
+                b"the unit cost from source ",
+                next((place - 1) / n),
+                b" to terminal ",
+            );
+            say_number(next((place - 1) % n));
+            say(b" in the tariff file is above 1,000,000.\n");
+            return;
+        }
     }
-    if place == 0 {
-        return;
-    }
-    say_with(
-        b"the unit cost from source ",
-        next((place - 1) / n),
-        b" to terminal ",
-    );
-    say_number(next((place - 1) % n));
-    say(b" in the tariff file is above 1,000,000.\n");
+    say(b"a unit cost in the tariff file is above 1,000,000.\n");
 }
 
 // Refusals 9 and 10: a split, whose entry is one record further in the production file.
