@@ -3,7 +3,7 @@ ghost use mathlib.Core.Path.{_≡_};
 ghost use mathlib.Core.Bool.{cond};
 ghost use Prim.Native.Nat.{min, _+_, _-_, _*_, _≤_, _<_};
 ghost use lib.ListN.{length};
-ghost use Rattle.transport.specs.engine.Path.{net, book, far, Offered, Passed, Rekeyed, Next, Wins, Named, RowKey, Whole, Tags, Tagged, RowReady, ColumnReady, RelaxReady, Closest, ClosestNode, Chosen};
+ghost use Rattle.transport.specs.engine.Path.{net, book, get, far, Offered, Passed, Rekeyed, Next, Wins, Named, RowKey, Whole, Tags, Tagged, RowReady, ColumnReady, RelaxReady, LeastKey, Held, ClosestNode, Chosen};
 ghost use Rattle.transport.specs.engine.Search.{SearchReady, Wanted, Blank, Searched};
 
 // Above every label.
@@ -280,21 +280,29 @@ fn relax(
     )
 }
 
-// The node of the least key from lo up to hi, or 96.
-fn closest(lo: usize, hi: usize, key: &[u32; 96]) -> usize
-    requires { ⌜ hi ≤ 96 ⌝ }
-    ensures { λ r. ⌜ Closest (now (key .entry)) lo hi r ⌝ }
+// The least key of the nodes from lo up to hi, or SHUT.
+fn least_key(lo: usize, hi: usize, key: &[u32; 96]) -> u32
+    requires { ⌜ (lo ≤ hi) × (hi ≤ 96) ⌝ }
+    ensures { λ r. ⌜ LeastKey (now (key .entry)) lo hi r ⌝ }
 {
-    let mut best: usize = 96;
     let mut least = SHUT;
     for v in lo..hi {
-        let d = key[v];
-        if d < least {
-            least = d;
-            best = v;
-        }
+        least = smaller(key[v], least);
     }
-    best
+    least
+}
+
+// The first node from lo on whose key is least.
+fn holder(lo: usize, hi: usize, least: u32, key: &[u32; 96]) -> usize
+    requires { ⌜ hi ≤ 96 ⌝ }
+    requires { ⌜ Held (now key) lo hi least ⌝ }
+    ensures { λ r. ⌜ (r < hi) × (get (now (key .entry)) r ≡ least) ⌝ }
+{
+    let mut v = lo;
+    while key[v] != least {
+        v = v + 1;
+    }
+    v
 }
 
 // The nearest node that is not settled, or 96: of the m sources and the n terminals, since no other node has a label.
@@ -302,18 +310,15 @@ fn nearest(m: usize, n: usize, key: &[u32; 96]) -> usize
     requires { ⌜ (m ≤ 32) × (n ≤ 64) ⌝ }
     ensures { λ r. ⌜ ClosestNode m n (now (key .entry)) r ⌝ }
 {
-    let source = closest(0, m, key);
-    let terminal = closest(32, 32 + n, key);
-    if source == 96 {
-        return terminal;
+    let source = least_key(0, m, key);
+    let terminal = least_key(32, 32 + n, key);
+    if source < terminal {
+        return holder(0, m, source, key);
     }
-    if terminal == 96 {
-        return source;
+    if terminal == SHUT {
+        return 96;
     }
-    if key[terminal] <= key[source] {
-        return terminal;
-    }
-    source
+    holder(32, 32 + n, terminal, key)
 }
 
 // The node named, or if none is, the nearest.

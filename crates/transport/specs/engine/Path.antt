@@ -195,22 +195,17 @@ pub record Nearest (p T D : List ℕ) (r : ℕ) : Type 0 where
   pub fresh : r < 96 → (get D r ≡ 0) × (get T r < far)
   pub least : (v : ℕ) → v < 96 → get D v ≡ 0 → get T v < far → (r < 96) × (get T r + get p v ≤ get T v + get p r)
 
--- r has the least key below shut of the nodes from lo up to hi (96: none has)
-pub record Closest (K : List ℕ) (lo hi r : ℕ) : Type 0 where
-  pub bound : r ≤ 96
-  pub near : r < 96 → get K r < shut
-  pub least : (v : ℕ) → lo ≤ v → v < hi → get K v < shut → (r < 96) × (get K r ≤ get K v)
+-- some node from lo up to hi has the key r
+abbrev pub Held : List ℕ → ℕ → ℕ → ℕ → Type 0
+Held K lo hi r = (v : ℕ) × (lo ≤ v) × (v < hi) × (get K v ≡ r)
 
--- the same up to k, with its key
-pub record Closing (K : List ℕ) (lo k r least : ℕ) : Type 0 where
-  pub bound : r ≤ 96
-  pub own : r < 96 → get K r ≡ least
-  pub near : r < 96 → least < shut
-  pub some : least < shut → r < 96
-  pub most : least ≤ shut
-  pub all : (v : ℕ) → lo ≤ v → v < k → least ≤ get K v
+-- r is the least key of the nodes from lo up to hi (shut: none is below it)
+pub record LeastKey (K : List ℕ) (lo hi r : ℕ) : Type 0 where
+  pub bound : r ≤ shut
+  pub all : (v : ℕ) → lo ≤ v → v < hi → r ≤ get K v
+  pub held : r < shut → Held K lo hi r
 
--- the same of all sources and terminals
+-- r has the least key below shut of all sources and terminals (96: none has)
 pub record ClosestNode (m n : ℕ) (K : List ℕ) (r : ℕ) : Type 0 where
   pub bound : r ≤ 96
   pub near : r < 96 → get K r < shut
