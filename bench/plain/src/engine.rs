@@ -1,11 +1,14 @@
 //! Search, send, step 1 and the climb, as in crates/transport.
 #![allow(clippy::too_many_arguments)]
 
-const FAR: u64 = 1_000_000_000_000_000;
+/// Above every label.
+const FAR: u32 = 2_000_000_000;
+/// Above every key.
+const SHUT: u32 = 4_000_000_000;
 const NODES: usize = 96;
 const NONE: usize = 96;
-type Cells = [u64; 2048];
-type Nodes = [u64; NODES];
+type Cells = [u32; 2048];
+type Nodes = [u32; NODES];
 
 #[derive(Clone, Copy)]
 struct Incumbent {
@@ -24,75 +27,115 @@ pub struct Curve {
 struct Paths {
     goal: usize,
     dist: Nodes,
-    prev: [usize; NODES],
+    prev: Nodes,
     hops: Nodes,
     width: Nodes,
 }
 
-impl Paths {
-    fn offer(&mut self, w: usize, t: u64, from: usize, hop: u64, width: u64, pot: &Nodes, key: &mut Nodes) {
-        if t < self.dist[w] {
-            self.dist[w] = t;
-            self.prev[w] = from;
-            self.hops[w] = hop;
-            self.width[w] = width;
-            key[w] = t - pot[w];
+/// The nodes as the passes see them: 1 without room; all that a full terminal gets, or SHUT.
+struct Tags {
+    full: Nodes,
+    want: Nodes,
+}
+
+impl Tags {
+    fn of(room: &Nodes, demand: &Nodes) -> Tags {
+        let mut tags = Tags { full: [0; NODES], want: [0; NODES] };
+        for v in 0..NODES {
+            tags.full[v] = u32::from(room[v] == 0);
+            tags.want[v] = if 0 < room[v] || demand[v] == 0 { SHUT } else { demand[v] };
         }
+        tags
+    }
+}
+
+fn key_of(t: u32, pot: u32, full: u32) -> u32 {
+    2 * (t - pot) + full
+}
+
+impl Paths {
+    fn offer(&mut self, w: usize, take: bool, t: u32, from: u32, hop: u32, width: u32, f: u32, key: &mut Nodes) {
+        let pick = |a: u32, b: u32| if take { a } else { b };
+        self.dist[w] = pick(t, self.dist[w]);
+        self.prev[w] = pick(from, self.prev[w]);
+        self.hops[w] = pick(hop, self.hops[w]);
+        self.width[w] = pick(width, self.width[w]);
+        key[w] = pick(f, key[w]);
     }
 
-    fn relax(
+    fn relax_row(
         &mut self,
-        m: usize,
         n: usize,
-        v: usize,
+        i: usize,
         cost: &Cells,
         x: &Cells,
         cap: &Cells,
         pot: &Nodes,
+        tags: &Tags,
         key: &mut Nodes,
     ) {
+        let (base, hop, wide) = (self.dist[i], self.hops[i] + 1, self.width[i]);
+        for j in 0..n {
+            let (k, w) = (i * 64 + j, 32 + j);
+            let (t, drums, old) = (base + cost[k], x[k], self.dist[w]);
+            let take = t < old && drums < cap[k];
+            let label = if take { t } else { old };
+            let f = if drums == tags.want[w] { SHUT } else { key_of(label, pot[w], tags.full[w]) };
+            self.offer(w, take, t, i as u32, hop, wide.min(cap[k].saturating_sub(drums)), f, key);
+        }
+    }
+
+    /// A source as near as terminal v, or none.
+    fn relax_column(
+        &mut self,
+        m: usize,
+        v: usize,
+        level: u32,
+        cost: &Cells,
+        x: &Cells,
+        pot: &Nodes,
+        tags: &Tags,
+        key: &mut Nodes,
+    ) -> usize {
         let (base, hop, wide) = (self.dist[v], self.hops[v] + 1, self.width[v]);
-        if v < 32 {
-            for j in 0..n {
-                let k = v * 64 + j;
-                if x[k] < cap[k] {
-                    self.offer(32 + j, base + cost[k], v, hop, wide.min(cap[k] - x[k]), pot, key);
-                }
-            }
-        } else {
-            for i in 0..m {
-                let k = i * 64 + v - 32;
-                if 0 < x[k] {
-                    self.offer(i, base - cost[k], v, hop, wide.min(x[k]), pot, key);
+        let mut next = NONE;
+        for i in 0..m {
+            let k = i * 64 + v - 32;
+            if 0 < x[k] {
+                let t = base - cost[k];
+                let take = t < self.dist[i];
+                let f = key_of(t, pot[i], tags.full[i]);
+                self.offer(i, take, t, v as u32, hop, wide.min(x[k]), f, key);
+                if take && f <= level {
+                    next = i;
                 }
             }
         }
+        next
     }
 }
 
-/// Does a node of key d and some room go before one of key least? Of equal keys one with room does.
-fn goes_before(d: u64, least: u64, room: u64) -> bool {
-    d < least || d == least && room != 0 && d < FAR
+fn least_key(lo: usize, hi: usize, key: &Nodes) -> u32 {
+    key[lo..hi].iter().fold(SHUT, |least, &k| least.min(k))
 }
 
-/// The node of the least key from lo up to hi, or none; of equal keys one with room.
-fn closest(lo: usize, hi: usize, key: &Nodes, room: &Nodes) -> usize {
-    let (mut best, mut least) = (NONE, FAR);
-    for v in lo..hi {
-        if goes_before(key[v], least, room[v]) {
-            least = key[v];
-            best = v;
-        }
+fn holder(lo: usize, least: u32, key: &Nodes) -> usize {
+    let mut v = lo;
+    while key[v] != least {
+        v += 1;
     }
-    best
+    v
 }
 
-fn nearest(m: usize, n: usize, key: &Nodes, room: &Nodes) -> usize {
-    let (source, terminal) = (closest(0, m, key, room), closest(32, 32 + n, key, room));
-    if source == NONE || terminal != NONE && key[terminal] <= key[source] {
-        return terminal;
+fn nearest(m: usize, n: usize, key: &Nodes) -> usize {
+    let (source, terminal) = (least_key(0, m, key), least_key(32, 32 + n, key));
+    if source < terminal {
+        return holder(0, source, key);
     }
-    source
+    if terminal == SHUT {
+        return NONE;
+    }
+    holder(32, terminal, key)
 }
 
 fn search(
@@ -103,36 +146,44 @@ fn search(
     cap: &Cells,
     pot: &Nodes,
     room: &Nodes,
+    demand: &Nodes,
     start: usize,
-    limit: u64,
+    limit: u32,
 ) -> Paths {
+    let tags = Tags::of(room, demand);
     let mut paths = Paths { goal: NONE, dist: [FAR; NODES], prev: [0; NODES], hops: [0; NODES], width: [0; NODES] };
-    // the key of a node that has a label and is not settled is its reduced distance, of any other FAR
-    let mut key = [FAR; NODES];
+    let mut key = [SHUT; NODES];
     paths.dist[start] = pot[start];
     paths.width[start] = limit;
     key[start] = 0;
+    let mut next = start;
     loop {
-        let v = nearest(m, n, &key, room);
+        let v = if next < NONE { next } else { nearest(m, n, &key) };
         if v == NONE || 0 < room[v] {
             paths.goal = v;
             return paths;
         }
-        key[v] = FAR;
-        paths.relax(m, n, v, cost, x, cap, pot, &mut key);
+        let level = key[v];
+        key[v] = SHUT;
+        next = if v < 32 {
+            paths.relax_row(n, v, cost, x, cap, pot, &tags, &mut key);
+            NONE
+        } else {
+            paths.relax_column(m, v, level, cost, x, pot, &tags, &mut key)
+        };
     }
 }
 
-fn lower(gap: u64, dist: &Nodes, pot: &mut Nodes) {
+fn lower(gap: u32, dist: &Nodes, pot: &mut Nodes) {
     for v in 0..NODES {
         pot[v] = pot[v].min(dist[v] - gap);
     }
 }
 
-fn push(prev: &[usize; NODES], count: u64, goal: usize, amount: u64, x: &mut Cells) {
+fn push(prev: &Nodes, count: u32, goal: usize, amount: u32, x: &mut Cells) {
     let mut v = goal;
     for _ in 0..count {
-        let w = prev[v];
+        let w = prev[v] as usize;
         if v < 32 {
             x[v * 64 + (w - 32)] -= amount;
         } else {
@@ -148,7 +199,8 @@ fn plan_base(
     n: usize,
     cost: &Cells,
     cap: &Cells,
-    amounts: &[u64; 32],
+    amounts: &[u32; 32],
+    demand: &Nodes,
     x: &mut Cells,
     pot: &mut Nodes,
     room: &mut Nodes,
@@ -157,7 +209,7 @@ fn plan_base(
     for i in (0..m).rev() {
         let mut left = amounts[i];
         while 0 < left {
-            let found = search(m, n, cost, x, cap, pot, room, i, left);
+            let found = search(m, n, cost, x, cap, pot, room, demand, i, left);
             let goal = found.goal;
             if goal == NONE {
                 return;
@@ -189,7 +241,7 @@ pub fn sweep(
     n: usize,
     cost: &Cells,
     cap: &Cells,
-    amounts: &[u64; 32],
+    amounts: &[u32; 32],
     demand: &Nodes,
     lo: u64,
     hi: u64,
@@ -198,11 +250,11 @@ pub fn sweep(
     freights: &mut [u64],
     kept: &mut Cells,
 ) -> Curve {
-    let mut x = [0u64; 2048];
-    let mut pot = [0u64; NODES];
+    let mut x = [0u32; 2048];
+    let mut pot = [0u32; NODES];
     let mut room = *demand;
-    plan_base(m, n, cost, cap, amounts, &mut x, &mut pot, &mut room);
-    let freight: u64 = cost.iter().zip(&x).map(|(c, x)| c * x).sum();
+    plan_base(m, n, cost, cap, amounts, demand, &mut x, &mut pot, &mut room);
+    let freight: u64 = cost.iter().zip(&x).map(|(&c, &x)| u64::from(c) * u64::from(x)).sum();
     let mut best = Incumbent { split: lo, total: freight + table[lo as usize], freight };
     *kept = x;
     let (mut y, mut value, mut count, mut rise, mut fall) = (lo, freight, 0, 0, 0);
@@ -212,17 +264,17 @@ pub fn sweep(
         *count += 1;
     };
     while y < hi {
-        let limit = hi - y;
-        let mut room = [0u64; NODES];
+        let limit = (hi - y) as u32;
+        let mut room = [0u32; NODES];
         room[1] = limit;
-        let found = search(m, n, cost, &x, cap, &pot, &room, 0, limit);
+        let found = search(m, n, cost, &x, cap, &pot, &room, demand, 0, limit);
         let amount = found.width[1].min(limit);
         let gap = found.dist[1] - pot[1];
-        let (gain, loss) = (pot[1], pot[0] - gap);
-        let held = scan(table, y, amount, value, gain, loss, best);
+        let (gain, loss) = (u64::from(pot[1]), u64::from(pot[0] - gap));
+        let held = scan(table, y, u64::from(amount), value, gain, loss, best);
         if y < held.split {
             *kept = x;
-            push(&found.prev, found.hops[1], 1, held.split - y, kept);
+            push(&found.prev, found.hops[1], 1, (held.split - y) as u32, kept);
         }
         push(&found.prev, found.hops[1], 1, amount, &mut x);
         lower(gap, &found.dist, &mut pot);
@@ -230,8 +282,8 @@ pub fn sweep(
             note(&mut count, y, value);
         }
         (rise, fall) = (gain, loss);
-        value = value + rise * amount - fall * amount;
-        y += amount;
+        value = value + rise * u64::from(amount) - fall * u64::from(amount);
+        y += u64::from(amount);
         best = held;
     }
     note(&mut count, y, value);

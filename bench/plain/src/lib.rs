@@ -111,23 +111,32 @@ fn planned(
     splits: &mut [u64],
     freights: &mut [u64],
 ) -> Curve {
-    let mut cost = [0u64; 2048];
+    let mut cost = [0u32; 2048];
     for i in 0..m {
-        cost[i * 64..i * 64 + n].copy_from_slice(&costs[i * n..(i + 1) * n]);
+        narrow(&costs[i * n..(i + 1) * n], &mut cost[i * 64..i * 64 + n]);
     }
-    let cap = [4_000u64; 2048];
-    let mut amounts = [0u64; 32];
-    amounts[..m].copy_from_slice(supplies);
+    let cap = [4_000u32; 2048];
+    let mut amounts = [0u32; 32];
+    narrow(supplies, &mut amounts[..m]);
     let all: u64 = demands.iter().sum();
     let stock: u64 = supplies[2..].iter().sum();
-    amounts[0] = lo;
-    amounts[1] = all - stock - lo;
-    let mut demand = [0u64; 96];
-    demand[32..32 + n].copy_from_slice(demands);
-    let mut kept = [0u64; 2048];
+    amounts[0] = lo as u32;
+    amounts[1] = (all - stock - lo) as u32;
+    let mut demand = [0u32; 96];
+    narrow(demands, &mut demand[32..32 + n]);
+    let mut kept = [0u32; 2048];
     let curve = sweep(m, n, &cost, &cap, &amounts, &demand, lo, hi, table, splits, freights, &mut kept);
     for i in 0..m {
-        plan[i * n..(i + 1) * n].copy_from_slice(&kept[i * 64..i * 64 + n]);
+        for (amount, &k) in plan[i * n..(i + 1) * n].iter_mut().zip(&kept[i * 64..]) {
+            *amount = u64::from(k);
+        }
     }
     curve
+}
+
+/// Numbers that fit, into narrower cells.
+fn narrow(numbers: &[u64], cells: &mut [u32]) {
+    for (cell, &number) in cells.iter_mut().zip(numbers) {
+        *cell = number as u32;
+    }
 }
