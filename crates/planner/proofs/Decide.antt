@@ -17,6 +17,7 @@ use Rattle.planner.specs.Verdict.{splitsOf, entriesRefusal, AtMost, Amou
 use Rattle.planner.specs.declared.tests.Splits.{Splits}
 use Rattle.planner.specs.declared.tests.Splits.the-variants.{Between, Unbalanced}
 use Rattle.planner.specs.Ready.{OnSplits, Accepts}
+use Rattle.planner.proofs.FormLaws.{or-true}
 use Rattle.planner.proofs.Passed.{first-decides, second-decides, first-passes, second-passes, Formed, formed}
 use Rattle.planner.proofs.TestLaws.{met, unmet, splits-below, splits-above, splits-between}
 use Rattle.planner.proofs.Promise.{from7, from8, from9}
@@ -108,10 +109,6 @@ module _ {c : Case} {lo hi all : ℕ} (s : OnSplits c lo hi all) where
     unfolding test11
     by-room h =
         from9 c (s .form) (s .t7) (s .t8) ∙ second-decides _ _ ninth ∙ second-decides _ _ tenth ∙ first-decides _ _ _ (met 11 _ h)
-
-    or-true : (a : Bool) → (a || true) ≡ true
-    or-true true = refl
-    or-true false = refl
 
     pub by-plan : c .planCells < c .m * c .n → refusalOf c ≡ some (refused 11 0)
     by-plan h = by-room (simp (lt-ltb (c .planCells) (c .m * c .n) h))
