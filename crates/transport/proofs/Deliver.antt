@@ -51,14 +51,15 @@ module _ {N : Net} {p room : List ℕ} {s limit : ℕ} {x : List ℕ} {B : Book}
     plan = e;
   }
 
-  pub push-ready : {d : ℕ} → N .x ≡ cells x → d ≤ get (B .width) g → Walkable (B .prev) d (get (B .hops) g) g x
-  push-ready {d} e z =
-      let w = stroll-ready e z in walkable w (q .root-hops) (get (B .hops) g) g x refl (walk-start w)
+  module _ {d h : ℕ} (e : N .x ≡ cells x) (eh : h ≡ get (B .hops) g) (z : d ≤ get (B .width) g) where
+    w : WalkReady N p s limit B g d x
+    w = stroll-ready e z
 
-  pub pushed : {d : ℕ} {x' : List ℕ} → N .x ≡ cells x → d ≤ get (B .width) g → Walked (B .prev) d (get (B .hops) g) g x x'
-      → Walking N p B g d x' s
-  pushed {d} {x'} e z k =
-      let w = stroll-ready e z in walked w (q .root-hops) (get (B .hops) g) g x x' refl (walk-start w) k
+    pub push-ready : Walkable (B .prev) d h g x
+    push-ready = walkable w (q .root-hops) h g x (sym eh) (walk-start w)
+
+    pub pushed : {x' : List ℕ} → Walked (B .prev) d h g x x' → Walking N p B g d x' s
+    pushed {x'} k = walked w (q .root-hops) h g x x' (sym eh) (walk-start w) k
 
   module _ {p' : List ℕ} {D : ℕ} (eD : D ≡ get (B .dist) g - get p g) (lo : Lowered D (B .dist) p 96 p') where
     down : (v : ℕ) → v < 96 → get p' v ≡ min (get p v) (get (B .dist) v - D)

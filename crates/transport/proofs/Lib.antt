@@ -12,8 +12,10 @@ pub mod Near
 pub mod Tagging
 pub mod Settle
 pub mod Keys
+pub mod Lift
 pub mod Falls
 pub mod Stroll
+pub mod Measure
 pub mod Deliver
 pub mod Load
 pub mod Supply

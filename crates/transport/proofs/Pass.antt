@@ -3,32 +3,29 @@ use mathlib.Core.Path.{_≡_, refl, sym, ap, _∙_}
 use mathlib.Core.Logic.{_≢_, _⊎_, inl, inr}
 use mathlib.Core.Bool.{Bool, true, false, cond}
 use mathlib.Core.List.{List}
-use Prim.Native.Nat.{ℕ, suc, min, _+_, _-_, _*_, _≤_, _<_}
+use Prim.Native.Nat.{ℕ, suc, _+_, _-_, _*_, _≤_, _<_}
 use native.Mathlib.Decide.{ℕ-discrete}
 use native.Mathlib.Omega.{arith}
 use lib.ListN.{length, getD, set, length-set}
 use lib.Seq.{getD-set-same, getD-set-other, set-getD}
 use Rattle.transport.specs.engine.Path.{
   Net,
-  Book,
-  book,
   get,
   far,
   shut,
-  Long,
   Arc,
   Keyed,
   Lone,
   Wins,
   RowKey,
   Offered,
-  Touched,
-  Passing,
-  Passed,
+  Relabel,
+  Relabelling,
+  Relabelled,
 }
 use Rattle.transport.specs.engine.Path.Arc.{ahead, back}
 use Rattle.transport.specs.engine.Path.Offered.{kept, won}
-use Rattle.transport.specs.engine.Path.Touched.{stays, gains}
+use Rattle.transport.specs.engine.Path.Relabel.{keeps, takes}
 
 -- the label that an arc offers is one
 pub arc-same : (N : Net) → N .m ≤ 32 → (v w b t k t' k' : ℕ) → Arc N v w b t k → Arc N v w b t' k' → t ≡ t'
@@ -39,19 +36,21 @@ arc-same N s v w b t k t' k' (back j a e f g h i) (ahead j' a' e' f' g' h' i') =
 arc-same N s v w b t k t' k' (back j a e f g h i) (back j' a' e' f' g' h' i') =
     let z : j ≡ j' = omega arith in omega (arith, ap (λ j. N .c w j) z)
 
-pub pass-start : {N : Net} {v b hop wide lo hi : ℕ} {B : Book} → Long B → hi ≡ lo → Passing N v b hop wide lo hi B B
-pass-start l e = record {
-  long = l;
-  each = λ w. stays refl refl refl refl;
+pub pass-start : {N : Net} {v b lo hi : ℕ} {T P : List ℕ} → length T ≡ 96 → length P ≡ 96 → hi ≡ lo → Relabelling N v b lo hi T P T P
+pass-start lt lp e = record {
+  long-dist = lt;
+  long-prev = lp;
+  each = λ w. keeps refl refl;
   rest = λ w h. refl;
   offers = λ w t k h h' a. absurd (omega arith);
 }
 
-module _ {N : Net} {v b hop wide lo hi : ℕ} {B B' : Book} where
-  pub pass-closed : {hi' : ℕ} → Passing N v b hop wide lo hi B B' → hi' ≡ hi + 1 → ((t k : ℕ) → Arc N v hi b t k → ⊥)
-      → Passing N v b hop wide lo hi' B B'
+module _ {N : Net} {v b lo hi : ℕ} {T P T' P' : List ℕ} where
+  pub pass-closed : {hi' : ℕ} → Relabelling N v b lo hi T P T' P' → hi' ≡ hi + 1 → ((t k : ℕ) → Arc N v hi b t k → ⊥)
+      → Relabelling N v b lo hi' T P T' P'
   pass-closed p e no-arc = record {
-    long = p .long;
+    long-dist = p .long-dist;
+    long-prev = p .long-prev;
     each = p .each;
     rest = λ w h. p .rest w (omega arith);
     offers = λ w t k h h' a. elim (ℕ-discrete w hi) [
@@ -60,12 +59,13 @@ module _ {N : Net} {v b hop wide lo hi : ℕ} {B B' : Book} where
     ];
   }
 
-  pub pass-open : {hi' t k l f : ℕ} {take : Bool} {B'' : Book} → Passing N v b hop wide lo hi B B' → hi' ≡ hi + 1 → N .m ≤ 32 → hi < 96 → l ≡ min wide k
-      → (take ≡ true → Arc N v hi b t k × (t < get (B' .dist) hi))
-      → (take ≡ false → (t' k' : ℕ) → Arc N v hi b t' k' → get (B' .dist) hi ≤ t')
-      → {K K' : List ℕ} → Offered take hi t v hop l f B' B'' K K' → Passing N v b hop wide lo hi' B B''
-  pass-open p e s big el won? left? (kept h q eq) = rw q (record {
-    long = p .long;
+  pub pass-open : {hi' t k f : ℕ} {take : Bool} {T'' P'' : List ℕ} → Relabelling N v b lo hi T P T' P' → hi' ≡ hi + 1 → N .m ≤ 32 → hi < 96
+      → (take ≡ true → Arc N v hi b t k × (t < get T' hi))
+      → (take ≡ false → (t' k' : ℕ) → Arc N v hi b t' k' → get T' hi ≤ t')
+      → {K K' : List ℕ} → Offered take hi t v f T' T'' P' P'' K K' → Relabelling N v b lo hi' T P T'' P''
+  pass-open p e s big won? left? (kept h qt qp qk) = rw (qt, qp) (record {
+    long-dist = p .long-dist;
+    long-prev = p .long-prev;
     each = p .each;
     rest = λ w h. p .rest w (omega arith);
     offers = λ w t' k' o o' a. elim (ℕ-discrete w hi) [
@@ -73,18 +73,14 @@ module _ {N : Net} {v b hop wide lo hi : ℕ} {B B' : Book} where
       | no z ↦ p .offers w t' k' o (omega arith) a
     ];
   })
-  pass-open {t = t} {k = k} {l = l} p e s big el won? left? (won h q eq) = rw q (record {
-    long = record {
-      dists = length-set (B' .dist) hi t ∙ p .long .dists;
-      prevs = length-set (B' .prev) hi v ∙ p .long .prevs;
-      hopss = length-set (B' .hops) hi hop ∙ p .long .hopss;
-      widths = length-set (B' .width) hi l ∙ p .long .widths;
-    };
+  pass-open {t = t} {k = k} p e s big won? left? (won h qt qp qk) = rw (qt, qp) (record {
+    long-dist = length-set T' hi t ∙ p .long-dist;
+    long-prev = length-set P' hi v ∙ p .long-prev;
     each = each;
-    rest = λ w h. getD-set-other (B' .dist) hi w t 0 (omega arith) ∙ p .rest w (omega arith);
+    rest = λ w h. getD-set-other T' hi w t 0 (omega arith) ∙ p .rest w (omega arith);
     offers = λ w t' k' o o' a. elim (ℕ-discrete w hi) [
-      | yes z ↦ rw z (omega (arith, same (B' .dist) t (p .long .dists), arc-same N s v hi b t k t' k' arc (rw z at a)))
-      | no z ↦ omega (arith, p .offers w t' k' o (omega arith) a, off (B' .dist) w t z)
+      | yes z ↦ rw z (omega (arith, same T' t (p .long-dist), arc-same N s v hi b t k t' k' arc (rw z at a)))
+      | no z ↦ omega (arith, p .offers w t' k' o (omega arith) a, off T' w t z)
     ];
   })
     where
@@ -97,41 +93,31 @@ module _ {N : Net} {v b hop wide lo hi : ℕ} {B B' : Book} where
       same : (l : List ℕ) (a : ℕ) → length l ≡ 96 → getD (set l hi a) hi 0 ≡ a
       same l a z = getD-set-same l hi a 0 (omega arith)
 
-      C : Book
-      C = book (set (B' .dist) hi t) (set (B' .prev) hi v) (set (B' .hops) hi hop) (set (B' .width) hi l)
+      other : (w : ℕ) → w ≢ hi → Relabel N v b T P T' P' w → Relabel N v b T P (set T' hi t) (set P' hi v) w
+      other w z (keeps e₁ e₂) = keeps (off T' w t z ∙ e₁) (off P' w v z ∙ e₂)
+      other w z (takes t' k' a o e₁ e₂) = takes t' k' a o (off T' w t z ∙ e₁) (off P' w v z ∙ e₂)
 
-      other : (w : ℕ) → w ≢ hi → Touched N v b hop wide B B' w → Touched N v b hop wide B C w
-      other w z (stays e₁ e₂ e₃ e₄) =
-          stays (off (B' .dist) w t z ∙ e₁) (off (B' .prev) w v z ∙ e₂) (off (B' .hops) w hop z ∙ e₃) (off (B' .width) w l z ∙ e₄)
-      other w z (gains t' k' a o e₁ e₂ e₃ e₄) =
-          gains t' k' a o (off (B' .dist) w t z ∙ e₁) (off (B' .prev) w v z ∙ e₂) (off (B' .hops) w hop z ∙ e₃) (off (B' .width) w l z ∙ e₄)
+      here : Relabel N v b T P (set T' hi t) (set P' hi v) hi
+      here = takes t k arc (omega (arith, won? h .1, p .rest hi (omega arith))) (same T' t (p .long-dist)) (same P' v (p .long-prev))
 
-      here : Touched N v b hop wide B C hi
-      here =
-          gains t k arc (omega (arith, won? h .1, p .rest hi (omega arith)))
-          (same (B' .dist) t (p .long .dists))
-          (same (B' .prev) v (p .long .prevs))
-          (same (B' .hops) hop (p .long .hopss))
-          (same (B' .width) l (p .long .widths) ∙ el)
-
-      each : (w : ℕ) → Touched N v b hop wide B C w
+      each : (w : ℕ) → Relabel N v b T P (set T' hi t) (set P' hi v) w
       each w = elim (ℕ-discrete w hi) [ yes z ↦ rw z here | no z ↦ other w z (p .each w) ]
 
 -- all arcs out of a source lead to terminals
-pub pass-row : {N : Net} {v b hop wide hi : ℕ} {B B' : Book} → Passing N v b hop wide 32 hi B B' → v < N .m → N .m ≤ 32 → 32 + N .n ≤ hi
-    → Passed N v b hop wide B B'
-pass-row {N} {v} {b} {B' = B'} p hv s z = record { long = p .long; each = p .each; offers = offers }
+pub pass-row : {N : Net} {v b hi : ℕ} {T P T' P' : List ℕ} → Relabelling N v b 32 hi T P T' P' → v < N .m → N .m ≤ 32 → 32 + N .n ≤ hi
+    → Relabelled N v b T P T' P'
+pass-row {N} {v} {b} {T' = T'} p hv s z = record { long-dist = p .long-dist; long-prev = p .long-prev; each = p .each; offers = offers }
   where
-    offers : (w t k : ℕ) → Arc N v w b t k → get (B' .dist) w ≤ t
+    offers : (w t k : ℕ) → Arc N v w b t k → get T' w ≤ t
     offers w t k (ahead j a e f g h i) = p .offers w t k (omega arith) (omega arith) (ahead j a e f g h i)
     offers w t k (back j a e f g h i) = absurd (omega arith)
 
 -- and out of a terminal to sources
-pub pass-column : {N : Net} {v b hop wide hi : ℕ} {B B' : Book} → Passing N v b hop wide 0 hi B B' → 32 ≤ v → N .m ≤ 32 → N .m ≤ hi
-    → Passed N v b hop wide B B'
-pass-column {N} {v} {b} {B' = B'} p hv s z = record { long = p .long; each = p .each; offers = offers }
+pub pass-column : {N : Net} {v b hi : ℕ} {T P T' P' : List ℕ} → Relabelling N v b 0 hi T P T' P' → 32 ≤ v → N .m ≤ 32 → N .m ≤ hi
+    → Relabelled N v b T P T' P'
+pass-column {N} {v} {b} {T' = T'} p hv s z = record { long-dist = p .long-dist; long-prev = p .long-prev; each = p .each; offers = offers }
   where
-    offers : (w t k : ℕ) → Arc N v w b t k → get (B' .dist) w ≤ t
+    offers : (w t k : ℕ) → Arc N v w b t k → get T' w ≤ t
     offers w t k (ahead j a e f g h i) = absurd (omega arith)
     offers w t k (back j a e f g h i) = p .offers w t k (omega arith) (omega arith) (back j a e f g h i)
 
@@ -149,12 +135,10 @@ shut-back {N} {w = w} j s hw e l t k (back j' a a' f g h i) = let z : j ≡ j' =
 -- ---- the label and the key of an offer
 
 -- each cell is stored anew, as it was where the offer is left
-pub offer-made : (take : Bool) (w t from hop k f : ℕ) (B : Book) (K : List ℕ) {r₁ r₂ r₃ r₄ r₅ : ℕ} → r₁ ≡ cond take t (get (B .dist) w)
-    → r₂ ≡ cond take from (get (B .prev) w) → r₃ ≡ cond take hop (get (B .hops) w) → r₄ ≡ cond take k (get (B .width) w) → r₅ ≡ cond take f (get K w)
-    → Offered take w t from hop k f B (book (set (B .dist) w r₁) (set (B .prev) w r₂) (set (B .hops) w r₃) (set (B .width) w r₄)) K (set K w r₅)
-offer-made true w t from hop k f B K e₁ e₂ e₃ e₄ e₅ = won refl (rw (e₁, e₂, e₃, e₄) refl) (rw e₅ refl)
-offer-made false w t from hop k f B K e₁ e₂ e₃ e₄ e₅ =
-    kept refl (rw (same (B .dist) e₁, same (B .prev) e₂, same (B .hops) e₃, same (B .width) e₄) refl) (same K e₅)
+pub offer-made : (take : Bool) (w t from f : ℕ) (T P K : List ℕ) {r₁ r₂ r₃ : ℕ} → r₁ ≡ cond take t (get T w) → r₂ ≡ cond take from (get P w)
+    → r₃ ≡ cond take f (get K w) → Offered take w t from f T (set T w r₁) P (set P w r₂) K (set K w r₃)
+offer-made true w t from f T P K e₁ e₂ e₃ = won refl (rw e₁ refl) (rw e₂ refl) (rw e₃ refl)
+offer-made false w t from f T P K e₁ e₂ e₃ = kept refl (same T e₁) (same P e₂) (same K e₃)
   where
     same : (l : List ℕ) {r : ℕ} → r ≡ get l w → set l w r ≡ l
     same l e = ap (λ z. set l w z) e ∙ set-getD l w 0

@@ -5,7 +5,7 @@ use mathlib.Core.List.{List}
 use Prim.Native.Nat.{ℕ, zero, suc, min, _+_, _-_, _*_, _≤_, _<_}
 use native.Mathlib.Decide.{ℕ-discrete, decLt}
 use native.Mathlib.Omega.{arith}
-use lib.ListN.{length, getD, set, length-set}
+use lib.ListN.{length, getD, set, length-set, replicate, length-replicate, getD-replicate}
 use lib.Seq.{getD-set-same, getD-set-other}
 use Rattle.transport.specs.Sum.{sum}
 use Rattle.transport.proofs.Sums.{sum-change}
@@ -134,13 +134,12 @@ module _ {N : Net} {p room : List ℕ} {s limit : ℕ} {B B' : Book} {D : List �
     where
       go : Prev N s (λ w. get D w ≡ 1) B w → Prev N s (λ w. get D' w ≡ 1) B' w
       go (root z) = root z
-      go (step k b d a eh ew ek) =
+      go (step k b d a eh ew) =
           let f = stay (get (B .prev) w) b (now-settled (get (B .prev) w) d) in
           step k (rw (e .prevs) b) (rw (e .prevs) (now-settled (get (B .prev) w) d))
           (arc-eq (e .prevs) (ap (λ z. get (B' .dist) z) (e .prevs) ∙ f .dists) (e .dists) a)
           (omega (arith, eh, e .hopss, ap (λ z. get (B' .hops) z) (e .prevs), f .hopss))
           (omega (arith, ew, e .widths, ap (λ z. get (B' .width) z) (e .prevs), f .widths))
-          (omega (arith, ek, e .widths))
 
   label-new : (w : ℕ) → Touched N v (get (B .dist) v) (get (B .hops) v + 1) (get (B .width) v) B B' w → w < 96 → get (B' .dist) w < far
       → Label N s (λ w. get D' w ≡ 1) p (sum 96 (λ w. get D' w)) limit B' w
@@ -161,8 +160,7 @@ module _ {N : Net} {p room : List ℕ} {s limit : ℕ} {B B' : Book} {D : List �
             step k (rw e₂ hv) (rw e₂ here)
             (arc-eq e₂ (ap (λ z. get (B' .dist) z) e₂ ∙ f .dists) e₁ a)
             (omega (arith, e₃, ap (λ z. get (B' .hops) z) e₂, f .hopss))
-            (omega (arith, e₄, ap (λ z. get (B' .width) z) e₂, f .widths))
-            (omega arith);
+            (omega (arith, e₄, ap (λ z. get (B' .width) z) e₂, f .widths));
       }
 
   -- each node that is not settled is no nearer than v
@@ -188,6 +186,7 @@ module _ {N : Net} {p room : List ℕ} {s limit : ℕ} {B B' : Book} {D : List �
     start = q .start;
     root-dist = root-stays (pass .each s) .0;
     root-hops = root-stays (pass .each s) .1;
+    root-width = root-stays (pass .each s) .2;
     label = λ w hw h. label-new w (pass .each w) hw h;
     settled = λ w hw e. settled w hw e (was w e);
     order = λ a b ha hb ea eb. omega (arith, stay a ha ea .dists, closer a ha ea, beyond b hb (fresh b eb) (pass .each b));
@@ -195,8 +194,8 @@ module _ {N : Net} {p room : List ℕ} {s limit : ℕ} {B B' : Book} {D : List �
   }
     where
       root-stays : Touched N v (get (B .dist) v) (get (B .hops) v + 1) (get (B .width) v) B B' s
-          → (get (B' .dist) s ≡ get p s) × (get (B' .hops) s ≡ 0)
-      root-stays (stays e₁ e₂ e₃ e₄) = (e₁ ∙ q .root-dist, e₃ ∙ q .root-hops)
+          → (get (B' .dist) s ≡ get p s) × (get (B' .hops) s ≡ 0) × (get (B' .width) s ≡ limit)
+      root-stays (stays e₁ e₂ e₃ e₄) = (e₁ ∙ q .root-dist, e₃ ∙ q .root-hops, e₄ ∙ q .root-width)
       root-stays (gains t k a l e₁ e₂ e₃ e₄) = absurd (omega (arith, arc-reduced so a, q .low v hv, q .root-dist))
 
       settled : (w : ℕ) → w < 96 → get D' w ≡ 1 → (w ≡ v) ⊎ (get D w ≡ 1) → (get (B' .dist) w < far) × (get room w ≡ 0)
@@ -211,15 +210,15 @@ module _ {N : Net} {p room : List ℕ} {s limit : ℕ} {B B' : Book} {D : List �
 
 -- ---- the start
 
-pub search-start : {N : Net} {p room : List ℕ} {s limit : ℕ} {B : Book} {D : List ℕ} → SearchReady N p s limit → Blank B → length D ≡ 96
+pub search-start : {N : Net} {p room : List ℕ} {s limit : ℕ} {T P D : List ℕ} → SearchReady N p s limit → Blank T P → length D ≡ 96
     → ((v : ℕ) → v < 96 → get D v ≡ 0)
-    → Searching N p room s limit (book (set (B .dist) s (get p s)) (B .prev) (set (B .hops) s 0) (set (B .width) s limit)) D
-search-start {N} {p} {room} {s} {limit} {B} {D} r k e z = record {
+    → Searching N p room s limit (book (set T s (get p s)) P (replicate 96 0) (replicate 96 limit)) D
+search-start {N} {p} {room} {s} {limit} {T} {P} {D} r k e z = record {
   long = record {
-    dists = length-set (B .dist) s (get p s) ∙ k .long .dists;
-    prevs = k .long .prevs;
-    hopss = length-set (B .hops) s 0 ∙ k .long .hopss;
-    widths = length-set (B .width) s limit ∙ k .long .widths;
+    dists = length-set T s (get p s) ∙ k .long-dist;
+    prevs = k .long-prev;
+    hopss = length-replicate {A = ℕ} 96 0;
+    widths = length-replicate {A = ℕ} 96 limit;
   };
   marks = e;
   zero-one = λ v h. omega (arith, z v h);
@@ -230,6 +229,7 @@ search-start {N} {p} {room} {s} {limit} {B} {D} r k e z = record {
   start = hs;
   root-dist = here;
   root-hops = hops;
+  root-width = width;
   label = λ v h l. elim (ℕ-discrete v s) [ yes d ↦ rw d label | no d ↦ absurd (omega (arith, off v d, k .dists v h)) ];
   settled = λ v h d. absurd (omega (arith, z v h));
   order = λ v w hv hw d f. absurd (omega (arith, z v hv));
@@ -240,19 +240,19 @@ search-start {N} {p} {room} {s} {limit} {B} {D} r k e z = record {
     hs = omega (arith, r .start, r .sound .sources)
 
     C : Book
-    C = book (set (B .dist) s (get p s)) (B .prev) (set (B .hops) s 0) (set (B .width) s limit)
+    C = book (set T s (get p s)) P (replicate 96 0) (replicate 96 limit)
 
     here : get (C .dist) s ≡ get p s
-    here = getD-set-same (B .dist) s (get p s) 0 (omega (arith, k .long .dists, hs))
+    here = getD-set-same T s (get p s) 0 (omega (arith, k .long-dist, hs))
 
     hops : get (C .hops) s ≡ 0
-    hops = getD-set-same (B .hops) s 0 0 (omega (arith, k .long .hopss, hs))
+    hops = getD-replicate {A = ℕ} 96 s 0 0 hs
 
     width : get (C .width) s ≡ limit
-    width = getD-set-same (B .width) s limit 0 (omega (arith, k .long .widths, hs))
+    width = getD-replicate {A = ℕ} 96 s limit 0 hs
 
-    off : (v : ℕ) → v ≢ s → get (C .dist) v ≡ get (B .dist) v
-    off v d = getD-set-other (B .dist) s v (get p s) 0 d
+    off : (v : ℕ) → v ≢ s → get (C .dist) v ≡ get T v
+    off v d = getD-set-other T s v (get p s) 0 d
 
     label : Label N s (λ w. get D w ≡ 1) p (sum 96 (λ w. get D w)) limit C s
     label = record {
@@ -276,9 +276,10 @@ module _ {N : Net} {p room : List ℕ} {s limit : ℕ} {B : Book} {D : List ℕ}
   label-near {v} hv l = omega (arith, q .label v hv l .up, q .label v hv l .count, counted, so .high s (q .start))
 
   pub relax-ready : {v : ℕ} {K : List ℕ} → ((i j : ℕ) → i < N .m → j < N .n → N .u i j ≤ 4000000000) → ((w : ℕ) → w < 96 → get (B .dist) w ≤ far)
-      → v < 96 → get (B .dist) v < far → length K ≡ 96 → RelaxReady N p v (get (B .dist) v) B K
+      → v < 96 → get (B .dist) v < far → length K ≡ 96 → RelaxReady N p v (get (B .dist) v) (B .dist) (B .prev) K
   relax-ready {v} ceilings most hv l e = record {
-    long = q .long;
+    long-dist = q .long .dists;
+    long-prev = q .long .prevs;
     long-key = e;
     sources = so .sources;
     terminals = so .terminals;
@@ -312,8 +313,8 @@ module _ {N : Net} {p room : List ℕ} {s limit : ℕ} {B : Book} {D : List ℕ}
 
       go : Prev N s (λ w. get D w ≡ 1) B w → Prev N s (Near p (B .dist) g) B w
       go (root z) = root z
-      go (step k b d a eh ew ek) =
-          step k b (q .settled (get (B .prev) w) b d .0, q .order (get (B .prev) w) g b hg d e) a eh ew ek
+      go (step k b d a eh ew) =
+          step k b (q .settled (get (B .prev) w) b d .0, q .order (get (B .prev) w) g b hg d e) a eh ew
 
   -- a node that is nearer than the nearest is settled
   nearer : {v : ℕ} → Nearest p (B .dist) D v → v < 96 → (w : ℕ) → w < 96 → get (B .dist) w + get p v < get (B .dist) v + get p w → get D w ≡ 1
@@ -331,6 +332,7 @@ module _ {N : Net} {p room : List ℕ} {s limit : ℕ} {B : Book} {D : List ℕ}
     low = q .low;
     root-dist = q .root-dist;
     root-hops = q .root-hops;
+    root-width = q .root-width;
     bound = near .bound;
     found = λ h. record {
       goal = near .fresh hv .1;
@@ -348,6 +350,7 @@ module _ {N : Net} {p room : List ℕ} {s limit : ℕ} {B : Book} {D : List ℕ}
     low = q .low;
     root-dist = q .root-dist;
     root-hops = q .root-hops;
+    root-width = q .root-width;
     bound = near .bound;
     found = λ h. absurd (omega arith);
     stuck = λ z. record {

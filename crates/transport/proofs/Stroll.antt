@@ -112,14 +112,14 @@ module _ {N : Net} {p : List ℕ} {s limit : ℕ} {B : Book} {g d : ℕ} {x₀ x
     where
       go : Prev N s (Near p (B .dist) g) B v → (get (B .prev) v < 96) × (get (B .hops) (get (B .prev) v) < get (B .hops) v)
       go (root z) = absurd (away z)
-      go (step k b n a eh ew ek) = (b, omega arith)
+      go (step k b n a eh ew) = (b, omega arith)
 
   pub walk-ready : CarryReady v (get (B .prev) v) d x
   walk-ready = go (label .prev)
     where
       go : Prev N s (Near p (B .dist) g) B v → CarryReady v (get (B .prev) v) d x
       go (root z) = absurd (away z)
-      go (step k b n (ahead j a e f o h i) eh ew ek) = record {
+      go (step k b n (ahead j a e f o h i) eh ew) = record {
         less = λ l. absurd (omega arith);
         more = λ l. (
           omega (arith, r .sources),
@@ -136,7 +136,7 @@ module _ {N : Net} {p : List ℕ} {s limit : ℕ} {B : Book} {g d : ℕ} {x₀ x
         where
           vj : {z : ℕ} → v ≡ 32 + z → v - 32 ≡ z
           vj e = omega arith
-      go (step k b n (back j a e f o h i) eh ew ek) = record {
+      go (step k b n (back j a e f o h i) eh ew) = record {
         less = λ l. (
           omega arith,
           b,
@@ -158,12 +158,12 @@ module _ {N : Net} {p : List ℕ} {s limit : ℕ} {B : Book} {g d : ℕ} {x₀ x
     where
       go : Prev N s (Near p (B .dist) g) B v → Walking N p B g d x' (get (B .prev) v)
       go (root z) = absurd (away z)
-      go (step k b n (ahead j a e f o h i) eh ew ek) =
+      go (step k b n (ahead j a e f o h i) eh ew) =
           let z : v - 32 ≡ j = omega arith in
           rw (c .more (omega arith), z)
           (walk-ahead (r .terminals) (r .sources) (get (B .prev) v) j a e (rw f at q) n (omega (arith, q .width))
           (omega (arith, ap (λ z. get (B .hops) z) f)) o (omega (arith, ap (λ z. get (B .dist) z) f)) (omega (arith, q .width)))
-      go (step k b n (back j a e f o h i) eh ew ek) =
+      go (step k b n (back j a e f o h i) eh ew) =
           let z : get (B .prev) v - 32 ≡ j = omega arith in
           rw (c .less (omega (arith, r .sources)), z, f)
           (walk-back (r .terminals) (r .sources) v j a e q (rw f at n) (omega (arith, q .width, ap (λ z. get (B .width) z) f))
@@ -181,14 +181,14 @@ module _ {N : Net} {p : List ℕ} {s limit : ℕ} {B : Book} {g d : ℕ} {x₀ :
     where
       go : Prev N s (Near p (B .dist) g) B v → v ≡ s
       go (root z) = z
-      go (step k b n a eh ew ek) = absurd (omega arith)
+      go (step k b n a eh ew) = absurd (omega arith)
 
   hops-less : {x : List ℕ} {v h : ℕ} → get (B .hops) v ≡ suc h → Walking N p B g d x v → get (B .hops) (get (B .prev) v) ≡ h
   hops-less {x} {v} {h} e q = go (r .label v (q .node) (q .near .0) .prev)
     where
       go : Prev N s (Near p (B .dist) g) B v → get (B .hops) (get (B .prev) v) ≡ h
       go (root z) = absurd (off-root e z)
-      go (step k b n a eh ew ek) = omega arith
+      go (step k b n a eh ew) = omega arith
 
   pub walkable : (h v : ℕ) (x : List ℕ) → get (B .hops) v ≡ h → Walking N p B g d x v → Walkable (B .prev) d h v x
   unfolding Walkable

@@ -2,7 +2,7 @@
 use mathlib.Core.Path.{_≡_, refl, ap, _∙_}
 use mathlib.Core.Logic.{_≢_}
 use mathlib.Core.List.{List}
-use Prim.Native.Nat.{ℕ, min, _+_, _-_, _≤_, _<_}
+use Prim.Native.Nat.{ℕ, _+_, _-_, _≤_, _<_}
 use native.Mathlib.Decide.{ℕ-discrete}
 use native.Mathlib.Omega.{arith}
 use Rattle.transport.specs.Plan.{row, col}
@@ -10,7 +10,7 @@ use Rattle.transport.proofs.Sums.{sum-two, some-member}
 use Rattle.transport.specs.engine.Cells.{cells}
 use Rattle.transport.specs.engine.Path.{Net, Book, get, far}
 use Rattle.transport.specs.engine.Path.Arc.{ahead, back}
-use Rattle.transport.specs.engine.Search.{Sound, Stuck, Searched}
+use Rattle.transport.specs.engine.Search.{Sound, Near, Label, Stuck, Searched}
 use Rattle.transport.specs.engine.Send.{SendReady, Delivered}
 use Rattle.transport.specs.engine.Sweep.{Swinging, Over}
 use Rattle.transport.specs.engine.Stretch.{ShiftReady, PathDone}
@@ -137,26 +137,30 @@ module _ {N : Net} {p room x : List ℕ} {limit : ℕ} {B : Book} {g : ℕ}
   goal : g ≡ 1
   goal = elim (ℕ-discrete g 1) [ yes z ↦ z | no z ↦ absurd (omega (arith, o .off g found z, q .found found .has-room)) ]
 
-  reached : Searched N p room 0 limit B 1
+  pub reached : Searched N p room 0 limit B 1
   reached = rw goal at q
 
   pub path-low : get p 1 ≤ get (B .dist) 1
   path-low = q .low 1 (omega arith)
 
-  pub path-done : N .x ≡ cells x → {D d : ℕ} → D ≡ get (B .dist) 1 - get p 1 → d ≡ min (get (B .width) 1) limit
-      → PathDone N p x limit (B .dist) (B .prev) (get (B .hops) 1) D d
-  path-done e {D} {d} eD ed = record {
-    some = omega (arith, k .some, reached .found one .label 1 one (reached .found one .goal) .some);
+  pub path-done : N .x ≡ cells x → {D d h : ℕ} → D ≡ get (B .dist) 1 - get p 1 → h ≡ get (B .hops) 1 → d ≡ get (B .width) 1
+      → PathDone N p x limit (B .dist) (B .prev) h D d
+  path-done e {D} {d} {h} eD eh ed = record {
+    some = omega (arith, label .some);
     ends = omega (arith, path-low);
     starts = q .root-dist;
     ready = lower-ready ready reached one eD;
-    able = λ t h. push-ready ready reached one e (omega arith);
-    part = λ p' lo t h z v.
-        let l = pushed ready reached one e (omega arith) v in
-        record { flow = l .flow; slack = after ready reached one eD lo l; under = l .under; long = l .long };
+    able = λ t l. push-ready ready reached one e eh (omega arith);
+    part = λ p' lo t l z v.
+        let w = pushed ready reached one e eh (omega arith) v in
+        record { flow = w .flow; slack = after ready reached one eD lo w; under = w .under; long = w .long };
     over = λ p' lo x' w.
-        swing-over (k .swinging) o one (delivered ready reached one eD lo (omega (arith, o .one)) (pushed ready reached one e (omega arith) w));
+        swing-over (k .swinging) o one
+        (delivered ready reached one eD lo (omega (arith, o .one, label .most)) (pushed ready reached one e eh (omega arith) w));
   }
     where
       one : 1 < 96
       one = omega arith
+
+      label : Label N 0 (Near p (B .dist) 1) p 96 limit B 1
+      label = reached .found one .label 1 one (reached .found one .goal)

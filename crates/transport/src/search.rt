@@ -3,8 +3,8 @@ ghost use mathlib.Core.Path.{_≡_};
 ghost use mathlib.Core.Bool.{cond};
 ghost use Prim.Native.Nat.{min, _+_, _-_, _*_, _≤_, _<_};
 ghost use lib.ListN.{length};
-ghost use Rattle.transport.specs.engine.Path.{net, book, get, far, Offered, Passed, Rekeyed, Next, Wins, Named, RowKey, Whole, Tags, Tagged, RowReady, ColumnReady, RelaxReady, LeastKey, Held, ClosestNode, Chosen};
-ghost use Rattle.transport.specs.engine.Search.{SearchReady, Wanted, Blank, Searched};
+ghost use Rattle.transport.specs.engine.Path.{net, get, far, Offered, Relabelled, Rekeyed, Next, Wins, Named, RowKey, Whole, Tags, Tagged, RowReady, ColumnReady, RelaxReady, LeastKey, Held, ClosestNode, Chosen};
+ghost use Rattle.transport.specs.engine.Search.{SearchReady, Wanted, Blank, Labelled};
 
 // Above every label.
 pub const FAR: u32 = 2_000_000_000;
@@ -23,13 +23,6 @@ fn pick(take: bool, a: u32, b: u32) -> u32
     ensures { λ r. ⌜ r ≡ cond take a b ⌝ }
 {
     if take { a } else { b }
-}
-
-// How many drums more a lane of x drums can carry.
-fn spare(x: u32, cap: u32) -> u32
-    ensures { λ r. ⌜ r ≡ cap - x ⌝ }
-{
-    if x < cap { cap - x } else { 0 }
 }
 
 // Is a label t over a lane of x drums to be taken in place of old?
@@ -71,22 +64,16 @@ fn offer(
     take: bool,
     t: u32,
     from: u32,
-    hop: u32,
-    k: u32,
     f: u32,
     dist: &mut [u32; 96],
     prev: &mut [u32; 96],
-    hops: &mut [u32; 96],
-    width: &mut [u32; 96],
     key: &mut [u32; 96],
 )
     requires { ⌜ w < 96 ⌝ }
-    ensures { λ _. ⌜ Offered take w t from hop k f (book (now (dist .entry)) (now (prev .entry)) (now (hops .entry)) (now (width .entry))) (book (now (dist .exit)) (now (prev .exit)) (now (hops .exit)) (now (width .exit))) (now (key .entry)) (now (key .exit)) ⌝ }
+    ensures { λ _. ⌜ Offered take w t from f (now (dist .entry)) (now (dist .exit)) (now (prev .entry)) (now (prev .exit)) (now (key .entry)) (now (key .exit)) ⌝ }
 {
     dist[w] = pick(take, t, dist[w]);
     prev[w] = pick(take, from, prev[w]);
-    hops[w] = pick(take, hop, hops[w]);
-    width[w] = pick(take, k, width[w]);
     key[w] = pick(take, f, key[w]);
 }
 
@@ -99,20 +86,16 @@ fn relax_row(
     x: &[u32; 2048],
     cap: &[u32; 2048],
     base: u32,
-    hop: u32,
-    wide: u32,
     pot: &[u32; 96],
     full: &[u32; 96],
     want: &[u32; 96],
     dist: &mut [u32; 96],
     prev: &mut [u32; 96],
-    hops: &mut [u32; 96],
-    width: &mut [u32; 96],
     key: &mut [u32; 96],
 )
-    requires { ⌜ RowReady (net m n (now cost) (now cap) (now x)) (now pot) i base (book (now dist) (now prev) (now hops) (now width)) (now key) ⌝ }
+    requires { ⌜ RowReady (net m n (now cost) (now cap) (now x)) (now pot) i base (now dist) (now prev) (now key) ⌝ }
     requires { ⌜ Tags (now full) (now want) ⌝ }
-    ensures { λ _. ⌜ Passed (net m n (now (cost .entry)) (now (cap .entry)) (now (x .entry))) i base hop wide (book (now (dist .entry)) (now (prev .entry)) (now (hops .entry)) (now (width .entry))) (book (now (dist .exit)) (now (prev .exit)) (now (hops .exit)) (now (width .exit))) ⌝ }
+    ensures { λ _. ⌜ Relabelled (net m n (now (cost .entry)) (now (cap .entry)) (now (x .entry))) i base (now (dist .entry)) (now (prev .entry)) (now (dist .exit)) (now (prev .exit)) ⌝ }
     ensures { λ _. ⌜ Rekeyed (net m n (now (cost .entry)) (now (cap .entry)) (now (x .entry))) (now (want .entry)) i (now (pot .entry)) (now (dist .entry)) (now (dist .exit)) (now (key .entry)) (now (key .exit)) ⌝ }
 {
     for j in 0..n {
@@ -123,21 +106,7 @@ fn relax_row(
         let old = dist[w];
         let take = wins(t, old, drums, cap[k]);
         let f = row_key(drums, want[w], pick(take, t, old), pot[w], full[w]);
-        let left = smaller(wide, spare(drums, cap[k]));
-        offer(
-            w,
-            take,
-            t,
-            i as u32,
-            hop,
-            left,
-            f,
-            dist,
-            prev,
-            hops,
-            width,
-            key,
-        );
+        offer(w, take, t, i as u32, f, dist, prev, key);
     }
 }
 
@@ -162,21 +131,17 @@ fn relax_column(
     x: &[u32; 2048],
     cap: &[u32; 2048],
     base: u32,
-    hop: u32,
-    wide: u32,
     level: u32,
     pot: &[u32; 96],
     full: &[u32; 96],
     want: &[u32; 96],
     dist: &mut [u32; 96],
     prev: &mut [u32; 96],
-    hops: &mut [u32; 96],
-    width: &mut [u32; 96],
     key: &mut [u32; 96],
 ) -> usize
-    requires { ⌜ ColumnReady (net m n (now cost) (now cap) (now x)) (now pot) v base (book (now dist) (now prev) (now hops) (now width)) (now key) ⌝ }
+    requires { ⌜ ColumnReady (net m n (now cost) (now cap) (now x)) (now pot) v base (now dist) (now prev) (now key) ⌝ }
     requires { ⌜ Tags (now full) (now want) ⌝ }
-    ensures { λ r. ⌜ Passed (net m n (now (cost .entry)) (now (cap .entry)) (now (x .entry))) v base hop wide (book (now (dist .entry)) (now (prev .entry)) (now (hops .entry)) (now (width .entry))) (book (now (dist .exit)) (now (prev .exit)) (now (hops .exit)) (now (width .exit))) ⌝ }
+    ensures { λ r. ⌜ Relabelled (net m n (now (cost .entry)) (now (cap .entry)) (now (x .entry))) v base (now (dist .entry)) (now (prev .entry)) (now (dist .exit)) (now (prev .exit)) ⌝ }
     ensures { λ r. ⌜ Rekeyed (net m n (now (cost .entry)) (now (cap .entry)) (now (x .entry))) (now (want .entry)) v (now (pot .entry)) (now (dist .entry)) (now (dist .exit)) (now (key .entry)) (now (key .exit)) ⌝ }
     ensures { λ r. ⌜ Next (now (key .exit)) level m r ⌝ }
 {
@@ -188,21 +153,7 @@ fn relax_column(
             let t = base - cost[k];
             let take = wins(t, dist[i], 0, x[k]);
             let f = key_of(t, pot[i], full[i]);
-            let left = smaller(wide, x[k]);
-            offer(
-                i,
-                take,
-                t,
-                v as u32,
-                hop,
-                left,
-                f,
-                dist,
-                prev,
-                hops,
-                width,
-                key,
-            );
+            offer(i, take, t, v as u32, f, dist, prev, key);
             next = named(take, f, level, i, next);
         }
     }
@@ -218,21 +169,17 @@ fn relax(
     x: &[u32; 2048],
     cap: &[u32; 2048],
     base: u32,
-    hop: u32,
-    wide: u32,
     level: u32,
     pot: &[u32; 96],
     full: &[u32; 96],
     want: &[u32; 96],
     dist: &mut [u32; 96],
     prev: &mut [u32; 96],
-    hops: &mut [u32; 96],
-    width: &mut [u32; 96],
     key: &mut [u32; 96],
 ) -> usize
-    requires { ⌜ RelaxReady (net m n (now cost) (now cap) (now x)) (now pot) v base (book (now dist) (now prev) (now hops) (now width)) (now key) ⌝ }
+    requires { ⌜ RelaxReady (net m n (now cost) (now cap) (now x)) (now pot) v base (now dist) (now prev) (now key) ⌝ }
     requires { ⌜ Tags (now full) (now want) ⌝ }
-    ensures { λ r. ⌜ Passed (net m n (now (cost .entry)) (now (cap .entry)) (now (x .entry))) v base hop wide (book (now (dist .entry)) (now (prev .entry)) (now (hops .entry)) (now (width .entry))) (book (now (dist .exit)) (now (prev .exit)) (now (hops .exit)) (now (width .exit))) ⌝ }
+    ensures { λ r. ⌜ Relabelled (net m n (now (cost .entry)) (now (cap .entry)) (now (x .entry))) v base (now (dist .entry)) (now (prev .entry)) (now (dist .exit)) (now (prev .exit)) ⌝ }
     ensures { λ r. ⌜ Rekeyed (net m n (now (cost .entry)) (now (cap .entry)) (now (x .entry))) (now (want .entry)) v (now (pot .entry)) (now (dist .entry)) (now (dist .exit)) (now (key .entry)) (now (key .exit)) ⌝ }
     ensures { λ r. ⌜ Next (now (key .exit)) level m r ⌝ }
 {
@@ -245,15 +192,11 @@ fn relax(
             x,
             cap,
             base,
-            hop,
-            wide,
             pot,
             full,
             want,
             dist,
             prev,
-            hops,
-            width,
             key,
         );
         return 96;
@@ -266,16 +209,12 @@ fn relax(
         x,
         cap,
         base,
-        hop,
-        wide,
         level,
         pot,
         full,
         want,
         dist,
         prev,
-        hops,
-        width,
         key,
     )
 }
@@ -349,19 +288,15 @@ fn explore(
     limit: u32,
     dist: &mut [u32; 96],
     prev: &mut [u32; 96],
-    hops: &mut [u32; 96],
-    width: &mut [u32; 96],
 ) -> usize
     requires { ⌜ SearchReady (net m n (now cost) (now cap) (now x)) (now pot) start limit ⌝ }
     requires { ⌜ Wanted (net m n (now cost) (now cap) (now x)) (now demand) ⌝ }
     requires { ⌜ Tagged (now room) (now demand) (now full) (now want) ⌝ }
-    requires { ⌜ Blank (book (now dist) (now prev) (now hops) (now width)) ⌝ }
-    ensures { λ r. ⌜ Searched (net m n (now (cost .entry)) (now (cap .entry)) (now (x .entry))) (now (pot .entry)) (now (room .entry)) start limit (book (now (dist .exit)) (now (prev .exit)) (now (hops .exit)) (now (width .exit))) r ⌝ }
+    requires { ⌜ Blank (now dist) (now prev) ⌝ }
+    ensures { λ r. ⌜ Labelled (net m n (now (cost .entry)) (now (cap .entry)) (now (x .entry))) (now (pot .entry)) (now (room .entry)) start limit (now (dist .exit)) (now (prev .exit)) r ⌝ }
 {
     let mut key = [SHUT; 96];
     dist[start] = pot[start];
-    hops[start] = 0;
-    width[start] = limit;
     key[start] = 0;
     let mut next = start;
     for turn in 0u64..96 {
@@ -375,8 +310,6 @@ fn explore(
         let level = key[v];
         key[v] = SHUT;
         let base = dist[v];
-        let hop = hops[v] + 1;
-        let wide = width[v];
         next = relax(
             m,
             n,
@@ -385,16 +318,12 @@ fn explore(
             x,
             cap,
             base,
-            hop,
-            wide,
             level,
             pot,
             full,
             want,
             dist,
             prev,
-            hops,
-            width,
             &mut key,
         );
     }
@@ -432,14 +361,11 @@ fn tag(room: &[u32; 96], demand: &[u32; 96], full: &mut [u32; 96], want: &mut [u
     }
 }
 
-// What a search found: the goal (96: none), and for each node its distance, the node before it, the number of arcs to it
-// and the smallest ceiling on them.
+// What a search found: the goal (96: none), and for each node its distance and the node before it.
 pub struct Paths {
     pub goal: usize,
     pub dist: [u32; 96],
     pub prev: [u32; 96],
-    pub hops: [u32; 96],
-    pub width: [u32; 96],
 }
 
 // Cheapest paths from a source to the nearest node that has room.
@@ -457,15 +383,13 @@ pub fn search(
 ) -> Paths
     requires { ⌜ SearchReady (net m n (now cost) (now cap) (now x)) (now pot) start limit ⌝ }
     requires { ⌜ Wanted (net m n (now cost) (now cap) (now x)) (now demand) ⌝ }
-    ensures { λ r. ⌜ Searched (net m n (now (cost .entry)) (now (cap .entry)) (now (x .entry))) (now (pot .entry)) (now (room .entry)) start limit (book (r .dist) (r .prev) (r .hops) (r .width)) (r .goal) ⌝ }
+    ensures { λ r. ⌜ Labelled (net m n (now (cost .entry)) (now (cap .entry)) (now (x .entry))) (now (pot .entry)) (now (room .entry)) start limit (r .dist) (r .prev) (r .goal) ⌝ }
 {
     let mut full = [0u32; 96];
     let mut want = [0u32; 96];
     tag(room, demand, &mut full, &mut want);
     let mut dist = [FAR; 96];
     let mut prev = [0u32; 96];
-    let mut hops = [0u32; 96];
-    let mut width = [0u32; 96];
     let goal = explore(
         m,
         n,
@@ -481,14 +405,6 @@ pub fn search(
         limit,
         &mut dist,
         &mut prev,
-        &mut hops,
-        &mut width,
     );
-    Paths {
-        goal,
-        dist,
-        prev,
-        hops,
-        width,
-    }
+    Paths { goal, dist, prev }
 }

@@ -1,9 +1,9 @@
 // The send: the potentials after a search, the walk back over its path, both together.
 ghost use mathlib.Core.Path.{_≡_};
-ghost use Prim.Native.Nat.{_+_, _-_, _≤_, _<_};
+ghost use Prim.Native.Nat.{min, _+_, _-_, _≤_, _<_};
 ghost use lib.ListN.{getD, set};
 ghost use Rattle.transport.specs.engine.Path.{net};
-ghost use Rattle.transport.specs.engine.Send.{LowerReady, Lowered, CarryReady, Carried, Walkable, Walked, SendReady, SendDone};
+ghost use Rattle.transport.specs.engine.Send.{LowerReady, Lowered, CarryReady, Carried, Walkable, Walked, ResidualReady, Residual, Route, Measured, SendReady, SendDone};
 ghost use Rattle.transport.specs.engine.Search.{Wanted};
 use super::search::search;
 use super::search::smaller;
@@ -59,6 +59,48 @@ pub fn push(prev: &[u32; 96], count: u32, goal: usize, amount: u32, x: &mut [u32
     }
 }
 
+// What the arc from w to v can carry: the drums of a lane in use backwards, or what a lane can still take.
+fn residual(v: usize, w: usize, x: &[u32; 2048], cap: &[u32; 2048]) -> u32
+    requires { ⌜ ResidualReady v w (now x) (now cap) ⌝ }
+    ensures { λ r. ⌜ Residual v w (now (x .entry)) (now (cap .entry)) r ⌝ }
+{
+    if v < 32 {
+        return x[v * 64 + (w - 32)];
+    }
+    let k = w * 64 + (v - 32);
+    cap[k] - x[k]
+}
+
+// The arcs of a path, and how many drums can go along it.
+pub struct Way {
+    pub count: u32,
+    pub amount: u32,
+}
+
+// The way from start to goal that a search found, for limit drums at most.
+pub fn measure(
+    prev: &[u32; 96],
+    start: usize,
+    goal: usize,
+    limit: u32,
+    x: &[u32; 2048],
+    cap: &[u32; 2048],
+) -> Way
+    requires { ⌜ Route (now prev) (now x) (now cap) start goal limit ⌝ }
+    ensures { λ r. ⌜ Measured (now (prev .entry)) (now (x .entry)) (now (cap .entry)) start goal limit (r .count) (r .amount) ⌝ }
+{
+    let mut v = goal;
+    let mut count: u32 = 0;
+    let mut amount = limit;
+    while v != start {
+        let w = prev[v] as usize;
+        amount = smaller(amount, residual(v, w, x, cap));
+        v = w;
+        count = count + 1;
+    }
+    Way { count, amount }
+}
+
 // Where a send went (96: nowhere), and how much.
 pub struct Sent {
     pub goal: usize,
@@ -89,10 +131,9 @@ pub fn send(
     }
     let dist = found.dist;
     let prev = found.prev;
-    let hops = found.hops;
-    let width = found.width;
-    let amount = smaller(width[goal], room[goal]);
-    push(&prev, hops[goal], goal, amount, x);
+    let way = measure(&prev, start, goal, limit, x, cap);
+    let amount = smaller(way.amount, room[goal]);
+    push(&prev, way.count, goal, amount, x);
     let gap = dist[goal] - pot[goal];
     lower(gap, &dist, pot);
     Sent { goal, amount }

@@ -6,8 +6,8 @@ ghost use Rattle.transport.specs.engine.Stretch.{ShiftReady, PathDone, K
 ghost use Rattle.transport.specs.engine.Search.{Wanted};
 use super::scan::scan;
 use super::search::search;
-use super::search::smaller;
 use super::send::lower;
+use super::send::measure;
 use super::send::push;
 use crate::Incumbent;
 
@@ -41,14 +41,11 @@ fn find_path(
     let found = search(m, n, cost, x, cap, pot, &room, demand, 0, limit);
     let dist = found.dist;
     let prev = found.prev;
-    let hops = found.hops;
-    let width = found.width;
-    let amount = smaller(width[1], limit);
-    let count = hops[1];
+    let way = measure(&prev, 0, 1, limit, x, cap);
     let gap = dist[1] - pot[1];
     Path {
-        amount,
-        count,
+        amount: way.amount,
+        count: way.count,
         gap,
         dist,
         prev,

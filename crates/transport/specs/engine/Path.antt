@@ -20,7 +20,7 @@ pub record Net : Type 0 where
 abbrev pub net : ℕ → ℕ → List ℕ → List ℕ → List ℕ → Net
 net m n cost cap x = record { m = m; n = n; c = cells cost; u = cells cap; x = cells x }
 
--- the labels: distance plus potential, the node before, the arcs to it, the smallest ceiling on the way
+-- the labels: distance plus potential, the node before, and, only in the proof, the arcs to it and the smallest ceiling on the way
 pub record Book : Type 0 where
   pub dist : List ℕ
   pub prev : List ℕ
@@ -45,26 +45,38 @@ pub data Arc (N : Net) (v w b t k : ℕ) : Type 0 where
   back : (j : ℕ) → w < N .m → j < N .n → v ≡ 32 + j → 0 < N .x w j → t + N .c w j ≡ b → k ≡ N .x w j → Arc N v w b t k
 
 -- one offer of the label t and the key f to w: it is left, or taken
-pub data Offered (take : Bool) (w t from hop k f : ℕ) (B B' : Book) (K K' : List ℕ) : Type 0 where
-  kept : take ≡ false → B' ≡ B → K' ≡ K → Offered take w t from hop k f B B' K K'
-  won : take ≡ true → B' ≡ book (set (B .dist) w t) (set (B .prev) w from) (set (B .hops) w hop) (set (B .width) w k)
-      → K' ≡ set K w f → Offered take w t from hop k f B B' K K'
+pub data Offered (take : Bool) (w t from f : ℕ) (T T' P P' K K' : List ℕ) : Type 0 where
+  kept : take ≡ false → T' ≡ T → P' ≡ P → K' ≡ K → Offered take w t from f T T' P P' K K'
+  won : take ≡ true → T' ≡ set T w t → P' ≡ set P w from → K' ≡ set K w f → Offered take w t from f T T' P P' K K'
 
--- what became of the label of w in a pass over the arcs out of v
+-- what became of the distance and the node before of w in a pass over the arcs out of v
+pub data Relabel (N : Net) (v b : ℕ) (T P T' P' : List ℕ) (w : ℕ) : Type 0 where
+  keeps : get T' w ≡ get T w → get P' w ≡ get P w → Relabel N v b T P T' P' w
+  takes : (t k : ℕ) → Arc N v w b t k → t < get T w → get T' w ≡ t → get P' w ≡ v → Relabel N v b T P T' P' w
+
+-- a pass that has reached the nodes from lo up to hi
+pub record Relabelling (N : Net) (v b lo hi : ℕ) (T P T' P' : List ℕ) : Type 0 where
+  pub long-dist : length T' ≡ 96
+  pub long-prev : length P' ≡ 96
+  pub each : (w : ℕ) → Relabel N v b T P T' P' w
+  pub rest : (w : ℕ) → hi ≤ w → get T' w ≡ get T w
+  pub offers : (w t k : ℕ) → lo ≤ w → w < hi → Arc N v w b t k → get T' w ≤ t
+
+-- a whole pass
+pub record Relabelled (N : Net) (v b : ℕ) (T P T' P' : List ℕ) : Type 0 where
+  pub long-dist : length T' ≡ 96
+  pub long-prev : length P' ≡ 96
+  pub each : (w : ℕ) → Relabel N v b T P T' P' w
+  pub offers : (w t k : ℕ) → Arc N v w b t k → get T' w ≤ t
+
+-- the same of the whole label: hop arcs lead to it, and the smallest ceiling on the way to v is wide
 pub data Touched (N : Net) (v b hop wide : ℕ) (B B' : Book) (w : ℕ) : Type 0 where
   stays : get (B' .dist) w ≡ get (B .dist) w → get (B' .prev) w ≡ get (B .prev) w → get (B' .hops) w ≡ get (B .hops) w
       → get (B' .width) w ≡ get (B .width) w → Touched N v b hop wide B B' w
   gains : (t k : ℕ) → Arc N v w b t k → t < get (B .dist) w → get (B' .dist) w ≡ t → get (B' .prev) w ≡ v → get (B' .hops) w ≡ hop
       → get (B' .width) w ≡ min wide k → Touched N v b hop wide B B' w
 
--- a pass that has reached the nodes from lo up to hi
-pub record Passing (N : Net) (v b hop wide lo hi : ℕ) (B B' : Book) : Type 0 where
-  pub long : Long B'
-  pub each : (w : ℕ) → Touched N v b hop wide B B' w
-  pub rest : (w : ℕ) → hi ≤ w → get (B' .dist) w ≡ get (B .dist) w
-  pub offers : (w t k : ℕ) → lo ≤ w → w < hi → Arc N v w b t k → get (B' .dist) w ≤ t
-
--- a whole pass
+-- a whole pass, over whole labels
 pub record Passed (N : Net) (v b hop wide : ℕ) (B B' : Book) : Type 0 where
   pub long : Long B'
   pub each : (w : ℕ) → Touched N v b hop wide B B' w
@@ -145,8 +157,9 @@ pub data Named (take : Bool) (d level i next r : ℕ) : Type 0 where
   this : r ≡ i → take ≡ true → d ≤ level → Named take d level i next r
 
 -- what a pass asks
-pub record RowReady (N : Net) (p : List ℕ) (v b : ℕ) (B : Book) (K : List ℕ) : Type 0 where
-  pub long : Long B
+pub record RowReady (N : Net) (p : List ℕ) (v b : ℕ) (T P K : List ℕ) : Type 0 where
+  pub long-dist : length T ≡ 96
+  pub long-prev : length P ≡ 96
   pub long-key : length K ≡ 96
   pub sources : N .m ≤ 32
   pub terminals : N .n ≤ 64
@@ -154,12 +167,13 @@ pub record RowReady (N : Net) (p : List ℕ) (v b : ℕ) (B : Book) (K : List �
   pub near : b ≤ 1000000000
   pub costs : (i j : ℕ) → i < N .m → j < N .n → N .c i j ≤ 2000000
   pub ceilings : (i j : ℕ) → i < N .m → j < N .n → N .u i j ≤ 4000000000
-  pub low : (w : ℕ) → w < 96 → get p w ≤ get (B .dist) w
-  pub most : (w : ℕ) → w < 96 → get (B .dist) w ≤ far
+  pub low : (w : ℕ) → w < 96 → get p w ≤ get T w
+  pub most : (w : ℕ) → w < 96 → get T w ≤ far
   pub ahead : (j : ℕ) → j < N .n → N .x v j < N .u v j → get p (32 + j) ≤ b + N .c v j
 
-pub record ColumnReady (N : Net) (p : List ℕ) (v b : ℕ) (B : Book) (K : List ℕ) : Type 0 where
-  pub long : Long B
+pub record ColumnReady (N : Net) (p : List ℕ) (v b : ℕ) (T P K : List ℕ) : Type 0 where
+  pub long-dist : length T ≡ 96
+  pub long-prev : length P ≡ 96
   pub long-key : length K ≡ 96
   pub sources : N .m ≤ 32
   pub terminals : N .n ≤ 64
@@ -169,8 +183,9 @@ pub record ColumnReady (N : Net) (p : List ℕ) (v b : ℕ) (B : Book) (K : List
   pub back : (i j : ℕ) → i < N .m → j < N .n → v ≡ 32 + j → 0 < N .x i j → get p i + N .c i j ≤ b
 
 -- what a pass asks, at a source or a terminal
-pub record RelaxReady (N : Net) (p : List ℕ) (v b : ℕ) (B : Book) (K : List ℕ) : Type 0 where
-  pub long : Long B
+pub record RelaxReady (N : Net) (p : List ℕ) (v b : ℕ) (T P K : List ℕ) : Type 0 where
+  pub long-dist : length T ≡ 96
+  pub long-prev : length P ≡ 96
   pub long-key : length K ≡ 96
   pub sources : N .m ≤ 32
   pub terminals : N .n ≤ 64
@@ -179,8 +194,8 @@ pub record RelaxReady (N : Net) (p : List ℕ) (v b : ℕ) (B : Book) (K : List 
   pub near : b ≤ 1000000000
   pub costs : (i j : ℕ) → i < N .m → j < N .n → N .c i j ≤ 2000000
   pub ceilings : (i j : ℕ) → i < N .m → j < N .n → N .u i j ≤ 4000000000
-  pub low : (w : ℕ) → w < 96 → get p w ≤ get (B .dist) w
-  pub most : (w : ℕ) → w < 96 → get (B .dist) w ≤ far
+  pub low : (w : ℕ) → w < 96 → get p w ≤ get T w
+  pub most : (w : ℕ) → w < 96 → get T w ≤ far
   pub ahead : (j : ℕ) → v < N .m → j < N .n → N .x v j < N .u v j → get p (32 + j) ≤ b + N .c v j
   pub back : (i j : ℕ) → i < N .m → j < N .n → v ≡ 32 + j → 0 < N .x i j → get p i + N .c i j ≤ b
 

@@ -6,7 +6,7 @@ use lib.ListN.{length, getD, set}
 use Rattle.transport.specs.Sum.{sum}
 use Rattle.transport.specs.Plan.{Table, col}
 use Rattle.transport.specs.engine.Slack.{Slack}
-use Rattle.transport.specs.engine.Path.{Net, Book, get, Long, Arc, far, Low, Key, Nearest}
+use Rattle.transport.specs.engine.Path.{Net, Book, book, get, Long, Arc, far, Low, Key, Nearest}
 
 -- a slack plan of the size that the engine admits, and potentials of at most 800,000,000
 pub record Sound (N : Net) (p : List ℕ) : Type 0 where
@@ -26,7 +26,7 @@ pub data Prev (N : Net) (s : ℕ) (S : ℕ → Type 0) (B : Book) (v : ℕ) : Ty
   step : (k : ℕ) → get (B .prev) v < 96 → S (get (B .prev) v)
       → Arc N (get (B .prev) v) v (get (B .dist) (get (B .prev) v)) (get (B .dist) v) k
       → get (B .hops) v ≡ get (B .hops) (get (B .prev) v) + 1
-      → get (B .width) v ≤ get (B .width) (get (B .prev) v) → get (B .width) v ≤ k → Prev N s S B v
+      → get (B .width) v ≡ min (get (B .width) (get (B .prev) v)) k → Prev N s S B v
 
 -- the label of v
 pub record Label (N : Net) (s : ℕ) (S : ℕ → Type 0) (p : List ℕ) (cnt limit : ℕ) (B : Book) (v : ℕ) : Type 0 where
@@ -48,6 +48,7 @@ pub record Searching (N : Net) (p room : List ℕ) (s limit : ℕ) (B : Book) (D
   pub start : s < 96
   pub root-dist : get (B .dist) s ≡ get p s
   pub root-hops : get (B .hops) s ≡ 0
+  pub root-width : get (B .width) s ≡ limit
   pub label : (v : ℕ) → v < 96 → get (B .dist) v < far → Label N s (λ w. get D w ≡ 1) p (sum 96 (λ w. get D w)) limit B v
   pub settled : (v : ℕ) → v < 96 → get D v ≡ 1 → (get (B .dist) v < far) × (get room v ≡ 0)
   pub order : (v w : ℕ) → v < 96 → w < 96 → get D v ≡ 1 → get D w ≡ 0 → get (B .dist) v + get p w ≤ get (B .dist) w + get p v
@@ -62,6 +63,12 @@ pub record Exploring (N : Net) (p room : List ℕ) (s limit : ℕ) (B : Book) (K
   pub hint : next < 96 → Nearest p (B .dist) marks next
   pub long-key : length K ≡ 96
   pub keys : (v : ℕ) → v < 96 → Key (get marks v) (get (B .dist) v) (get p v) (get K v)
+
+-- the same of the distances and the nodes before
+pub record Labelling (N : Net) (p room : List ℕ) (s limit : ℕ) (T P K : List ℕ) (next turns : ℕ) : Type 0 where
+  pub hops : List ℕ
+  pub widths : List ℕ
+  pub exploring : Exploring N p room s limit (book T P hops widths) K next turns
 
 -- w has a label and is no farther than g
 abbrev pub Near : List ℕ → List ℕ → ℕ → ℕ → Type 0
@@ -88,9 +95,16 @@ pub record Searched (N : Net) (p room : List ℕ) (s limit : ℕ) (B : Book) (r 
   pub low : Low p (B .dist)
   pub root-dist : get (B .dist) s ≡ get p s
   pub root-hops : get (B .hops) s ≡ 0
+  pub root-width : get (B .width) s ≡ limit
   pub bound : r ≤ 96
   pub found : r < 96 → Found N p room s limit B r
   pub stuck : r ≡ 96 → Stuck N room s B
+
+-- the same of the distances and the nodes before
+pub record Labelled (N : Net) (p room : List ℕ) (s limit : ℕ) (T P : List ℕ) (r : ℕ) : Type 0 where
+  pub hops : List ℕ
+  pub widths : List ℕ
+  pub searched : Searched N p room s limit (book T P hops widths) r
 
 -- what a search asks: limit drums are at source s
 pub record SearchReady (N : Net) (p : List ℕ) (s limit : ℕ) : Type 0 where
@@ -100,6 +114,7 @@ pub record SearchReady (N : Net) (p : List ℕ) (s limit : ℕ) : Type 0 where
   pub positive : 0 < limit
 
 -- no node has a label
-pub record Blank (B : Book) : Type 0 where
-  pub long : Long B
-  pub dists : (v : ℕ) → v < 96 → get (B .dist) v ≡ far
+pub record Blank (T P : List ℕ) : Type 0 where
+  pub long-dist : length T ≡ 96
+  pub long-prev : length P ≡ 96
+  pub dists : (v : ℕ) → v < 96 → get T v ≡ far

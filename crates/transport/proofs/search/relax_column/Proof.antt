@@ -4,7 +4,7 @@ use Prim.Native.Nat.{_-_, _≤_}
 use mathlib.Core.Logic.{inl, ⊎-elim}
 use native.Mathlib.Omega.{arith}
 use Rattle.transport.specs.engine.Path.Arc.{back}
-use Rattle.transport.specs.engine.Path.{net, book, Passing, Rekeyed, Next}
+use Rattle.transport.specs.engine.Path.{net, Relabelling, Rekeyed, Next}
 use Rattle.transport.proofs.Pass.{column-left, pass-start, pass-closed, pass-open, pass-column, shut-back}
 use Rattle.transport.proofs.Keys.{rekey-start, rekey-open, next-start, next-kept, next-most, next-open}
 use borrow.Author.Needs.{needs}
@@ -15,20 +15,19 @@ use Rattle.transport.proofs.search.relax_column.Lts as lts
 use Rattle.transport.proofs.search.key_of.Reads as key-of-reads
 use Rattle.transport.proofs.search.named.Reads as named-reads
 use Rattle.transport.proofs.search.offer.Reads as offer-reads
-use Rattle.transport.proofs.search.smaller.Reads as smaller-reads
 use Rattle.transport.proofs.search.wins.Reads as wins-reads
 
 abbrev Inv-loop : tie.InvT-loop
-Inv-loop m n v cost x cap base hop wide level pot full want dist₀ prev₀ hops₀ width₀ key₀ j next₀ i₀ dist prev hops width key next i = (i ≤ m) × Passing (net m n cost cap x) v base hop wide 0 i (book dist₀ prev₀ hops₀ width₀) (book dist prev hops width) × Rekeyed (net m n cost cap x) want v pot dist₀ dist key₀ key × Next key level i next
+Inv-loop m n v cost x cap base level pot full want dist₀ prev₀ key₀ j next₀ i₀ dist prev key next i = (i ≤ m) × Relabelling (net m n cost cap x) v base 0 i dist₀ prev₀ dist prev × Rekeyed (net m n cost cap x) want v pot dist₀ dist key₀ key × Next key level i next
 
 abbrev μ-loop : tie.MeasureT-loop
-μ-loop m n v cost x cap base hop wide level pot full want dist₀ prev₀ hops₀ width₀ key₀ j next₀ i₀ dist prev hops width key next i = m - i
+μ-loop m n v cost x cap base level pot full want dist₀ prev₀ key₀ j next₀ i₀ dist prev key next i = m - i
 
 sub-j : tie.Need-sub-j Inv-loop μ-loop
 sub-j c = search needs
 
 loop-holds : tie.Need-loop-holds Inv-loop μ-loop
-loop-holds c = (omega arith, pass-start (c .pre .0 .long) (omega arith), rekey-start (c .pre .0 .long-key), next-start)
+loop-holds c = (omega arith, pass-start (c .pre .0 .long-dist) (c .pre .0 .long-prev) (omega arith), rekey-start (c .pre .0 .long-key), next-start)
 
 mul-k : tie.Need-mul-k Inv-loop μ-loop
 mul-k c = search needs
@@ -83,20 +82,11 @@ key-of-requires c κs =
     let low = c .before .before .before .before .before .before .before .before .before .before .pre .0 .back _ _ (c .before .before .before .before .before .before .before .before .loop-test .taken) (omega arith) (omega arith) (c .before .before .before .before .before .before .if1 .taken) in
     (omega (arith, low), omega (arith, c .before .before .before .before .before .before .before .before .before .before .pre .0 .near), c .before .before .before .before .before .before .before .before .before .before .pre .1 .bit _ (omega (arith, c .before .before .before .before .before .before .before .before .before .before .pre .0 .sources)))
 
-mul-smaller : tie.Need-mul-smaller Inv-loop μ-loop
-mul-smaller c = search needs
-
-element-copy-out-smaller : tie.Need-element-copy-out-smaller Inv-loop μ-loop
-element-copy-out-smaller c = search needs
-
-smaller-requires : tie.Need-smaller-requires Inv-loop μ-loop
-smaller-requires c κs = search needs
-
 cast-offer : tie.Need-cast-offer Inv-loop μ-loop
-cast-offer c = omega (arith, c .before .before .before .before .before .before .before .before .before .before .before .before .before .pre .0 .high, c .before .before .before .before .before .before .before .before .before .before .before .before .before .pre .0 .terminals)
+cast-offer c = omega (arith, c .before .before .before .before .before .before .before .before .before .before .before .pre .0 .high, c .before .before .before .before .before .before .before .before .before .before .before .pre .0 .terminals)
 
 offer-requires : tie.Need-offer-requires Inv-loop μ-loop
-offer-requires c κs = omega (arith, c .before .before .before .before .before .before .before .before .before .before .before .before .before .before .before .before .before .before .pre .0 .sources)
+offer-requires c κs = omega (arith, c .before .before .before .before .before .before .before .before .before .before .before .before .before .before .pre .0 .sources)
 
 named-requires : tie.Need-named-requires Inv-loop μ-loop
 named-requires c κs = search needs
@@ -115,28 +105,28 @@ loop-again c =
       omega arith,
       ⊎-elim
           (λ w.
-          rw (w .17, w .18, w .19, w .20)
-          (pass-open (inv .1) (omega arith) (s .pre .0 .sources) (omega (arith, s .pre .0 .sources)) (w .9 .ensures)
+          rw (w .13, w .14)
+          (pass-open (inv .1) (omega arith) (s .pre .0 .sources) (omega (arith, s .pre .0 .sources))
           (λ h. (back (s .args .v - 32) l (omega arith) (omega arith) (w .0 .taken) (omega (arith, s .pre .0 .back _ _ l (omega arith) (omega arith) (w .0 .taken))) refl, w .4 .ensures .taken h .0))
           (λ h t' k' a. column-left _ (s .args .v - 32) (w .4 .ensures) (omega (arith, s .pre .0 .back _ _ l (omega arith) (omega arith) (w .0 .taken))) (s .pre .0 .sources) (omega arith) (w .0 .taken) h a)
-          (w .15 .ensures)))
-          (λ w. rw (w .1, w .2, w .3, w .4) (pass-closed (inv .1) (omega arith) (shut-back (s .args .v - 32) (s .pre .0 .sources) l (omega arith) (w .0 .left))))
+          (w .11 .ensures)))
+          (λ w. rw (w .1, w .2) (pass-closed (inv .1) (omega arith) (shut-back (s .args .v - 32) (s .pre .0 .sources) l (omega arith) (w .0 .left))))
           (c .if1 .came),
       ⊎-elim
           (λ w.
           let low = s .pre .0 .back _ _ l (omega arith) (omega arith) (w .0 .taken) in
           let bit = s .pre .1 .bit (c .before .before .before .loop .i) (omega (arith, s .pre .0 .sources)) in
-          rw (w .17, w .21)
-          (rekey-open (inv .2) (inv .1 .long .dists) (omega (arith, s .pre .0 .sources)) (λ h. w .4 .ensures .taken h .0)
-          (λ h. inl (omega (arith, w .7 .ensures, low), omega (arith, w .7 .ensures, low, bit))) (w .15 .ensures)))
-          (λ w. rw (w .1, w .5) (inv .2))
+          rw (w .13, w .15)
+          (rekey-open (inv .2) (inv .1 .long-dist) (omega (arith, s .pre .0 .sources)) (λ h. w .4 .ensures .taken h .0)
+          (λ h. inl (omega (arith, w .7 .ensures, low), omega (arith, w .7 .ensures, low, bit))) (w .11 .ensures)))
+          (λ w. rw (w .1, w .3) (inv .2))
           (c .if1 .came),
       ⊎-elim
           (λ w.
           let bit = s .pre .1 .bit (c .before .before .before .loop .i) (omega (arith, s .pre .0 .sources)) in
-          rw (w .21, w .22)
-          (next-open (inv .3) (inv .2 .long) (omega (arith, s .pre .0 .sources)) (omega (arith, w .7 .ensures, bit, s .pre .0 .near)) (w .15 .ensures) (w .16 .ensures)))
-          (λ w. rw (w .5, w .6) (next-kept (inv .3)))
+          rw (w .15, w .16)
+          (next-open (inv .3) (inv .2 .long) (omega (arith, s .pre .0 .sources)) (omega (arith, w .7 .ensures, bit, s .pre .0 .near)) (w .11 .ensures) (w .12 .ensures)))
+          (λ w. rw (w .3, w .4) (next-kept (inv .3)))
           (c .if1 .came),
     )
 
@@ -168,9 +158,6 @@ relax-column-spec =
     mul-key-of-2
     element-copy-out-key-of-2
     key-of-requires
-    mul-smaller
-    element-copy-out-smaller
-    smaller-requires
     cast-offer
     offer-requires
     named-requires

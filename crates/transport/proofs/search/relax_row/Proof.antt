@@ -3,7 +3,7 @@ use mathlib.Core.Path.{refl}
 use Prim.Native.Nat.{_+_, _-_, _≤_}
 use native.Mathlib.Omega.{arith}
 use Rattle.transport.specs.engine.Path.Arc.{ahead}
-use Rattle.transport.specs.engine.Path.{net, book, Passing, Rekeyed}
+use Rattle.transport.specs.engine.Path.{net, Relabelling, Rekeyed}
 use Rattle.transport.proofs.Pass.{pass-start, pass-open, pass-row, pick-low, row-left, row-made}
 use Rattle.transport.proofs.Keys.{rekey-start, rekey-open}
 use borrow.Author.Needs.{needs}
@@ -14,18 +14,16 @@ use Rattle.transport.proofs.search.relax_row.Lts as lts
 use Rattle.transport.proofs.search.offer.Reads as offer-reads
 use Rattle.transport.proofs.search.pick.Reads as pick-reads
 use Rattle.transport.proofs.search.row_key.Reads as row-key-reads
-use Rattle.transport.proofs.search.smaller.Reads as smaller-reads
-use Rattle.transport.proofs.search.spare.Reads as spare-reads
 use Rattle.transport.proofs.search.wins.Reads as wins-reads
 
 abbrev Inv-loop : tie.InvT-loop
-Inv-loop m n i cost x cap base hop wide pot full want dist₀ prev₀ hops₀ width₀ key₀ j₀ dist prev hops width key j = (j ≤ n) × Passing (net m n cost cap x) i base hop wide 32 (32 + j) (book dist₀ prev₀ hops₀ width₀) (book dist prev hops width) × Rekeyed (net m n cost cap x) want i pot dist₀ dist key₀ key
+Inv-loop m n i cost x cap base pot full want dist₀ prev₀ key₀ j₀ dist prev key j = (j ≤ n) × Relabelling (net m n cost cap x) i base 32 (32 + j) dist₀ prev₀ dist prev × Rekeyed (net m n cost cap x) want i pot dist₀ dist key₀ key
 
 abbrev μ-loop : tie.MeasureT-loop
-μ-loop m n i cost x cap base hop wide pot full want dist₀ prev₀ hops₀ width₀ key₀ j₀ dist prev hops width key j = n - j
+μ-loop m n i cost x cap base pot full want dist₀ prev₀ key₀ j₀ dist prev key j = n - j
 
 loop-holds : tie.Need-loop-holds Inv-loop μ-loop
-loop-holds c = (omega arith, pass-start (c .pre .0 .long) (omega arith), rekey-start (c .pre .0 .long-key))
+loop-holds c = (omega arith, pass-start (c .pre .0 .long-dist) (c .pre .0 .long-prev) (omega arith), rekey-start (c .pre .0 .long-key))
 
 mul-k : tie.Need-mul-k Inv-loop μ-loop
 mul-k c = search needs
@@ -95,20 +93,8 @@ row-key-requires c κs =
     let z = pick-low (c .before .before .before .before .wins .ensures) (λ o. s .ahead j (c .before .before .before .before .before .before .before .before .before .loop-test .taken) o) (omega (arith, s .low (32 + j) (omega (arith, s .terminals)), old)) (omega (arith, s .most (32 + j) (omega (arith, s .terminals)), old)) (c .before .before .pick .ensures) in
     (z .0, z .1, c .before .before .before .before .before .before .before .before .before .before .before .pre .1 .bit (32 + j) (omega (arith, s .terminals)))
 
-mul-spare : tie.Need-mul-spare Inv-loop μ-loop
-mul-spare c = search needs
-
-element-copy-out-spare : tie.Need-element-copy-out-spare Inv-loop μ-loop
-element-copy-out-spare c = search needs
-
-spare-requires : tie.Need-spare-requires Inv-loop μ-loop
-spare-requires c κs = search needs
-
-smaller-requires : tie.Need-smaller-requires Inv-loop μ-loop
-smaller-requires c κs = search needs
-
 cast-offer : tie.Need-cast-offer Inv-loop μ-loop
-cast-offer c = omega (arith, c .before .before .before .before .before .before .before .before .before .before .before .before .before .before .before .pre .0 .source, c .before .before .before .before .before .before .before .before .before .before .before .before .before .before .before .pre .0 .sources)
+cast-offer c = omega (arith, c .before .before .before .before .before .before .before .before .before .before .before .before .pre .0 .source, c .before .before .before .before .before .before .before .before .before .before .before .before .pre .0 .sources)
 
 offer-requires : tie.Need-offer-requires Inv-loop μ-loop
 offer-requires c κs = search needs
@@ -121,18 +107,18 @@ loop-less c = search needs
 
 loop-again : tie.Need-loop-again Inv-loop μ-loop
 loop-again c =
-    let j = c .before .before .before .before .before .before .before .before .before .before .before .before .before .before .before .before .before .before .before .before .loop .j in
-    let s = c .before .before .before .before .before .before .before .before .before .before .before .before .before .before .before .before .before .before .before .before .before .pre .0 in
-    let inv = c .before .before .before .before .before .before .before .before .before .before .before .before .before .before .before .before .before .before .before .before .loop .inv in
-    let l = c .before .before .before .before .before .before .before .before .before .before .before .before .before .before .before .before .before .before .before .loop-test .taken in
-    let w = c .before .before .before .before .before .before .before .before .before .before .before .before .before .before .wins .ensures in (
+    let j = c .before .before .before .before .before .before .before .before .before .before .before .before .before .before .before .loop .j in
+    let s = c .before .before .before .before .before .before .before .before .before .before .before .before .before .before .before .before .pre .0 in
+    let inv = c .before .before .before .before .before .before .before .before .before .before .before .before .before .before .before .loop .inv in
+    let l = c .before .before .before .before .before .before .before .before .before .before .before .before .before .before .loop-test .taken in
+    let w = c .before .before .before .before .before .before .before .before .before .wins .ensures in (
       omega arith,
-      pass-open (inv .1) (omega arith) (s .sources) (omega (arith, s .terminals)) (c .before .before .before .before .before .before .smaller .ensures)
-          (λ h. (ahead j (s .source) l refl (w .taken h .1) refl (c .before .before .before .before .before .before .before .spare .ensures), w .taken h .0))
+      pass-open (inv .1) (omega arith) (s .sources) (omega (arith, s .terminals))
+          (λ h. (ahead j (s .source) l refl (w .taken h .1) refl refl, w .taken h .0))
           (λ h t' k' a. row-left _ j w refl (s .sources) (s .source) h a)
           (c .offer .ensures),
-      rekey-open (inv .2) (inv .1 .long .dists) (omega (arith, s .terminals)) (λ h. w .taken h .0)
-          (row-made w (c .before .before .before .before .before .before .before .before .before .before .before .before .pick .ensures) (c .before .before .before .before .before .before .before .before .before .row-key .ensures) (s .source) l refl) (c .offer .ensures),
+      rekey-open (inv .2) (inv .1 .long-dist) (omega (arith, s .terminals)) (λ h. w .taken h .0)
+          (row-made w (c .before .before .before .before .before .before .before .pick .ensures) (c .before .before .before .before .row-key .ensures) (s .source) l refl) (c .offer .ensures),
     )
 
 returns : tie.Need-returns Inv-loop μ-loop
@@ -166,10 +152,6 @@ relax-row-spec =
     mul-row-key-3
     element-copy-out-row-key-3
     row-key-requires
-    mul-spare
-    element-copy-out-spare
-    spare-requires
-    smaller-requires
     cast-offer
     offer-requires
     add-j

@@ -2,6 +2,7 @@
 use mathlib.Core.Path.{refl}
 use Prim.Native.Nat.{_<_}
 use native.Mathlib.Omega.{arith}
+use Rattle.transport.proofs.Measure.{route}
 use Rattle.transport.proofs.Deliver.{lower-ready, push-ready, pushed, delivered}
 use borrow.Author.Needs.{needs}
 use Rattle.transport.proofs.send.send.Statement.{statement}
@@ -9,30 +10,31 @@ use Rattle.transport.proofs.send.send.Tie as tie
 use Rattle.transport.proofs.send.send.Reads as reads
 use Rattle.transport.proofs.send.send.Lts as lts
 use Rattle.transport.proofs.search.search.Reads as search-reads
-use Rattle.transport.proofs.search.smaller.Reads as smaller-reads
 use Rattle.transport.proofs.send.lower.Reads as lower-reads
+use Rattle.transport.proofs.send.measure.Reads as measure-reads
 use Rattle.transport.proofs.send.push.Reads as push-reads
+use Rattle.transport.proofs.search.smaller.Reads as smaller-reads
 
 search-requires : tie.Need-search-requires
 search-requires c κs = search needs
 
 returns : tie.Need-returns
 returns c =
-    let q = c .before .search .ensures in
+    let q = c .before .search .ensures .searched in
     record {
       bound = q .bound;
       found = λ h. absurd (omega (arith, c .if1 .taken));
       none = λ e. record { labels = _; stuck = q .stuck e; same-x = refl; same-p = refl };
     }
 
+measure-requires : tie.Need-measure-requires
+measure-requires c κs =
+    let q = c .before .before .before .before .before .search .ensures .searched in
+    let hg : c .before .before .before .before .before .search .result .goal < 96 = omega (arith, q .bound, c .before .before .before .before .if1 .left) in
+    route (c .before .before .before .before .before .before .before .before .args .m) (c .before .before .before .before .before .before .before .before .args .n) (c .before .before .before .before .before .before .before .before .args .cost .now) (c .before .before .before .before .before .before .before .before .pre .0 .sound .sources) hg q
+
 mul-smaller : tie.Need-mul-smaller
 mul-smaller c = search needs
-
-array-read-smaller : tie.Need-array-read-smaller
-array-read-smaller c = search needs
-
-mul-smaller-2 : tie.Need-mul-smaller-2
-mul-smaller-2 c = search needs
 
 element-copy-out-smaller : tie.Need-element-copy-out-smaller
 element-copy-out-smaller c = search needs
@@ -40,17 +42,13 @@ element-copy-out-smaller c = search needs
 smaller-requires : tie.Need-smaller-requires
 smaller-requires c κs = search needs
 
-mul-push : tie.Need-mul-push
-mul-push c = search needs
-
-array-read-push : tie.Need-array-read-push
-array-read-push c = search needs
-
 push-requires : tie.Need-push-requires
 push-requires c κs =
-    let q = c .before .before .before .before .before .before .before .before .before .search .ensures in
-    let hg : c .before .before .before .before .before .before .before .before .before .search .result .goal < 96 = omega (arith, q .bound, c .before .before .before .before .before .before .before .before .if1 .left) in
-    push-ready (c .before .before .before .before .before .before .before .before .before .before .before .before .pre .0) q hg refl (omega (arith, c .before .before .smaller .ensures))
+    let q = c .before .before .before .before .before .before .before .before .before .before .search .ensures .searched in
+    let hg : c .before .before .before .before .before .before .before .before .before .before .search .result .goal < 96 = omega (arith, q .bound, c .before .before .before .before .before .before .before .before .before .if1 .left) in
+    let way = c .before .before .before .before .measure .ensures in
+    let r = route (c .before .before .before .before .before .before .before .before .before .before .before .before .before .args .m) (c .before .before .before .before .before .before .before .before .before .before .before .before .before .args .n) (c .before .before .before .before .before .before .before .before .before .before .before .before .before .args .cost .now) (c .before .before .before .before .before .before .before .before .before .before .before .before .before .pre .0 .sound .sources) hg q in
+    push-ready (c .before .before .before .before .before .before .before .before .before .before .before .before .before .pre .0) q hg refl (way .arcs r) (omega (arith, c .before .before .smaller .ensures, way .width r))
 
 mul-gap : tie.Need-mul-gap
 mul-gap c = search needs
@@ -66,26 +64,28 @@ element-copy-out-gap c = search needs
 
 sub-gap : tie.Need-sub-gap
 sub-gap c =
-    let q = c .before .before .before .before .before .before .before .before .before .before .before .search .ensures in
-    let hg : c .before .before .before .before .before .before .before .before .before .before .before .search .result .goal < 96 = omega (arith, q .bound, c .before .before .before .before .before .before .before .before .before .before .if1 .left) in
-    omega (arith, q .low (c .before .before .before .before .before .before .before .before .before .before .before .search .result .goal) hg)
+    let q = c .before .before .before .before .before .before .before .before .before .before .before .before .search .ensures .searched in
+    let hg : c .before .before .before .before .before .before .before .before .before .before .before .before .search .result .goal < 96 = omega (arith, q .bound, c .before .before .before .before .before .before .before .before .before .before .before .if1 .left) in
+    omega (arith, q .low (c .before .before .before .before .before .before .before .before .before .before .before .before .search .result .goal) hg)
 
 lower-requires : tie.Need-lower-requires
 lower-requires c κs =
-    let q = c .before .before .before .before .before .before .before .before .before .before .before .before .before .search .ensures in
-    let hg : c .before .before .before .before .before .before .before .before .before .before .before .before .before .search .result .goal < 96 = omega (arith, q .bound, c .before .before .before .before .before .before .before .before .before .before .before .before .if1 .left) in
-    lower-ready (c .before .before .before .before .before .before .before .before .before .before .before .before .before .before .before .before .pre .0) q hg refl
+    let q = c .before .before .before .before .before .before .before .before .before .before .before .before .before .before .search .ensures .searched in
+    let hg : c .before .before .before .before .before .before .before .before .before .before .before .before .before .before .search .result .goal < 96 = omega (arith, q .bound, c .before .before .before .before .before .before .before .before .before .before .before .before .before .if1 .left) in
+    lower-ready (c .before .before .before .before .before .before .before .before .before .before .before .before .before .before .before .before .before .pre .0) q hg refl
 
 returns-2 : tie.Need-returns-2
 returns-2 c =
-    let q = c .before .before .before .before .before .before .before .before .before .before .before .before .before .before .search .ensures in
+    let q = c .before .before .before .before .before .before .before .before .before .before .before .before .before .before .before .search .ensures .searched in
+    let way = c .before .before .before .before .before .before .before .before .before .measure .ensures in
     let small = c .before .before .before .before .before .before .before .smaller .ensures in
     record {
       bound = q .bound;
       found = λ h.
-          delivered (c .before .before .before .before .before .before .before .before .before .before .before .before .before .before .before .before .before .pre .0) q h refl (c .lower .ensures) small
-          (pushed (c .before .before .before .before .before .before .before .before .before .before .before .before .before .before .before .before .before .pre .0) q h refl (omega (arith, small)) (c .before .before .before .before .push .ensures));
-      none = λ e. absurd (c .before .before .before .before .before .before .before .before .before .before .before .before .before .if1 .left e);
+          let r = route (c .before .before .before .before .before .before .before .before .before .before .before .before .before .before .before .before .before .before .args .m) (c .before .before .before .before .before .before .before .before .before .before .before .before .before .before .before .before .before .before .args .n) (c .before .before .before .before .before .before .before .before .before .before .before .before .before .before .before .before .before .before .args .cost .now) (c .before .before .before .before .before .before .before .before .before .before .before .before .before .before .before .before .before .before .pre .0 .sound .sources) h q in
+          delivered (c .before .before .before .before .before .before .before .before .before .before .before .before .before .before .before .before .before .before .pre .0) q h refl (c .lower .ensures) (omega (arith, small, way .width r))
+          (pushed (c .before .before .before .before .before .before .before .before .before .before .before .before .before .before .before .before .before .before .pre .0) q h refl (way .arcs r) (omega (arith, small, way .width r)) (c .before .before .before .before .push .ensures));
+      none = λ e. absurd (c .before .before .before .before .before .before .before .before .before .before .before .before .before .before .if1 .left e);
     }
 
 pub send-spec : {M : Type 1} → statement M
@@ -94,13 +94,10 @@ send-spec =
     (tie.spec
     search-requires
     returns
+    measure-requires
     mul-smaller
-    array-read-smaller
-    mul-smaller-2
     element-copy-out-smaller
     smaller-requires
-    mul-push
-    array-read-push
     push-requires
     mul-gap
     array-read-gap
