@@ -28,8 +28,6 @@ struct Paths {
     goal: usize,
     dist: Nodes,
     prev: Nodes,
-    hops: Nodes,
-    width: Nodes,
 }
 
 /// The nodes as the passes see them: 1 without room; all that a full terminal gets, or SHUT.
@@ -54,12 +52,10 @@ fn key_of(t: u32, pot: u32, full: u32) -> u32 {
 }
 
 impl Paths {
-    fn offer(&mut self, w: usize, take: bool, t: u32, from: u32, hop: u32, width: u32, f: u32, key: &mut Nodes) {
+    fn offer(&mut self, w: usize, take: bool, t: u32, from: u32, f: u32, key: &mut Nodes) {
         let pick = |a: u32, b: u32| if take { a } else { b };
         self.dist[w] = pick(t, self.dist[w]);
         self.prev[w] = pick(from, self.prev[w]);
-        self.hops[w] = pick(hop, self.hops[w]);
-        self.width[w] = pick(width, self.width[w]);
         key[w] = pick(f, key[w]);
     }
 
@@ -74,14 +70,14 @@ impl Paths {
         tags: &Tags,
         key: &mut Nodes,
     ) {
-        let (base, hop, wide) = (self.dist[i], self.hops[i] + 1, self.width[i]);
+        let base = self.dist[i];
         for j in 0..n {
             let (k, w) = (i * 64 + j, 32 + j);
             let (t, drums, old) = (base + cost[k], x[k], self.dist[w]);
             let take = t < old && drums < cap[k];
             let label = if take { t } else { old };
             let f = if drums == tags.want[w] { SHUT } else { key_of(label, pot[w], tags.full[w]) };
-            self.offer(w, take, t, i as u32, hop, wide.min(cap[k].saturating_sub(drums)), f, key);
+            self.offer(w, take, t, i as u32, f, key);
         }
     }
 
@@ -97,7 +93,7 @@ impl Paths {
         tags: &Tags,
         key: &mut Nodes,
     ) -> usize {
-        let (base, hop, wide) = (self.dist[v], self.hops[v] + 1, self.width[v]);
+        let base = self.dist[v];
         let mut next = NONE;
         for i in 0..m {
             let k = i * 64 + v - 32;
@@ -105,7 +101,7 @@ impl Paths {
                 let t = base - cost[k];
                 let take = t < self.dist[i];
                 let f = key_of(t, pot[i], tags.full[i]);
-                self.offer(i, take, t, v as u32, hop, wide.min(x[k]), f, key);
+                self.offer(i, take, t, v as u32, f, key);
                 if take && f <= level {
                     next = i;
                 }
@@ -148,13 +144,11 @@ fn search(
     room: &Nodes,
     demand: &Nodes,
     start: usize,
-    limit: u32,
 ) -> Paths {
     let tags = Tags::of(room, demand);
-    let mut paths = Paths { goal: NONE, dist: [FAR; NODES], prev: [0; NODES], hops: [0; NODES], width: [0; NODES] };
+    let mut paths = Paths { goal: NONE, dist: [FAR; NODES], prev: [0; NODES] };
     let mut key = [SHUT; NODES];
     paths.dist[start] = pot[start];
-    paths.width[start] = limit;
     key[start] = 0;
     let mut next = start;
     loop {
@@ -193,6 +187,19 @@ fn push(prev: &Nodes, count: u32, goal: usize, amount: u32, x: &mut Cells) {
     }
 }
 
+/// The arcs of the path from start to goal, and how many drums can go along it.
+fn measure(prev: &Nodes, start: usize, goal: usize, limit: u32, x: &Cells, cap: &Cells) -> (u32, u32) {
+    let (mut v, mut count, mut amount) = (goal, 0, limit);
+    while v != start {
+        let w = prev[v] as usize;
+        let residual = if v < 32 { x[v * 64 + (w - 32)] } else { cap[w * 64 + (v - 32)] - x[w * 64 + (v - 32)] };
+        amount = amount.min(residual);
+        v = w;
+        count += 1;
+    }
+    (count, amount)
+}
+
 /// Step 1: a cheapest plan at the first split. Depots first, plant 1 last.
 fn plan_base(
     m: usize,
@@ -209,13 +216,14 @@ fn plan_base(
     for i in (0..m).rev() {
         let mut left = amounts[i];
         while 0 < left {
-            let found = search(m, n, cost, x, cap, pot, room, demand, i, left);
+            let found = search(m, n, cost, x, cap, pot, room, demand, i);
             let goal = found.goal;
             if goal == NONE {
                 return;
             }
-            let part = found.width[goal].min(room[goal]);
-            push(&found.prev, found.hops[goal], goal, part, x);
+            let (count, amount) = measure(&found.prev, i, goal, left, x, cap);
+            let part = amount.min(room[goal]);
+            push(&found.prev, count, goal, part, x);
             lower(found.dist[goal] - pot[goal], &found.dist, pot);
             room[goal] -= part;
             left -= part;
@@ -267,16 +275,16 @@ pub fn sweep(
         let limit = (hi - y) as u32;
         let mut room = [0u32; NODES];
         room[1] = limit;
-        let found = search(m, n, cost, &x, cap, &pot, &room, demand, 0, limit);
-        let amount = found.width[1].min(limit);
+        let found = search(m, n, cost, &x, cap, &pot, &room, demand, 0);
+        let (hops, amount) = measure(&found.prev, 0, 1, limit, &x, cap);
         let gap = found.dist[1] - pot[1];
         let (gain, loss) = (u64::from(pot[1]), u64::from(pot[0] - gap));
         let held = scan(table, y, u64::from(amount), value, gain, loss, best);
         if y < held.split {
             *kept = x;
-            push(&found.prev, found.hops[1], 1, (held.split - y) as u32, kept);
+            push(&found.prev, hops, 1, (held.split - y) as u32, kept);
         }
-        push(&found.prev, found.hops[1], 1, amount, &mut x);
+        push(&found.prev, hops, 1, amount, &mut x);
         lower(gap, &found.dist, &mut pot);
         if y == lo || gain + fall != loss + rise {
             note(&mut count, y, value);
