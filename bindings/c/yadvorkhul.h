@@ -38,7 +38,7 @@ extern "C" {
 
    Answers 0 where the case is planned, or the number of the first test that it fails (1 to 12, see docs/USING.md), or
    YADVORKHUL_SHORT_REPORT where the report is too short for anything to be told. On a refusal plan, splits and freights
-   keep their contents. All cells that are not named here keep theirs always. It needs about 110 kB of stack, and no heap. */
+   keep their contents. All cells that are not named here keep theirs always. It needs about 48 kB of stack, and no heap. */
 uint64_t yadvorkhul_plan(size_t m, size_t n,
                          const uint64_t *costs, size_t costs_cells,
                          const uint64_t *supplies, size_t supplies_cells,
