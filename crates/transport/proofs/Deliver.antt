@@ -13,7 +13,8 @@ use Rattle.transport.specs.engine.Cells.{cells}
 use Rattle.transport.specs.engine.Path.{Net, Book, get, far, Arc}
 use Rattle.transport.specs.engine.Path.Arc.{ahead, back}
 use Rattle.transport.specs.engine.Search.{Near, Label, Prev, Searched, Found, SearchReady}
-use Rattle.transport.proofs.Stroll.{walk-start, walkable, walked}
+use Rattle.transport.specs.engine.Serves.{Trail}
+use Rattle.transport.proofs.Stroll.{walk-start, walkable, trail, walked}
 use Rattle.transport.specs.engine.Send.{Walkable, Walked, LowerReady, Lowered, WalkReady, Walking, Tight, SendReady, Delivered, NoPath, SendDone}
 
 module _ {N : Net} {p room : List ℕ} {s limit : ℕ} {x : List ℕ} {B : Book} {g : ℕ}
@@ -57,6 +58,9 @@ module _ {N : Net} {p room : List ℕ} {s limit : ℕ} {x : List ℕ} {B : Book}
 
     pub push-ready : Walkable (B .prev) d h g x
     push-ready = walkable w (q .root-hops) h g x (sym eh) (walk-start w)
+
+    pub mark-ready : Trail (N .m) (B .prev) h g
+    mark-ready = trail w (q .root-hops) h g x (sym eh) (walk-start w)
 
     pub pushed : {x' : List ℕ} → Walked (B .prev) d h g x x' → Walking N p B g d x' s
     pushed {x'} k = walked w (q .root-hops) h g x x' (sym eh) (walk-start w) k

@@ -14,6 +14,7 @@ pub mod Settle
 pub mod Keys
 pub mod Lift
 pub mod Falls
+pub mod Serving
 pub mod Stroll
 pub mod Measure
 pub mod Deliver

@@ -19,6 +19,7 @@ use Rattle.transport.specs.engine.Path.Arc.{ahead, back}
 use Rattle.transport.specs.engine.Search.{Near, Label, Prev}
 use Rattle.transport.specs.engine.Search.Prev.{root, step}
 use Rattle.transport.specs.engine.Send.{WalkReady, Walking, Tight, CarryReady, Carried, Walkable, Walked}
+use Rattle.transport.specs.engine.Serves.{Trail}
 
 pub walk-start : {N : Net} {p : List ℕ} {s limit : ℕ} {B : Book} {g d : ℕ} {x : List ℕ} → WalkReady N p s limit B g d x → Walking N p B g d x g
 walk-start {N} {p} {B = B} {g} {d} {x} r = record {
@@ -153,6 +154,14 @@ module _ {N : Net} {p : List ℕ} {s limit : ℕ} {B : Book} {g d : ℕ} {x₀ x
           vj : {z : ℕ} → get (B .prev) v ≡ 32 + z → get (B .prev) v - 32 ≡ z
           vj e = omega arith
 
+  pub walk-source : 32 ≤ v → get (B .prev) v < N .m
+  walk-source l = go (label .prev)
+    where
+      go : Prev N s (Near p (B .dist) g) B v → get (B .prev) v < N .m
+      go (root z) = absurd (away z)
+      go (step k b n (ahead j a e f o h i) eh ew) = a
+      go (step k b n (back j a e f o h i) eh ew) = absurd (omega (arith, r .sources))
+
   pub walk-next : {x' : List ℕ} → Carried v (get (B .prev) v) d x x' → Walking N p B g d x' (get (B .prev) v)
   walk-next {x'} c = go (label .prev)
     where
@@ -170,6 +179,13 @@ module _ {N : Net} {p : List ℕ} {s limit : ℕ} {B : Book} {g d : ℕ} {x₀ x
           (omega (arith, ap (λ z. get (B .hops) z) f)) (omega (arith, ap (λ z. get (B .dist) z) f)) (omega (arith, q .width)))
 
 -- ---- the whole walk
+
+-- what an arc leaves
+carries : (v w d : ℕ) (x : List ℕ) → (x' : List ℕ) × Carried v w d x x'
+carries v w d x = elim (decLt v 32) [
+  | yes h ↦ (set x (v * 64 + (w - 32)) (get x (v * 64 + (w - 32)) - d), record { less = λ l. refl; more = λ l. absurd (omega arith) })
+  | no h ↦ (set x (w * 64 + (v - 32)) (get x (w * 64 + (v - 32)) + d), record { less = λ l. absurd (omega arith); more = λ l. refl })
+]
 
 module _ {N : Net} {p : List ℕ} {s limit : ℕ} {B : Book} {g d : ℕ} {x₀ : List ℕ}
     (r : WalkReady N p s limit B g d x₀) (root-hops : get (B .hops) s ≡ 0) where
@@ -198,6 +214,18 @@ module _ {N : Net} {p : List ℕ} {s limit : ℕ} {B : Book} {g d : ℕ} {x₀ :
     walk-ready r q (off-root e),
     λ y c. walkable h (get (B .prev) v) y (hops-less e q) (walk-next r q (off-root e) c),
   )
+
+  pub trail : (h v : ℕ) (x : List ℕ) → get (B .hops) v ≡ h → Walking N p B g d x v → Trail (N .m) (B .prev) h v
+  unfolding Trail
+  trail zero v x e q = tt
+  trail (suc h) v x e q =
+      let a = carries v (get (B .prev) v) d x in
+      let off = off-root e in (
+        q .node,
+        walk-less r q off .0,
+        walk-source r q off,
+        trail h (get (B .prev) v) (a .0) (hops-less e q) (walk-next r q off (a .1)),
+      )
 
   pub walked : (h v : ℕ) (x x' : List ℕ) → get (B .hops) v ≡ h → Walking N p B g d x v → Walked (B .prev) d h v x x' → Walking N p B g d x' s
   unfolding Walked
@@ -232,13 +260,7 @@ module _ (P : List ℕ) (d v : ℕ) (x : List ℕ) where
   walked-none zero l = refl
   walked-none (suc h) l = absurd (omega arith)
 
--- what an arc leaves, and what a walk leaves that can be made
-carries : (v w d : ℕ) (x : List ℕ) → (x' : List ℕ) × Carried v w d x x'
-carries v w d x = elim (decLt v 32) [
-  | yes h ↦ (set x (v * 64 + (w - 32)) (get x (v * 64 + (w - 32)) - d), record { less = λ l. refl; more = λ l. absurd (omega arith) })
-  | no h ↦ (set x (w * 64 + (v - 32)) (get x (w * 64 + (v - 32)) + d), record { less = λ l. absurd (omega arith); more = λ l. refl })
-]
-
+-- what a walk leaves that can be made
 pub walks : (P : List ℕ) (d h v : ℕ) (x : List ℕ) → (x' : List ℕ) × Walked P d h v x x'
 unfolding Walked
 walks P d zero v x = (x, refl)

@@ -14,7 +14,7 @@ use Rattle.transport.specs.engine.Search.{Sound, Near, Label, Stuck, Sea
 use Rattle.transport.specs.engine.Send.{SendReady, Delivered}
 use Rattle.transport.specs.engine.Sweep.{Swinging, Over}
 use Rattle.transport.specs.engine.Stretch.{ShiftReady, PathDone}
-use Rattle.transport.proofs.Deliver.{lower-ready, push-ready, pushed, delivered, after}
+use Rattle.transport.proofs.Deliver.{lower-ready, push-ready, mark-ready, pushed, delivered, after}
 
 -- only node 1 has room
 pub record Only (room : List ℕ) (limit : ℕ) : Type 0 where
@@ -151,6 +151,7 @@ module _ {N : Net} {p room x : List ℕ} {limit : ℕ} {B : Book} {g : ℕ}
     starts = q .root-dist;
     ready = lower-ready ready reached one eD;
     able = λ t l. push-ready ready reached one e eh (omega arith);
+    trail = mark-ready ready reached one {d = d} e eh (omega arith);
     part = λ p' lo t l z v.
         let w = pushed ready reached one e eh (omega arith) v in
         record { flow = w .flow; slack = after ready reached one eD lo w; under = w .under; long = w .long };

@@ -3,6 +3,7 @@ pub mod Least
 pub mod Cells
 pub mod Walk
 pub mod Path
+pub mod Serves
 pub mod Search
 pub mod Send
 pub mod Ship

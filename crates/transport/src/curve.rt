@@ -9,6 +9,7 @@ ghost use Rattle.transport.specs.engine.Stops.{NoteReady, Noted, Marked,
 ghost use Rattle.transport.specs.engine.Climb.{ClimbReady};
 ghost use Rattle.transport.specs.engine.Path.{net};
 ghost use Rattle.transport.specs.engine.Search.{Wanted};
+ghost use Rattle.transport.specs.engine.Serves.{Covers};
 use super::base::plan_base;
 use super::freight::freight_of;
 use super::stretch::stretch;
@@ -72,11 +73,13 @@ fn climb(
     splits: &mut [u64],
     freights: &mut [u64],
     x: &mut [u32; 2048],
+    serves: &mut [u32; 64],
     pot: &mut [u32; 96],
     kept: &mut [u32; 2048],
 ) -> Curve
     requires { ⌜ ClimbReady m n (now cost) (now cap) (now x) (now pot) lo hi freight (now table) (now splits) (now freights) ⌝ }
     requires { ⌜ Wanted (net m n (now cost) (now cap) (now x)) (now demand) ⌝ }
+    requires { ⌜ Covers m n (now x) (now serves) ⌝ }
     ensures { λ r. ⌜ Swept m n (cells (now (cost .entry))) (row n (cells (now (x .entry)))) (col m (cells (now (x .entry)))) lo hi (now (table .entry)) (now (splits .entry)) (now (freights .entry)) (now (splits .exit)) (now (freights .exit)) (now (kept .exit)) (r .split) (r .total) (r .freight) (r .stops) ⌝ }
 {
     let at = lo as usize;
@@ -105,6 +108,7 @@ fn climb(
             best,
             demand,
             x,
+            serves,
             pot,
             kept,
         );
@@ -145,6 +149,7 @@ pub fn sweep(
     ensures { λ r. ⌜ Swept m n (byRow 64 (now (cost .entry))) (amountIn (now (amounts .entry))) (demandIn (now (demand .entry))) lo hi (now (table .entry)) (now (splits .entry)) (now (freights .entry)) (now (splits .exit)) (now (freights .exit)) (now (kept .exit)) (r .split) (r .total) (r .freight) (r .stops) ⌝ }
 {
     let mut x = [0u32; 2048];
+    let mut serves = [0u32; 64];
     let mut pot = [0u32; 96];
     let mut room = *demand;
     plan_base(
@@ -155,6 +160,7 @@ pub fn sweep(
         amounts,
         demand,
         &mut x,
+        &mut serves,
         &mut pot,
         &mut room,
     );
@@ -172,6 +178,7 @@ pub fn sweep(
         splits,
         freights,
         &mut x,
+        &mut serves,
         &mut pot,
         kept,
     )

@@ -5,6 +5,7 @@ ghost use Prim.Native.Nat.{min, _+_, _-_, _*_, _≤_, _<_};
 ghost use lib.ListN.{length};
 ghost use Rattle.transport.specs.engine.Path.{net, get, far, Offered, Relabelled, Rekeyed, Next, Wins, Named, RowKey, Whole, Tags, Tagged, RowReady, ColumnReady, RelaxReady, LeastKey, Held, ClosestNode, Chosen};
 ghost use Rattle.transport.specs.engine.Search.{SearchReady, Wanted, Blank, Labelled};
+ghost use Rattle.transport.specs.engine.Serves.{Covers};
 
 // Above every label.
 pub const FAR: u32 = 2_000_000_000;
@@ -122,7 +123,8 @@ fn named(take: bool, d: u32, level: u32, i: usize, next: usize) -> usize
     next
 }
 
-// Offers each source that serves terminal v - 32 a path back through that terminal. One of them that is as near as the terminal, or 96.
+// Offers each source that serves terminal v - 32 a path back through that terminal; serves has the sources to look at, bit by bit.
+// One of them that is as near as the terminal, or 96.
 fn relax_column(
     m: usize,
     n: usize,
@@ -130,6 +132,7 @@ fn relax_column(
     cost: &[u32; 2048],
     x: &[u32; 2048],
     cap: &[u32; 2048],
+    serves: &[u32; 64],
     base: u32,
     level: u32,
     pot: &[u32; 96],
@@ -141,13 +144,17 @@ fn relax_column(
 ) -> usize
     requires { ⌜ ColumnReady (net m n (now cost) (now cap) (now x)) (now pot) v base (now dist) (now prev) (now key) ⌝ }
     requires { ⌜ Tags (now full) (now want) ⌝ }
+    requires { ⌜ Covers m n (now x) (now serves) ⌝ }
     ensures { λ r. ⌜ Relabelled (net m n (now (cost .entry)) (now (cap .entry)) (now (x .entry))) v base (now (dist .entry)) (now (prev .entry)) (now (dist .exit)) (now (prev .exit)) ⌝ }
     ensures { λ r. ⌜ Rekeyed (net m n (now (cost .entry)) (now (cap .entry)) (now (x .entry))) (now (want .entry)) v (now (pot .entry)) (now (dist .entry)) (now (dist .exit)) (now (key .entry)) (now (key .exit)) ⌝ }
     ensures { λ r. ⌜ Next (now (key .exit)) level m r ⌝ }
 {
     let j = v - 32;
     let mut next: usize = 96;
-    for i in 0..m {
+    let mut rest = serves[j];
+    while 0 < rest {
+        let i = u32::trailing_zeros(rest) as usize;
+        rest = rest & (rest - 1);
         let k = i * 64 + j;
         if 0 < x[k] {
             let t = base - cost[k];
@@ -168,6 +175,7 @@ fn relax(
     cost: &[u32; 2048],
     x: &[u32; 2048],
     cap: &[u32; 2048],
+    serves: &[u32; 64],
     base: u32,
     level: u32,
     pot: &[u32; 96],
@@ -179,6 +187,7 @@ fn relax(
 ) -> usize
     requires { ⌜ RelaxReady (net m n (now cost) (now cap) (now x)) (now pot) v base (now dist) (now prev) (now key) ⌝ }
     requires { ⌜ Tags (now full) (now want) ⌝ }
+    requires { ⌜ Covers m n (now x) (now serves) ⌝ }
     ensures { λ r. ⌜ Relabelled (net m n (now (cost .entry)) (now (cap .entry)) (now (x .entry))) v base (now (dist .entry)) (now (prev .entry)) (now (dist .exit)) (now (prev .exit)) ⌝ }
     ensures { λ r. ⌜ Rekeyed (net m n (now (cost .entry)) (now (cap .entry)) (now (x .entry))) (now (want .entry)) v (now (pot .entry)) (now (dist .entry)) (now (dist .exit)) (now (key .entry)) (now (key .exit)) ⌝ }
     ensures { λ r. ⌜ Next (now (key .exit)) level m r ⌝ }
@@ -208,6 +217,7 @@ fn relax(
         cost,
         x,
         cap,
+        serves,
         base,
         level,
         pot,
@@ -279,6 +289,7 @@ fn explore(
     cost: &[u32; 2048],
     x: &[u32; 2048],
     cap: &[u32; 2048],
+    serves: &[u32; 64],
     pot: &[u32; 96],
     room: &[u32; 96],
     demand: &[u32; 96],
@@ -293,6 +304,7 @@ fn explore(
     requires { ⌜ Wanted (net m n (now cost) (now cap) (now x)) (now demand) ⌝ }
     requires { ⌜ Tagged (now room) (now demand) (now full) (now want) ⌝ }
     requires { ⌜ Blank (now dist) (now prev) ⌝ }
+    requires { ⌜ Covers m n (now x) (now serves) ⌝ }
     ensures { λ r. ⌜ Labelled (net m n (now (cost .entry)) (now (cap .entry)) (now (x .entry))) (now (pot .entry)) (now (room .entry)) start limit (now (dist .exit)) (now (prev .exit)) r ⌝ }
 {
     let mut key = [SHUT; 96];
@@ -317,6 +329,7 @@ fn explore(
             cost,
             x,
             cap,
+            serves,
             base,
             level,
             pot,
@@ -375,6 +388,7 @@ pub fn search(
     cost: &[u32; 2048],
     x: &[u32; 2048],
     cap: &[u32; 2048],
+    serves: &[u32; 64],
     pot: &[u32; 96],
     room: &[u32; 96],
     demand: &[u32; 96],
@@ -383,6 +397,7 @@ pub fn search(
 ) -> Paths
     requires { ⌜ SearchReady (net m n (now cost) (now cap) (now x)) (now pot) start limit ⌝ }
     requires { ⌜ Wanted (net m n (now cost) (now cap) (now x)) (now demand) ⌝ }
+    requires { ⌜ Covers m n (now x) (now serves) ⌝ }
     ensures { λ r. ⌜ Labelled (net m n (now (cost .entry)) (now (cap .entry)) (now (x .entry))) (now (pot .entry)) (now (room .entry)) start limit (r .dist) (r .prev) (r .goal) ⌝ }
 {
     let mut full = [0u32; 96];
@@ -396,6 +411,7 @@ pub fn search(
         cost,
         x,
         cap,
+        serves,
         pot,
         room,
         demand,

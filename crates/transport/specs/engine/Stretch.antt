@@ -12,6 +12,7 @@ use Rattle.transport.specs.engine.Walk.{Flow}
 use Rattle.transport.specs.engine.Cells.{cells}
 use Rattle.transport.specs.engine.Path.{Net, get}
 use Rattle.transport.specs.engine.Send.{LowerReady, Lowered, Walkable, Walked}
+use Rattle.transport.specs.engine.Serves.{Trail}
 use Rattle.transport.specs.engine.Sweep.{Swinging, Over}
 use Rattle.transport.specs.engine.Scan.{along, scanned}
 
@@ -38,6 +39,7 @@ pub record PathDone (N : Net) (p x : List ℕ) (limit : ℕ) (dist prev : List �
   pub starts : get dist 0 ≡ get p 0
   pub ready : LowerReady gap dist p
   pub able : (t : ℕ) → t ≤ d → Walkable prev t count 1 x
+  pub trail : Trail (N .m) prev count 1
   pub part : (p' : List ℕ) → Lowered gap dist p 96 p' → (t : ℕ) → t ≤ d → (z : List ℕ) → Walked prev t count 1 x z → Part N p' z t
   pub over : (p' : List ℕ) → Lowered gap dist p 96 p' → (x' : List ℕ) → Walked prev d count 1 x x' → Over N (get p 1) limit p' x' d
 

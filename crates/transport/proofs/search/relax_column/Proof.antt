@@ -1,12 +1,16 @@
 -- `transport::search::relax_column` meets its contract. Assumes nothing.
-use mathlib.Core.Path.{refl}
-use Prim.Native.Nat.{_-_, _≤_}
-use mathlib.Core.Logic.{inl, ⊎-elim}
+use mathlib.Core.Path.{_≡_, refl}
+use Prim.Native.Nat.{ℕ, _+_, _-_, _*_, _^_, _≤_, _<_}
+use mathlib.Core.Logic.{inl}
 use native.Mathlib.Omega.{arith}
+use lib.Bits.{bitAnd, and-le-r}
+use lib.Count.{trailingZeros}
 use Rattle.transport.specs.engine.Path.Arc.{back}
-use Rattle.transport.specs.engine.Path.{net, Relabelling, Rekeyed, Next}
-use Rattle.transport.proofs.Pass.{column-left, pass-start, pass-closed, pass-open, pass-column, shut-back}
+use Rattle.transport.specs.engine.Path.{net, get, Relabelling, Rekeyed, Next}
+use Rattle.transport.specs.engine.Serves.{Left}
+use Rattle.transport.proofs.Pass.{column-left, pass-start, pass-skip, pass-open, pass-column, shut-back}
 use Rattle.transport.proofs.Keys.{rekey-start, rekey-open, next-start, next-kept, next-most, next-open}
+use Rattle.transport.proofs.Serving.{left-start, left-low, left-none, left-next, left-end, column-skip, word-fits, next-source}
 use borrow.Author.Needs.{needs}
 use Rattle.transport.proofs.search.relax_column.Statement.{statement}
 use Rattle.transport.proofs.search.relax_column.Tie as tie
@@ -18,120 +22,200 @@ use Rattle.transport.proofs.search.offer.Reads as offer-reads
 use Rattle.transport.proofs.search.wins.Reads as wins-reads
 
 abbrev Inv-loop : tie.InvT-loop
-Inv-loop m n v cost x cap base level pot full want dist₀ prev₀ key₀ j next₀ i₀ dist prev key next i = (i ≤ m) × Relabelling (net m n cost cap x) v base 0 i dist₀ prev₀ dist prev × Rekeyed (net m n cost cap x) want v pot dist₀ dist key₀ key × Next key level i next
+Inv-loop m n v cost x cap serves base level pot full want dist₀ prev₀ key₀ j next₀ rest₀ dist prev key next rest =
+    (hi : ℕ)
+    × (hi ≤ m)
+    × Relabelling (net m n cost cap x) v base 0 hi dist₀ prev₀ dist prev
+    × Rekeyed (net m n cost cap x) want v pot dist₀ dist key₀ key
+    × Next key level hi next
+    × Left (get serves j) rest hi
+    × (rest < 2 ^ 32)
 
 abbrev μ-loop : tie.MeasureT-loop
-μ-loop m n v cost x cap base level pot full want dist₀ prev₀ key₀ j next₀ i₀ dist prev key next i = m - i
+μ-loop m n v cost x cap serves base level pot full want dist₀ prev₀ key₀ j next₀ rest₀ dist prev key next rest = rest
+
+-- ---- a turn of the loop
+
+positive : (c : tie.In-loop Inv-loop μ-loop) → 0 < c .before .loop .rest
+positive c = omega (arith, c .loop-test .taken)
+
+-- the bit that it takes is a source's
+source : (c : tie.In-loop Inv-loop μ-loop) → trailingZeros 32 (c .before .loop .rest) < c .before .before .before .args .m
+source c =
+    let s = c .before .before .before .pre in
+    let i = c .before .loop .inv in
+    next-source (c .before .before .before .args .v - 32) (s .1 .1) (omega (arith, s .0 .low, s .0 .high)) (i .5) (positive c) (i .6)
+
+-- its lane
+fits : (c : tie.In-loop Inv-loop μ-loop) → trailingZeros 32 (c .before .loop .rest) * 64 + (c .before .before .before .args .v - 32) < 2048
+fits c = let s = c .before .before .before .pre .0 in omega (arith, source c, s .sources, s .low, s .high, s .terminals)
+
+-- the bits that are left are fewer
+fewer : (c : tie.In-loop Inv-loop μ-loop) → bitAnd (c .before .loop .rest) (c .before .loop .rest - 1) < c .before .loop .rest
+fewer c = omega (arith, and-le-r (c .before .loop .rest) (c .before .loop .rest - 1), positive c)
+
+-- the sources below it
+passed : (c : tie.In-loop Inv-loop μ-loop) → c .before .loop .inv .0 ≤ trailingZeros 32 (c .before .loop .rest)
+passed c = left-low 32 (c .before .loop .inv .5) (positive c) (c .before .loop .inv .6)
+
+skipped : (c : tie.In-loop Inv-loop μ-loop)
+    → Relabelling
+    (net (c .before .before .before .args .m) (c .before .before .before .args .n) (c .before .before .before .args .cost .now)
+    (c .before .before .before .args .cap .now) (c .before .before .before .args .x .now)) (c .before .before .before .args .v)
+    (c .before .before .before .args .base) 0 (trailingZeros 32 (c .before .loop .rest)) (c .before .before .before .args .dist .now)
+    (c .before .before .before .args .prev .now) (c .before .loop .dist) (c .before .loop .prev)
+skipped c =
+    let s = c .before .before .before .pre in
+    let i = c .before .loop .inv in
+    column-skip (c .before .before .before .args .cost .now) (c .before .before .before .args .cap .now) (c .before .before .before .args .v - 32) (s .1 .1)
+    (s .0 .sources) (omega (arith, s .0 .low)) (i .2) (passed c) (left-none 32 (i .5) (positive c) (i .6))
+
+-- where it serves the terminal, its new label has a key
+low : (c : tie.Then1 Inv-loop μ-loop)
+    → get (c .before .before .before .before .before .args .pot .now) (trailingZeros 32 (c .before .before .before .loop .rest))
+    + get (c .before .before .before .before .before .args .cost .now)
+    (trailingZeros 32 (c .before .before .before .loop .rest) * 64 + (c .before .before .before .before .before .args .v - 32))
+    ≤ c .before .before .before .before .before .args .base
+low c =
+    let s = c .before .before .before .before .before .pre .0 in
+    s .back _ (c .before .before .before .before .before .args .v - 32) (source (c .before .before)) (omega (arith, s .low, s .high)) (omega (arith, s .low)) (c .if1 .taken)
 
 sub-j : tie.Need-sub-j Inv-loop μ-loop
 sub-j c = search needs
 
+mul-rest : tie.Need-mul-rest Inv-loop μ-loop
+mul-rest c = omega (arith, c .pre .0 .high, c .pre .0 .terminals)
+
+element-copy-out-rest : tie.Need-element-copy-out-rest Inv-loop μ-loop
+element-copy-out-rest c = omega (arith, c .pre .0 .low, c .pre .0 .high, c .pre .0 .terminals)
+
 loop-holds : tie.Need-loop-holds Inv-loop μ-loop
-loop-holds c = (omega arith, pass-start (c .pre .0 .long-dist) (c .pre .0 .long-prev) (omega arith), rekey-start (c .pre .0 .long-key), next-start)
+loop-holds c = (0, omega arith, pass-start (c .before .pre .0 .long-dist) (c .before .pre .0 .long-prev) (omega arith), rekey-start (c .before .pre .0 .long-key), next-start, left-start, word-fits (c .before .args .v - 32) (c .before .pre .1 .1) (c .before .pre .0 .sources) (omega (arith, c .before .pre .0 .low, c .before .pre .0 .high)))
+
+cast-i : tie.Need-cast-i Inv-loop μ-loop
+cast-i c = omega (arith, fits c)
+
+sub-rest : tie.Need-sub-rest Inv-loop μ-loop
+sub-rest c = omega (arith, c .loop-test .taken)
 
 mul-k : tie.Need-mul-k Inv-loop μ-loop
-mul-k c = search needs
+mul-k c = omega (arith, fits c)
 
 add-k : tie.Need-add-k Inv-loop μ-loop
-add-k c = search needs
+add-k c = omega (arith, fits c)
 
 mul-if1 : tie.Need-mul-if1 Inv-loop μ-loop
-mul-if1 c = search needs
+mul-if1 c = omega (arith, fits c)
 
 element-copy-out-if1 : tie.Need-element-copy-out-if1 Inv-loop μ-loop
-element-copy-out-if1 c = search needs
+element-copy-out-if1 c = omega (arith, fits c)
 
 mul-t : tie.Need-mul-t Inv-loop μ-loop
-mul-t c = search needs
+mul-t c = omega (arith, fits (c .before .before))
 
 element-copy-out-t : tie.Need-element-copy-out-t Inv-loop μ-loop
-element-copy-out-t c = search needs
+element-copy-out-t c = omega (arith, fits (c .before .before))
 
 sub-t : tie.Need-sub-t Inv-loop μ-loop
-sub-t c = omega (arith, c .before .before .before .before .before .pre .0 .back _ _ (c .before .before .before .loop-test .taken) (omega arith) (omega arith) (c .before .if1 .taken))
+sub-t c = omega (arith, low (c .before))
 
 mul-wins : tie.Need-mul-wins Inv-loop μ-loop
-mul-wins c = search needs
+mul-wins c = omega (arith, fits (c .before .before .before))
 
 element-copy-out-wins : tie.Need-element-copy-out-wins Inv-loop μ-loop
-element-copy-out-wins c = search needs
+element-copy-out-wins c = omega (arith, fits (c .before .before .before))
 
 mul-wins-2 : tie.Need-mul-wins-2 Inv-loop μ-loop
-mul-wins-2 c = search needs
+mul-wins-2 c = omega (arith, fits (c .before .before .before .before))
 
 element-copy-out-wins-2 : tie.Need-element-copy-out-wins-2 Inv-loop μ-loop
-element-copy-out-wins-2 c = search needs
+element-copy-out-wins-2 c = omega (arith, fits (c .before .before .before .before))
 
 wins-requires : tie.Need-wins-requires Inv-loop μ-loop
 wins-requires c κs = search needs
 
 mul-key-of : tie.Need-mul-key-of Inv-loop μ-loop
-mul-key-of c = search needs
+mul-key-of c = omega (arith, fits (c .before .before .before .before .before .before))
 
 element-copy-out-key-of : tie.Need-element-copy-out-key-of Inv-loop μ-loop
-element-copy-out-key-of c = search needs
+element-copy-out-key-of c = omega (arith, fits (c .before .before .before .before .before .before))
 
 mul-key-of-2 : tie.Need-mul-key-of-2 Inv-loop μ-loop
-mul-key-of-2 c = search needs
+mul-key-of-2 c = omega (arith, fits (c .before .before .before .before .before .before .before))
 
 element-copy-out-key-of-2 : tie.Need-element-copy-out-key-of-2 Inv-loop μ-loop
-element-copy-out-key-of-2 c = search needs
+element-copy-out-key-of-2 c = omega (arith, fits (c .before .before .before .before .before .before .before))
 
 key-of-requires : tie.Need-key-of-requires Inv-loop μ-loop
 key-of-requires c κs =
-    let low = c .before .before .before .before .before .before .before .before .before .before .pre .0 .back _ _ (c .before .before .before .before .before .before .before .before .loop-test .taken) (omega arith) (omega arith) (c .before .before .before .before .before .before .if1 .taken) in
-    (omega (arith, low), omega (arith, c .before .before .before .before .before .before .before .before .before .before .pre .0 .near), c .before .before .before .before .before .before .before .before .before .before .pre .1 .bit _ (omega (arith, c .before .before .before .before .before .before .before .before .before .before .pre .0 .sources)))
+    let s = c .before .before .before .before .before .before .before .before .before .before .before .pre in
+    (omega (arith, low (c .before .before .before .before .before .before)), omega (arith, s .0 .near), s .1 .0 .bit _ (omega (arith, fits (c .before .before .before .before .before .before .before .before))))
 
 cast-offer : tie.Need-cast-offer Inv-loop μ-loop
-cast-offer c = omega (arith, c .before .before .before .before .before .before .before .before .before .before .before .pre .0 .high, c .before .before .before .before .before .before .before .before .before .before .before .pre .0 .terminals)
+cast-offer c = omega (arith, c .before .before .before .before .before .before .before .before .before .before .before .before .pre .0 .high, c .before .before .before .before .before .before .before .before .before .before .before .before .pre .0 .terminals)
 
 offer-requires : tie.Need-offer-requires Inv-loop μ-loop
-offer-requires c κs = omega (arith, c .before .before .before .before .before .before .before .before .before .before .before .before .before .before .pre .0 .sources)
+offer-requires c κs = omega (arith, fits (c .before .before .before .before .before .before .before .before .before .before .before .before))
 
 named-requires : tie.Need-named-requires Inv-loop μ-loop
 named-requires c κs = search needs
 
-add-i : tie.Need-add-i Inv-loop μ-loop
-add-i c = search needs
-
 loop-less : tie.Need-loop-less Inv-loop μ-loop
-loop-less c = search needs
+loop-less c = omega (arith, fewer (c .before .before .before .before .before .before .before .before .before .before .before .before .before .before))
 
 loop-again : tie.Need-loop-again Inv-loop μ-loop
 loop-again c =
-    let s = c .before .before .before .before in
-    let inv = c .before .before .before .loop .inv in
-    let l = c .before .before .loop-test .taken in (
-      omega arith,
-      ⊎-elim
-          (λ w.
-          rw (w .13, w .14)
-          (pass-open (inv .1) (omega arith) (s .pre .0 .sources) (omega (arith, s .pre .0 .sources))
-          (λ h. (back (s .args .v - 32) l (omega arith) (omega arith) (w .0 .taken) (omega (arith, s .pre .0 .back _ _ l (omega arith) (omega arith) (w .0 .taken))) refl, w .4 .ensures .taken h .0))
-          (λ h t' k' a. column-left _ (s .args .v - 32) (w .4 .ensures) (omega (arith, s .pre .0 .back _ _ l (omega arith) (omega arith) (w .0 .taken))) (s .pre .0 .sources) (omega arith) (w .0 .taken) h a)
-          (w .11 .ensures)))
-          (λ w. rw (w .1, w .2) (pass-closed (inv .1) (omega arith) (shut-back (s .args .v - 32) (s .pre .0 .sources) l (omega arith) (w .0 .left))))
-          (c .if1 .came),
-      ⊎-elim
-          (λ w.
-          let low = s .pre .0 .back _ _ l (omega arith) (omega arith) (w .0 .taken) in
-          let bit = s .pre .1 .bit (c .before .before .before .loop .i) (omega (arith, s .pre .0 .sources)) in
-          rw (w .13, w .15)
-          (rekey-open (inv .2) (inv .1 .long-dist) (omega (arith, s .pre .0 .sources)) (λ h. w .4 .ensures .taken h .0)
-          (λ h. inl (omega (arith, w .7 .ensures, low), omega (arith, w .7 .ensures, low, bit))) (w .11 .ensures)))
-          (λ w. rw (w .1, w .3) (inv .2))
-          (c .if1 .came),
-      ⊎-elim
-          (λ w.
-          let bit = s .pre .1 .bit (c .before .before .before .loop .i) (omega (arith, s .pre .0 .sources)) in
-          rw (w .15, w .16)
-          (next-open (inv .3) (inv .2 .long) (omega (arith, s .pre .0 .sources)) (omega (arith, w .7 .ensures, bit, s .pre .0 .near)) (w .11 .ensures) (w .12 .ensures)))
-          (λ w. rw (w .3, w .4) (next-kept (inv .3)))
-          (c .if1 .came),
+    let i = c .before .before .before .before .before .before .before .before .before .before .before .before .before .before in
+    let inv = i .before .loop .inv in
+    let s = c .before .before .before .before .before .before .before .before .before .before .before .before .before .before .before .before .before .pre in
+    let v = c .before .before .before .before .before .before .before .before .before .before .before .before .before .before .before .before .before .args .v in
+    let taken = c .before .before .before .before .before .before .before .before .before .before .before .before .if1 .taken in
+    let l = low (c .before .before .before .before .before .before .before .before .before .before .before .before) in
+    let f = fits i in
+    let bit = s .1 .0 .bit (trailingZeros 32 (i .before .loop .rest)) (omega arith) in
+    let wins = c .before .before .before .before .before .before .before .before .wins .ensures in
+    let key = c .before .before .before .before .before .key-of .ensures in
+    let offered = c .before .offer .ensures in (
+      trailingZeros 32 (i .before .loop .rest) + 1,
+      omega (arith, source i),
+      pass-open (skipped i) (omega arith) (s .0 .sources) (omega arith)
+          (λ h. (back (v - 32) (source i) (omega (arith, s .0 .high)) (omega (arith, s .0 .low)) taken (omega arith) refl, wins .taken h .0))
+          (λ h t' k' a. column-left _ (v - 32) wins (omega arith) (s .0 .sources) (omega (arith, s .0 .low)) taken h a) offered,
+      rekey-open (inv .3) (inv .2 .long-dist) (omega arith) (λ h. wins .taken h .0) (λ h. inl (omega arith, omega arith)) offered,
+      next-open (next-most (inv .4) (passed i)) (inv .3 .long) (omega arith) (omega (arith, s .0 .near)) offered (c .named .ensures),
+      left-next 32 (inv .5) (positive i) (inv .6),
+      omega (arith, fewer i, inv .6),
+    )
+
+loop-less-2 : tie.Need-loop-less-2 Inv-loop μ-loop
+loop-less-2 c = omega (arith, fewer (c .before .before))
+
+loop-again-2 : tie.Need-loop-again-2 Inv-loop μ-loop
+loop-again-2 c =
+    let i = c .before .before in
+    let inv = i .before .loop .inv in
+    let s = c .before .before .before .before .before .pre in (
+      trailingZeros 32 (i .before .loop .rest) + 1,
+      omega (arith, source i),
+      pass-skip (skipped i) (omega arith)
+          (λ w h o t k a.
+          let z : w ≡ trailingZeros 32 (i .before .loop .rest) = omega arith in
+          shut-back (c .before .before .before .before .before .args .v - 32) (s .0 .sources) (source i) (omega (arith, s .0 .low)) (c .if1 .left) t k (rw z at a)),
+      inv .3,
+      next-kept (next-most (inv .4) (passed i)),
+      left-next 32 (inv .5) (positive i) (inv .6),
+      omega (arith, fewer i, inv .6),
     )
 
 returns : tie.Need-returns Inv-loop μ-loop
-returns c = (pass-column (c .before .loop .inv .1) (c .before .before .pre .0 .low) (c .before .before .pre .0 .sources) (omega arith), (c .before .loop .inv .2, next-most (c .before .loop .inv .3) (omega arith)))
+returns c =
+    let i = c .before .loop .inv in
+    let s = c .before .before .before .pre in (
+      pass-column
+          (column-skip (c .before .before .before .args .cost .now) (c .before .before .before .args .cap .now) (c .before .before .before .args .v - 32) (s .1 .1) (s .0 .sources) (omega (arith, s .0 .low)) (i .2) (i .1)
+          (λ w a b. left-end (i .5) (omega (arith, c .loop-test .left)) w a)) (s .0 .low) (s .0 .sources) (omega arith),
+      (i .3, next-most (i .4) (i .1)),
+    )
 
 pub relax-column-spec : {M : Type 1} → statement M
 relax-column-spec =
@@ -140,7 +224,11 @@ relax-column-spec =
     Inv-loop
     μ-loop
     sub-j
+    mul-rest
+    element-copy-out-rest
     loop-holds
+    cast-i
+    sub-rest
     mul-k
     add-k
     mul-if1
@@ -161,7 +249,8 @@ relax-column-spec =
     cast-offer
     offer-requires
     named-requires
-    add-i
     loop-less
     loop-again
+    loop-less-2
+    loop-again-2
     returns)

@@ -18,8 +18,11 @@ explore-requires : tie.Need-explore-requires
 explore-requires c κs = (
   c .before .before .before .before .before .before .before .pre .0,
   (
-    c .before .before .before .before .before .before .before .pre .1,
-    (c .before .before .before .before .tag .ensures, record { long-dist = refl; long-prev = refl; dists = λ v h. getD-replicate {A = ℕ} 96 v far 0 h }),
+    c .before .before .before .before .before .before .before .pre .1 .0,
+    (
+      c .before .before .before .before .tag .ensures,
+      (record { long-dist = refl; long-prev = refl; dists = λ v h. getD-replicate {A = ℕ} 96 v far 0 h }, c .before .before .before .before .before .before .before .pre .1 .1),
+    ),
   ),
 )
 
