@@ -9,6 +9,8 @@ const NODES: usize = 96;
 const NONE: usize = 96;
 type Cells = [u32; 2048];
 type Nodes = [u32; NODES];
+/// For each terminal a bit for each source that serves it, or did.
+type Masks = [u32; 64];
 
 #[derive(Clone, Copy)]
 struct Incumbent {
@@ -84,18 +86,21 @@ impl Paths {
     /// A source as near as terminal v, or none.
     fn relax_column(
         &mut self,
-        m: usize,
         v: usize,
         level: u32,
         cost: &Cells,
         x: &Cells,
+        serves: &Masks,
         pot: &Nodes,
         tags: &Tags,
         key: &mut Nodes,
     ) -> usize {
         let base = self.dist[v];
         let mut next = NONE;
-        for i in 0..m {
+        let mut rest = serves[v - 32];
+        while 0 < rest {
+            let i = rest.trailing_zeros() as usize;
+            rest &= rest - 1;
             let k = i * 64 + v - 32;
             if 0 < x[k] {
                 let t = base - cost[k];
@@ -140,6 +145,7 @@ fn search(
     cost: &Cells,
     x: &Cells,
     cap: &Cells,
+    serves: &Masks,
     pot: &Nodes,
     room: &Nodes,
     demand: &Nodes,
@@ -163,7 +169,7 @@ fn search(
             paths.relax_row(n, v, cost, x, cap, pot, &tags, &mut key);
             NONE
         } else {
-            paths.relax_column(m, v, level, cost, x, pot, &tags, &mut key)
+            paths.relax_column(v, level, cost, x, serves, pot, &tags, &mut key)
         };
     }
 }
@@ -182,6 +188,18 @@ fn push(prev: &Nodes, count: u32, goal: usize, amount: u32, x: &mut Cells) {
             x[v * 64 + (w - 32)] -= amount;
         } else {
             x[w * 64 + (v - 32)] += amount;
+        }
+        v = w;
+    }
+}
+
+/// Sets the bit of each lane that a path brings drums on.
+fn mark(prev: &Nodes, count: u32, goal: usize, serves: &mut Masks) {
+    let mut v = goal;
+    for _ in 0..count {
+        let w = prev[v] as usize;
+        if 32 <= v {
+            serves[v - 32] |= 1 << w;
         }
         v = w;
     }
@@ -209,6 +227,7 @@ fn plan_base(
     amounts: &[u32; 32],
     demand: &Nodes,
     x: &mut Cells,
+    serves: &mut Masks,
     pot: &mut Nodes,
     room: &mut Nodes,
 ) {
@@ -216,7 +235,7 @@ fn plan_base(
     for i in (0..m).rev() {
         let mut left = amounts[i];
         while 0 < left {
-            let found = search(m, n, cost, x, cap, pot, room, demand, i);
+            let found = search(m, n, cost, x, cap, serves, pot, room, demand, i);
             let goal = found.goal;
             if goal == NONE {
                 return;
@@ -224,6 +243,7 @@ fn plan_base(
             let (count, amount) = measure(&found.prev, i, goal, left, x, cap);
             let part = amount.min(room[goal]);
             push(&found.prev, count, goal, part, x);
+            mark(&found.prev, count, goal, serves);
             lower(found.dist[goal] - pot[goal], &found.dist, pot);
             room[goal] -= part;
             left -= part;
@@ -259,9 +279,10 @@ pub fn sweep(
     kept: &mut Cells,
 ) -> Curve {
     let mut x = [0u32; 2048];
+    let mut serves = [0u32; 64];
     let mut pot = [0u32; NODES];
     let mut room = *demand;
-    plan_base(m, n, cost, cap, amounts, demand, &mut x, &mut pot, &mut room);
+    plan_base(m, n, cost, cap, amounts, demand, &mut x, &mut serves, &mut pot, &mut room);
     let freight: u64 = cost.iter().zip(&x).map(|(&c, &x)| u64::from(c) * u64::from(x)).sum();
     let mut best = Incumbent { split: lo, total: freight + table[lo as usize], freight };
     *kept = x;
@@ -275,7 +296,7 @@ pub fn sweep(
         let limit = (hi - y) as u32;
         let mut room = [0u32; NODES];
         room[1] = limit;
-        let found = search(m, n, cost, &x, cap, &pot, &room, demand, 0);
+        let found = search(m, n, cost, &x, cap, &serves, &pot, &room, demand, 0);
         let (hops, amount) = measure(&found.prev, 0, 1, limit, &x, cap);
         let gap = found.dist[1] - pot[1];
         let (gain, loss) = (u64::from(pot[1]), u64::from(pot[0] - gap));
@@ -285,6 +306,7 @@ pub fn sweep(
             push(&found.prev, hops, 1, (held.split - y) as u32, kept);
         }
         push(&found.prev, hops, 1, amount, &mut x);
+        mark(&found.prev, hops, 1, &mut serves);
         lower(gap, &found.dist, &mut pot);
         if y == lo || gain + fall != loss + rise {
             note(&mut count, y, value);
