@@ -32,18 +32,24 @@ struct Paths {
     prev: Nodes,
 }
 
-/// The nodes as the passes see them: 1 without room; all that a full terminal gets, or SHUT.
+/// The nodes as the passes see them: 1 without room, but not at a terminal that plant 1 serves where plant 1 has room; all that a full terminal
+/// gets, or SHUT.
 struct Tags {
     full: Nodes,
     want: Nodes,
 }
 
 impl Tags {
-    fn of(room: &Nodes, demand: &Nodes) -> Tags {
+    fn of(room: &Nodes, demand: &Nodes, x: &Cells) -> Tags {
         let mut tags = Tags { full: [0; NODES], want: [0; NODES] };
         for v in 0..NODES {
             tags.full[v] = u32::from(room[v] == 0);
             tags.want[v] = if 0 < room[v] || demand[v] == 0 { SHUT } else { demand[v] };
+        }
+        if room[1] != 0 {
+            for j in 0..64 {
+                tags.full[32 + j] = if 0 < x[64 + j] { 0 } else { tags.full[32 + j] };
+            }
         }
         tags
     }
@@ -151,7 +157,7 @@ fn search(
     demand: &Nodes,
     start: usize,
 ) -> Paths {
-    let tags = Tags::of(room, demand);
+    let tags = Tags::of(room, demand, x);
     let mut paths = Paths { goal: NONE, dist: [FAR; NODES], prev: [0; NODES] };
     let mut key = [SHUT; NODES];
     paths.dist[start] = pot[start];
