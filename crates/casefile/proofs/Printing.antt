@@ -2,14 +2,14 @@
 use mathlib.Core.Path.{_≡_, sym, ap, _∙_, subst}
 use mathlib.Core.List.{List}
 use Prim.Native.Nat.{ℕ, _+_, _*_, _/_, _%_, _≤_, _<_}
-use native.Mathlib.Nat.{div-add-mod', mod-lt, div-lt-iff-lt-mul, mul-le-mul}
+use native.Mathlib.Nat.{div-add-mod', mod-lt, div-lt-iff-lt-mul}
 use native.Mathlib.Omega.{arith}
 use lib.ListN.{length, getD, take, drop, length-append}
 use lib.Seq.{take-at}
 use Rattle.transport.specs.Plan.{byRow, col}
 use Rattle.transport.proofs.Sums.{sum-at}
 use Rattle.csvtext.specs.Text.{planText, refusalText}
-use Rattle.csvtext.specs.Writing.{Printable}
+use Rattle.csvtext.specs.Writing.{Fits}
 use Rattle.planner.specs.Case.{Case}
 use Rattle.planner.specs.Plans.{PlanAt}
 use Rattle.planner.specs.Outcome.{Outcome, planned, refused, outcomeOf}
@@ -74,18 +74,20 @@ module _ {m n : ℕ} {costs supplies demands table : List ℕ} {p q u : ℕ} {be
     room : m * n ≤ length (after .plan)
     room = omega (arith, ap length (w .cells), length-append (w .amounts) (drop (length (w .amounts)) (before .plan)), w .plan .cells)
 
-    printable : Printable costs (take (m * n) (after .plan)) 0 (m * n)
-    printable = rw cut (record {
-      in-costs = omega (arith, form .costs-long);
-      in-plan = omega (arith, w .plan .cells);
-      fit = λ k lo hi.
-          let z : getD (w .amounts) k 0 * getD costs k 0 ≤ 4000 * 1000000 = mul-le-mul (small-amount C s (w .amounts) form (w .plan) k hi) (form .small-cost k hi) in
-          omega arith;
+    fits : Fits m n costs (take (m * n) (after .plan))
+    fits = rw cut (record {
+      sources = form .few-sources;
+      terminals = form .few-terminals;
+      narrow-costs = record { there = omega (arith, form .costs-long); below = λ k h. omega (arith, form .small-cost k h) };
+      narrow-plan = record {
+        there = omega (arith, w .plan .cells);
+        below = λ k h. omega (arith, small-amount C s (w .amounts) form (w .plan) k h);
+      };
     })
 
     -- what the printer asks
-    pub ready : ((m ≤ 32) × (n ≤ 64) × (m * n ≤ length (after .plan))) × Printable costs (take (m * n) (after .plan)) 0 (m * n)
-    ready = ((form .few-sources, form .few-terminals, room), printable)
+    pub ready : (m * n ≤ length (after .plan)) × Fits m n costs (take (m * n) (after .plan))
+    ready = (room, fits)
 
     plan-lent : {out out′ : List ℕ} {answer : Printed} → Told 0 0 m n (planText m n costs (take (m * n) (after .plan)) s (getD table s 0)) out out′ answer
         → OutcomePrinted C (outcomeOf C) m n out out′ answer

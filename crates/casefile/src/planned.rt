@@ -11,7 +11,7 @@ ghost use mathlib.Core.Path.{_≡_};
 ghost use Prim.Native.Nat.{min, _*_, _≤_};
 ghost use lib.ListN.{length, take};
 ghost use Rattle.csvtext.specs.Text.{planText, refusalText};
-ghost use Rattle.csvtext.specs.Writing.{Printable};
+ghost use Rattle.csvtext.specs.Writing.{Fits};
 ghost use Rattle.planner.specs.Outcome.{outcomeOf};
 ghost use Rattle.planner.specs.Verdict.{lent};
 ghost use Rattle.casefile.specs.declared.Kind.the-variants as kinds;
@@ -70,8 +70,8 @@ fn print_plan(
     split: u64,
     entry: u64,
 ) -> Printed
-    requires { ⌜ (m ≤ 32) × (n ≤ 64) × (m * n ≤ length (now plan)) ⌝ }
-    requires { ⌜ Printable (now costs) (take (m * n) (now plan)) 0 (m * n) ⌝ }
+    requires { ⌜ m * n ≤ length (now plan) ⌝ }
+    requires { ⌜ Fits m n (now costs) (take (m * n) (now plan)) ⌝ }
     ensures { λ r. ⌜ Told 0 0 m n (planText m n (now (costs .entry)) (take (m * n) (now (plan .entry))) split «entry») (now (out .entry)) (now (out .exit)) r ⌝ }
 {
     let lanes = m * n;

@@ -5,13 +5,13 @@ use mathlib.Core.List.{List, [], _∷_, _++_, append-assoc}
 use Prim.Native.Nat.{ℕ, zero, suc, _+_, _*_, _/_, _%_, _≤_, _<_, _^_}
 use native.Mathlib.Omega.{arith}
 use native.Mathlib.Decide.{decLt}
-use native.Mathlib.Nat.{pow-suc, mul-suc, suc-mul, mul-le-mul-right, zero-mul}
+use native.Mathlib.Nat.{pow-suc, mul-suc, suc-mul, mul-le-mul, mul-le-mul-right, zero-mul}
 use native.Mathlib.Numerals.{add-one}
 use borrow.Author.Tests.{lt-ltb, le-ltb}
-use lib.ListN.{length, set, length-append}
+use lib.ListN.{length, getD, set, length-append}
 use lib.Seq.{sets, length-sets}
 use Rattle.csvtext.specs.Text.{digitsOf, decimal, each}
-use Rattle.csvtext.specs.Writing.{Written, Printable}
+use Rattle.csvtext.specs.Writing.{Written, Printable, Fits}
 use Rattle.csvtext.proofs.Stores.{sets-append}
 
 one-digit : (most n : ℕ) → n < 10 → digitsOf most n ≡ (48 + n) ∷ []
@@ -131,3 +131,15 @@ printable-row costs plan start stop all h p = record {
 
 pub next-start : (n i start : ℕ) → start ≡ i * n → start + n ≡ (i + 1) * n
 next-start n i start e = omega (arith, e, suc-mul i n, ap (λ (x : ℕ). x * n) (add-one i))
+
+-- what fits can be printed
+pub fits-printable : {m n : ℕ} {costs plan : List ℕ} → Fits m n costs plan → Printable costs plan 0 (m * n)
+fits-printable {costs = costs} {plan} f = record {
+  in-costs = f .narrow-costs .there;
+  in-plan = f .narrow-plan .there;
+  fit = λ k lo hi.
+      let p : getD plan k 0 ≤ 4294967295 = omega (arith, f .narrow-plan .below k hi) in
+      let c : getD costs k 0 ≤ 4294967295 = omega (arith, f .narrow-costs .below k hi) in
+      let z : getD plan k 0 * getD costs k 0 ≤ 4294967295 * 4294967295 = mul-le-mul p c in
+      omega arith;
+}

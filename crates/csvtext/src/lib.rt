@@ -3,7 +3,7 @@ ghost use mathlib.Core.List.{[], _∷_};
 ghost use Prim.Native.Nat.{_+_, _*_, _≤_, _<_, _^_};
 ghost use lib.ListN.{length};
 ghost use Rattle.csvtext.specs.Text.{decimal, fieldText, recordText, rowText, lanesText, planText, refusalText};
-ghost use Rattle.csvtext.specs.Writing.{Written, Printable};
+ghost use Rattle.csvtext.specs.Writing.{Written, Printable, Narrow, Fits, Says, PlanWritten};
 
 // Writes a byte, and gives the next offset.
 fn put_byte(out: &mut [u8], at: usize, b: u8) -> usize
@@ -109,8 +109,39 @@ fn put_lanes(out: &mut [u8], at: usize, m: usize, n: usize, costs: &[u64], plan:
     next
 }
 
-// Writes a plan: the header, the production record and all lanes. Gives the length of the text.
-pub fn put_plan(
+// Are there count numbers, each below 2^32?
+fn narrow(s: &[u64], count: usize) -> bool
+    ensures { λ r. ⌜ Says (Narrow count (now (s .entry))) r ⌝ }
+{
+    if s.len() < count {
+        return false;
+    }
+    for k in 0..count {
+        if 4_294_967_295 < s[k] {
+            return false;
+        }
+    }
+    true
+}
+
+// Can the plan be printed?
+fn fits(m: usize, n: usize, costs: &[u64], plan: &[u64]) -> bool
+    ensures { λ r. ⌜ Says (Fits m n (now (costs .entry)) (now (plan .entry))) r ⌝ }
+{
+    if 32 < m {
+        return false;
+    }
+    if 64 < n {
+        return false;
+    }
+    if narrow(costs, m * n) {
+        return narrow(plan, m * n);
+    }
+    false
+}
+
+// Writes a plan that fits: the header, the production record and all lanes. Gives the length of the text.
+fn put_fitting(
     out: &mut [u8],
     m: usize,
     n: usize,
@@ -127,6 +158,25 @@ pub fn put_plan(
     let first = put_bytes(out, 0, header);
     let lanes = put_record(out, first, 0, 0, split, entry);
     put_lanes(out, lanes, m, n, costs, plan)
+}
+
+// Writes a plan: the header, the production record and all lanes. Gives the length of the text; 0, and nothing is written, where there are
+// more than 32 sources or 64 terminals, lanes are missing, or a number of a lane is 2^32 or more.
+pub fn put_plan(
+    out: &mut [u8],
+    m: usize,
+    n: usize,
+    costs: &[u64],
+    plan: &[u64],
+    split: u64,
+    entry: u64,
+) -> usize
+    ensures { λ r. ⌜ PlanWritten (Fits m n (now (costs .entry)) (now (plan .entry))) (now (out .entry)) (now (out .exit)) r (planText m n (now (costs .entry)) (now (plan .entry)) split «entry») (185 + 5440 * m) ⌝ }
+{
+    if fits(m, n, costs, plan) {
+        return put_fitting(out, m, n, costs, plan, split, entry);
+    }
+    0
 }
 
 // Writes a refusal. Gives the length of the text.
