@@ -20,7 +20,7 @@ struct Solver {
     int made;
     Simplex *simplex;
 
-    Solver(size_t m, size_t n, const uint64_t *costs, const uint64_t *supplies, const uint64_t *demands)
+    Solver(size_t m, size_t n, const int64_t *costs, const uint64_t *supplies, const uint64_t *demands)
         : cost(graph), supply(graph), made(0) {
         for (size_t i = 0; i < m; i++) sources.push_back(graph.addNode());
         for (size_t j = 0; j < n; j++) terminals.push_back(graph.addNode());
@@ -45,18 +45,18 @@ struct Solver {
 
 extern "C" {
 
-void *lemon_new(size_t m, size_t n, const uint64_t *costs, const uint64_t *supplies, const uint64_t *demands) {
+void *lemon_new(size_t m, size_t n, const int64_t *costs, const uint64_t *supplies, const uint64_t *demands) {
     return new Solver(m, n, costs, supplies, demands);
 }
 
-// The least freight at split y, or UINT64_MAX.
-uint64_t lemon_split(void *solver, uint64_t y) {
+// The least freight at split y, or INT64_MIN.
+int64_t lemon_split(void *solver, uint64_t y) {
     Solver &s = *static_cast<Solver *>(solver);
     s.supply[s.sources[0]] = int(y);
     s.supply[s.sources[1]] = s.made - int(y);
     s.simplex->supplyMap(s.supply);
-    if (s.simplex->run() != Simplex::OPTIMAL) return UINT64_MAX;
-    return s.simplex->totalCost<uint64_t>();
+    if (s.simplex->run() != Simplex::OPTIMAL) return INT64_MIN;
+    return s.simplex->totalCost<int64_t>();
 }
 
 void lemon_free(void *solver) { delete static_cast<Solver *>(solver); }

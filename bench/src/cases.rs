@@ -6,16 +6,18 @@ pub enum Kind {
     Uniform,
     Few,
     Plane,
+    Rebates,
 }
 
 impl Kind {
-    pub const ALL: [Kind; 3] = [Kind::Uniform, Kind::Few, Kind::Plane];
+    pub const ALL: [Kind; 4] = [Kind::Uniform, Kind::Few, Kind::Plane, Kind::Rebates];
 
     pub fn name(self) -> &'static str {
         match self {
             Kind::Uniform => "uniform",
             Kind::Few => "few values",
             Kind::Plane => "plane",
+            Kind::Rebates => "rebates",
         }
     }
 }
@@ -32,7 +34,7 @@ pub struct Shape {
 pub struct Case {
     pub m: usize,
     pub n: usize,
-    pub costs: Vec<u64>,
+    pub costs: Vec<i64>,
     pub supplies: Vec<u64>,
     pub demands: Vec<u64>,
     pub table: Vec<u64>,
@@ -75,16 +77,23 @@ pub fn case(shape: Shape, seed: u64) -> Case {
     Case { m, n, costs, supplies, demands, table, least, greatest: first }
 }
 
-fn costs(random: &mut Random, m: usize, n: usize, kind: Kind) -> Vec<u64> {
+fn costs(random: &mut Random, m: usize, n: usize, kind: Kind) -> Vec<i64> {
+    let mut each = |low: u64, high: u64| (0..m * n).map(|_| random.within(low, high) as i64).collect();
     match kind {
-        Kind::Uniform => (0..m * n).map(|_| random.within(0, 1_000_000)).collect(),
-        Kind::Few => (0..m * n).map(|_| random.within(1, 5)).collect(),
+        Kind::Uniform => each(0, 1_000_000),
+        Kind::Few => each(1, 5),
+        Kind::Rebates => {
+            // on one lane in five the haulier pays
+            let mut costs: Vec<i64> = each(0, 1_000_000);
+            costs.iter_mut().filter(|_| random.within(0, 4) == 0).for_each(|cost| *cost = -*cost);
+            costs
+        }
         Kind::Plane => {
             let mut points = |k: usize| -> Vec<(f64, f64)> {
                 (0..k).map(|_| (random.within(0, 10_000) as f64, random.within(0, 10_000) as f64)).collect()
             };
             let (sources, terminals) = (points(m), points(n));
-            let away = |s: (f64, f64), t: (f64, f64)| (s.0 - t.0).hypot(s.1 - t.1).round() as u64;
+            let away = |s: (f64, f64), t: (f64, f64)| (s.0 - t.0).hypot(s.1 - t.1).round() as i64;
             (0..m * n).map(|k| away(sources[k / n], terminals[k % n])).collect()
         }
     }
@@ -108,7 +117,7 @@ fn shares(random: &mut Random, drums: u64, n: usize) -> Vec<u64> {
 /// A concave table whose slopes are of the size of the costs' differences.
 fn table(random: &mut Random, first: u64, steps: u64, least: u64, kind: Kind) -> Vec<u64> {
     let most = match kind {
-        Kind::Uniform => 100_000,
+        Kind::Uniform | Kind::Rebates => 100_000,
         Kind::Few => 2,
         Kind::Plane => 2_000,
     };

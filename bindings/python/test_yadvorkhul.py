@@ -81,23 +81,35 @@ class Cases(unittest.TestCase):
         self.assertEqual(found.split, 200)
         self.assertEqual(found.stops, [(100, 1430), (150, 1030), (180, 820), (200, 800)])
 
+    def test_rebates(self):
+        found = self.expect(3, -11, costs=[[2, 6], [5, 3], [1, -40]])
+        self.assertEqual((found.freight, found.stops), (-31, [(1, -25), (3, -31)]))
+        self.expect(3, -30, costs=[[-10, -10], [0, 0], [0, 0]], table=[99, 11, 11, 0])
+
     def test_other_refusals(self):
         self.refused(1, 0, supplies=[3], costs=[[2, 6]])
         self.refused(2, 0, demands=[], costs=[[], [], []])
         self.refused(3, 0, costs=[[2, 6], [5, 3, 1], [4]])
         self.refused(3, 0, costs=[[2, 6], [5, 3]])
         self.refused(5, 6, costs=[[2, 6], [5, 3], [1, 1_000_001]])
+        self.refused(5, 6, costs=[[2, 6], [5, 3], [1, -1_000_001]])
+        self.refused(5, 1, costs=[[-1 << 63, 6], [5, 3], [1, (1 << 63) - 1]])
         self.refused(6, 0, table=[99, 20, 24])
         self.refused(9, 2, table=[99, 20, 1_000_000_001, 20])
 
     def test_readable(self):
         with self.assertRaisesRegex(Refusal, "^refusal 4 at place 5: a supply or demand is above 4,000$"):
             plan(**{**A, "demands": [3, 4001]})
+        with self.assertRaisesRegex(Refusal, "^refusal 5 at place 1: a unit cost is below -1,000,000 or above 1,000,000$"):
+            plan(**{**A, "costs": [[-1_000_001, 6], [5, 3], [1, 4]]})
 
     def test_numbers(self):
         for odd in (-1, 1 << 64, 1.5, "3", True, None):
             with self.assertRaises(TypeError):
                 plan(**{**A, "demands": [3, odd]})
+        for odd in ((-1 << 63) - 1, 1 << 63, 1.5, "3", True, None):
+            with self.assertRaises(TypeError):
+                plan(**{**A, "costs": [[2, 6], [5, 3], [1, odd]]})
         self.refused(4, 5, demands=[3, (1 << 64) - 1])
 
     def test_doc(self):
@@ -107,33 +119,34 @@ class Cases(unittest.TestCase):
 
 
 class Lent(unittest.TestCase):
-    def call(self, plan_cells=8, split_cells=4, freight_cells=5, report_cells=6, **changes):
+    def call(self, plan_cells=8, split_cells=4, freight_cells=5, report_cells=4, worth_cells=3, **changes):
         case = {**A, **changes}
-        lent = [[7] * k for k in (plan_cells, split_cells, freight_cells, report_cells)]
+        lent = [[7] * k for k in (plan_cells, split_cells, freight_cells, report_cells, worth_cells)]
         costs = [c for row in case["costs"] for c in row]
         return plan_into(3, 2, costs, case["supplies"], case["demands"], case["table"], *lent), lent
 
     def test_planned(self):
         number, lent = self.call()
         self.assertEqual(number, 0)
-        self.assertEqual(lent, [[3, 0, 0, 1, 0, 1, 7, 7], [1, 2, 3, 7], [14, 11, 13, 7, 7], [3, 33, 13, 3, 7, 7]])
+        self.assertEqual(lent, [[3, 0, 0, 1, 0, 1, 7, 7], [1, 2, 3, 7], [14, 11, 13, 7, 7], [3, 3, 7, 7], [33, 13, 7]])
 
     def test_refused(self):
         number, lent = self.call(table=[99, 20, 20, 22])
         self.assertEqual(number, 10)
-        self.assertEqual(lent, [[7] * 8, [7] * 4, [7] * 5, [2] + [7] * 5])
+        self.assertEqual(lent, [[7] * 8, [7] * 4, [7] * 5, [2] + [7] * 3, [7] * 3])
 
     def test_short_by_one(self):
         for short in (dict(plan_cells=5), dict(split_cells=2), dict(freight_cells=2)):
             number, lent = self.call(**short)
             self.assertEqual((number, lent[3][0]), (11, 0))
-            self.assertTrue(all(cell == 7 for cells in lent[:3] for cell in cells))
+            self.assertTrue(all(cell == 7 for cells in lent[:3] + lent[4:] for cell in cells))
 
     def test_short_report(self):
-        for cells in range(4):
-            number, lent = self.call(report_cells=cells)
+        for report, worth in ((0, 2), (1, 2), (2, 0), (2, 1), (0, 0)):
+            number, lent = self.call(report_cells=report, worth_cells=worth)
             self.assertEqual(number, yadvorkhul.SHORT_REPORT)
             self.assertTrue(all(cell == 7 for cells in lent for cell in cells))
+        self.assertEqual(self.call(report_cells=2, worth_cells=2)[1][3:], [[3, 3], [33, 13]])
 
 
 class Listing(unittest.TestCase):
@@ -142,7 +155,8 @@ class Listing(unittest.TestCase):
         planned = 0
         while planned < 500:
             m, n = draw.randint(2, 3), draw.randint(1, 3)
-            costs = [[draw.randint(0, 9) for _ in range(n)] for _ in range(m)]
+            size = draw.choice((1, 9, 1_000_000))
+            costs = [[draw.randint(-size, size) for _ in range(n)] for _ in range(m)]
             supplies = [draw.randint(0, 4) for _ in range(m)]
             demands = [draw.randint(0, 4) for _ in range(n)]
             table = [draw.randint(0, 3) for _ in range(supplies[0] + 1)]

@@ -9,6 +9,8 @@
     >>> p.stops
     [(1, 14), (2, 11), (3, 13)]
 
+A unit cost below 0 is a rebate; freights and totals are signed too.
+
 A case that fails a test is refused by an exception that has the number and the place:
 
     >>> plan(costs=[[2, 6], [5, 3], [1, 4]], supplies=[3, 3, 6], demands=[3, 2], table=[99, 20, 24, 20])
@@ -28,7 +30,8 @@ __all__ = ["plan", "plan_into", "Plan", "Refusal", "SHORT_REPORT"]
 MOST_SOURCES = 32
 MOST_TERMINALS = 64
 MOST_SPLITS = 4001
-REPORT_CELLS = 4
+REPORT_CELLS = 2
+WORTH_CELLS = 2
 SHORT_REPORT = 34
 
 _MEANINGS = {
@@ -36,15 +39,14 @@ _MEANINGS = {
     2: "the count of terminals is not 1 to 64",
     3: "the costs are not one for each source and terminal",
     4: "a supply or demand is above 4,000",
-    5: "a unit cost is above 1,000,000",
+    5: "a unit cost is below -1,000,000 or above 1,000,000",
     6: "the table has not one entry more than plant 1's supply",
     7: "the depots hold more than the terminals take",
     8: "the terminals take more than depots and plants can give",
     9: "a table entry at a split in use is above 1,000,000,000",
     10: "the table is not concave",
     11: "a lent slice is too short for the plan or the stops",
-    12: "the total is above 200,000,000,000",
-    SHORT_REPORT: "the report has fewer than four cells",
+    SHORT_REPORT: "the report or the worth has fewer than two cells",
 }
 
 
@@ -65,7 +67,7 @@ class Plan(NamedTuple):
     total: int  # freight plus the table's entry at the split
     freight: int  # the least of any plan at the split
     amounts: List[List[int]]  # a row for each source: the drums to each terminal
-    stops: List[Tuple[int, int]]  # the freight curve: split and least freight, at the ends and where the slope changes
+    stops: List[Tuple[int, int]]  # the freight curve: split and least freight, at the ends and the bends alone
 
 
 def _load():
@@ -73,32 +75,35 @@ def _load():
     if not os.path.exists(path):
         raise ImportError("libyadvorkhul.so is not there: run bindings/python/build, or name it in YADVORKHUL_SO")
     function = ctypes.CDLL(path).yadvorkhul_plan
-    cells = ctypes.POINTER(ctypes.c_uint64)
-    # m and n, then eight slices, each a pointer and then a length
-    function.argtypes = [ctypes.c_size_t] * 2 + [cells, ctypes.c_size_t] * 8
+    # m and n, then the slices, each a pointer and then a length
+    slices = [part for kind in _READ + _WRITTEN for part in (ctypes.POINTER(kind), ctypes.c_size_t)]
+    function.argtypes = [ctypes.c_size_t] * 2 + slices
     function.restype = ctypes.c_uint64
     return function
 
 
+_READ = [ctypes.c_int64] + [ctypes.c_uint64] * 3  # costs; supplies, demands, table
+_WRITTEN = [ctypes.c_uint64] * 2 + [ctypes.c_int64, ctypes.c_uint64, ctypes.c_int64]  # plan, splits; freights; report; worth
 _function = _load()
 
 
-def _cells(numbers):
-    """An array of the numbers. A number that is no unsigned 64-bit one is an error, and is not cut down to one."""
+def _cells(kind, numbers):
+    """An array of the numbers. A number that does not fit a cell is an error, and is not cut down to one that does."""
     numbers = list(numbers)
+    low, high = (-1 << 63, 1 << 63) if kind is ctypes.c_int64 else (0, 1 << 64)
     for number in numbers:
-        if isinstance(number, bool) or not isinstance(number, int) or not 0 <= number < 1 << 64:
-            raise TypeError(f"not a whole number from 0 to 2^64 - 1: {number!r}")
+        if isinstance(number, bool) or not isinstance(number, int) or not low <= number < high:
+            raise TypeError(f"not a whole number from {low} to {high - 1}: {number!r}")
     # one cell more, so that the pointer of an empty slice points at something
-    return (ctypes.c_uint64 * (len(numbers) + 1))(*numbers), len(numbers)
+    return (kind * (len(numbers) + 1))(*numbers), len(numbers)
 
 
-def plan_into(m, n, costs, supplies, demands, table, plan, splits, freights, report):
-    """The planner on lent lists. Each of the last four is changed in the cells that the planner writes. Answers its number."""
-    read = [_cells(numbers) for numbers in (costs, supplies, demands, table)]
-    lent = [plan, splits, freights, report]
-    written = [_cells(numbers) for numbers in lent]
-    _cells([m, n])
+def plan_into(m, n, costs, supplies, demands, table, plan, splits, freights, report, worth):
+    """The planner on lent lists. Each of the last five is changed in the cells that the planner writes. Answers its number."""
+    read = [_cells(kind, numbers) for kind, numbers in zip(_READ, (costs, supplies, demands, table))]
+    lent = [plan, splits, freights, report, worth]
+    written = [_cells(kind, numbers) for kind, numbers in zip(_WRITTEN, lent)]
+    _cells(ctypes.c_size_t, [m, n])
     answer = _function(m, n, *(part for pair in read + written for part in pair))
     for numbers, (cells, length) in zip(lent, written):
         numbers[:] = cells[:length]
@@ -108,7 +113,7 @@ def plan_into(m, n, costs, supplies, demands, table, plan, splits, freights, rep
 def plan(costs, supplies, demands, table) -> Plan:
     """A cheapest plan, or a `Refusal`.
 
-    costs     a row for each source: its unit cost to each terminal
+    costs     a row for each source: its unit cost to each terminal, below 0 for a rebate
     supplies  the most each of the two plants can make, then each depot's stock, which must all leave
     demands   what each terminal takes
     table     one entry more than the first supply: entry y is the cost of both plants together when plant 1 makes y
@@ -120,10 +125,11 @@ def plan(costs, supplies, demands, table) -> Plan:
     even = len(rows) == m and all(len(row) == n for row in rows)
     lanes = [cost for row in rows for cost in row] if even else []
     amounts = [0] * (min(m, MOST_SOURCES) * min(n, MOST_TERMINALS))
-    splits, freights, report = [0] * MOST_SPLITS, [0] * MOST_SPLITS, [0] * REPORT_CELLS
-    number = plan_into(m, n, lanes, supplies, demands, table, amounts, splits, freights, report)
+    splits, freights = [0] * MOST_SPLITS, [0] * MOST_SPLITS
+    report, worth = [0] * REPORT_CELLS, [0] * WORTH_CELLS
+    number = plan_into(m, n, lanes, supplies, demands, table, amounts, splits, freights, report, worth)
     if number != 0:
         raise Refusal(number, report[0])
-    split, total, freight, count = report
+    (split, count), (total, freight) = report, worth
     by_source = [amounts[i * n : (i + 1) * n] for i in range(m)]
     return Plan(split, total, freight, by_source, list(zip(splits[:count], freights[:count])))

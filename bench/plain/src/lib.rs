@@ -10,16 +10,17 @@ use self::engine::{sweep, Curve};
 pub fn plan_into(
     m: usize,
     n: usize,
-    costs: &[u64],
+    costs: &[i64],
     supplies: &[u64],
     demands: &[u64],
     table: &[u64],
     plan: &mut [u64],
     splits: &mut [u64],
-    freights: &mut [u64],
+    freights: &mut [i64],
     report: &mut [u64],
+    worth: &mut [i64],
 ) -> u64 {
-    if report.len() < 4 {
+    if report.len() < 2 || worth.len() < 2 {
         return 34;
     }
     match checked(m, n, costs, supplies, demands, table, plan.len(), splits.len(), freights.len()) {
@@ -28,8 +29,9 @@ pub fn plan_into(
             number
         }
         Ok((lo, hi)) => {
-            let curve = planned(m, n, costs, supplies, demands, table, lo, hi, plan, splits, freights);
-            report[..4].copy_from_slice(&[curve.split, curve.total, curve.freight, curve.stops as u64]);
+            let best = planned(m, n, costs, supplies, demands, table, lo, hi, plan, splits, freights);
+            report[..2].copy_from_slice(&[best.split, best.stops as u64]);
+            worth[..2].copy_from_slice(&[best.total, best.freight]);
             0
         }
     }
@@ -44,7 +46,7 @@ fn first_above(s: &[u64], limit: u64) -> Option<usize> {
 fn checked(
     m: usize,
     n: usize,
-    costs: &[u64],
+    costs: &[i64],
     supplies: &[u64],
     demands: &[u64],
     table: &[u64],
@@ -67,7 +69,7 @@ fn checked(
     if let Some(k) = first_above(demands, 4_000) {
         return Err((4, (m + k) as u64 + 1));
     }
-    if let Some(k) = first_above(costs, 1_000_000) {
+    if let Some(k) = costs.iter().position(|&c| !(-1_000_000..=1_000_000).contains(&c)) {
         return Err((5, k as u64 + 1));
     }
     if table.len() as u64 != supplies[0] + 1 {
@@ -96,12 +98,20 @@ fn checked(
     Ok((lo, hi))
 }
 
-/// The working arrays from the lent slices, the sweep, and the plan into its slice.
+struct Best {
+    split: u64,
+    total: i64,
+    freight: i64,
+    stops: usize,
+}
+
+/// The working arrays from the lent slices with costs raised by 1,000,000, the sweep, the plan into its slice, and what each drum
+/// was raised by taken off freights and total again.
 #[allow(clippy::too_many_arguments)]
 fn planned(
     m: usize,
     n: usize,
-    costs: &[u64],
+    costs: &[i64],
     supplies: &[u64],
     demands: &[u64],
     table: &[u64],
@@ -109,11 +119,11 @@ fn planned(
     hi: u64,
     plan: &mut [u64],
     splits: &mut [u64],
-    freights: &mut [u64],
-) -> Curve {
+    freights: &mut [i64],
+) -> Best {
     let mut cost = [0u32; 2048];
     for i in 0..m {
-        narrow(&costs[i * n..(i + 1) * n], &mut cost[i * 64..i * 64 + n]);
+        raise(&costs[i * n..(i + 1) * n], &mut cost[i * 64..i * 64 + n]);
     }
     let cap = [4_000u32; 2048];
     let mut amounts = [0u32; 32];
@@ -124,14 +134,27 @@ fn planned(
     amounts[1] = (all - stock - lo) as u32;
     let mut demand = [0u32; 96];
     narrow(demands, &mut demand[32..32 + n]);
+    let added = 1_000_000 * all as i64;
     let mut kept = [0u32; 2048];
-    let curve = sweep(m, n, &cost, &cap, &amounts, &demand, lo, hi, table, splits, freights, &mut kept);
+    let mut raised = [0u64; 4001];
+    let Curve { split, total, freight, stops } =
+        sweep(m, n, &cost, &cap, &amounts, &demand, lo, hi, table, splits, &mut raised, &mut kept);
     for i in 0..m {
         for (amount, &k) in plan[i * n..(i + 1) * n].iter_mut().zip(&kept[i * 64..]) {
             *amount = u64::from(k);
         }
     }
-    curve
+    for (freight, &raised) in freights.iter_mut().zip(&raised[..stops]) {
+        *freight = raised as i64 - added;
+    }
+    Best { split, total: total as i64 - added, freight: freight as i64 - added, stops }
+}
+
+/// Costs raised by 1,000,000, into working cells.
+fn raise(costs: &[i64], cells: &mut [u32]) {
+    for (cell, &cost) in cells.iter_mut().zip(costs) {
+        *cell = (cost + 1_000_000) as u32;
+    }
 }
 
 /// Numbers that fit, into narrower cells.

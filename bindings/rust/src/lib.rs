@@ -19,6 +19,8 @@
 //! assert_eq!(curve, [(1, 14), (2, 11), (3, 13)]);
 //! ```
 //!
+//! A unit cost below 0 is a rebate; freights and totals are signed too.
+//!
 //! A case that cannot be planned is refused, with the number and the place of the first test that it fails:
 //!
 //! ```
@@ -48,13 +50,15 @@ pub const MOST_SOURCES: usize = 32;
 pub const MOST_TERMINALS: usize = 64;
 /// Largest supply or demand.
 pub const MOST_AMOUNT: u64 = 4_000;
-/// Largest unit cost.
-pub const MOST_COST: u64 = 1_000_000;
+/// Largest unit cost, and the largest rebate: the least unit cost is its negative.
+pub const MOST_COST: i64 = 1_000_000;
 /// Largest entry of the production table at a split in use.
 pub const MOST_ENTRY: u64 = 1_000_000_000;
-/// Cells of a report.
-pub const REPORT_CELLS: usize = 4;
-/// The number that answers a report of fewer cells. It is outside the numbers of the paper.
+/// Cells of a report: split and count of stops.
+pub const REPORT_CELLS: usize = 2;
+/// Cells of a worth: total and freight.
+pub const WORTH_CELLS: usize = 2;
+/// The number that answers a report or a worth of fewer cells. It is outside the numbers of the paper.
 pub const SHORT_REPORT: u64 = 34;
 
 extern "C" {
@@ -62,7 +66,7 @@ extern "C" {
     fn yadvorkhul_plan(
         m: usize,
         n: usize,
-        costs: *const u64,
+        costs: *const i64,
         costs_len: usize,
         supplies: *const u64,
         supplies_len: usize,
@@ -74,28 +78,32 @@ extern "C" {
         plan_len: usize,
         splits: *mut u64,
         splits_len: usize,
-        freights: *mut u64,
+        freights: *mut i64,
         freights_len: usize,
         report: *mut u64,
         report_len: usize,
+        worth: *mut i64,
+        worth_len: usize,
     ) -> u64;
 }
 
 /// The planner on lent slices, of any numbers and any lengths.
 ///
-/// Answers 0 where the case is planned: then the first four cells of `report` are split, total, freight and count of stops,
-/// the first m × n cells of `plan` are the amounts in row order, and the first cells of `splits` and `freights` are the
-/// stops. Else it answers the number of the refusal: then the first cell of `report` is its place. A `report` shorter than
-/// four cells is answered by [`SHORT_REPORT`], before anything else is looked at. All other cells keep their contents.
+/// Answers 0 where the case is planned: then the first two cells of `report` are split and count of stops, those of `worth`
+/// total and freight, the first m × n cells of `plan` are the amounts in row order, and the first cells of `splits` and
+/// `freights` are the stops. Else it answers the number of the refusal: then the first cell of `report` is its place. A
+/// `report` or a `worth` shorter than two cells is answered by [`SHORT_REPORT`], before anything else is looked at. All other
+/// cells keep their contents.
 ///
 /// ```
-/// let (mut plan, mut splits, mut freights, mut report) = ([7; 7], [7; 4], [7; 4], [7; 5]);
+/// let (mut plan, mut splits, mut freights, mut report, mut worth) = ([7; 7], [7; 4], [7; 4], [7; 3], [7; 3]);
 /// let answer = yadvorkhul::plan_into(
 ///     3, 2, &[2, 6, 5, 3, 1, 4], &[3, 3, 1], &[3, 2], &[99, 20, 24, 20],
-///     &mut plan, &mut splits, &mut freights, &mut report,
+///     &mut plan, &mut splits, &mut freights, &mut report, &mut worth,
 /// );
 /// assert_eq!(answer, 0);
-/// assert_eq!(report, [3, 33, 13, 3, 7]);
+/// assert_eq!(report, [3, 3, 7]);
+/// assert_eq!(worth, [33, 13, 7]);
 /// assert_eq!(plan, [3, 0, 0, 1, 0, 1, 7]);
 /// assert_eq!(splits, [1, 2, 3, 7]);
 /// assert_eq!(freights, [14, 11, 13, 7]);
@@ -104,17 +112,18 @@ extern "C" {
 pub fn plan_into(
     m: usize,
     n: usize,
-    costs: &[u64],
+    costs: &[i64],
     supplies: &[u64],
     demands: &[u64],
     table: &[u64],
     plan: &mut [u64],
     splits: &mut [u64],
-    freights: &mut [u64],
+    freights: &mut [i64],
     report: &mut [u64],
+    worth: &mut [i64],
 ) -> u64 {
     // Safety: the callee has no `requires`. It reads and writes only within the lengths passed beside the pointers, keeps
-    // none of them, and the four slices that it writes are borrowed exclusively, so none overlaps another slice.
+    // none of them, and the five slices that it writes are borrowed exclusively, so none overlaps another slice.
     unsafe {
         yadvorkhul_plan(
             m,
@@ -135,6 +144,8 @@ pub fn plan_into(
             freights.len(),
             report.as_mut_ptr(),
             report.len(),
+            worth.as_mut_ptr(),
+            worth.len(),
         )
     }
 }
@@ -142,8 +153,9 @@ pub fn plan_into(
 /// A planning case. There are as many sources as supplies and as many terminals as demands.
 #[derive(Clone, Debug, PartialEq, Eq)]
 pub struct Case {
-    /// Unit costs, one source's together, row after row: source i's cost to terminal j (both from 0) at i × n + j.
-    pub costs: Vec<u64>,
+    /// Unit costs, one source's together, row after row: source i's cost to terminal j (both from 0) at i × n + j. A rebate
+    /// is a cost below 0.
+    pub costs: Vec<i64>,
     /// Of the two plants, the most each can make; then of each depot the stock, which must all leave.
     pub supplies: Vec<u64>,
     /// What each terminal takes, exactly.
@@ -159,12 +171,12 @@ pub struct Plan {
     /// What plant 1 makes: the smallest of the splits with the least total.
     pub split: u64,
     /// Freight plus the table's entry at the split.
-    pub total: u64,
+    pub total: i64,
     /// Sum of amount times unit cost over the lanes: the least of any plan at the split.
-    pub freight: u64,
+    pub freight: i64,
     /// The amount of each lane, in the order of the costs.
     pub amounts: Vec<u64>,
-    /// The freight curve: the first and the last split, and each one between where the slope changes.
+    /// The freight curve: the first and the last split, and each one between where the slope changes; no others.
     pub stops: Vec<Stop>,
     terminals: usize,
 }
@@ -174,7 +186,7 @@ pub struct Plan {
 pub struct Stop {
     pub split: u64,
     /// The least freight of any plan at that split.
-    pub freight: u64,
+    pub freight: i64,
 }
 
 impl Case {
@@ -186,6 +198,7 @@ impl Case {
         let mut splits = vec![0; MOST_AMOUNT as usize + 1];
         let mut freights = vec![0; MOST_AMOUNT as usize + 1];
         let mut report = [0; REPORT_CELLS];
+        let mut worth = [0; WORTH_CELLS];
         let number = plan_into(
             m,
             n,
@@ -197,11 +210,12 @@ impl Case {
             &mut splits,
             &mut freights,
             &mut report,
+            &mut worth,
         );
         if number != 0 {
             return Err(Refusal { number, place: report[0], sources: m, terminals: n });
         }
-        let [split, total, freight, count] = report;
+        let ([split, count], [total, freight]) = (report, worth);
         let stops = splits.iter().zip(&freights).take(count as usize);
         let stops = stops.map(|(&split, &freight)| Stop { split, freight }).collect();
         Ok(Plan { split, total, freight, amounts, stops, terminals: n })

@@ -17,7 +17,7 @@ use std::fmt;
 /// ```
 #[derive(Clone, Copy, Debug, PartialEq, Eq)]
 pub struct Refusal {
-    /// 1 to 12.
+    /// 1 to 11.
     pub number: u64,
     /// Where the test fails, as the number has it; 0 where it names no place.
     pub place: u64,
@@ -33,14 +33,13 @@ impl Refusal {
             2 => "the count of terminals is not 1 to 64",
             3 => "the costs are not one for each source and terminal",
             4 => "a supply or demand is above 4,000",
-            5 => "a unit cost is above 1,000,000",
+            5 => "a unit cost is below -1,000,000 or above 1,000,000",
             6 => "the table has not one entry more than plant 1's supply",
             7 => "the depots hold more than the terminals take",
             8 => "the terminals take more than depots and plants can give",
             9 => "a table entry at a split in use is above 1,000,000,000",
             10 => "the table is not concave",
             11 => "a lent slice is too short for the plan or the stops",
-            12 => "the total is above 200,000,000,000",
             _ => "a number that this wrapper does not know",
         }
     }

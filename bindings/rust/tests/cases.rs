@@ -10,7 +10,7 @@ fn with_table(table: &[u64]) -> Lent {
 }
 
 /// Planned with this split, total and freight curve, and as the referee says in each cell.
-fn planned(lent: &Lent, split: u64, total: u64, least: u64, curve: &[u64]) {
+fn planned(lent: &Lent, split: u64, total: i64, least: u64, curve: &[i64]) {
     assert_eq!(referee::curve(lent), (least, curve.to_vec()));
     assert_eq!(referee::best(least, curve, &lent.table), (split, total));
     expect_plan(lent, least, curve);
@@ -66,6 +66,25 @@ fn p10_one_split() {
     planned(&Lent { supplies: vec![3, 1, 1], ..Lent::a() }, 3, 33, 3, &[13]);
 }
 
+/// Rebates: a curve that is negative throughout, and one that passes 0.
+#[test]
+fn rebates() {
+    let rebate = |costs: &[i64]| Lent { costs: costs.to_vec(), ..Lent::a() };
+    planned(&rebate(&[2, 6, 5, 3, 1, -40]), 3, -11, 1, &[-25, -28, -31]);
+    planned(&rebate(&[-2, -6, -5, -3, -1, -4]), 1, -5, 1, &[-25, -23, -20]);
+    planned(&rebate(&[-2, 6, -5, 3, -1, 4]), 1, 15, 1, &[-5, -2, 1]);
+}
+
+/// Less is more negative, not smaller in size: a total of -30 goes before one of -1 and of 1.
+#[test]
+fn signed_order_of_totals() {
+    let costs = vec![-10, -10, 0, 0, 0, 0];
+    let lent = |table: &[u64]| Lent { costs: costs.clone(), table: table.to_vec(), ..Lent::a() };
+    planned(&lent(&[99, 11, 11, 0]), 3, -30, 1, &[-10, -20, -30]);
+    planned(&lent(&[99, 0, 11, 22]), 1, -10, 1, &[-10, -20, -30]);
+    planned(&lent(&[99, 5, 15, 25]), 1, -5, 1, &[-10, -20, -30]);
+}
+
 #[test]
 fn report_example() {
     let lent = Lent::report_example();
@@ -102,11 +121,14 @@ fn refusals_are_readable() {
     let a = Lent::a();
     let case = Case { costs: a.costs, supplies: a.supplies, demands: a.demands, table: a.table };
     let text = |case: Case| case.plan().unwrap_err().to_string();
-    let costs = vec![2, 6, 5, 3, 1, 1_000_001];
-    assert_eq!(
-        text(Case { costs, ..case.clone() }),
-        "refusal 5 at place 6: a unit cost is above 1,000,000; look at the cost from source 3 to terminal 2"
-    );
+    for beyond in [1_000_001, -1_000_001] {
+        let costs = vec![2, 6, 5, 3, 1, beyond];
+        assert_eq!(
+            text(Case { costs, ..case.clone() }),
+            "refusal 5 at place 6: a unit cost is below -1,000,000 or above 1,000,000; \
+             look at the cost from source 3 to terminal 2"
+        );
+    }
     assert_eq!(
         text(Case { table: vec![99, 20, 20, 22], ..case.clone() }),
         "refusal 10 at place 2: the table is not concave; twice table entry 2 is below the sum of its two neighbours"
@@ -121,11 +143,11 @@ fn refusals_are_readable() {
     );
 }
 
-/// m = 32 and 33, n = 64 and 65, amounts 4,000 and 4,001, unit costs 1,000,000 and 1,000,001, stop slices of u - ℓ + 1 and
-/// one less.
+/// m = 32 and 33, n = 64 and 65, amounts 4,000 and 4,001, unit costs 1,000,000 and 1,000,001 of both signs, stop slices of
+/// u - ℓ + 1 and one less.
 #[test]
 fn limits() {
-    let square = |m: usize, n: usize, amount: u64, cost: u64| {
+    let square = |m: usize, n: usize, amount: u64, cost: i64| {
         let mut lent =
             Lent::new(m, n, &vec![cost; m * n], &vec![amount; m], &vec![0; n], &vec![0; amount as usize + 1]);
         let mut rest = (m as u64 - 1) * amount;
@@ -141,12 +163,22 @@ fn limits() {
     expect_refusal(&square(32, 65, 4_000, 1_000_000), 2, 0);
     expect_refusal(&square(32, 64, 4_001, 1_000_000), 4, 1);
     expect_refusal(&square(32, 64, 4_000, 1_000_001), 5, 1);
+    assert_eq!(expect_referee(&square(32, 64, 4_000, -1_000_000)), 0);
+    expect_refusal(&square(32, 64, 4_000, -1_000_001), 5, 1);
     let exact = Lent { plan_cells: 2_048, split_cells: 4_001, freight_cells: 4_001, ..largest.clone() };
     assert_eq!(expect_referee(&exact), 0);
     expect_refusal(&Lent { plan_cells: 2_047, ..exact.clone() }, 11, 0);
     expect_refusal(&Lent { split_cells: 4_000, ..exact.clone() }, 11, 0);
     expect_refusal(&Lent { freight_cells: 4_000, ..exact }, 11, 0);
-    // the highest total known: every drum at the dearest cost
-    let answer = largest.call();
-    assert_eq!(answer.report[1], 31 * 4_000 * 1_000_000);
+}
+
+/// The highest and the lowest total that can be: 128,000 drums leave the sources, all at one end of the range.
+#[test]
+fn bounds_of_totals() {
+    let full = |cost: i64, entry: u64| {
+        let demands: Vec<u64> = (0..64).map(|j| if j % 2 == 0 { 4_000 } else { 0 }).collect();
+        Lent::new(32, 64, &[cost; 2_048], &[4_000; 32], &demands, &[entry; 4_001])
+    };
+    planned(&full(1_000_000, 1_000_000_000), 4_000, 129_000_000_000, 4_000, &[128_000_000_000]);
+    planned(&full(-1_000_000, 0), 4_000, -128_000_000_000, 4_000, &[-128_000_000_000]);
 }

@@ -5,6 +5,7 @@ mod files;
 mod large;
 mod orders;
 mod production;
+mod rebates;
 mod records;
 mod report;
 mod trial;
@@ -14,6 +15,7 @@ use crate::fields::run_fields;
 use crate::large::run_large;
 use crate::orders::run_orders;
 use crate::production::run_production;
+use crate::rebates::run_rebates;
 use crate::records::run_records;
 use crate::report::report;
 
@@ -21,6 +23,7 @@ fn run_trials(tally: &mut [u64; 32]) {
     run_records(tally);
     run_fields(tally);
     run_production(tally);
+    run_rebates(tally);
     run_cases(tally);
     run_orders(tally);
     run_large(tally);

@@ -1,4 +1,4 @@
-// Files with more than one fault: the tariff's 20 to 22, the production file's, then 1 to 12.
+// Files with more than one fault: the tariff's 20 to 22, the production file's, then the tests of the case.
 use crate::trial::files;
 
 // A fault of the tariff goes before one of the production file.

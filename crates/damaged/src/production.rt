@@ -27,7 +27,6 @@ fn run_lines(tally: &mut [u64; 32]) {
 fn run_fields(tally: &mut [u64; 32]) {
     production(tally, 0, 2, b"0000000099", 0, 0);
     production(tally, 0, 2, b"00000000099", 21, 10);
-    production(tally, 0, 2, b"-9", 21, 0);
     production(tally, 0, 2, b"9.9", 21, 1);
     production(tally, 0, 2, b"9 9", 21, 1);
     production(tally, 0, 0, b" ", 21, 0);

@@ -12,7 +12,7 @@ use borrow.Author.Tests.{lt-ltb, le-ltb}
 use Rattle.transport.specs.Sum.{sum}
 use Rattle.planner.specs.Case.{Case, supply, demand, allDemand, depotStock, made, leastSplit, greatestSplit, steps}
 use Rattle.planner.specs.Outcome.{Outcome, refused, refuseIf, refuseAt, firstFrom, _orElse_, formRefusal, refusalOf}
-use Rattle.planner.specs.Outcome.{test7, test8, test9, test10, test11, test12}
+use Rattle.planner.specs.Outcome.{test7, test8, test9, test10, test11}
 use Rattle.planner.specs.Verdict.{splitsOf, entriesRefusal, AtMost, Amounts, Within}
 use Rattle.planner.specs.declared.tests.Splits.{Splits}
 use Rattle.planner.specs.declared.tests.Splits.the-variants.{Between, Unbalanced}
@@ -93,7 +93,7 @@ module _ {c : Case} {lo hi all : ℕ} (s : OnSplits c lo hi all) where
   unfolding _orElse_
   by-entries r e = from9 c (s .form) (s .t7) (s .t8) ∙ go (test9 c) (test10 c) (sym entries-are ∙ e)
     where
-      go : (a b : Option Outcome) → (a orElse b) ≡ some r → (a orElse b orElse test11 c orElse test12 c) ≡ some r
+      go : (a b : Option Outcome) → (a orElse b) ≡ some r → (a orElse b orElse test11 c) ≡ some r
       go (some q) b h = h
       go none (some q) h = h
       go none none h = let z : _≡_ {A = ℕ} 0 1 = cc in absurd (omega arith)
@@ -108,7 +108,7 @@ module _ {c : Case} {lo hi all : ℕ} (s : OnSplits c lo hi all) where
     by-room : (ltb (c .planCells) (c .m * c .n) || (ltb (c .splitCells) (steps c + 1) || ltb (c .freightCells) (steps c + 1))) ≡ true → refusalOf c ≡ some (refused 11 0)
     unfolding test11
     by-room h =
-        from9 c (s .form) (s .t7) (s .t8) ∙ second-decides _ _ ninth ∙ second-decides _ _ tenth ∙ first-decides _ _ _ (met 11 _ h)
+        from9 c (s .form) (s .t7) (s .t8) ∙ second-decides _ _ ninth ∙ second-decides _ _ tenth ∙ met 11 _ h
 
     pub by-plan : c .planCells < c .m * c .n → refusalOf c ≡ some (refused 11 0)
     by-plan h = by-room (simp (lt-ltb (c .planCells) (c .m * c .n) h))

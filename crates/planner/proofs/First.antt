@@ -12,7 +12,9 @@ use borrow.Author.Tests.{lt-ltb, le-ltb}
 use mathlib.Core.List.{List}
 use lib.ListN.{length, getD}
 use Rattle.planner.specs.Outcome.{firstFrom}
-use Rattle.planner.specs.Verdict.{AtMost, firstAbove, firstSagging}
+use Rattle.planner.specs.Verdict.{AtMost, firstAbove, firstOutside, firstSagging}
+use lib.IntN.{ℤ, pos}
+use Rattle.planner.specs.Range.{outside}
 
 step-false : (p : ℕ → Bool) (i k : ℕ) → p i ≡ false → firstFrom p i (suc k) ≡ firstFrom p (suc i) k
 unfolding firstFrom
@@ -49,6 +51,15 @@ pub above-some : (limit : ℕ) (l : List ℕ) (k : ℕ) → k < length l → ((j
 unfolding firstAbove
 above-some limit l k b h t =
     first-some _ 0 (length l) k (omega arith) (omega arith) (λ j a s. le-ltb limit (getD l j 0) (h j s)) (lt-ltb limit (getD l k 0) t)
+
+pub outside-none : (l : List ℤ) → ((k : ℕ) → k < length l → outside (getD l k (pos 0)) ≡ false) → firstOutside l ≡ none
+unfolding firstOutside
+outside-none l h = first-none _ 0 (length l) (λ j a b. h j (omega arith))
+
+pub outside-some : (l : List ℤ) (k : ℕ) → k < length l → ((j : ℕ) → j < k → outside (getD l j (pos 0)) ≡ false) → outside (getD l k (pos 0)) ≡ true
+    → firstOutside l ≡ some k
+unfolding firstOutside
+outside-some l k b h t = first-some _ 0 (length l) k (omega arith) (omega arith) (λ j a s. h j s) t
 
 -- the neighbours' sum at k is at most twice what stands at k
 abbrev pub Level : List ℕ → ℕ → Type 0

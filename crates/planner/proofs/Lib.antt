@@ -1,10 +1,16 @@
 pub mod Example
 pub mod Cases
 pub mod First
+pub mod Integers
+pub mod Shift
+pub mod Machine
+pub mod Raises
+pub mod Lowers
 pub mod Passed
 pub mod Splits
+pub mod Raised
 pub mod Promise
-pub mod Never
+pub mod Bounds
 pub mod Rows
 pub mod TestLaws
 pub mod FormLaws

@@ -7,12 +7,14 @@ use mathlib.Core.List.{List, _++_}
 use Prim.Native.Nat.{ℕ, _+_, _-_, _*_, _≤_, _<_}
 use native.Mathlib.Omega.{arith}
 use lib.Dec.{eqb, ltb}
+use lib.IntN.{ℤ, pos}
 use lib.ListN.{length, getD, List·getD-append}
+use Rattle.planner.specs.Range.{outside}
 use lib.Seq.{getD-append-add}
 use borrow.Author.Tests.{eqb-true, ltb-false, le-ltb, not-false}
 use Rattle.planner.specs.Case.{Case, supply, demand, entry, allDemand, depotStock, made, leastSplit, steps}
 use Rattle.planner.specs.Outcome.{Outcome, refused, refuseIf, refuseAt, firstFrom, _orElse_, formRefusal, refusalOf}
-use Rattle.planner.specs.Outcome.{test1, test2, test3, test4, test5, test6, test7, test8, test9, test10, test11, test12}
+use Rattle.planner.specs.Outcome.{test1, test2, test3, test4, test5, test6, test7, test8, test9, test10, test11}
 use Rattle.planner.proofs.First.{none-passes}
 
 pub some≢none : (r : Outcome) → _≡_ {A = Option Outcome} (some r) none → ⊥
@@ -86,6 +88,12 @@ under limit l k e i h =
     same : (i : ℕ) → i + 1 - 1 ≡ i
     same i = omega arith
 
+-- no unit cost is out of range
+within : (l : List ℤ) (k : ℕ) → firstFrom (λ p. outside (getD l (p - 1) (pos 0))) 1 k ≡ none → (i : ℕ) → i < k → outside (getD l i (pos 0)) ≡ false
+within l k e i h =
+    ap (λ (p : ℕ). outside (getD l p (pos 0))) (let z : i ≡ i + 1 - 1 = omega arith in z)
+    ∙ none-passes (λ p. outside (getD l (p - 1) (pos 0))) 1 k e (i + 1) (omega arith) (omega arith)
+
 -- what tests 1 to 6 leave
 pub record Formed (c : Case) : Type 0 where
   pub two-sources : 2 ≤ c .m
@@ -97,7 +105,7 @@ pub record Formed (c : Case) : Type 0 where
   pub demands-long : length (c .demands) ≡ c .n
   pub small-supply : (i : ℕ) → i < c .m → supply c i ≤ 4000
   pub small-demand : (j : ℕ) → j < c .n → demand c j ≤ 4000
-  pub small-cost : (k : ℕ) → k < c .m * c .n → getD (c .costs) k 0 ≤ 1000000
+  pub cost-inside : (k : ℕ) → k < c .m * c .n → outside (getD (c .costs) k (pos 0)) ≡ false
   pub table-long : length (c .table) ≡ supply c 0 + 1
 
 record Passes6 (c : Case) : Type 0 where
@@ -152,7 +160,7 @@ formed c e =
             getD-append-add (c .supplies) (c .demands) j 0,
             ap (λ (a : ℕ). getD (c .supplies ++ c .demands) (a + j) 0) ls,
           );
-      small-cost = under 1000000 (c .costs) (c .m * c .n) (refuseAt-none 5 _ (t .t5));
+      cost-inside = within (c .costs) (c .m * c .n) (refuseAt-none 5 _ (t .t5));
       table-long = eqb-true (length (c .table)) (supply c 0 + 1) (not-false _ (refuseIf-none 6 (not (eqb (length (c .table)) (supply c 0 + 1))) (t .t6)));
     }
 
@@ -219,7 +227,6 @@ pub record Accepted (c : Case) : Type 0 where
   pub t9 : test9 c ≡ none
   pub t10 : test10 c ≡ none
   pub t11 : test11 c ≡ none
-  pub t12 : test12 c ≡ none
 
 pub accepted : (c : Case) → refusalOf c ≡ none → Accepted c
 unfolding refusalOf
@@ -228,13 +235,11 @@ accepted c e =
     let e8 = second-passes (test7 c) _ e7 in
     let e9 = second-passes (test8 c) _ e8 in
     let e10 = second-passes (test9 c) _ e9 in
-    let e11 = second-passes (test10 c) _ e10 in
     record {
       form = first-passes (formRefusal c) _ e;
       t7 = first-passes (test7 c) _ e7;
       t8 = first-passes (test8 c) _ e8;
       t9 = first-passes (test9 c) _ e9;
       t10 = first-passes (test10 c) _ e10;
-      t11 = first-passes (test11 c) _ e11;
-      t12 = second-passes (test11 c) _ e11;
+      t11 = second-passes (test10 c) _ e10;
     }

@@ -1,5 +1,6 @@
 -- The promises of specs/Promise hold of the outcome that the definitions give. Assumes nothing.
-use mathlib.Core.Path.{_≡_, refl, sym, ap, _∙_, subst}
+use mathlib.Core.Path.{_≡_, refl, sym, ap, ap₂, _∙_, subst}
+use lib.IntN.{ℤ, pos, _+ℤ_}
 use mathlib.Core.Logic.{_⊎_, inl, inr}
 use mathlib.Core.Bool.{Bool, true, false}
 use mathlib.Core.Option.{Option, none, some}
@@ -9,10 +10,12 @@ use native.Mathlib.Omega.{arith}
 use Rattle.planner.specs.Case.{Case, entry, leastSplit}
 use Rattle.planner.specs.Plans.{rowSum, freightOf, PlanAt, planTotal, leastFreightAt, totalAt, bestSplit}
 use Rattle.planner.specs.Outcome.{Outcome, planned, refused, refuseIf, refuseAt, _orElse_, formRefusal, refusalOf, planOf, outcomeOf}
-use Rattle.planner.specs.Outcome.{test7, test8, test9, test10, test11, test12}
+use Rattle.planner.specs.Outcome.{test7, test8, test9, test10, test11}
 use Rattle.planner.specs.Promise.{Cheapest, NoPlan, BalanceRule}
 use Rattle.planner.proofs.Passed.{some≢none, first-decides, second-decides, formed, Balanced, balanced, balanced-passes, refuseIf-cases, accepted}
-use Rattle.planner.proofs.Splits.{last-split, split-of, meets, plan-exists, freight-low, freight-met, best-split}
+use Rattle.planner.proofs.Splits.{last-split, split-of, meets, plan-exists}
+use Rattle.planner.proofs.Integers.{above-pos, above-at-most, above-below}
+use Rattle.planner.proofs.Raised.{raisedTotal, low, freight-above, total-above, freight-met, best-split, best-in}
 
 -- ---- the refusals for balance
 
@@ -40,23 +43,23 @@ unfolding _orElse_
 later-either none b h l = l
 later-either (some r) b h l = h
 
-later-tests : (c : Case) → Later (test9 c orElse test10 c orElse test11 c orElse test12 c)
-unfolding test9 test10 test11 test12
+later-tests : (c : Case) → Later (test9 c orElse test10 c orElse test11 c)
+unfolding test9 test10 test11
 later-tests c =
     later-either (test9 c) _ (later-at 9 _ (omega arith))
     (later-either (test10 c) _ (later-at 10 _ (omega arith))
-    (later-either (test11 c) (test12 c) (later-if 11 _ (omega arith)) (later-if 12 _ (omega arith))))
+    (later-if 11 _ (omega arith)))
 
 module _ (c : Case) where
   -- the tests that decide once 1 to 6 pass, once 1 to 7 do, and once 1 to 8 do
-  pub from7 : formRefusal c ≡ none → refusalOf c ≡ (test7 c orElse test8 c orElse test9 c orElse test10 c orElse test11 c orElse test12 c)
+  pub from7 : formRefusal c ≡ none → refusalOf c ≡ (test7 c orElse test8 c orElse test9 c orElse test10 c orElse test11 c)
   unfolding refusalOf
   from7 e = second-decides (formRefusal c) _ e
 
-  pub from8 : formRefusal c ≡ none → test7 c ≡ none → refusalOf c ≡ (test8 c orElse test9 c orElse test10 c orElse test11 c orElse test12 c)
+  pub from8 : formRefusal c ≡ none → test7 c ≡ none → refusalOf c ≡ (test8 c orElse test9 c orElse test10 c orElse test11 c)
   from8 e e7 = from7 e ∙ second-decides (test7 c) _ e7
 
-  pub from9 : formRefusal c ≡ none → test7 c ≡ none → test8 c ≡ none → refusalOf c ≡ (test9 c orElse test10 c orElse test11 c orElse test12 c)
+  pub from9 : formRefusal c ≡ none → test7 c ≡ none → test8 c ≡ none → refusalOf c ≡ (test9 c orElse test10 c orElse test11 c)
   from9 e e7 e8 = from8 e e7 ∙ second-decides (test8 c) _ e8
 
   -- the outcome is a refusal exactly where a test refuses
@@ -127,29 +130,30 @@ balance-rule c = record {
 pub gets-plan : (c : Case) → refusalOf c ≡ none → (x : List ℕ) × PlanAt c (bestSplit c) x × (freightOf c x ≡ leastFreightAt c (bestSplit c))
 gets-plan c e =
     let a = accepted c e in
+    let f = formed c (a .form) in
     let bal = balanced c (a .t7) (a .t8) in
-    freight-met c (bestSplit c) (formed c (a .form) .two-sources) bal (omega (arith, best-split c .to, last-split c bal))
+    freight-met f bal (bestSplit c) (best-in f bal .1)
 
 -- a plan at the best split with freight f there is cheapest, and its split is the smallest of least total
 pub cheapest : (c : Case) (x : List ℕ) → refusalOf c ≡ none → PlanAt c (bestSplit c) x → freightOf c x ≡ leastFreightAt c (bestSplit c)
     → Cheapest c x (bestSplit c) (totalAt c (bestSplit c))
-unfolding totalAt planTotal
+unfolding totalAt planTotal raisedTotal
 cheapest c x e p q =
     let a = accepted c e in
-    let two = formed c (a .form) .two-sources in
+    let f = formed c (a .form) in
+    let two = f .two-sources in
     let bal = balanced c (a .t7) (a .t8) in
-    let best = best-split c in
-    let met = meets c (bestSplit c) x two (best .from) (omega (arith, best .to, last-split c bal)) p in
+    let best = best-split f bal in
+    let here = best-in f bal in
+    let met = meets c (bestSplit c) x two (here .0) (here .1) p in
     record {
       plan = met .plan;
       own-split = met .split;
-      own-total = omega (arith, q, ap (λ (y : ℕ). entry c y) (met .split));
+      own-total = ap₂ (λ (v : ℤ) (y : ℕ). v +ℤ pos (entry c y)) q (met .split);
       least = λ z m. let s = split-of c z two m in
-          omega (
-            arith,
-            best .least (rowSum c z 0) (s .low) (omega (arith, s .high, last-split c bal)),
-            freight-low c (rowSum c z 0) z (s .planAt),
-          );
+          above-at-most (total-above f bal (bestSplit c) (here .1)) (above-pos (entry c (rowSum c z 0)) (freight-above f (rowSum c z 0) z (s .planAt)))
+          (omega (arith, best .least (rowSum c z 0) (s .low) (omega (arith, s .high, last-split c bal)), low c (rowSum c z 0) z (s .planAt)));
       smaller = λ z m l. let s = split-of c z two m in
-          omega (arith, best .smallest (rowSum c z 0) (s .low) l, freight-low c (rowSum c z 0) z (s .planAt));
+          above-below (total-above f bal (bestSplit c) (here .1)) (above-pos (entry c (rowSum c z 0)) (freight-above f (rowSum c z 0) z (s .planAt)))
+          (omega (arith, best .smallest (rowSum c z 0) (s .low) l, low c (rowSum c z 0) z (s .planAt)));
     }

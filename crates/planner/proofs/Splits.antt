@@ -6,15 +6,14 @@ use mathlib.Core.List.{List·Memᴰ·not-nil, List·Memᴰ}
 use Prim.Native.Nat.{ℕ, zero, suc, _+_, _-_, _≤_, _<_}
 use native.Mathlib.Omega.{arith}
 use Rattle.transport.specs.Sum.{sum}
-use Rattle.transport.specs.Plan.{byRow, Plan}
+use Rattle.transport.specs.Plan.{Plan}
 use Rattle.transport.specs.Listing.{listing}
-use Rattle.transport.specs.Curve.{amountsAt, leastAt}
+use Rattle.transport.specs.Curve.{amountsAt}
 use Rattle.transport.proofs.Sums.{sum-ext, sum-front}
-use Rattle.transport.proofs.Listing.{complete, least-freight-low, least-freight-met}
+use Rattle.transport.proofs.Listing.{complete}
 use Rattle.transport.proofs.Exists as exists
-use Rattle.transport.proofs.Best.{Best, bestFrom-best}
 use Rattle.planner.specs.Case.{Case, supply, demand, allDemand, depotStock, made, leastSplit, greatestSplit, steps}
-use Rattle.planner.specs.Plans.{rowSum, columnSum, freightOf, MeetsTP, PlanAt, leastFreightAt, totalAt, bestSplit}
+use Rattle.planner.specs.Plans.{rowSum, columnSum, MeetsTP, PlanAt}
 use Rattle.planner.proofs.Passed.{Balanced}
 
 -- the first two, and the rest
@@ -92,7 +91,7 @@ meets c y x l low high p = record {
     depot (suc (suc i)) a h = p .rows (suc (suc i)) h
 
 -- what the sources send at a split is what the terminals get
-sent-all : (c : Case) (y : ℕ) → 2 ≤ c .m → depotStock c ≤ allDemand c → y ≤ made c
+pub sent-all : (c : Case) (y : ℕ) → 2 ≤ c .m → depotStock c ≤ allDemand c → y ≤ made c
     → sum (c .m) (amountsAt (made c) (λ i. supply c i) y) ≡ allDemand c
 unfolding depotStock made amountsAt
 sent-all c y l h g =
@@ -111,30 +110,9 @@ unfolding allDemand greatestSplit
 plan-exists c y l b g =
     exists.plan-exists (c .n) (c .m) (amountsAt (made c) (λ i. supply c i) y) (λ j. demand c j) (sent-all c y l (b .stock) (omega arith))
 
--- ---- f
-
--- no plan at the split has a lower freight than f
-pub freight-low : (c : Case) (y : ℕ) (x : List ℕ) → PlanAt c y x → leastFreightAt c y ≤ freightOf c x
-unfolding leastFreightAt leastAt freightOf
-freight-low c y x p = least-freight-low (c .m) (c .n) (byRow (c .n) (c .costs)) (amountsAt (made c) (λ i. supply c i) y) (λ j. demand c j) x p
-
--- each split up to u has a plan with freight f
-pub freight-met : (c : Case) (y : ℕ) → 2 ≤ c .m → Balanced c → y ≤ greatestSplit c
-    → (x : List ℕ) × PlanAt c y x × (freightOf c x ≡ leastFreightAt c y)
-unfolding leastFreightAt leastAt freightOf
-freight-met c y l b g =
-    let p = plan-exists c y l b g in
-    least-freight-met (c .m) (c .n) (byRow (c .n) (c .costs)) (amountsAt (made c) (λ i. supply c i) y) (λ j. demand c j) (p .0) (p .1)
-
 -- so f there is never the 0 of an empty listing
 pub some-listed : (c : Case) (y : ℕ) → 2 ≤ c .m → Balanced c → y ≤ greatestSplit c
     → listing (c .m) (c .n) (amountsAt (made c) (λ i. supply c i) y) (λ j. demand c j) ≢ []
 some-listed c y l b g e =
     let p = plan-exists c y l b g in
     List·Memᴰ·not-nil (subst (λ (s : List (List ℕ)). List·Memᴰ (p .0) s) e (complete (c .m) (c .n) (amountsAt (made c) (λ i. supply c i) y) (λ j. demand c j) (p .0) (p .1)))
-
--- ---- the best split
-
-pub best-split : (c : Case) → Best (totalAt c) (leastSplit c) (steps c) (bestSplit c)
-unfolding bestSplit
-best-split c = bestFrom-best (totalAt c) (leastSplit c) (steps c)

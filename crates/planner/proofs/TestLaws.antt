@@ -7,12 +7,13 @@ use Prim.Native.Nat.{ℕ, suc, min, _+_, _-_, _*_, _≤_, _<_}
 use native.Mathlib.Nat.{mul-le-mul}
 use native.Mathlib.Omega.{arith}
 use lib.Dec.{ltb, eqb}
+use lib.IntN.{ℤ}
 use lib.ListN.{length, getD, take, drop, length-append, List·getD-append, length-take, length-drop}
 use lib.Seq.{getD-append-add, getD-take, getD-drop}
 use borrow.Author.Tests.{lt-ltb, le-ltb, eq-eqb, ne-eqb, ltb-false, eqb-true, not-false}
 use Rattle.planner.specs.Case.{Case, supply}
 use Rattle.planner.specs.Outcome.{Outcome, refused, firstFrom, refuseIf, refuseAt, _orElse_, formRefusal, test1, test2, test3, test4, test5, test6}
-use Rattle.planner.specs.Verdict.{firstAbove, firstSagging, amountsRefusal, entriesRefusal, splitsOf, AtMost}
+use Rattle.planner.specs.Verdict.{firstAbove, firstOutside, firstSagging, amountsRefusal, entriesRefusal, splitsOf, AtMost}
 use Rattle.planner.specs.declared.tests.Splits.the-variants.{Between, Unbalanced}
 use Rattle.transport.specs.Sum.{sum}
 use Rattle.transport.proofs.Sums.{sum-ext}
@@ -139,6 +140,10 @@ above-all limit l e k h = ltb-false limit (getD l k 0) (none-passes _ 0 (length 
 pub above-within : (limit : ℕ) (l : List ℕ) (k : ℕ) → firstAbove limit l ≡ some k → k < length l
 unfolding firstAbove
 above-within limit l k e = let f = some-first _ 0 (length l) k e in omega (arith, f .high)
+
+pub outside-within : (l : List ℤ) (k : ℕ) → firstOutside l ≡ some k → k < length l
+unfolding firstOutside
+outside-within l k e = let f = some-first _ 0 (length l) k e in omega (arith, f .high)
 
 pub sagging-within : (l : List ℕ) (k : ℕ) → firstSagging l ≡ some k → (1 ≤ k) × (k + 1 < length l)
 unfolding firstSagging

@@ -2,6 +2,7 @@
 -- the others the depots. Assumes nothing.
 use mathlib.Core.List.{List}
 use Prim.Native.Nat.{ℕ, _+_, _-_, min}
+use lib.IntN.{ℤ}
 use lib.ListN.{getD}
 use Rattle.transport.specs.Sum.{sum}
 
@@ -9,7 +10,7 @@ use Rattle.transport.specs.Sum.{sum}
 pub record Case : Type 0 where
   pub m : ℕ
   pub n : ℕ
-  pub costs : List ℕ
+  pub costs : List ℤ
   pub supplies : List ℕ
   pub demands : List ℕ
   pub table : List ℕ

@@ -3,18 +3,25 @@ use mathlib.Core.Path.{_≡_}
 use mathlib.Core.Logic.{_⊎_}
 use mathlib.Core.Option.{none}
 use mathlib.Core.List.{List}
-use Prim.Native.Nat.{ℕ, _≤_, _<_}
+use Prim.Native.Nat.{ℕ, _<_}
+use lib.IntN.{ℤ, pos, negℤ}
+use lib.Signed.{_≤ℤ_, _<ℤ_}
 use Rattle.planner.specs.Case.{Case}
 use Rattle.planner.specs.Plans.{rowSum, MeetsTP, planTotal}
 use Rattle.planner.specs.Outcome.{Outcome, refused, formRefusal}
 
 -- x meets (TP), split and total are its own, no plan that meets (TP) has a lower total, and each with a smaller split has a higher one
-pub record Cheapest (c : Case) (x : List ℕ) (split total : ℕ) : Type 0 where
+pub record Cheapest (c : Case) (x : List ℕ) (split : ℕ) (total : ℤ) : Type 0 where
   pub plan : MeetsTP c x
   pub own-split : rowSum c x 0 ≡ split
   pub own-total : planTotal c x ≡ total
-  pub least : (z : List ℕ) → MeetsTP c z → total ≤ planTotal c z
-  pub smaller : (z : List ℕ) → MeetsTP c z → rowSum c z 0 < split → total < planTotal c z
+  pub least : (z : List ℕ) → MeetsTP c z → total ≤ℤ planTotal c z
+  pub smaller : (z : List ℕ) → MeetsTP c z → rowSum c z 0 < split → total <ℤ planTotal c z
+
+-- the total of a plan given lies between -128,000,000,000 and 129,000,000,000
+pub record Bounded (total : ℤ) : Type 0 where
+  pub low : negℤ (pos 128000000000) ≤ℤ total
+  pub high : total ≤ℤ pos 129000000000
 
 -- no plan meets (TP)
 abbrev pub NoPlan : Case → Type 0

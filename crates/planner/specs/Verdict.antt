@@ -5,7 +5,9 @@ use mathlib.Core.List.{List, _++_}
 use mathlib.Core.Path.{_≡_}
 use Prim.Native.Nat.{ℕ, min, _+_, _-_, _*_, _≤_, _<_}
 use lib.Dec.{ltb}
+use lib.IntN.{ℤ, pos}
 use lib.ListN.{length, getD}
+use Rattle.planner.specs.Range.{outside}
 use Rattle.transport.specs.Sum.{sum}
 use Rattle.planner.specs.Case.{Case}
 use Rattle.planner.specs.Outcome.{Outcome, refused, firstFrom, refuseAt, _orElse_, formRefusal}
@@ -29,6 +31,10 @@ verdict (Refused k p) = some (refused k p)
 -- the first of the numbers above the limit, by its index
 unfoldable pub firstAbove : ℕ → List ℕ → Option ℕ
 firstAbove limit l = firstFrom (λ k. ltb limit (getD l k 0)) 0 (length l)
+
+-- the first unit cost out of range, by its index
+unfoldable pub firstOutside : List ℤ → Option ℕ
+firstOutside l = firstFrom (λ k. outside (getD l k (pos 0))) 0 (length l)
 
 -- the first number between two neighbours whose double is below their sum, by its index
 unfoldable pub firstSagging : List ℕ → Option ℕ
@@ -59,7 +65,7 @@ entriesRefusal t lo hi =
     (firstFrom (λ y. ltb (2 * getD t y 0) (getD t (y - 1) 0 + getD t (y + 1) 0)) (lo + 1) (hi - lo - 1))
 
 -- the case that is lent by these numbers and slices
-abbrev pub lent : ℕ → ℕ → List ℕ → List ℕ → List ℕ → List ℕ → ℕ → ℕ → ℕ → Case
+abbrev pub lent : ℕ → ℕ → List ℤ → List ℕ → List ℕ → List ℕ → ℕ → ℕ → ℕ → Case
 lent m n costs supplies demands table plan splits freights = record {
   m = m;
   n = n;

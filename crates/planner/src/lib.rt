@@ -17,8 +17,8 @@ mod work;
 pub enum Answer {
     Planned {
         split: u64,
-        total: u64,
-        freight: u64,
+        total: i64,
+        freight: i64,
         stops: usize,
     },
     Refused {
@@ -31,13 +31,13 @@ pub enum Answer {
 pub fn plan(
     m: usize,
     n: usize,
-    costs: &[u64],
+    costs: &[i64],
     supplies: &[u64],
     demands: &[u64],
     table: &[u64],
     plan: &mut [u64],
     splits: &mut [u64],
-    freights: &mut [u64],
+    freights: &mut [i64],
 ) -> Answer
     ensures { λ r. ⌜ Answered (lent m n (now (costs .entry)) (now (supplies .entry)) (now (demands .entry)) (now (table .entry)) (length (now (plan .entry))) (length (now (splits .entry))) (length (now (freights .entry)))) (outcome r) (slices (now (plan .entry)) (now (splits .entry)) (now (freights .entry))) (slices (now (plan .exit)) (now (splits .exit)) (now (freights .exit))) ⌝ }
 {

@@ -7,18 +7,21 @@ ghost use Rattle.planner.specs.Answer.{outcome, slices, Answered};
 use crate::Answer;
 use crate::tests::Verdict;
 use crate::tests::entries_test;
+use crate::tests::sum_of;
 use crate::work::ceilings;
-use crate::work::cost_rows;
 use crate::work::first_amounts;
 use crate::work::gather_rows;
+use crate::work::lower_into;
+use crate::work::lowered;
+use crate::work::raised_rows;
 use crate::work::wanted;
 use transport::curve::sweep;
 
-// Prepares the working arrays, has the engine sweep the splits, and copies the plan out.
+// Prepares the working arrays with raised costs, has the engine sweep the splits, copies the plan out and lowers freights and total.
 fn solve(
     m: usize,
     n: usize,
-    costs: &[u64],
+    costs: &[i64],
     supplies: &[u64],
     demands: &[u64],
     table: &[u64],
@@ -27,16 +30,18 @@ fn solve(
     all: u64,
     plan: &mut [u64],
     splits: &mut [u64],
-    freights: &mut [u64],
+    freights: &mut [i64],
 ) -> Answer
     requires { ⌜ Accepts (lent m n (now costs) (now supplies) (now demands) (now table) (length (now plan)) (length (now splits)) (length (now freights))) lo hi all ⌝ }
     ensures { λ r. ⌜ Answered (lent m n (now (costs .entry)) (now (supplies .entry)) (now (demands .entry)) (now (table .entry)) (length (now (plan .entry))) (length (now (splits .entry))) (length (now (freights .entry)))) (outcome r) (slices (now (plan .entry)) (now (splits .entry)) (now (freights .entry))) (slices (now (plan .exit)) (now (splits .exit)) (now (freights .exit))) ⌝ }
 {
-    let cost = cost_rows(m, n, costs);
+    let cost = raised_rows(m, n, costs);
     let cap = ceilings();
     let amounts = first_amounts(supplies, lo, all - lo);
     let wants = wanted(demands);
+    let added = 1_000_000 * sum_of(demands);
     let mut kept = [0u32; 2048];
+    let mut raised = [0u64; 4001];
     let best = sweep(
         m,
         n,
@@ -48,15 +53,19 @@ fn solve(
         hi,
         table,
         splits,
-        freights,
+        &mut raised,
         &mut kept,
     );
     gather_rows(m, n, &kept, plan);
+    let stops = best.stops;
+    lower_into(&raised, stops, added, freights);
+    let total = lowered(best.total, added);
+    let freight = lowered(best.freight, added);
     Answer::Planned {
         split: best.split,
-        total: best.total,
-        freight: best.freight,
-        stops: best.stops,
+        total,
+        freight,
+        stops,
     }
 }
 
@@ -64,7 +73,7 @@ fn solve(
 pub fn plan_between(
     m: usize,
     n: usize,
-    costs: &[u64],
+    costs: &[i64],
     supplies: &[u64],
     demands: &[u64],
     table: &[u64],
@@ -73,7 +82,7 @@ pub fn plan_between(
     all: u64,
     plan: &mut [u64],
     splits: &mut [u64],
-    freights: &mut [u64],
+    freights: &mut [i64],
 ) -> Answer
     requires { ⌜ OnSplits (lent m n (now costs) (now supplies) (now demands) (now table) (length (now plan)) (length (now splits)) (length (now freights))) lo hi all ⌝ }
     ensures { λ r. ⌜ Answered (lent m n (now (costs .entry)) (now (supplies .entry)) (now (demands .entry)) (now (table .entry)) (length (now (plan .entry))) (length (now (splits .entry))) (length (now (freights .entry)))) (outcome r) (slices (now (plan .entry)) (now (splits .entry)) (now (freights .entry))) (slices (now (plan .exit)) (now (splits .exit)) (now (freights .exit))) ⌝ }

@@ -4,8 +4,9 @@ ghost use Prim.Native.Nat.{ℕ, min, _+_, _-_, _*_, _≤_, _<_};
 ghost use mathlib.Core.List.{List};
 ghost use lib.ListN.{length, getD};
 ghost use Rattle.transport.specs.Sum.{sum};
+ghost use Rattle.planner.specs.Range.{outside};
 ghost use Rattle.planner.specs.Outcome.{formRefusal};
-ghost use Rattle.planner.specs.Verdict.{found, verdict, firstAbove, firstSagging, amountsRefusal, splitsOf, entriesRefusal, lent, AtMost, Amounts, Within};
+ghost use Rattle.planner.specs.Verdict.{found, verdict, firstAbove, firstOutside, firstSagging, amountsRefusal, splitsOf, entriesRefusal, lent, AtMost, Amounts, Within};
 use crate::limits::Checked;
 use crate::limits::Size;
 
@@ -35,10 +36,20 @@ pub fn first_above(s: &[u64], limit: u64) -> Found
     Found::Nowhere
 }
 
-// The first lane in row order whose unit cost is above 1,000,000.
-pub fn first_dear(m: usize, n: usize, costs: &[u64]) -> Found
+// Is the unit cost below -1,000,000 or above 1,000,000?
+fn out_of_range(cost: i64) -> bool
+    ensures { λ r. ⌜ r ≡ outside cost ⌝ }
+{
+    if cost < -1_000_000 {
+        return true;
+    }
+    1_000_000 < cost
+}
+
+// The first lane in row order whose unit cost is below -1,000,000 or above 1,000,000.
+pub fn first_outside(m: usize, n: usize, costs: &[i64]) -> Found
     requires { ⌜ length (now costs) ≡ m * n ⌝ }
-    ensures { λ r. ⌜ found r ≡ firstAbove 1000000 (now (costs .entry)) ⌝ }
+    ensures { λ r. ⌜ found r ≡ firstOutside (now (costs .entry)) ⌝ }
 {
     let mut start: usize = 0;
     let lane = 'lanes: loop {
@@ -46,7 +57,7 @@ pub fn first_dear(m: usize, n: usize, costs: &[u64]) -> Found
             let end = start + n;
             let row = &costs[start..end];
             for j in 0..n {
-                if 1_000_000 < row[j] {
+                if out_of_range(row[j]) {
                     break 'lanes Found::At(start + j);
                 }
             }
@@ -111,7 +122,7 @@ pub fn amounts_test(supplies: &[u64], demands: &[u64]) -> Verdict
 pub fn form_test(
     m: usize,
     n: usize,
-    costs: &[u64],
+    costs: &[i64],
     supplies: &[u64],
     demands: &[u64],
     table: &[u64],
@@ -133,7 +144,7 @@ pub fn form_test(
     if let Verdict::Refused(number, place) = amounts_test(supplies, demands) {
         return Verdict::Refused(number, place);
     }
-    if let Found::At(k) = first_dear(m, n, costs) {
+    if let Found::At(k) = first_outside(m, n, costs) {
         return Verdict::Refused(5, k as u64 + 1);
     }
     if table.len() as u64 != supplies[0] + 1 {

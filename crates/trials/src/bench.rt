@@ -65,6 +65,9 @@ pub const NONE: u64 = u64::MAX;
 // What every cell that the planner may write holds before.
 pub const MARK: u64 = 7_000_000_000_000;
 
+// Signed numbers lie in the bench as their distance above -ZERO: a unit cost, a freight or a total v is the cell ZERO + v.
+pub const ZERO: u64 = 500_000_000_000;
+
 pub fn costs(b: &[u64]) -> &[u64] {
     part(b, COSTS, at(b, COSTS_LEN))
 }

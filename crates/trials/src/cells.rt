@@ -1,4 +1,6 @@
 // Cells of a slice, read and written within its bounds, and sums that stay within 64 bits.
+ghost use Prim.Native.Nat.{_≤_};
+use crate::bench::ZERO;
 
 // The cell k, or 0 past the end.
 pub fn at(s: &[u64], k: u64) -> u64 {
@@ -148,13 +150,55 @@ pub fn line(s: &[u64], start: u64, step: u64, cells: u64) -> u64 {
     sum
 }
 
-// The sum of amount times unit cost over all lanes.
+// The cell of a signed number.
+pub fn cell_of(v: i64) -> u64 {
+    let size = csvtext::magnitude(v);
+    if v < 0 {
+        minus(ZERO, size)
+    } else {
+        plus(ZERO, size)
+    }
+}
+
+// The signed number of a cell up to 10^12.
+fn lowered(cell: u64) -> i64
+    requires { ⌜ cell ≤ 1000000000000 ⌝ }
+{
+    cell as i64 - ZERO as i64
+}
+
+// The signed number of a cell; past 10^12 the largest.
+pub fn signed(cell: u64) -> i64 {
+    if 1_000_000_000_000 < cell {
+        return i64::MAX;
+    }
+    lowered(cell)
+}
+
+// A freight with amount times unit cost added, both signed as cells are.
+fn charged(sum: u64, amount: u64, cost: u64) -> u64 {
+    if ZERO <= cost {
+        return plus(sum, times(amount, cost - ZERO));
+    }
+    minus(sum, times(amount, ZERO - cost))
+}
+
+// The sum of amount times unit cost over all lanes, as a cell.
 pub fn freight(amounts: &[u64], costs: &[u64]) -> u64 {
-    let mut sum: u64 = 0;
+    let mut sum: u64 = ZERO;
     let mut k: usize = 0;
     while k < costs.len() {
-        sum = plus(sum, times(at(amounts, k as u64), costs[k]));
+        sum = charged(sum, at(amounts, k as u64), costs[k]);
         k += 1;
     }
     sum
+}
+
+// Makes cells of signed numbers out of as many cells as `cells` that hold plain ones.
+pub fn lift(s: &mut [u64], start: u64, cells: u64) {
+    let mut k: u64 = 0;
+    while k < cells {
+        raise(s, start, k, ZERO);
+        k += 1;
+    }
 }

@@ -19,9 +19,11 @@ use crate::bench::SUPPLIES_LEN;
 use crate::bench::TABLE;
 use crate::bench::TABLE_LEN;
 use crate::bench::TERMINALS;
+use crate::bench::ZERO;
 use crate::cells::at;
 use crate::cells::copy;
 use crate::cells::first_other;
+use crate::cells::lift;
 use crate::cells::minus;
 use crate::cells::part;
 use crate::cells::plus;
@@ -51,13 +53,13 @@ const B_SUPPLIES: [u64; 3] = [200, 200, 150];
 const B_DEMANDS: [u64; 4] = [80, 180, 120, 70];
 
 // The answer to the example.
-const B_ANSWER: [u64; 6] = [0, 0, 200, 800, 800, 4];
+const B_ANSWER: [u64; 6] = [0, 0, 200, ZERO + 800, ZERO + 800, 4];
 
 // Cases made from A by up to three changed cells: (cell, value) three times, then
 // number, place, split, total, freight, stops.
-const CHANGES: u64 = 28;
+const CHANGES: u64 = 32;
 
-const CHANGED: [u64; 336] = [
+const CHANGED: [u64; 384] = [
     // P1
     SPARE,
     0,
@@ -68,8 +70,8 @@ const CHANGED: [u64; 336] = [
     0,
     0,
     3,
-    33,
-    13,
+    ZERO + 33,
+    ZERO + 13,
     3,
     // P2
     TABLE + 3,
@@ -81,8 +83,8 @@ const CHANGED: [u64; 336] = [
     0,
     0,
     1,
-    34,
-    14,
+    ZERO + 34,
+    ZERO + 14,
     3,
     // P3
     TABLE + 3,
@@ -94,8 +96,8 @@ const CHANGED: [u64; 336] = [
     0,
     0,
     1,
-    34,
-    14,
+    ZERO + 34,
+    ZERO + 14,
     3,
     // P4
     TABLE + 2,
@@ -107,8 +109,8 @@ const CHANGED: [u64; 336] = [
     0,
     0,
     2,
-    31,
-    11,
+    ZERO + 31,
+    ZERO + 11,
     3,
     // P5
     SUPPLIES + 2,
@@ -172,8 +174,8 @@ const CHANGED: [u64; 336] = [
     0,
     0,
     0,
-    110,
-    11,
+    ZERO + 110,
+    ZERO + 11,
     1,
     // P10
     SUPPLIES + 1,
@@ -185,8 +187,8 @@ const CHANGED: [u64; 336] = [
     0,
     0,
     3,
-    33,
-    13,
+    ZERO + 33,
+    ZERO + 13,
     1,
     // the examples of the other refusals
     SOURCES,
@@ -226,7 +228,7 @@ const CHANGED: [u64; 336] = [
     0,
     0,
     COSTS,
-    1_000_001,
+    ZERO + 1_000_001,
     SPARE,
     0,
     SPARE,
@@ -283,8 +285,8 @@ const CHANGED: [u64; 336] = [
     0,
     0,
     3,
-    33,
-    13,
+    ZERO + 33,
+    ZERO + 13,
     3,
     SPLITS_LEN,
     2,
@@ -348,9 +350,9 @@ const CHANGED: [u64; 336] = [
     0,
     0,
     COSTS + 3,
-    1_000_001,
+    ZERO + 1_000_001,
     COSTS + 5,
-    1_000_001,
+    ZERO + 1_000_001,
     SPARE,
     0,
     5,
@@ -363,7 +365,7 @@ const CHANGED: [u64; 336] = [
     SUPPLIES + 2,
     6,
     COSTS + 5,
-    1_000_001,
+    ZERO + 1_000_001,
     PLAN_LEN,
     0,
     5,
@@ -394,8 +396,8 @@ const CHANGED: [u64; 336] = [
     0,
     0,
     3,
-    33,
-    13,
+    ZERO + 33,
+    ZERO + 13,
     3,
     // the largest entry
     TABLE + 1,
@@ -407,8 +409,59 @@ const CHANGED: [u64; 336] = [
     0,
     0,
     2,
-    1_000_000_011,
-    11,
+    ZERO + 1_000_000_011,
+    ZERO + 11,
+    3,
+    // rebates: the bounds of the range, and one below
+    COSTS,
+    ZERO - 1_000_000,
+    SPARE,
+    0,
+    SPARE,
+    0,
+    0,
+    0,
+    3,
+    ZERO - 2999973,
+    ZERO - 2999993,
+    3,
+    COSTS + 3,
+    ZERO - 1_000_001,
+    COSTS + 5,
+    ZERO + 1_000_001,
+    SPARE,
+    0,
+    5,
+    4,
+    0,
+    0,
+    0,
+    0,
+    // a rebate of plant 2 and one of the depot: the total is below 0
+    COSTS + 2,
+    ZERO - 9,
+    COSTS + 5,
+    ZERO - 40,
+    SPARE,
+    0,
+    0,
+    0,
+    1,
+    ZERO - 41,
+    ZERO - 61,
+    2,
+    // the least total by size without the sign would be another
+    COSTS,
+    ZERO - 8,
+    COSTS + 3,
+    ZERO - 12,
+    TABLE + 2,
+    20,
+    0,
+    0,
+    2,
+    ZERO - 19,
+    ZERO - 39,
     3,
 ];
 
@@ -429,8 +482,8 @@ const EVEN: [u64; 210] = [
     0,
     0,
     1,
-    61,
-    61,
+    ZERO + 61,
+    ZERO + 61,
     2,
     33,
     1,
@@ -458,8 +511,8 @@ const EVEN: [u64; 210] = [
     0,
     0,
     40,
-    88,
-    88,
+    ZERO + 88,
+    ZERO + 88,
     2,
     2,
     65,
@@ -487,8 +540,8 @@ const EVEN: [u64; 210] = [
     0,
     0,
     4_000,
-    129_000_000_000,
-    128_000_000_000,
+    ZERO + 129_000_000_000,
+    ZERO + 128_000_000_000,
     1,
     // amounts of 4,000, and 4,001
     2,
@@ -502,8 +555,8 @@ const EVEN: [u64; 210] = [
     0,
     0,
     4_000,
-    4_000,
-    4_000,
+    ZERO + 4_000,
+    ZERO + 4_000,
     2,
     2,
     1,
@@ -588,8 +641,8 @@ const EVEN: [u64; 210] = [
     0,
     0,
     1,
-    4_000_000,
-    4_000_000,
+    ZERO + 4_000_000,
+    ZERO + 4_000_000,
     2,
     2,
     2,
@@ -598,7 +651,7 @@ const EVEN: [u64; 210] = [
     1_000_000,
     1_000_000,
     COSTS + 2,
-    1_000_001,
+    ZERO + 1_000_001,
     5,
     3,
     0,
@@ -661,6 +714,7 @@ fn set_a(b: &mut [u64]) {
     set_sizes(b, 3, 2, 4, 5);
     put(b, PLAN_LEN, 8);
     copy(&A_COSTS, b, COSTS);
+    lift(b, COSTS, 6);
     copy(&A_SUPPLIES, b, SUPPLIES);
     copy(&A_DEMANDS, b, DEMANDS);
     copy(&A_TABLE, b, TABLE);
@@ -709,8 +763,10 @@ fn set_even(b: &mut [u64], row: &[u64]) {
     let m = at(row, 0);
     let n = at(row, 1);
     set_even_amounts(b, row, m, n);
-    repeat(b, COSTS, times(m, n), at(row, 5));
-    repeat(b, COSTS, n, at(row, 4));
+    let other = plus(ZERO, at(row, 5));
+    let first = plus(ZERO, at(row, 4));
+    repeat(b, COSTS, times(m, n), other);
+    repeat(b, COSTS, n, first);
     put(b, at(row, 6), at(row, 7));
 }
 
@@ -720,7 +776,7 @@ fn set_even_curve(b: &mut [u64], row: &[u64]) {
     let last = at(b, LAST);
     let drums = times(at(row, 1), at(row, 3));
     let fall = minus(at(row, 5), at(row, 4));
-    let start = minus(times(at(row, 5), drums), times(fall, first));
+    let start = plus(ZERO, minus(times(at(row, 5), drums), times(fall, first)));
     repeat(b, BEST, ROOM, NONE);
     set_line(b, first, last, start, fall);
 }
@@ -738,6 +794,7 @@ fn run_even(b: &mut [u64], k: u64) -> u64 {
 fn set_b(b: &mut [u64]) {
     set_sizes(b, 3, 4, 201, 101);
     copy(&B_COSTS, b, COSTS);
+    lift(b, COSTS, 12);
     copy(&B_SUPPLIES, b, SUPPLIES);
     copy(&B_DEMANDS, b, DEMANDS);
     repeat(b, TABLE, 201, 0);
@@ -746,9 +803,9 @@ fn set_b(b: &mut [u64]) {
 // f at the stops 100, 150, 180, 200 is 1430, 1030, 820, 800.
 fn set_b_curve(b: &mut [u64]) {
     repeat(b, BEST, ROOM, NONE);
-    set_line(b, 100, 150, 1_430, 8);
-    set_line(b, 150, 180, 1_030, 7);
-    set_line(b, 180, 200, 820, 1);
+    set_line(b, 100, 150, ZERO + 1_430, 8);
+    set_line(b, 150, 180, ZERO + 1_030, 7);
+    set_line(b, 180, 200, ZERO + 820, 1);
 }
 
 // The example of 4.2 with a table of zeros.

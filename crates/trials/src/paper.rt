@@ -14,6 +14,7 @@ use crate::bench::TABLE_LEN;
 use crate::bench::TERMINALS;
 use crate::bench::WANT;
 use crate::bench::WIDTH;
+use crate::bench::ZERO;
 use crate::bench::costs;
 use crate::bench::demands;
 use crate::bench::supplies;
@@ -58,6 +59,18 @@ fn first_above(s: &[u64], limit: u64) -> u64 {
     let mut k: usize = 0;
     while k < s.len() {
         if limit < s[k] {
+            return plus(k as u64, 1);
+        }
+        k += 1;
+    }
+    0
+}
+
+// The place, from 1, of the first unit cost below -1,000,000 or above 1,000,000; 0 where there is none.
+fn first_outside(s: &[u64]) -> u64 {
+    let mut k: usize = 0;
+    while k < s.len() {
+        if s[k] < ZERO - 1_000_000 || ZERO + 1_000_000 < s[k] {
             return plus(k as u64, 1);
         }
         k += 1;
@@ -190,7 +203,7 @@ fn judge_numbers(b: &[u64]) -> Verdict {
     if amount != 0 {
         return refused(4, amount);
     }
-    let lane = first_above(costs(b), 1_000_000);
+    let lane = first_outside(costs(b));
     if lane != 0 {
         return refused(5, lane);
     }

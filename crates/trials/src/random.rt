@@ -12,6 +12,7 @@ use crate::bench::TABLE;
 use crate::bench::TABLE_LEN;
 use crate::bench::TERMINALS;
 use crate::bench::WIDTH;
+use crate::bench::ZERO;
 use crate::cells::at;
 use crate::cells::copy;
 use crate::cells::get;
@@ -87,10 +88,14 @@ fn draw_amounts(b: &mut [u64], m: u64, n: u64) {
     draw_cells(b, SUPPLIES, 2, low, 20);
 }
 
+// Draws unit costs: of the whole range, rebates and charges of a few values, or charges alone.
 fn draw_costs(b: &mut [u64], lanes: u64) {
     let kind = draw(b, 4);
-    let most = if kind == 0 { 1_000_001 } else { 6 };
-    draw_cells(b, COSTS, lanes, 0, most);
+    match kind {
+        0 => draw_cells(b, COSTS, lanes, ZERO - 1_000_000, 2_000_001),
+        1 | 2 => draw_cells(b, COSTS, lanes, ZERO - 3, 7),
+        _ => draw_cells(b, COSTS, lanes, ZERO, 6),
+    }
 }
 
 // A case with no more than balance and shape of the table left open.
@@ -142,9 +147,9 @@ const SPOILS: [u64; 72] = [
     u64::MAX,
     COSTS,
     12,
-    1_000_000,
-    1_000_001,
-    1_000_001,
+    ZERO - 1_000_000,
+    ZERO - 1_000_001,
+    ZERO + 1_000_001,
     u64::MAX,
     TABLE_LEN,
     1,

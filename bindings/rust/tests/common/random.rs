@@ -23,6 +23,10 @@ impl Random {
         low + self.next() % (high - low + 1)
     }
 
+    pub fn signed(&mut self, low: i64, high: i64) -> i64 {
+        low + self.within(0, (high - low) as u64) as i64
+    }
+
     pub fn size(&mut self, low: usize, high: usize) -> usize {
         self.within(low as u64, high as u64) as usize
     }
@@ -37,7 +41,7 @@ pub struct Limits {
 }
 
 /// A case that is accepted. With it ℓ and f at each split, by the referee.
-pub fn accepted(random: &mut Random, limits: Limits) -> (Lent, u64, Vec<u64>) {
+pub fn accepted(random: &mut Random, limits: Limits) -> (Lent, u64, Vec<i64>) {
     let m = random.size(limits.sources.0, limits.sources.1);
     let n = random.size(limits.terminals.0, limits.terminals.1);
     let costs = costs(random, m, n);
@@ -52,22 +56,30 @@ pub fn accepted(random: &mut Random, limits: Limits) -> (Lent, u64, Vec<u64>) {
     (lent, least, curve)
 }
 
-/// Unit costs of one of seven kinds.
-fn costs(random: &mut Random, m: usize, n: usize) -> Vec<u64> {
-    match random.within(0, 6) {
-        0 => (0..m * n).map(|_| random.within(0, 1_000_000)).collect(),
-        1 => (0..m * n).map(|_| random.within(0, 9)).collect(),
-        2 => (0..m * n).map(|_| random.within(0, 1)).collect(),
-        3 => vec![random.within(0, 1_000_000); m * n],
-        4 => (0..m * n).map(|_| 1_000_000 - random.within(0, 20)).collect(),
-        5 => {
+/// Unit costs of one of ten kinds: of all sizes and both signs.
+fn costs(random: &mut Random, m: usize, n: usize) -> Vec<i64> {
+    let kind = random.within(0, 9);
+    let mut each = |low: i64, high: i64| (0..m * n).map(|_| random.signed(low, high)).collect();
+    match kind {
+        0 => each(-1_000_000, 1_000_000),
+        1 => each(-9, 9),
+        2 => each(-1, 1),
+        3 => each(0, 9),
+        4 => each(-1_000_000, -999_980),
+        5 => each(999_980, 1_000_000),
+        6 => {
+            // the two ends of the range
+            (0..m * n).map(|_| if random.within(0, 1) == 0 { -1_000_000 } else { 1_000_000 }).collect()
+        }
+        7 => vec![random.signed(-1_000_000, 1_000_000); m * n],
+        8 => {
             // one number a source plus one a terminal: every plan is cheapest
-            let source: Vec<u64> = (0..m).map(|_| random.within(0, 500_000)).collect();
-            let terminal: Vec<u64> = (0..n).map(|_| random.within(0, 500_000)).collect();
+            let source: Vec<i64> = (0..m).map(|_| random.signed(-500_000, 500_000)).collect();
+            let terminal: Vec<i64> = (0..n).map(|_| random.signed(-500_000, 500_000)).collect();
             (0..m * n).map(|k| source[k / n] + terminal[k % n]).collect()
         }
         _ => {
-            // distances in a plane
+            // distances in a plane, and on some lanes a return load that is paid for
             let mut points = |k: usize| -> Vec<(f64, f64)> {
                 (0..k).map(|_| (random.within(0, 1000) as f64, random.within(0, 1000) as f64)).collect()
             };
@@ -75,7 +87,8 @@ fn costs(random: &mut Random, m: usize, n: usize) -> Vec<u64> {
             (0..m * n)
                 .map(|k| {
                     let (s, t) = (sources[k / n], terminals[k % n]);
-                    (s.0 - t.0).hypot(s.1 - t.1) as u64
+                    let away = (s.0 - t.0).hypot(s.1 - t.1) as i64;
+                    away - if random.within(0, 7) == 0 { random.signed(0, 2_000) } else { 0 }
                 })
                 .collect()
         }
@@ -121,7 +134,7 @@ fn amounts(random: &mut Random, m: usize, n: usize, most: u64) -> (Vec<u64>, Vec
 }
 
 /// A table that is concave from ℓ to u, and anything outside.
-fn table(random: &mut Random, lent: &Lent, least: u64, curve: &[u64]) -> Vec<u64> {
+fn table(random: &mut Random, lent: &Lent, least: u64, curve: &[i64]) -> Vec<u64> {
     let mut table: Vec<u64> = (0..=lent.supplies[0]).map(|_| random.next()).collect();
     let splits = curve.len();
     let highest = *curve.iter().max().expect("a split");
@@ -130,7 +143,7 @@ fn table(random: &mut Random, lent: &Lent, least: u64, curve: &[u64]) -> Vec<u64
     for k in 0..splits {
         table[least as usize + k] = match kind {
             // every total the same: the smallest split is due
-            0 if highest - lowest <= 1_000_000_000 => highest - curve[k],
+            0 if highest - lowest <= 1_000_000_000 => (highest - curve[k]) as u64,
             1 => 0,
             _ => 0,
         };
@@ -144,7 +157,7 @@ fn table(random: &mut Random, lent: &Lent, least: u64, curve: &[u64]) -> Vec<u64
         (1..splits).map(|_| random.within(0, most) as i64 - random.within(0, most) as i64).collect();
     if kind == 2 {
         // as steep as the freight curve is on average, so that both ends compete
-        let mean = (curve[splits - 1] as i64 - curve[0] as i64) / splits as i64;
+        let mean = (curve[splits - 1] - curve[0]) / splits as i64;
         slopes.iter_mut().for_each(|s| *s = (*s % 3 - mean).clamp(-(most as i64), most as i64));
     }
     slopes.sort_unstable_by(|a, b| b.cmp(a));

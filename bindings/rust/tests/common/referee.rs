@@ -30,7 +30,7 @@ pub fn refusal(lent: &Lent) -> Option<(u64, u64)> {
     if let Some(k) = lent.supplies.iter().chain(&lent.demands).position(|&a| a > 4_000) {
         return Some((4, k as u64 + 1));
     }
-    if let Some(k) = lent.costs.iter().position(|&c| c > 1_000_000) {
+    if let Some(k) = lent.costs.iter().position(|&c| !(-1_000_000..=1_000_000).contains(&c)) {
         return Some((5, k as u64 + 1));
     }
     if lent.table.len() as u64 != lent.supplies[0] + 1 {
@@ -60,8 +60,8 @@ pub fn refusal(lent: &Lent) -> Option<(u64, u64)> {
 }
 
 /// Sum of amount times unit cost.
-pub fn freight(lent: &Lent, amounts: &[u64]) -> u64 {
-    amounts.iter().zip(&lent.costs).map(|(x, c)| x * c).sum()
+pub fn freight(lent: &Lent, amounts: &[u64]) -> i64 {
+    amounts.iter().zip(&lent.costs).map(|(&x, &c)| x as i64 * c).sum()
 }
 
 /// What keeps `amounts` from being a plan at split y.
@@ -91,7 +91,7 @@ pub fn faults(lent: &Lent, y: u64, amounts: &[u64]) -> Vec<String> {
 }
 
 /// ℓ, and f at ℓ, ℓ + 1, .., u.
-pub fn curve(lent: &Lent) -> (u64, Vec<u64>) {
+pub fn curve(lent: &Lent) -> (u64, Vec<i64>) {
     let (_, l, u) = splits(lent);
     let mut network = Network::corner(lent, l);
     let mut curve = Vec::new();
@@ -109,14 +109,14 @@ pub fn curve(lent: &Lent) -> (u64, Vec<u64>) {
 }
 
 /// The smallest split of least total, and that total.
-pub fn best(least: u64, curve: &[u64], table: &[u64]) -> (u64, u64) {
-    let total = |k: usize| curve[k] + table[least as usize + k];
+pub fn best(least: u64, curve: &[i64], table: &[u64]) -> (u64, i64) {
+    let total = |k: usize| curve[k] + table[least as usize + k] as i64;
     let k = (0..curve.len()).min_by_key(|&k| (total(k), k)).expect("a split");
     (least + k as u64, total(k))
 }
 
 /// The ends of the curve, and each split between where the slope changes, with the freight there.
-pub fn stops(least: u64, curve: &[u64]) -> Vec<(u64, u64)> {
+pub fn stops(least: u64, curve: &[i64]) -> Vec<(u64, i64)> {
     let last = curve.len() - 1;
     let bend = |k: usize| k == 0 || k == last || curve[k - 1] + curve[k + 1] != 2 * curve[k];
     (0..=last).filter(|&k| bend(k)).map(|k| (least + k as u64, curve[k])).collect()
@@ -156,8 +156,7 @@ impl Network {
                 j += 1;
             }
         }
-        let costs = lent.costs.iter().map(|&c| c as i64).collect();
-        Network { m, n, costs, amounts, label: vec![0; m + n], previous: vec![NONE; m + n] }
+        Network { m, n, costs: lent.costs.clone(), amounts, label: vec![0; m + n], previous: vec![NONE; m + n] }
     }
 
     /// Plant 1 makes one drum more and plant 2 one less, for some terminal that plant 2 serves.
@@ -245,7 +244,7 @@ impl Network {
 }
 
 /// f at split y by listing every plan: for tiny cases, to test the referee itself.
-pub fn listed(lent: &Lent, y: u64) -> Option<u64> {
+pub fn listed(lent: &Lent, y: u64) -> Option<i64> {
     let (d, _, _) = splits(lent);
     let mut rows = lent.supplies.clone();
     rows[0] = y;
@@ -254,7 +253,7 @@ pub fn listed(lent: &Lent, y: u64) -> Option<u64> {
 }
 
 /// Least freight of the lanes from k on, with `left` still to leave the lane's source.
-fn fill(lent: &Lent, rows: &[u64], wanted: &mut [u64], k: usize, left: u64) -> Option<u64> {
+fn fill(lent: &Lent, rows: &[u64], wanted: &mut [u64], k: usize, left: u64) -> Option<i64> {
     let (i, j) = (k / lent.n, k % lent.n);
     if i == lent.m {
         return wanted.iter().all(|&w| w == 0).then_some(0);
@@ -270,8 +269,8 @@ fn fill(lent: &Lent, rows: &[u64], wanted: &mut [u64], k: usize, left: u64) -> O
         let rest = fill(lent, rows, wanted, k + 1, next);
         wanted[j] += x;
         if let Some(rest) = rest {
-            let all = rest + x * lent.costs[k];
-            least = Some(least.map_or(all, |l: u64| l.min(all)));
+            let all = rest + x as i64 * lent.costs[k];
+            least = Some(least.map_or(all, |l: i64| l.min(all)));
         }
     }
     least

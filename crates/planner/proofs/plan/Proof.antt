@@ -17,7 +17,7 @@ use Rattle.planner.proofs.tests.form_test.Reads as form-test-reads
 use Rattle.planner.proofs.tests.splits_of.Reads as splits-of-reads
 
 -- past tests 1 to 6
-passed : (c : tie.After-enum-told) → formRefusal (lent (c .before .before .before .before .before .before .before .before .before .before .args .m) (c .before .before .before .before .before .before .before .before .before .before .args .n) (now (c .before .before .before .before .before .before .before .before .before .before .args .costs)) (now (c .before .before .before .before .before .before .before .before .before .before .args .supplies)) (now (c .before .before .before .before .before .before .before .before .before .before .args .demands)) (now (c .before .before .before .before .before .before .before .before .before .before .args .table)) (length (now (c .before .before .before .before .before .before .before .before .before .before .args .plan))) (length (now (c .before .before .before .before .before .before .before .before .before .before .args .splits))) (length (now (c .before .before .before .before .before .before .before .before .before .before .args .freights)))) ≡ none
+passed : (c : tie.After-enum-told) → formRefusal (lent (c .before .before .before .before .before .before .before .before .args .m) (c .before .before .before .before .before .before .before .before .args .n) (now (c .before .before .before .before .before .before .before .before .args .costs)) (now (c .before .before .before .before .before .before .before .before .args .supplies)) (now (c .before .before .before .before .before .before .before .before .args .demands)) (now (c .before .before .before .before .before .before .before .before .args .table)) (length (now (c .before .before .before .before .before .before .before .before .args .plan))) (length (now (c .before .before .before .before .before .before .before .before .args .splits))) (length (now (c .before .before .before .before .before .before .before .before .args .freights)))) ≡ none
 passed c = sym (c .before .before .form-test .ensures _ _ _) ∙ ap verdict (c .enum-told .given .1)
 
 form-test-requires : tie.Need-form-test-requires
@@ -33,7 +33,7 @@ enum-told : tie.Need-enum-told
 enum-told c = search needs
 
 splits-of-requires : tie.Need-splits-of-requires
-splits-of-requires c κs = amounts (lent (c .before .before .before .before .before .before .before .before .before .before .args .m) (c .before .before .before .before .before .before .before .before .before .before .args .n) (now (c .before .before .before .before .before .before .before .before .before .before .args .costs)) (now (c .before .before .before .before .before .before .before .before .before .before .args .supplies)) (now (c .before .before .before .before .before .before .before .before .before .before .args .demands)) (now (c .before .before .before .before .before .before .before .before .before .before .args .table)) (length (now (c .before .before .before .before .before .before .before .before .before .before .args .plan))) (length (now (c .before .before .before .before .before .before .before .before .before .before .args .splits))) (length (now (c .before .before .before .before .before .before .before .before .before .before .args .freights)))) (passed c)
+splits-of-requires c κs = amounts (lent (c .before .before .before .before .before .before .before .before .args .m) (c .before .before .before .before .before .before .before .before .args .n) (now (c .before .before .before .before .before .before .before .before .args .costs)) (now (c .before .before .before .before .before .before .before .before .args .supplies)) (now (c .before .before .before .before .before .before .before .before .args .demands)) (now (c .before .before .before .before .before .before .before .before .args .table)) (length (now (c .before .before .before .before .before .before .before .before .args .plan))) (length (now (c .before .before .before .before .before .before .before .before .args .splits))) (length (now (c .before .before .before .before .before .before .before .before .args .freights)))) (passed c)
 
 enum-known-number-2 : tie.Need-enum-known-number-2
 enum-known-number-2 c = search needs
@@ -42,10 +42,10 @@ enum-known-lo : tie.Need-enum-known-lo
 enum-known-lo c = search needs
 
 plan-between-requires : tie.Need-plan-between-requires
-plan-between-requires c κs = on-splits (lent (c .before .before .before .before .before .before .before .before .before .before .before .before .before .before .before .before .before .args .m) (c .before .before .before .before .before .before .before .before .before .before .before .before .before .before .before .before .before .args .n) (now (c .before .before .before .before .before .before .before .before .before .before .before .before .before .before .before .before .before .args .costs)) (now (c .before .before .before .before .before .before .before .before .before .before .before .before .before .before .before .before .before .args .supplies)) (now (c .before .before .before .before .before .before .before .before .before .before .before .before .before .before .before .before .before .args .demands)) (now (c .before .before .before .before .before .before .before .before .before .before .before .before .before .before .before .before .before .args .table)) (length (now (c .before .before .before .before .before .before .before .before .before .before .before .before .before .before .before .before .before .args .plan))) (length (now (c .before .before .before .before .before .before .before .before .before .before .before .before .before .before .before .before .before .args .splits))) (length (now (c .before .before .before .before .before .before .before .before .before .before .before .before .before .before .before .before .before .args .freights)))) (passed (c .before .before .before .before .before .before .before)) _ _ _ (sym (c .before .before .before .before .before .before .splits-of .ensures) ∙ c .before .before .before .before .lo .given .1)
+plan-between-requires c κs = on-splits (lent (c .before .before .before .before .before .before .before .before .before .before .before .before .before .before .before .args .m) (c .before .before .before .before .before .before .before .before .before .before .before .before .before .before .before .args .n) (now (c .before .before .before .before .before .before .before .before .before .before .before .before .before .before .before .args .costs)) (now (c .before .before .before .before .before .before .before .before .before .before .before .before .before .before .before .args .supplies)) (now (c .before .before .before .before .before .before .before .before .before .before .before .before .before .before .before .args .demands)) (now (c .before .before .before .before .before .before .before .before .before .before .before .before .before .before .before .args .table)) (length (now (c .before .before .before .before .before .before .before .before .before .before .before .before .before .before .before .args .plan))) (length (now (c .before .before .before .before .before .before .before .before .before .before .before .before .before .before .before .args .splits))) (length (now (c .before .before .before .before .before .before .before .before .before .before .before .before .before .before .before .args .freights)))) (passed (c .before .before .before .before .before .before .before)) _ _ _ (sym (c .before .before .before .before .before .before .splits-of .ensures) ∙ c .before .before .before .before .lo .given .1)
 
 returns-2 : tie.Need-returns-2
-returns-2 c = refuses _ _ _ _ (unbalanced (lent (c .before .before .before .before .before .before .before .before .before .before .before .before .before .before .args .m) (c .before .before .before .before .before .before .before .before .before .before .before .before .before .before .args .n) (now (c .before .before .before .before .before .before .before .before .before .before .before .before .before .before .args .costs)) (now (c .before .before .before .before .before .before .before .before .before .before .before .before .before .before .args .supplies)) (now (c .before .before .before .before .before .before .before .before .before .before .before .before .before .before .args .demands)) (now (c .before .before .before .before .before .before .before .before .before .before .before .before .before .before .args .table)) (length (now (c .before .before .before .before .before .before .before .before .before .before .before .before .before .before .args .plan))) (length (now (c .before .before .before .before .before .before .before .before .before .before .before .before .before .before .args .splits))) (length (now (c .before .before .before .before .before .before .before .before .before .before .before .before .before .before .args .freights)))) (passed (c .before .before .before .before)) _ (sym (c .before .before .before .splits-of .ensures) ∙ c .before .number2 .given .1))
+returns-2 c = refuses _ _ _ _ (unbalanced (lent (c .before .before .before .before .before .before .before .before .before .before .before .before .args .m) (c .before .before .before .before .before .before .before .before .before .before .before .before .args .n) (now (c .before .before .before .before .before .before .before .before .before .before .before .before .args .costs)) (now (c .before .before .before .before .before .before .before .before .before .before .before .before .args .supplies)) (now (c .before .before .before .before .before .before .before .before .before .before .before .before .args .demands)) (now (c .before .before .before .before .before .before .before .before .before .before .before .before .args .table)) (length (now (c .before .before .before .before .before .before .before .before .before .before .before .before .args .plan))) (length (now (c .before .before .before .before .before .before .before .before .before .before .before .before .args .splits))) (length (now (c .before .before .before .before .before .before .before .before .before .before .before .before .args .freights)))) (passed (c .before .before .before .before)) _ (sym (c .before .before .before .splits-of .ensures) ∙ c .before .number2 .given .1))
 
 same-length : tie.Need-same-length
 same-length c = search needs

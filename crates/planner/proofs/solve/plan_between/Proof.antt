@@ -19,43 +19,43 @@ use Rattle.planner.proofs.solve.solve.Reads as solve-reads
 use Rattle.planner.proofs.tests.entries_test.Reads as entries-test-reads
 
 -- past tests 9 and 10
-passed : (c : tie.After-enum-told) → entriesRefusal (now (c .before .before .before .before .before .before .before .before .before .before .args .table)) (c .before .before .before .before .before .before .before .before .before .before .args .lo) (c .before .before .before .before .before .before .before .before .before .before .args .hi) ≡ none
+passed : (c : tie.After-enum-told) → entriesRefusal (now (c .before .before .before .before .before .before .before .before .args .table)) (c .before .before .before .before .before .before .before .before .args .lo) (c .before .before .before .before .before .before .before .before .args .hi) ≡ none
 passed c = sym (c .before .before .entries-test .ensures) ∙ ap verdict (c .enum-told .given .1)
 
 entries-test-requires : tie.Need-entries-test-requires
-entries-test-requires c κs = within (c .before .before .before .before .before .before .before .pre)
+entries-test-requires c κs = within (c .before .before .before .before .before .pre)
 
 enum-known-number : tie.Need-enum-known-number
 enum-known-number c = search needs
 
 returns : tie.Need-returns
-returns c = refuses _ _ _ _ (by-entries (c .before .before .before .before .before .before .before .before .before .before .before .pre) _ (sym (c .before .before .before .entries-test .ensures) ∙ ap verdict (c .before .number .given .1)))
+returns c = refuses _ _ _ _ (by-entries (c .before .before .before .before .before .before .before .before .before .pre) _ (sym (c .before .before .before .entries-test .ensures) ∙ ap verdict (c .before .number .given .1)))
 
 enum-told : tie.Need-enum-told
 enum-told c = search needs
 
 sub-count : tie.Need-sub-count
-sub-count c = in-order (c .before .before .before .before .before .before .before .before .before .before .pre)
+sub-count c = in-order (c .before .before .before .before .before .before .before .before .pre)
 
 add-count : tie.Need-add-count
-add-count c = let h = most (c .before .before .before .before .before .before .before .before .before .before .pre) in omega (arith, h)
+add-count c = let h = most (c .before .before .before .before .before .before .before .before .pre) in omega (arith, h)
 
 mul-if1 : tie.Need-mul-if1
 mul-if1 c =
-    let f = formed (lent (c .before .before .before .before .before .before .before .before .before .before .args .m) (c .before .before .before .before .before .before .before .before .before .before .args .n) (now (c .before .before .before .before .before .before .before .before .before .before .args .costs)) (now (c .before .before .before .before .before .before .before .before .before .before .args .supplies)) (now (c .before .before .before .before .before .before .before .before .before .before .args .demands)) (now (c .before .before .before .before .before .before .before .before .before .before .args .table)) (length (now (c .before .before .before .before .before .before .before .before .before .before .args .plan))) (length (now (c .before .before .before .before .before .before .before .before .before .before .args .splits))) (length (now (c .before .before .before .before .before .before .before .before .before .before .args .freights)))) (c .before .before .before .before .before .before .before .before .before .before .pre .form) in
+    let f = formed (lent (c .before .before .before .before .before .before .before .before .args .m) (c .before .before .before .before .before .before .before .before .args .n) (now (c .before .before .before .before .before .before .before .before .args .costs)) (now (c .before .before .before .before .before .before .before .before .args .supplies)) (now (c .before .before .before .before .before .before .before .before .args .demands)) (now (c .before .before .before .before .before .before .before .before .args .table)) (length (now (c .before .before .before .before .before .before .before .before .args .plan))) (length (now (c .before .before .before .before .before .before .before .before .args .splits))) (length (now (c .before .before .before .before .before .before .before .before .args .freights)))) (c .before .before .before .before .before .before .before .before .pre .form) in
     omega (arith, mul-le-mul (f .few-sources) (f .few-terminals))
 
 returns-2 : tie.Need-returns-2
-returns-2 c = refuses _ _ _ _ (by-plan (c .before .before .before .before .before .before .before .before .before .before .before .pre) (passed (c .before)) (c .if1 .taken))
+returns-2 c = refuses _ _ _ _ (by-plan (c .before .before .before .before .before .before .before .before .before .pre) (passed (c .before)) (c .if1 .taken))
 
 returns-3 : tie.Need-returns-3
-returns-3 c = refuses _ _ _ _ (by-splits (c .before .before .before .before .before .before .before .before .before .before .before .before .pre) (passed (c .before .before)) (c .if2 .taken))
+returns-3 c = refuses _ _ _ _ (by-splits (c .before .before .before .before .before .before .before .before .before .before .pre) (passed (c .before .before)) (c .if2 .taken))
 
 returns-4 : tie.Need-returns-4
-returns-4 c = refuses _ _ _ _ (by-freights (c .before .before .before .before .before .before .before .before .before .before .before .before .before .pre) (passed (c .before .before .before)) (c .if3 .taken))
+returns-4 c = refuses _ _ _ _ (by-freights (c .before .before .before .before .before .before .before .before .before .before .before .pre) (passed (c .before .before .before)) (c .if3 .taken))
 
 solve-requires : tie.Need-solve-requires
-solve-requires c κs = accepts (c .before .before .before .before .before .before .before .before .before .before .before .before .before .before .before .before .pre) (passed (c .before .before .before .before .before .before)) (c .before .before .before .before .before .if1 .left) (c .before .before .before .before .if2 .left) (c .before .before .before .if3 .left)
+solve-requires c κs = accepts (c .before .before .before .before .before .before .before .before .before .before .before .before .before .before .pre) (passed (c .before .before .before .before .before .before)) (c .before .before .before .before .before .if1 .left) (c .before .before .before .before .if2 .left) (c .before .before .before .if3 .left)
 
 same-length : tie.Need-same-length
 same-length c = search needs

@@ -1,0 +1,28 @@
+-- `trials::cells::lift` is safe and ends. The slice keeps its length; the measure is what is left of the count.
+-- Assumes nothing.
+use mathlib.Core.Path.{_≡_}
+use Prim.Native.Nat.{_-_}
+use borrow.Author.Needs.{needs}
+use lib.ListN.{length}
+use Rattle.trials.proofs.cells.lift.Statement.{statement}
+use Rattle.trials.proofs.cells.lift.Tie as tie
+
+abbrev Inv-loop : tie.InvT-loop
+Inv-loop s₀ start cells k₀ s k = length s ≡ length s₀
+
+abbrev μ-loop : tie.MeasureT-loop
+μ-loop s₀ start cells k₀ s k = cells - k
+
+pub lift-spec : {M : Type 1} → statement M
+lift-spec =
+    tie.close
+    (tie.spec
+    Inv-loop
+    μ-loop
+    (λ c. search needs)
+    (λ c κs. search needs)
+    (λ c. search needs)
+    (λ c. search needs)
+    (λ c. search needs)
+    (λ c. search needs)
+    (λ c. search needs))

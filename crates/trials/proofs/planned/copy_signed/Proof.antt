@@ -1,0 +1,31 @@
+-- `trials::planned::copy_signed` is safe and ends. The slice keeps its length; the measure is what is left of the cells copied.
+-- Assumes nothing.
+use mathlib.Core.Path.{_≡_}
+use Prim.Native.Nat.{_-_}
+use borrow.Author.Needs.{needs}
+use lib.ListN.{length}
+use Rattle.trials.proofs.planned.copy_signed.Statement.{statement}
+use Rattle.trials.proofs.planned.copy_signed.Tie as tie
+
+abbrev Inv-loop : tie.InvT-loop
+Inv-loop from to₀ start k₀ to k = length to ≡ length to₀
+
+abbrev μ-loop : tie.MeasureT-loop
+μ-loop from to₀ start k₀ to k = length from - k
+
+pub copy-signed-spec : {M : Type 1} → statement M
+copy-signed-spec =
+    tie.close
+    (tie.spec
+    Inv-loop
+    μ-loop
+    (λ c. search needs)
+    (λ c. search needs)
+    (λ c. search needs)
+    (λ c κs. search needs)
+    (λ c κs. search needs)
+    (λ c. search needs)
+    (λ c. search needs)
+    (λ c. search needs)
+    (λ c. search needs)
+    (λ c. search needs))

@@ -1,0 +1,31 @@
+-- `trials::planned::spell` is safe and ends. The slice keeps its length; the measure is what is left of the cells.
+-- Assumes nothing.
+use mathlib.Core.Path.{_≡_}
+use Prim.Native.Nat.{_-_}
+use borrow.Author.Needs.{needs}
+use lib.ListN.{length}
+use Rattle.trials.proofs.planned.spell.Statement.{statement}
+use Rattle.trials.proofs.planned.spell.Tie as tie
+
+abbrev Inv-loop : tie.InvT-loop
+Inv-loop cells costs₀ k₀ costs k = length costs ≡ length costs₀
+
+abbrev μ-loop : tie.MeasureT-loop
+μ-loop cells costs₀ k₀ costs k = length cells - k
+
+pub spell-spec : {M : Type 1} → statement M
+spell-spec =
+    tie.close
+    (tie.spec
+    Inv-loop
+    μ-loop
+    (λ c. search needs)
+    (λ c. search needs)
+    (λ c. search needs)
+    (λ c κs. search needs)
+    (λ c κs. search needs)
+    (λ c. search needs)
+    (λ c. search needs)
+    (λ c. search needs)
+    (λ c. search needs)
+    (λ c. search needs))
