@@ -37,6 +37,6 @@ int main(void) {
     print_plan("case A", costs, table);
     print_plan("40 back for each drum from source 3 to terminal 2", rebate, table);
     print_plan("1,000,001 back", too_much, table);
-    print_plan("entry 2 lowered", costs, sagging);
+    print_plan("entry 2 lowered: the least total lies between two others", costs, sagging);
     return 0;
 }

@@ -28,7 +28,8 @@ extern "C" {
                 a rebate is a cost below 0
    supplies     m numbers: the most each of the plants can make, then each depot's stock, which must all leave
    demands      n numbers: what each terminal takes
-   table        one entry more than the first supply: entry y is the cost of both plants together when plant 1 makes y
+   table        one entry more than the first supply: entry y is the cost of both plants together when plant 1 makes y;
+                of any shape, steps and fixed charges included
    plan         gets the amounts in its first m × n cells, in the order of the costs
    splits       gets the stops of the freight curve, rising: the first split, the last, and each one between where the
                 slope changes, no others; give it one cell for each split, YADVORKHUL_MOST_SPLITS at most
@@ -43,7 +44,7 @@ extern "C" {
    number of cells. It points at that many numbers that lie together and are aligned for uint64_t; it may not be null, even
    where the number is 0. plan, splits, freights, report and worth overlap nothing.
 
-   Answers 0 where the case is planned, or the number of the first test that it fails (1 to 11, see docs/USING.md), or
+   Answers 0 where the case is planned, or the number of the first test that it fails (1 to 9 and 11, see docs/USING.md), or
    YADVORKHUL_SHORT_REPORT where report or worth is too short for anything to be told. On a refusal plan, splits, freights
    and worth keep their contents. All cells that are not named here keep theirs always. It needs about 80 kB of stack, and
    no heap. */

@@ -66,7 +66,7 @@ class Cases(unittest.TestCase):
     def test_p5_to_p8(self):
         self.refused(7, 0, supplies=[3, 3, 6])
         self.refused(8, 0, supplies=[1, 2, 1], table=[99, 20])
-        self.refused(10, 2, table=[99, 20, 20, 22])
+        self.expect(2, 31, table=[99, 20, 20, 22])
         self.refused(4, 1, supplies=[4001, 3, 1])
 
     def test_p9_and_p10(self):
@@ -131,8 +131,8 @@ class Lent(unittest.TestCase):
         self.assertEqual(lent, [[3, 0, 0, 1, 0, 1, 7, 7], [1, 2, 3, 7], [14, 11, 13, 7, 7], [3, 3, 7, 7], [33, 13, 7]])
 
     def test_refused(self):
-        number, lent = self.call(table=[99, 20, 20, 22])
-        self.assertEqual(number, 10)
+        number, lent = self.call(table=[99, 20, 1_000_000_001, 22])
+        self.assertEqual(number, 9)
         self.assertEqual(lent, [[7] * 8, [7] * 4, [7] * 5, [2] + [7] * 3, [7] * 3])
 
     def test_short_by_one(self):
@@ -159,7 +159,8 @@ class Listing(unittest.TestCase):
             costs = [[draw.randint(-size, size) for _ in range(n)] for _ in range(m)]
             supplies = [draw.randint(0, 4) for _ in range(m)]
             demands = [draw.randint(0, 4) for _ in range(n)]
-            table = [draw.randint(0, 3) for _ in range(supplies[0] + 1)]
+            most = draw.choice((3, 30, 1_000_000_000))
+            table = [draw.randint(0, most) for _ in range(supplies[0] + 1)]
             d = sum(demands) - sum(supplies[2:])
             if d < 0 or d > supplies[0] + supplies[1]:
                 with self.assertRaises(Refusal) as caught:
@@ -167,12 +168,6 @@ class Listing(unittest.TestCase):
                 self.assertEqual(caught.exception.number, 7 if d < 0 else 8)
                 continue
             low, high = max(0, d - supplies[1]), min(supplies[0], d)
-            sags = [y for y in range(low + 1, high) if 2 * table[y] < table[y - 1] + table[y + 1]]
-            if sags:
-                with self.assertRaises(Refusal) as caught:
-                    plan(costs, supplies, demands, table)
-                self.assertEqual((caught.exception.number, caught.exception.place), (10, sags[0]))
-                continue
             found = plan(costs, supplies, demands, table)
             split, total, curve = listed(costs, supplies, demands, table)
             self.assertEqual((found.split, found.total, found.freight), (split, total, curve[split]))

@@ -44,7 +44,6 @@ _MEANINGS = {
     7: "the depots hold more than the terminals take",
     8: "the terminals take more than depots and plants can give",
     9: "a table entry at a split in use is above 1,000,000,000",
-    10: "the table is not concave",
     11: "a lent slice is too short for the plan or the stops",
     SHORT_REPORT: "the report or the worth has fewer than two cells",
 }
@@ -56,7 +55,7 @@ class Refusal(ValueError):
     def __init__(self, number: int, place: int):
         self.number = number
         self.place = place
-        at = f" at place {place}" if place or number in (9, 10) else ""
+        at = f" at place {place}" if place or number == 9 else ""
         super().__init__(f"refusal {number}{at}: {_MEANINGS.get(number, 'unknown')}")
 
 
@@ -116,7 +115,8 @@ def plan(costs, supplies, demands, table) -> Plan:
     costs     a row for each source: its unit cost to each terminal, below 0 for a rebate
     supplies  the most each of the two plants can make, then each depot's stock, which must all leave
     demands   what each terminal takes
-    table     one entry more than the first supply: entry y is the cost of both plants together when plant 1 makes y
+    table     one entry more than the first supply: entry y is the cost of both plants together when plant 1 makes y;
+              of any shape
     """
     rows = [list(row) for row in costs]
     supplies, demands = list(supplies), list(demands)

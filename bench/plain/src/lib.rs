@@ -41,7 +41,7 @@ fn first_above(s: &[u64], limit: u64) -> Option<usize> {
     s.iter().position(|&a| limit < a)
 }
 
-/// Tests 1 to 11: the first and the last split, or the refusal.
+/// Tests 1 to 9 and 11: the first and the last split, or the refusal.
 #[allow(clippy::too_many_arguments)]
 fn checked(
     m: usize,
@@ -88,9 +88,6 @@ fn checked(
     let part = &table[lo as usize..=hi as usize];
     if let Some(k) = first_above(part, 1_000_000_000) {
         return Err((9, lo + k as u64));
-    }
-    if let Some(k) = part.windows(3).position(|w| 2 * w[1] < w[0] + w[2]) {
-        return Err((10, lo + k as u64 + 1));
     }
     if plan_cells < m * n || split_cells < part.len() || freight_cells < part.len() {
         return Err((11, 0));

@@ -161,7 +161,7 @@ pub struct Case {
     /// What each terminal takes, exactly.
     pub demands: Vec<u64>,
     /// Entry y: the cost of both plants together when plant 1 makes y and plant 2 the rest. One entry more than plant 1's
-    /// supply.
+    /// supply; of any shape.
     pub table: Vec<u64>,
 }
 

@@ -17,7 +17,7 @@ use std::fmt;
 /// ```
 #[derive(Clone, Copy, Debug, PartialEq, Eq)]
 pub struct Refusal {
-    /// 1 to 11.
+    /// 1 to 9, or 11.
     pub number: u64,
     /// Where the test fails, as the number has it; 0 where it names no place.
     pub place: u64,
@@ -38,7 +38,6 @@ impl Refusal {
             7 => "the depots hold more than the terminals take",
             8 => "the terminals take more than depots and plants can give",
             9 => "a table entry at a split in use is above 1,000,000,000",
-            10 => "the table is not concave",
             11 => "a lent slice is too short for the plan or the stops",
             _ => "a number that this wrapper does not know",
         }
@@ -60,7 +59,6 @@ impl Refusal {
             7 => "compare the sum of supplies from the third on with the sum of demands".to_string(),
             8 => "compare the sum of all supplies with the sum of demands".to_string(),
             9 => format!("look at table entry {place}"),
-            10 => format!("twice table entry {place} is below the sum of its two neighbours"),
             11 => "lend m × n cells for the plan and one for each split for the stops".to_string(),
             _ => "no place is named".to_string(),
         }
@@ -70,7 +68,7 @@ impl Refusal {
 impl fmt::Display for Refusal {
     fn fmt(&self, f: &mut fmt::Formatter<'_>) -> fmt::Result {
         write!(f, "refusal {}", self.number)?;
-        if self.place != 0 || matches!(self.number, 9 | 10) {
+        if self.place != 0 || self.number == 9 {
             write!(f, " at place {}", self.place)?;
         }
         write!(f, ": {}; {}", self.meaning(), self.whereabouts())

@@ -46,9 +46,10 @@ fn p6_refusal_8() {
     expect_refusal(&Lent { supplies: vec![1, 2, 1], table: vec![99, 20], ..Lent::a() }, 8, 0);
 }
 
+/// Once refused: a table that is not concave.
 #[test]
-fn p7_refusal_10() {
-    expect_refusal(&with_table(&[99, 20, 20, 22]), 10, 2);
+fn p7_any_table() {
+    planned(&with_table(&[99, 20, 20, 22]), 2, 31, 1, &[14, 11, 13]);
 }
 
 #[test]
@@ -94,6 +95,17 @@ fn report_example() {
     planned(&lent, 200, 800, 100, &curve);
 }
 
+/// The least total lies between two stops: the report's example with an entry that dips at 140, a charge for more than 120, and
+/// a charge for less than 130.
+#[test]
+fn between_two_stops() {
+    let with = |entry: fn(u64) -> u64| Lent { table: (0..=200).map(entry).collect(), ..Lent::report_example() };
+    let (_, curve) = referee::curve(&Lent::report_example());
+    planned(&with(|y| if y == 140 { 0 } else { 9_000 }), 140, 1_110, 100, &curve);
+    planned(&with(|y| if y <= 120 { 0 } else { 5_000 }), 120, 1_270, 100, &curve);
+    planned(&with(|y| if y < 130 { 5_000 } else { 10 * y }), 130, 2_490, 100, &curve);
+}
+
 /// The report's own table, 100 times the square root of y, in hundredths: the least total is at 180.
 #[test]
 fn report_example_with_its_table() {
@@ -130,8 +142,8 @@ fn refusals_are_readable() {
         );
     }
     assert_eq!(
-        text(Case { table: vec![99, 20, 20, 22], ..case.clone() }),
-        "refusal 10 at place 2: the table is not concave; twice table entry 2 is below the sum of its two neighbours"
+        text(Case { table: vec![99, 20, 1_000_000_001, 22], ..case.clone() }),
+        "refusal 9 at place 2: a table entry at a split in use is above 1,000,000,000; look at table entry 2"
     );
     assert_eq!(
         text(Case { supplies: vec![3], ..case.clone() }),

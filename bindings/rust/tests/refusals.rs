@@ -8,7 +8,7 @@ use common::{expect_referee, expect_refusal, referee, untouched, untouched_signe
 const SMALL: Limits = Limits { sources: (2, 6), terminals: (1, 8), amount: 12 };
 
 /// The numbers of the tests, in their order.
-const ORDER: [u64; 11] = [1, 2, 3, 4, 5, 6, 7, 8, 9, 10, 11];
+const ORDER: [u64; 10] = [1, 2, 3, 4, 5, 6, 7, 8, 9, 11];
 
 /// How often each of `ORDER` was seen, and how many cases were planned.
 struct Seen([usize; ORDER.len() + 1]);
@@ -77,19 +77,6 @@ fn spoil(random: &mut Random, lent: &mut Lent, number: u64) -> bool {
             *demand += short;
         }
         9 => lent.table[random.within(l, u) as usize] = [1_000_000_001, u64::MAX / 2, u64::MAX][random.size(0, 2)],
-        10 => {
-            if u < l + 2 {
-                return false;
-            }
-            let y = random.within(l + 1, u - 1) as usize;
-            let sides = lent.table[y - 1] + lent.table[y + 1];
-            if sides == 0 {
-                lent.table[y + 1] = 1;
-                lent.table[y] = 0;
-            } else {
-                lent.table[y] = (sides - 1) / 2;
-            }
-        }
         _ => match random.within(0, 2) {
             0 => lent.plan_cells = m * n - 1,
             1 => lent.split_cells = (u - l) as usize,
@@ -162,10 +149,7 @@ fn anything_at_all() {
         let supplies = list(&mut random, m, 4_000, mild);
         let demands = list(&mut random, n, 4_000, mild);
         let entries = supplies.first().map_or(0, |a| (*a).min(4_000) as usize + 1);
-        let mut table = list(&mut random, entries, 1_000_000_000, mild);
-        if random.within(0, 1) == 0 {
-            table.fill(7);
-        }
+        let table = list(&mut random, entries, 1_000_000_000, mild);
         let mut lent = Lent::new(m, n, &costs, &supplies, &demands, &table);
         lent.plan_cells = random.size(0, 12);
         lent.split_cells = random.size(0, 12);
@@ -193,8 +177,6 @@ fn lowest_place() {
     let mut lent = Lent::a();
     lent.table = vec![u64::MAX, 20, 1_000_000_001, 1_000_000_001];
     expect_refusal(&lent, 9, 2);
-    let lent = Lent { supplies: vec![5, 5, 0], table: vec![9, 4, 4, 5, 5, 9], ..Lent::a() };
-    expect_refusal(&lent, 10, 1);
 }
 
 /// The examples of the paper's table of refusals.
@@ -211,7 +193,6 @@ fn examples() {
     expect_refusal(&Lent { supplies: vec![3, 3, 6], ..a() }, 7, 0);
     expect_refusal(&Lent { supplies: vec![1, 2, 1], table: vec![99, 20], ..a() }, 8, 0);
     expect_refusal(&Lent { table: vec![99, 20, 1_000_000_001, 20], ..a() }, 9, 2);
-    expect_refusal(&Lent { table: vec![99, 20, 20, 22], ..a() }, 10, 2);
     expect_refusal(&Lent { plan_cells: 5, ..a() }, 11, 0);
 }
 

@@ -11,7 +11,7 @@ use lib.ListN.{length, getD}
 use borrow.Author.Tests.{le-ltb}
 use Rattle.planner.specs.Case.{Case, steps, greatestSplit}
 use Rattle.planner.specs.Outcome.{Outcome, planned, refused, refuseIf, refuseAt, _orElse_, formRefusal, refusalOf, planOf, outcomeOf}
-use Rattle.planner.specs.Outcome.{test1, test2, test3, test4, test5, test6, test7, test8, test9, test10, test11}
+use Rattle.planner.specs.Outcome.{test1, test2, test3, test4, test5, test6, test7, test8, test9, test11}
 use Rattle.planner.specs.Verdict.{lent, firstOutside, amountsRefusal, AtMost}
 use Rattle.planner.proofs.Passed.{some≢none, Formed, formed, accepted}
 use Rattle.planner.proofs.Promise.{refused-outcome}
@@ -49,13 +49,12 @@ module _ (c : Case) where
       (refuses-either (test4 c) _ (refuses-at 4 _) (refuses-either (test5 c) _ (refuses-at 5 _) (refuses-if 6 _)))))
 
   refuses-all : Refuses (refusalOf c)
-  unfolding refusalOf test7 test8 test9 test10 test11
+  unfolding refusalOf test7 test8 test9 test11
   refuses-all =
       refuses-either (formRefusal c) _ refuses-form
       (refuses-either (test7 c) _ (refuses-if 7 _)
       (refuses-either (test8 c) _ (refuses-if 8 _)
-      (refuses-either (test9 c) _ (refuses-at 9 _)
-      (refuses-either (test10 c) _ (refuses-at 10 _) (refuses-if 11 _)))))
+      (refuses-either (test9 c) _ (refuses-at 9 _) (refuses-if 11 _))))
 
   pub planned-passes : (s : ℕ) (t f : ℤ) (k : ℕ) → outcomeOf c ≡ planned s t f k → refusalOf c ≡ none
   unfolding outcomeOf

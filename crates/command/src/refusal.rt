@@ -44,18 +44,11 @@ fn explain_lane(place: u64, n: u64) {
     say(b"a unit cost in the tariff file is below -1,000,000 or above 1,000,000.\n");
 }
 
-// Refusals 9 and 10: a split, whose entry is one record further in the production file.
-fn explain_split(number: u64, split: u64) {
+// Refusal 9: an entry by its split, and by its record, one further, in the production file.
+fn explain_entry(split: u64) {
     say_with(b"the entry of split ", split, b" (record ");
     say_number(next(split));
-    say(b" of the production file) ");
-    if number == 9 {
-        say(b"is above 1,000,000,000.\n");
-        return;
-    }
-    say(
-        b"is below the mean of the entries before and after it, so the table is not concave there.\n",
-    );
+    say(b" of the production file) is above 1,000,000,000.\n");
 }
 
 // The refusals of a case, by its numbers of sources and terminals.
@@ -79,7 +72,7 @@ fn explain_case(number: u64, place: u64, m: u64, n: u64) {
         8 => say(
             b"the terminals take more than the plants and depots can give, so no plan exists.\n",
         ),
-        9 | 10 => explain_split(number, place),
+        9 => explain_entry(place),
         _ => say(b"there is no room for the plan or for its stops.\n"),
     }
 }

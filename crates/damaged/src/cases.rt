@@ -10,7 +10,7 @@ fn run_tariffs(tally: &mut [u64; 32]) {
     tariff(tally, 18, 1, b"9999999999", 4, 3);
     tariff(tally, 21, 1, b"4001", 4, 4);
     tariff(tally, 23, 1, b"\"4001\"", 4, 5);
-    tariff(tally, 11, 1, b"4000", 10, 1);
+    tariff(tally, 11, 1, b"4000", 0, 0);
     tariff(tally, 0, 1, b"1000001", 5, 1);
     tariff(tally, 9, 1, b"1000001", 5, 4);
     tariff(tally, 16, 1, b"9999999999", 5, 6);
@@ -30,9 +30,10 @@ fn run_tables(tally: &mut [u64; 32]) {
     production(tally, 12, 2, b"9999999999", 9, 3);
     production(tally, 8, 2, b"1000000000", 0, 0);
     production(tally, 0, 2, b"9999999999", 0, 0);
-    production(tally, 8, 6, b"20\r\n22", 10, 2);
-    production(tally, 8, 2, b"19", 10, 2);
     production(tally, 8, 2, b"20", 0, 0);
+    production(tally, 8, 2, b"19", 0, 0);
+    production(tally, 8, 6, b"20\r\n22", 0, 0);
+    production(tally, 0, 14, b"0\r\n50\r\n50\r\n50", 0, 0);
 }
 
 pub fn run_cases(tally: &mut [u64; 32]) {

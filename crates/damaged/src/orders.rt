@@ -33,8 +33,20 @@ fn run_tests(tally: &mut [u64; 32]) {
     files(tally, b"2,0\r\n5,0\r\n1,2\r\n1,", b"9999999999", 7, 0);
     files(tally, b"2,0\r\n5,0\r\n1,2\r\n3,", b"9999999999", 8, 0);
     files(tally, b"2,2\r\n5,9\r\n2,", b"9\r\n0\r\n1000000001", 9, 2);
-    files(tally, b"2,3\r\n5,9\r\n3,", b"9\r\n8\r\n9\r\n0", 10, 1);
-    files(tally, b"2,3\r\n5,9\r\n3,", b"8\r\n9\r\n4\r\n0", 10, 2);
+    files(
+        tally,
+        b"2,3\r\n5,9\r\n3,",
+        b"9\r\n1000000001\r\n9\r\n9999999999",
+        9,
+        1,
+    );
+    files(
+        tally,
+        b"2,3\r\n5,1\r\n3,",
+        b"9999999999\r\n9999999999\r\n9\r\n1000000001",
+        9,
+        3,
+    );
 }
 
 pub fn run_orders(tally: &mut [u64; 32]) {

@@ -1,4 +1,4 @@
-// The command on a case that it refuses: case A with the entries 99, 20, 20, 22, not concave at split 2.
+// The command on a case that it refuses: case A with an entry of 1,000,000,001 at split 2.
 fn main() {
     command::run();
 }

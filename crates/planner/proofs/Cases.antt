@@ -15,7 +15,7 @@ use Rattle.transport.specs.Curve.{amountsAt}
 use Rattle.planner.specs.Case.{Case, allDemand, depotStock, made, leastSplit, greatestSplit, steps}
 use Rattle.planner.specs.Plans.{leastFreightAt, totalAt, bestSplit, stops, stopFreights}
 use Rattle.planner.specs.Outcome.{Outcome, planned, refused, refuseIf, refuseAt, firstFrom, _orElse_, formRefusal, refusalOf, planOf, outcomeOf}
-use Rattle.planner.specs.Outcome.{test1, test2, test3, test4, test5, test6, test7, test8, test9, test10, test11}
+use Rattle.planner.specs.Outcome.{test1, test2, test3, test4, test5, test6, test7, test8, test9, test11}
 use Rattle.planner.proofs.Example.{Example, whereAccepted, sameList, sameIntegers, sameOutcome, right, allRight, Right, each-right}
 
 -- m, n, unit costs, supplies, demands, table, and the cells of the three slices to be written
@@ -62,20 +62,20 @@ paper =
     ∷ accept (A (3 ∷ 3 ∷ 1 ∷ []) (99 ∷ 20 ∷ 20 ∷ 20 ∷ [])) (planned 2 (pos 31) (pos 11) 3) (1 ∷ 2 ∷ 3 ∷ []) (pos 14 ∷ pos 11 ∷ pos 13 ∷ [])
     ∷ refuse (A (3 ∷ 3 ∷ 6 ∷ []) (99 ∷ 20 ∷ 24 ∷ 20 ∷ [])) 7 0
     ∷ refuse (A (1 ∷ 2 ∷ 1 ∷ []) (99 ∷ 20 ∷ [])) 8 0
-    ∷ refuse (A (3 ∷ 3 ∷ 1 ∷ []) (99 ∷ 20 ∷ 20 ∷ 22 ∷ [])) 10 2
+    ∷ accept (A (3 ∷ 3 ∷ 1 ∷ []) (99 ∷ 20 ∷ 20 ∷ 22 ∷ [])) (planned 2 (pos 31) (pos 11) 3) (1 ∷ 2 ∷ 3 ∷ []) (pos 14 ∷ pos 11 ∷ pos 13 ∷ [])
     ∷ refuse (A (4001 ∷ 3 ∷ 1 ∷ []) (99 ∷ 20 ∷ 24 ∷ 20 ∷ [])) 4 1
     ∷ accept (A (3 ∷ 3 ∷ 5 ∷ []) (99 ∷ 20 ∷ 24 ∷ 20 ∷ [])) (planned 0 (pos 110) (pos 11) 1) (0 ∷ []) (pos 11 ∷ [])
     ∷ accept (A (3 ∷ 1 ∷ 1 ∷ []) (99 ∷ 20 ∷ 24 ∷ 20 ∷ [])) (planned 3 (pos 33) (pos 13) 1) (3 ∷ []) (pos 13 ∷ [])
     ∷ []
 
 pub P1-to-P10 : allRight paper ≡ true
-unfolding paper lend slices A accept refuse flatMap sum row col upFrom select compositions rowLists served listing amountsAt allDemand depotStock made leastSplit greatestSplit steps leastFreightAt totalAt bestSplit stops stopFreights refuseIf refuseAt firstFrom _orElse_ formRefusal refusalOf planOf outcomeOf test1 test2 test3 test4 test5 test6 test7 test8 test9 test10 test11 outside eqZ minℤ sumℤ leastℤ freightℤ leastFreightℤ leastAtℤ bendsℤ isStopℤ stopsOfℤ bestFromℤ whereAccepted sameList sameIntegers sameOutcome right allRight
+unfolding paper lend slices A accept refuse flatMap sum row col upFrom select compositions rowLists served listing amountsAt allDemand depotStock made leastSplit greatestSplit steps leastFreightAt totalAt bestSplit stops stopFreights refuseIf refuseAt firstFrom _orElse_ formRefusal refusalOf planOf outcomeOf test1 test2 test3 test4 test5 test6 test7 test8 test9 test11 outside eqZ minℤ sumℤ leastℤ freightℤ leastFreightℤ leastAtℤ bendsℤ isStopℤ stopsOfℤ bestFromℤ whereAccepted sameList sameIntegers sameOutcome right allRight
 P1-to-P10 = refl
 
 pub paper-right : (e : Example) → List·Memᴰ e paper → Right e
 paper-right = each-right paper P1-to-P10
 
--- each refusal 1 to 11, the order of the tests where two conditions hold, the places, the ranges of tests 9 and 10, straight splits, the limits
+-- each refusal 1 to 9 and 11, the order of the tests where two conditions hold, the places, the range of test 9, tables of any shape, straight splits, the limits
 pub held : List Example
 held =
     -- the examples of refusals 1, 2, 3, 5, 6, 9 and 11
@@ -128,8 +128,14 @@ held =
     ∷ refuse (rooms (3 ∷ 3 ∷ 1 ∷ []) (99 ∷ 20 ∷ 24 ∷ 1000000001 ∷ []) 5 3 3) 9 3
     -- the entry before the first split
     ∷ accept (A (3 ∷ 3 ∷ 1 ∷ []) (1000000001 ∷ 20 ∷ 24 ∷ 20 ∷ [])) (planned 3 (pos 33) (pos 13) 3) (1 ∷ 2 ∷ 3 ∷ []) (pos 14 ∷ pos 11 ∷ pos 13 ∷ [])
-    -- the last split but one, and short stop slices
-    ∷ refuse (lend 2 1 (pos 2 ∷ pos 5 ∷ []) (4 ∷ 3 ∷ []) (4 ∷ []) (99 ∷ 20 ∷ 24 ∷ 20 ∷ 22 ∷ []) 2 1 1) 10 3
+    -- a table with a dip: the best split lies between two stops
+    ∷ accept (lend 2 1 (pos 2 ∷ pos 5 ∷ []) (3 ∷ 3 ∷ []) (4 ∷ []) (99 ∷ 20 ∷ 10 ∷ 20 ∷ []) 2 8 8) (planned 2 (pos 24) (pos 14) 2) (1 ∷ 3 ∷ []) (pos 17 ∷ pos 11 ∷ [])
+    -- the best split lies between two stops, with a tie further on; a table that falls and rises
+    ∷ accept (lend 2 1 (pos 2 ∷ pos 5 ∷ []) (4 ∷ 3 ∷ []) (4 ∷ []) (99 ∷ 20 ∷ 10 ∷ 13 ∷ 20 ∷ []) 2 8 8) (planned 2 (pos 24) (pos 14) 2) (1 ∷ 4 ∷ []) (pos 17 ∷ pos 8 ∷ [])
+    ∷ accept (lend 2 1 (pos 2 ∷ pos 5 ∷ []) (4 ∷ 3 ∷ []) (4 ∷ []) (99 ∷ 30 ∷ 5 ∷ 1 ∷ 30 ∷ []) 2 8 8) (planned 3 (pos 12) (pos 11) 2) (1 ∷ 4 ∷ []) (pos 17 ∷ pos 8 ∷ [])
+    -- a fixed charge from split 2 on, and a table out of shape with short stop slices
+    ∷ accept (lend 2 1 (pos 2 ∷ pos 5 ∷ []) (4 ∷ 3 ∷ []) (4 ∷ []) (99 ∷ 0 ∷ 50 ∷ 50 ∷ 50 ∷ []) 2 8 8) (planned 1 (pos 17) (pos 17) 2) (1 ∷ 4 ∷ []) (pos 17 ∷ pos 8 ∷ [])
+    ∷ refuse (lend 2 1 (pos 2 ∷ pos 5 ∷ []) (4 ∷ 3 ∷ []) (4 ∷ []) (99 ∷ 20 ∷ 24 ∷ 20 ∷ 22 ∷ []) 2 1 1) 11 0
     -- the entry after the last split
     ∷ accept (lend 2 1 (pos 2 ∷ pos 5 ∷ []) (5 ∷ 3 ∷ []) (4 ∷ []) (99 ∷ 20 ∷ 24 ∷ 25 ∷ 22 ∷ 1000000001 ∷ []) 2 8 8) (planned 4 (pos 30) (pos 8) 2) (1 ∷ 4 ∷ []) (pos 17 ∷ pos 8 ∷ [])
     -- split slice one short
@@ -155,7 +161,7 @@ held =
     ∷ []
 
 pub held-pass : allRight held ≡ true
-unfolding held lend slices A rooms sized accept refuse flatMap sum row col upFrom select compositions rowLists served listing amountsAt allDemand depotStock made leastSplit greatestSplit steps leastFreightAt totalAt bestSplit stops stopFreights refuseIf refuseAt firstFrom _orElse_ formRefusal refusalOf planOf outcomeOf test1 test2 test3 test4 test5 test6 test7 test8 test9 test10 test11 outside eqZ minℤ sumℤ leastℤ freightℤ leastFreightℤ leastAtℤ bendsℤ isStopℤ stopsOfℤ bestFromℤ whereAccepted sameList sameIntegers sameOutcome right allRight
+unfolding held lend slices A rooms sized accept refuse flatMap sum row col upFrom select compositions rowLists served listing amountsAt allDemand depotStock made leastSplit greatestSplit steps leastFreightAt totalAt bestSplit stops stopFreights refuseIf refuseAt firstFrom _orElse_ formRefusal refusalOf planOf outcomeOf test1 test2 test3 test4 test5 test6 test7 test8 test9 test11 outside eqZ minℤ sumℤ leastℤ freightℤ leastFreightℤ leastAtℤ bendsℤ isStopℤ stopsOfℤ bestFromℤ whereAccepted sameList sameIntegers sameOutcome right allRight
 held-pass = refl
 
 pub held-right : (e : Example) → List·Memᴰ e held → Right e

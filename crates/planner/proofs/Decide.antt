@@ -12,7 +12,7 @@ use borrow.Author.Tests.{lt-ltb, le-ltb}
 use Rattle.transport.specs.Sum.{sum}
 use Rattle.planner.specs.Case.{Case, supply, demand, allDemand, depotStock, made, leastSplit, greatestSplit, steps}
 use Rattle.planner.specs.Outcome.{Outcome, refused, refuseIf, refuseAt, firstFrom, _orElse_, formRefusal, refusalOf}
-use Rattle.planner.specs.Outcome.{test7, test8, test9, test10, test11}
+use Rattle.planner.specs.Outcome.{test7, test8, test9, test11}
 use Rattle.planner.specs.Verdict.{splitsOf, entriesRefusal, AtMost, Amounts, Within}
 use Rattle.planner.specs.declared.tests.Splits.{Splits}
 use Rattle.planner.specs.declared.tests.Splits.the-variants.{Between, Unbalanced}
@@ -79,36 +79,27 @@ module _ (c : Case) (e : formRefusal c ≡ none) where
       go false ea false eb q =
           record { form = e; t7 = unmet 7 _ ea; t8 = unmet 8 _ eb; low = let z : leastSplit c ≡ lo = cc in sym z; high = let z : greatestSplit c ≡ hi = cc in sym z; whole = let z : made c ≡ all = cc in sym z }
 
--- ---- tests 9 to 11
+-- ---- tests 9 and 11
 
 module _ {c : Case} {lo hi all : ℕ} (s : OnSplits c lo hi all) where
   pub within : Within (c .table) lo hi
   within = record { order = in-order s; long = inside s }
 
-  entries-are : entriesRefusal (c .table) lo hi ≡ (test9 c orElse test10 c)
-  unfolding entriesRefusal test9 test10 steps
+  entries-are : entriesRefusal (c .table) lo hi ≡ test9 c
+  unfolding entriesRefusal test9 steps
   entries-are = rw (s .low, s .high) refl
 
   pub by-entries : (r : Outcome) → entriesRefusal (c .table) lo hi ≡ some r → refusalOf c ≡ some r
-  unfolding _orElse_
-  by-entries r e = from9 c (s .form) (s .t7) (s .t8) ∙ go (test9 c) (test10 c) (sym entries-are ∙ e)
-    where
-      go : (a b : Option Outcome) → (a orElse b) ≡ some r → (a orElse b orElse test11 c) ≡ some r
-      go (some q) b h = h
-      go none (some q) h = h
-      go none none h = let z : _≡_ {A = ℕ} 0 1 = cc in absurd (omega arith)
+  by-entries r e = from9 c (s .form) (s .t7) (s .t8) ∙ first-decides _ _ _ (sym entries-are ∙ e)
 
   module _ (e : entriesRefusal (c .table) lo hi ≡ none) where
     ninth : test9 c ≡ none
-    ninth = first-passes (test9 c) (test10 c) (sym entries-are ∙ e)
-
-    tenth : test10 c ≡ none
-    tenth = second-passes (test9 c) (test10 c) (sym entries-are ∙ e)
+    ninth = sym entries-are ∙ e
 
     by-room : (ltb (c .planCells) (c .m * c .n) || (ltb (c .splitCells) (steps c + 1) || ltb (c .freightCells) (steps c + 1))) ≡ true → refusalOf c ≡ some (refused 11 0)
     unfolding test11
     by-room h =
-        from9 c (s .form) (s .t7) (s .t8) ∙ second-decides _ _ ninth ∙ second-decides _ _ tenth ∙ met 11 _ h
+        from9 c (s .form) (s .t7) (s .t8) ∙ second-decides _ _ ninth ∙ met 11 _ h
 
     pub by-plan : c .planCells < c .m * c .n → refusalOf c ≡ some (refused 11 0)
     by-plan h = by-room (simp (lt-ltb (c .planCells) (c .m * c .n) h))
@@ -124,6 +115,5 @@ module _ {c : Case} {lo hi all : ℕ} (s : OnSplits c lo hi all) where
     accepts p q r = record {
       on = s;
       t9 = ninth;
-      t10 = tenth;
       t11 = unmet 11 _ (simp (le-ltb (c .planCells) (c .m * c .n) p, le-ltb (c .splitCells) (steps c + 1) (omega (arith, gap s)), le-ltb (c .freightCells) (steps c + 1) (omega (arith, gap s))));
     }

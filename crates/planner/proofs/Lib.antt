@@ -7,6 +7,7 @@ pub mod Machine
 pub mod Raises
 pub mod Lowers
 pub mod Passed
+pub mod Numbers
 pub mod Splits
 pub mod Raised
 pub mod Promise

@@ -14,7 +14,7 @@ use lib.Seq.{getD-append-add}
 use borrow.Author.Tests.{eqb-true, ltb-false, le-ltb, not-false}
 use Rattle.planner.specs.Case.{Case, supply, demand, entry, allDemand, depotStock, made, leastSplit, steps}
 use Rattle.planner.specs.Outcome.{Outcome, refused, refuseIf, refuseAt, firstFrom, _orElse_, formRefusal, refusalOf}
-use Rattle.planner.specs.Outcome.{test1, test2, test3, test4, test5, test6, test7, test8, test9, test10, test11}
+use Rattle.planner.specs.Outcome.{test1, test2, test3, test4, test5, test6, test7, test8, test9, test11}
 use Rattle.planner.proofs.First.{none-passes}
 
 pub some≢none : (r : Outcome) → _≡_ {A = Option Outcome} (some r) none → ⊥
@@ -191,14 +191,6 @@ unfolding test9
 small-entry c e y a b =
     ltb-false 1000000000 (entry c y) (none-passes (λ y. ltb 1000000000 (entry c y)) (leastSplit c) (steps c + 1) (refuseAt-none 9 _ e) y a (omega arith))
 
--- what test 10 leaves: the table is concave from ℓ to u
-pub concave : (c : Case) → test10 c ≡ none → (y : ℕ) → leastSplit c < y → y < leastSplit c + steps c
-    → entry c (y - 1) + entry c (y + 1) ≤ 2 * entry c y
-unfolding test10
-concave c e y a b =
-    ltb-false (2 * entry c y) (entry c (y - 1) + entry c (y + 1))
-    (none-passes (λ y. ltb (2 * entry c y) (entry c (y - 1) + entry c (y + 1))) (leastSplit c + 1) (steps c - 1) (refuseAt-none 10 _ e) y (omega arith) (omega arith))
-
 -- what test 11 leaves: room in the three slices to be written
 pub record Roomy (c : Case) : Type 0 where
   pub plan-room : c .m * c .n ≤ c .planCells
@@ -225,7 +217,6 @@ pub record Accepted (c : Case) : Type 0 where
   pub t7 : test7 c ≡ none
   pub t8 : test8 c ≡ none
   pub t9 : test9 c ≡ none
-  pub t10 : test10 c ≡ none
   pub t11 : test11 c ≡ none
 
 pub accepted : (c : Case) → refusalOf c ≡ none → Accepted c
@@ -234,12 +225,10 @@ accepted c e =
     let e7 = second-passes (formRefusal c) _ e in
     let e8 = second-passes (test7 c) _ e7 in
     let e9 = second-passes (test8 c) _ e8 in
-    let e10 = second-passes (test9 c) _ e9 in
     record {
       form = first-passes (formRefusal c) _ e;
       t7 = first-passes (test7 c) _ e7;
       t8 = first-passes (test8 c) _ e8;
       t9 = first-passes (test9 c) _ e9;
-      t10 = first-passes (test10 c) _ e10;
-      t11 = second-passes (test10 c) _ e10;
+      t11 = second-passes (test9 c) _ e9;
     }

@@ -2,64 +2,33 @@
 use mathlib.Core.Path.{_≡_, refl, sym, ap, ap₂, _∙_, subst}
 use lib.IntN.{ℤ, pos, _+ℤ_}
 use mathlib.Core.Logic.{_⊎_, inl, inr}
-use mathlib.Core.Bool.{Bool, true, false}
 use mathlib.Core.Option.{Option, none, some}
 use mathlib.Core.List.{List}
 use Prim.Native.Nat.{ℕ, _-_, _<_}
 use native.Mathlib.Omega.{arith}
 use Rattle.planner.specs.Case.{Case, entry, leastSplit}
 use Rattle.planner.specs.Plans.{rowSum, freightOf, PlanAt, planTotal, leastFreightAt, totalAt, bestSplit}
-use Rattle.planner.specs.Outcome.{Outcome, planned, refused, refuseIf, refuseAt, _orElse_, formRefusal, refusalOf, planOf, outcomeOf}
-use Rattle.planner.specs.Outcome.{test7, test8, test9, test10, test11}
+use Rattle.planner.specs.Outcome.{Outcome, planned, refused, _orElse_, formRefusal, refusalOf, planOf, outcomeOf}
+use Rattle.planner.specs.Outcome.{test7, test8, test9, test11}
 use Rattle.planner.specs.Promise.{Cheapest, NoPlan, BalanceRule}
 use Rattle.planner.proofs.Passed.{some≢none, first-decides, second-decides, formed, Balanced, balanced, balanced-passes, refuseIf-cases, accepted}
+use Rattle.planner.proofs.Numbers.{later-tests, never10}
 use Rattle.planner.proofs.Splits.{last-split, split-of, meets, plan-exists}
 use Rattle.planner.proofs.Integers.{above-pos, above-at-most, above-below}
 use Rattle.planner.proofs.Raised.{raisedTotal, low, freight-above, total-above, freight-met, best-split, best-in}
 
 -- ---- the refusals for balance
 
--- the number of a refusal, 0 of a plan
-number : Outcome → ℕ
-number (planned s t f k) = 0
-number (refused k p) = k
-
--- what is refused here has a number above 8
-abbrev Later : Option Outcome → Type 0
-Later o = (r : Outcome) → o ≡ some r → 8 < number r
-
-later-if : (k : ℕ) (t : Bool) → 8 < k → Later (refuseIf k t)
-unfolding refuseIf number
-later-if k true l r e = let q : refused k 0 ≡ r = cc in subst (λ (r : Outcome). 8 < number r) q l
-later-if k false l r e = absurd (some≢none r (sym e))
-
-later-at : (k : ℕ) (o : Option ℕ) → 8 < k → Later (refuseAt k o)
-unfolding refuseAt number
-later-at k none l r e = absurd (some≢none r (sym e))
-later-at k (some p) l r e = let q : refused k p ≡ r = cc in subst (λ (r : Outcome). 8 < number r) q l
-
-later-either : (a b : Option Outcome) → Later a → Later b → Later (a orElse b)
-unfolding _orElse_
-later-either none b h l = l
-later-either (some r) b h l = h
-
-later-tests : (c : Case) → Later (test9 c orElse test10 c orElse test11 c)
-unfolding test9 test10 test11
-later-tests c =
-    later-either (test9 c) _ (later-at 9 _ (omega arith))
-    (later-either (test10 c) _ (later-at 10 _ (omega arith))
-    (later-if 11 _ (omega arith)))
-
 module _ (c : Case) where
   -- the tests that decide once 1 to 6 pass, once 1 to 7 do, and once 1 to 8 do
-  pub from7 : formRefusal c ≡ none → refusalOf c ≡ (test7 c orElse test8 c orElse test9 c orElse test10 c orElse test11 c)
+  pub from7 : formRefusal c ≡ none → refusalOf c ≡ (test7 c orElse test8 c orElse test9 c orElse test11 c)
   unfolding refusalOf
   from7 e = second-decides (formRefusal c) _ e
 
-  pub from8 : formRefusal c ≡ none → test7 c ≡ none → refusalOf c ≡ (test8 c orElse test9 c orElse test10 c orElse test11 c)
+  pub from8 : formRefusal c ≡ none → test7 c ≡ none → refusalOf c ≡ (test8 c orElse test9 c orElse test11 c)
   from8 e e7 = from7 e ∙ second-decides (test7 c) _ e7
 
-  pub from9 : formRefusal c ≡ none → test7 c ≡ none → test8 c ≡ none → refusalOf c ≡ (test9 c orElse test10 c orElse test11 c)
+  pub from9 : formRefusal c ≡ none → test7 c ≡ none → test8 c ≡ none → refusalOf c ≡ (test9 c orElse test11 c)
   from9 e e7 e8 = from8 e e7 ∙ second-decides (test8 c) _ e8
 
   -- the outcome is a refusal exactly where a test refuses
@@ -82,8 +51,7 @@ RefusedForBalance c = (refusalOf c ≡ some (refused 7 0)) ⊎ (refusalOf c ≡ 
 module _ (c : Case) (e : formRefusal c ≡ none) where
   -- of a balanced case no refusal is 7 or 8
   balanced-later : test7 c ≡ none → test8 c ≡ none → (k p : ℕ) → refusalOf c ≡ some (refused k p) → 8 < k
-  unfolding number
-  balanced-later e7 e8 k p q = later-tests c (refused k p) (sym (from9 c e e7 e8) ∙ q)
+  balanced-later e7 e8 k p q = later-tests c k p (sym (from9 c e e7 e8) ∙ q)
 
   pub refused-none : RefusedForBalance c → NoPlan c
   refused-none q x p = step q
@@ -123,6 +91,10 @@ balance-rule c = record {
   no-plan = λ e q. refused-none c e (elim q [ inl g ↦ inl (outcome-refused c 7 0 g) | inr g ↦ inr (outcome-refused c 8 0 g) ]);
   refuses = λ e n. elim (none-refused c e n) [ inl g ↦ inl (refused-outcome c (refused 7 0) g) | inr g ↦ inr (refused-outcome c (refused 8 0) g) ];
 }
+
+-- no case is answered 10
+pub never-10 : (c : Case) (p : ℕ) → outcomeOf c ≡ refused 10 p → ⊥
+never-10 c p e = never10 c 10 p (outcome-refused c 10 p e) refl
 
 -- ---- the plan given
 

@@ -183,7 +183,7 @@ module _ {c : Case} {lo hi all : ℕ} (a : Accepts c lo hi all) {cost cap amount
   accepted-all : refusalOf c ≡ none
   accepted-all =
       from9 c (a .on .form) (a .on .t7) (a .on .t8)
-      ∙ second-decides _ _ (a .t9) ∙ second-decides _ _ (a .t10) ∙ a .t11
+      ∙ second-decides _ _ (a .t9) ∙ a .t11
 
   -- ---- the answer
 

@@ -13,7 +13,7 @@ use lib.Seq.{getD-append-add, getD-take, getD-drop}
 use borrow.Author.Tests.{lt-ltb, le-ltb, eq-eqb, ne-eqb, ltb-false, eqb-true, not-false}
 use Rattle.planner.specs.Case.{Case, supply}
 use Rattle.planner.specs.Outcome.{Outcome, refused, firstFrom, refuseIf, refuseAt, _orElse_, formRefusal, test1, test2, test3, test4, test5, test6}
-use Rattle.planner.specs.Verdict.{firstAbove, firstOutside, firstSagging, amountsRefusal, entriesRefusal, splitsOf, AtMost}
+use Rattle.planner.specs.Verdict.{firstAbove, firstOutside, amountsRefusal, entriesRefusal, splitsOf, AtMost}
 use Rattle.planner.specs.declared.tests.Splits.the-variants.{Between, Unbalanced}
 use Rattle.transport.specs.Sum.{sum}
 use Rattle.transport.proofs.Sums.{sum-ext}
@@ -83,7 +83,7 @@ module _ (s d : List ℕ) where
       no-place 4 _
       (first-then big 1 (length s) (length d) (of-supplies ∙ moved-none 1 0 _ n) ∙ of-demands ∙ moved-none (1 + length s) 0 _ e)
 
--- ---- tests 9 and 10
+-- ---- test 9
 
 module _ (t : List ℕ) (lo hi : ℕ) (order : lo ≤ hi) (long : hi < length t) where
   part : List ℕ
@@ -105,31 +105,13 @@ module _ (t : List ℕ) (lo hi : ℕ) (order : lo ≤ hi) (long : hi < length t)
       (λ k h. ap (λ (v : ℕ). ltb 1000000000 v) (cell (0 + k) (lo + k) (omega arith) (omega arith)))
       ∙ ap (λ (n : ℕ). moved lo 0 (firstFrom (λ k. ltb 1000000000 (getD (take (hi + 1 - lo) (drop lo t)) k 0)) 0 n)) (sym part-length)
 
-  sags : List ℕ → ℕ → Bool
-  sags l y = ltb (2 * getD l y 0) (getD l (y - 1) 0 + getD l (y + 1) 0)
-
-  low : firstFrom (sags t) (lo + 1) (hi - lo - 1) ≡ moved (lo + 1) 1 (firstSagging (take (hi + 1 - lo) (drop lo t)))
-  unfolding firstSagging sags
-  low =
-      first-moved (sags t) (sags (take (hi + 1 - lo) (drop lo t))) (lo + 1) 1 (hi - lo - 1)
-      (λ k h. ap₂ (λ (a b : ℕ). ltb a b) (ap (λ (v : ℕ). 2 * v) (cell (1 + k) (lo + 1 + k) (omega arith) (omega arith)))
-      (ap₂ (λ (a b : ℕ). a + b) (cell (1 + k - 1) (lo + 1 + k - 1) (omega arith) (omega arith)) (cell (1 + k + 1) (lo + 1 + k + 1) (omega arith) (omega arith))))
-      ∙ ap (λ (n : ℕ). moved (lo + 1) 1 (firstFrom (sags (take (hi + 1 - lo) (drop lo t))) 1 n)) (let z : hi - lo - 1 ≡ length (take (hi + 1 - lo) (drop lo t)) - 2 = omega (arith, part-length) in z)
-
   pub entries-high : (k : ℕ) → firstAbove 1000000000 (take (hi + 1 - lo) (drop lo t)) ≡ some k → entriesRefusal t lo hi ≡ some (refused 9 (lo + k))
   unfolding entriesRefusal
-  entries-high k e = first-decides _ _ _ (at-place 9 (lo + k) _ (high ∙ moved-some lo 0 k (lo + k) _ e (omega arith)))
+  entries-high k e = at-place 9 (lo + k) _ (high ∙ moved-some lo 0 k (lo + k) _ e (omega arith))
 
-  pub entries-low : (k : ℕ) → 1 ≤ k → firstAbove 1000000000 (take (hi + 1 - lo) (drop lo t)) ≡ none → firstSagging (take (hi + 1 - lo) (drop lo t)) ≡ some k
-      → entriesRefusal t lo hi ≡ some (refused 10 (lo + k))
-  unfolding entriesRefusal sags
-  entries-low k h n e =
-      second-decides _ _ (no-place 9 _ (high ∙ moved-none lo 0 _ n)) ∙ at-place 10 (lo + k) _ (low ∙ moved-some (lo + 1) 1 k (lo + k) _ e (omega arith))
-
-  pub entries-pass : firstAbove 1000000000 (take (hi + 1 - lo) (drop lo t)) ≡ none → firstSagging (take (hi + 1 - lo) (drop lo t)) ≡ none
-      → entriesRefusal t lo hi ≡ none
-  unfolding entriesRefusal sags
-  entries-pass n e = second-decides _ _ (no-place 9 _ (high ∙ moved-none lo 0 _ n)) ∙ no-place 10 _ (low ∙ moved-none (lo + 1) 1 _ e)
+  pub entries-pass : firstAbove 1000000000 (take (hi + 1 - lo) (drop lo t)) ≡ none → entriesRefusal t lo hi ≡ none
+  unfolding entriesRefusal
+  entries-pass n = no-place 9 _ (high ∙ moved-none lo 0 _ n)
 
 -- ---- what an answer of the search for a number above a limit says
 
@@ -145,16 +127,9 @@ pub outside-within : (l : List ℤ) (k : ℕ) → firstOutside l ≡ some k → 
 unfolding firstOutside
 outside-within l k e = let f = some-first _ 0 (length l) k e in omega (arith, f .high)
 
-pub sagging-within : (l : List ℕ) (k : ℕ) → firstSagging l ≡ some k → (1 ≤ k) × (k + 1 < length l)
-unfolding firstSagging
-sagging-within l k e = let f = some-first _ 1 (length l - 2) k e in (f .low, omega (arith, f .low, f .high))
-
 module _ (t : List ℕ) (lo hi : ℕ) (order : lo ≤ hi) (long : hi < length t) where
   pub high-within : (k : ℕ) → firstAbove 1000000000 (take (hi + 1 - lo) (drop lo t)) ≡ some k → lo + k ≤ hi
   high-within k e = omega (arith, above-within 1000000000 (take (hi + 1 - lo) (drop lo t)) k e, part-length t lo hi order long)
-
-  pub low-within : (k : ℕ) → firstSagging (take (hi + 1 - lo) (drop lo t)) ≡ some k → lo + k ≤ hi
-  low-within k e = omega (arith, sagging-within (take (hi + 1 - lo) (drop lo t)) k e, part-length t lo hi order long)
 
 -- ---- tests 7 and 8
 

@@ -1,4 +1,4 @@
--- The refusals 1 to 11, each a definition of its own, their order, and the outcome of a case. Assumes nothing.
+-- The refusals 1 to 9 and 11, each a definition of its own, their order, and the outcome of a case. Assumes nothing.
 use mathlib.Core.Bool.{Bool, true, false, not, _||_}
 use mathlib.Core.Option.{Option, none, some}
 use mathlib.Core.List.{List, _++_}
@@ -70,12 +70,6 @@ test8 c = refuseIf 8 (ltb (supply c 0 + supply c 1) (made c))
 unfoldable pub test9 : Case → Option Outcome
 test9 c = refuseAt 9 (firstFrom (λ y. ltb 1000000000 (entry c y)) (leastSplit c) (steps c + 1))
 
--- table not concave: at some ℓ < y < u, twice entry y is below entry y-1 plus entry y+1; place y
-unfoldable pub test10 : Case → Option Outcome
-test10 c =
-    refuseAt 10
-    (firstFrom (λ y. ltb (2 * entry c y) (entry c (y - 1) + entry c (y + 1))) (leastSplit c + 1) (steps c - 1))
-
 -- plan slice shorter than m × n, or a stop slice shorter than u - ℓ + 1
 unfoldable pub test11 : Case → Option Outcome
 test11 c =
@@ -95,7 +89,7 @@ formRefusal c = test1 c orElse test2 c orElse test3 c orElse test4 c orElse test
 -- all tests in their order
 unfoldable pub refusalOf : Case → Option Outcome
 refusalOf c =
-    formRefusal c orElse test7 c orElse test8 c orElse test9 c orElse test10 c orElse test11 c
+    formRefusal c orElse test7 c orElse test8 c orElse test9 c orElse test11 c
 
 unfoldable pub planOf : Case → Outcome
 planOf c = planned (bestSplit c) (totalAt c (bestSplit c)) (leastFreightAt c (bestSplit c)) (length (stops c))

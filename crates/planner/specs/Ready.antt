@@ -3,7 +3,7 @@ use mathlib.Core.Path.{_≡_}
 use mathlib.Core.Option.{none}
 use Prim.Native.Nat.{ℕ}
 use Rattle.planner.specs.Case.{Case, made, leastSplit, greatestSplit}
-use Rattle.planner.specs.Outcome.{formRefusal, test7, test8, test9, test10, test11}
+use Rattle.planner.specs.Outcome.{formRefusal, test7, test8, test9, test11}
 
 -- past test 8: lo, hi and all are ℓ, u and d
 pub record OnSplits (c : Case) (lo hi all : ℕ) : Type 0 where
@@ -18,5 +18,4 @@ pub record OnSplits (c : Case) (lo hi all : ℕ) : Type 0 where
 pub record Accepts (c : Case) (lo hi all : ℕ) : Type 0 where
   pub on : OnSplits c lo hi all
   pub t9 : test9 c ≡ none
-  pub t10 : test10 c ≡ none
   pub t11 : test11 c ≡ none

@@ -10,7 +10,7 @@ use lib.ListN.{length, getD}
 use Rattle.planner.specs.Range.{outside}
 use Rattle.transport.specs.Sum.{sum}
 use Rattle.planner.specs.Case.{Case}
-use Rattle.planner.specs.Outcome.{Outcome, refused, firstFrom, refuseAt, _orElse_, formRefusal}
+use Rattle.planner.specs.Outcome.{Outcome, refused, firstFrom, refuseAt, formRefusal}
 use Rattle.planner.specs.declared.tests.Found.{Found}
 use Rattle.planner.specs.declared.tests.Found.the-variants.{At, Nowhere}
 use Rattle.planner.specs.declared.tests.Verdict.{Verdict}
@@ -36,10 +36,6 @@ firstAbove limit l = firstFrom (λ k. ltb limit (getD l k 0)) 0 (length l)
 unfoldable pub firstOutside : List ℤ → Option ℕ
 firstOutside l = firstFrom (λ k. outside (getD l k (pos 0))) 0 (length l)
 
--- the first number between two neighbours whose double is below their sum, by its index
-unfoldable pub firstSagging : List ℕ → Option ℕ
-firstSagging l = firstFrom (λ k. ltb (2 * getD l k 0) (getD l (k - 1) 0 + getD l (k + 1) 0)) 1 (length l - 2)
-
 -- no number is above the limit
 abbrev pub AtMost : ℕ → List ℕ → Type 0
 AtMost limit l = (k : ℕ) → k < length l → getD l k 0 ≤ limit
@@ -57,12 +53,10 @@ splitsOf s d =
     (cond (ltb (getD s 0 0 + getD s 1 0) (all - stock)) (Unbalanced 8)
     (Between (all - stock - getD s 1 0) (min (getD s 0 0) (all - stock)) (all - stock)))
 
--- tests 9 and 10 of the entries at the splits lo to hi
+-- test 9 of the entries at the splits lo to hi
 unfoldable pub entriesRefusal : List ℕ → ℕ → ℕ → Option Outcome
 entriesRefusal t lo hi =
     refuseAt 9 (firstFrom (λ y. ltb 1000000000 (getD t y 0)) lo (hi - lo + 1))
-    orElse refuseAt 10
-    (firstFrom (λ y. ltb (2 * getD t y 0) (getD t (y - 1) 0 + getD t (y + 1) 0)) (lo + 1) (hi - lo - 1))
 
 -- the case that is lent by these numbers and slices
 abbrev pub lent : ℕ → ℕ → List ℤ → List ℕ → List ℕ → List ℕ → ℕ → ℕ → ℕ → Case

@@ -69,7 +69,7 @@ fn solve(
     }
 }
 
-// Tests 9 to 11, and the plan.
+// Tests 9 and 11, and the plan.
 pub fn plan_between(
     m: usize,
     n: usize,

@@ -6,7 +6,7 @@ ghost use lib.ListN.{length, getD};
 ghost use Rattle.transport.specs.Sum.{sum};
 ghost use Rattle.planner.specs.Range.{outside};
 ghost use Rattle.planner.specs.Outcome.{formRefusal};
-ghost use Rattle.planner.specs.Verdict.{found, verdict, firstAbove, firstOutside, firstSagging, amountsRefusal, splitsOf, entriesRefusal, lent, AtMost, Amounts, Within};
+ghost use Rattle.planner.specs.Verdict.{found, verdict, firstAbove, firstOutside, amountsRefusal, splitsOf, entriesRefusal, lent, AtMost, Amounts, Within};
 use crate::limits::Checked;
 use crate::limits::Size;
 
@@ -66,22 +66,6 @@ pub fn first_outside(m: usize, n: usize, costs: &[i64]) -> Found
         break 'lanes Found::Nowhere;
     };
     lane
-}
-
-// The first entry between two others whose double is below their sum.
-pub fn first_sagging(s: &[u64]) -> Found
-    requires { ⌜ AtMost 1000000000 (now s) ⌝ }
-    ensures { λ r. ⌜ found r ≡ firstSagging (now (s .entry)) ⌝ }
-{
-    let mut k: usize = 2;
-    while k < s.len() {
-        let double = 2 * s[k - 1];
-        if double < s[k - 2] + s[k] {
-            return Found::At(k - 1);
-        }
-        k += 1;
-    }
-    Found::Nowhere
 }
 
 // The sum of at most 64 numbers, each at most 4,000.
@@ -185,7 +169,7 @@ pub fn splits_of(supplies: &[u64], demands: &[u64]) -> Splits
     Splits::Between(excess(made, second), smaller(first, made), made)
 }
 
-// Tests 9 and 10, at the splits lo to hi.
+// Test 9, at the splits lo to hi.
 pub fn entries_test(table: &[u64], lo: u64, hi: u64) -> Verdict
     requires { ⌜ Within (now table) lo hi ⌝ }
     ensures { λ r. ⌜ verdict r ≡ entriesRefusal (now (table .entry)) lo hi ⌝ }
@@ -195,9 +179,6 @@ pub fn entries_test(table: &[u64], lo: u64, hi: u64) -> Verdict
     let part = &table[start..end];
     if let Found::At(k) = first_above(part, 1_000_000_000) {
         return Verdict::Refused(9, lo + k as u64);
-    }
-    if let Found::At(k) = first_sagging(part) {
-        return Verdict::Refused(10, lo + k as u64);
     }
     Verdict::Passed
 }

@@ -154,7 +154,8 @@ fn bends(b: &[u64], y: u64) -> bool {
     around != plus(f, f)
 }
 
-fn is_stop(b: &[u64], y: u64) -> bool {
+// Whether a split is the first, the last, or one where the slope changes.
+pub fn is_stop(b: &[u64], y: u64) -> bool {
     if y == at(b, FIRST) {
         return true;
     }

@@ -20,8 +20,8 @@ use crate::cells::put;
 use crate::cells::repeat;
 use crate::fixed::run_fixed;
 use crate::random::next_case;
+use crate::report::FROM_CASES;
 use crate::report::report;
-use crate::trial::CASES;
 use crate::trial::close;
 use crate::trial::run_small;
 
@@ -48,7 +48,7 @@ fn run_random(b: &mut [u64]) {
 fn run_trials(b: &mut [u64]) {
     run_fixed(b);
     io::write_all(1, b"fixed\n");
-    report(b, CASES as usize);
+    report(b, FROM_CASES);
     repeat(b, TALLY, 50, 0);
     run_random(b);
     io::write_all(1, b"random\n");

@@ -1,9 +1,8 @@
-// The refusals 1 to 11, judged as the table of the scope says, without the planner's code.
+// The refusals 1 to 9 and 11, judged as the table of the scope says, without the planner's code.
 use crate::bench::COSTS_LEN;
 use crate::bench::DEMANDS_LEN;
 use crate::bench::FIRST;
 use crate::bench::FREIGHTS_LEN;
-use crate::bench::LAST;
 use crate::bench::MADE;
 use crate::bench::PLAN_LEN;
 use crate::bench::SOURCES;
@@ -74,23 +73,6 @@ fn first_outside(s: &[u64]) -> u64 {
             return plus(k as u64, 1);
         }
         k += 1;
-    }
-    0
-}
-
-fn sags(table: &[u64], y: u64) -> bool {
-    let entry = at(table, y);
-    plus(entry, entry) < plus(at(table, minus(y, 1)), at(table, plus(y, 1)))
-}
-
-// The first y strictly between the two splits whose double entry is below its neighbours' sum; 0 where there is none.
-fn first_sag(table: &[u64], first: u64, last: u64) -> u64 {
-    let mut y = plus(first, 1);
-    while y < last {
-        if sags(table, y) {
-            return y;
-        }
-        y += 1;
     }
     0
 }
@@ -210,7 +192,7 @@ fn judge_numbers(b: &[u64]) -> Verdict {
     refused(0, 0)
 }
 
-// Tests 6 to 11.
+// Tests 6 to 9, and 11.
 fn judge_splits(b: &[u64]) -> Verdict {
     let balance = balance_test(b);
     if balance != 0 {
@@ -219,10 +201,6 @@ fn judge_splits(b: &[u64]) -> Verdict {
     let entry = high_entry(b);
     if entry != 0 {
         return refused(9, entry - 1);
-    }
-    let sag = first_sag(table(b), at(b, FIRST), at(b, LAST));
-    if sag != 0 {
-        return refused(10, sag);
     }
     refused(room_test(b), 0)
 }

@@ -20,6 +20,7 @@ use crate::cells::minus;
 use crate::cells::part;
 use crate::cells::plus;
 use crate::cells::put;
+use crate::cells::raise;
 use crate::cells::set;
 use crate::cells::smaller;
 use crate::cells::times;
@@ -56,13 +57,54 @@ fn draw_concave(b: &mut [u64], cells: u64, first: u64) {
     }
 }
 
+// Draws a table of steps: an entry stays, or a fixed charge comes on top of it, or some of it falls away.
+fn draw_steps(b: &mut [u64], cells: u64, first: u64) {
+    let mut entry = first;
+    let mut k: u64 = 0;
+    while k < cells {
+        set(b, TABLE, k, entry);
+        entry = step(b, entry);
+        k += 1;
+    }
+}
+
+// The entry after a step.
+fn step(b: &mut [u64], entry: u64) -> u64 {
+    let kind = draw(b, 6);
+    let by = draw(b, 15);
+    match kind {
+        0 => plus(entry, by),
+        1 => minus(entry, by),
+        _ => entry,
+    }
+}
+
+// Makes each entry one or two higher, or leaves it: a curve rounded to whole numbers.
+fn round_table(b: &mut [u64], cells: u64) {
+    let mut k: u64 = 0;
+    while k < cells {
+        let by = draw(b, 3);
+        raise(b, TABLE, k, by);
+        k += 1;
+    }
+}
+
+fn draw_rounded(b: &mut [u64], cells: u64) {
+    draw_concave(b, cells, 60);
+    round_table(b, cells);
+}
+
+// Draws a table of any shape: few values, falling and rising, steps, rounded, concave.
 fn draw_table(b: &mut [u64]) {
     let cells = plus(at(b, SUPPLIES), 1);
     put(b, TABLE_LEN, cells);
     let kind = draw(b, 8);
     match kind {
-        0 | 1 => draw_cells(b, TABLE, cells, 0, 3),
+        0 => draw_cells(b, TABLE, cells, 0, 3),
+        1 => draw_cells(b, TABLE, cells, 0, 40),
         2 => draw_concave(b, cells, 999_999_900),
+        3 | 4 => draw_steps(b, cells, 60),
+        5 => draw_rounded(b, cells),
         _ => draw_concave(b, cells, 60),
     }
 }

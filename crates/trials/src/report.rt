@@ -1,11 +1,50 @@
 // What the trials found, a line for each count of the tally.
 use crate::bench::TALLY;
+use crate::cells::at;
 use crate::cells::get;
 
-// How many lines there are, and how wide a name is.
+// How many lines there are, how wide a name is, and the cell of the tally that each line shows.
 const LINES: usize = 26;
 
 const WIDTH: usize = 25;
+
+const SHOWN: [u64; 26] = [
+    0,
+    1,
+    2,
+    3,
+    4,
+    5,
+    6,
+    7,
+    8,
+    9,
+    11,
+    28,
+    29,
+    30,
+    31,
+    32,
+    33,
+    34,
+    35,
+    36,
+    37,
+    38,
+    39,
+    40,
+    41,
+    42,
+];
+
+// The line from which on the cases are counted.
+pub const FROM_CASES: usize = 22;
+
+// The count that line k shows.
+fn count_of(b: &[u64], k: u64) -> u64 {
+    let cells: &[u64] = &SHOWN;
+    get(b, TALLY, at(cells, k))
+}
 
 // Writes line k of the names and a number.
 fn say(names: &[u8], k: usize, number: u64) {
@@ -20,11 +59,11 @@ fn say(names: &[u8], k: usize, number: u64) {
     }
 }
 
-// Writes the tally from its cell `first` on.
+// Writes the tally from line `first` on.
 fn say_from(names: &[u8], b: &[u64], first: usize) {
     let mut k = first;
     while k < LINES {
-        say(names, k, get(b, TALLY, k as u64));
+        say(names, k, count_of(b, k as u64));
         k += 1;
     }
 }
@@ -33,10 +72,10 @@ pub fn report(b: &[u64], first: usize) {
     say_from(
         b"planned:                 refused 1:               refused 2:               refused 3:               \
           refused 4:               refused 5:               refused 6:               refused 7:               \
-          refused 8:               refused 9:               refused 10:              refused 11:              \
-          one split:               ties between splits:     ties between plans:      plans listed:            \
-          no depots:               one terminal:            a supply of 0:           a demand of 0:           \
-          balanced, with plans:    unbalanced, no plan:     cases:                   differences:             \
+          refused 8:               refused 9:               refused 11:              one split:               \
+          ties between splits:     ties between plans:      plans listed:            no depots:               \
+          one terminal:            a supply of 0:           a demand of 0:           balanced, with plans:    \
+          unbalanced, no plan:     best between two stops:  cases:                   differences:             \
           first difference: case   first difference: check  ",
         b,
         first,

@@ -17,6 +17,7 @@ use crate::cells::set;
 use crate::compare::check;
 use crate::compare::expect_plan;
 use crate::compare::expect_rows;
+use crate::compare::is_stop;
 use crate::compare::spans;
 use crate::listing::CHEAPEST;
 use crate::listing::LISTED;
@@ -25,33 +26,35 @@ use crate::paper::judge;
 use crate::planned::run;
 
 // The tally: the expected answers by number (0 for a plan), then these.
-const ONE_SPLIT: u64 = 12;
+const ONE_SPLIT: u64 = 28;
 
-const TIES: u64 = 13;
+const TIES: u64 = 29;
 
-const PLAN_TIES: u64 = 14;
+const PLAN_TIES: u64 = 30;
 
-const PLANS: u64 = 15;
+const PLANS: u64 = 31;
 
-const NO_DEPOTS: u64 = 16;
+const NO_DEPOTS: u64 = 32;
 
-const ONE_TERMINAL: u64 = 17;
+const ONE_TERMINAL: u64 = 33;
 
-const NO_SUPPLY: u64 = 18;
+const NO_SUPPLY: u64 = 34;
 
-const NO_DEMAND: u64 = 19;
+const NO_DEMAND: u64 = 35;
 
-const BALANCED: u64 = 20;
+const BALANCED: u64 = 36;
 
-const UNBALANCED: u64 = 21;
+const UNBALANCED: u64 = 37;
 
-pub const CASES: u64 = 22;
+const BETWEEN: u64 = 38;
 
-const DIFFERENCES: u64 = 23;
+const CASES: u64 = 39;
 
-const FIRST_CASE: u64 = 24;
+const DIFFERENCES: u64 = 40;
 
-const FIRST_CHECK: u64 = 25;
+const FIRST_CASE: u64 = 41;
+
+const FIRST_CHECK: u64 = 42;
 
 // Keeps the first case with a difference.
 fn keep_first(b: &mut [u64], failed: u64) {
@@ -94,6 +97,12 @@ fn count_sizes(b: &mut [u64]) {
     count(b, TALLY, ONE_TERMINAL, one_terminal);
 }
 
+// Counts the cases whose best split lies strictly between two stops.
+fn count_between(b: &mut [u64]) {
+    let between = !is_stop(b, at(b, WANT + 2));
+    count(b, TALLY, BETWEEN, between);
+}
+
 // Counts what a planned case shows.
 fn count_plan(b: &mut [u64]) {
     let one_split = at(b, WIDTH) == 1;
@@ -101,6 +110,7 @@ fn count_plan(b: &mut [u64]) {
     let plans = at(b, LISTED);
     raise(b, TALLY, PLANS, plans);
     count_ties(b);
+    count_between(b);
     count_sizes(b);
     count_zeros(b);
 }

@@ -133,41 +133,64 @@ fn amounts(random: &mut Random, m: usize, n: usize, most: u64) -> (Vec<u64>, Vec
     (supplies, demands)
 }
 
-/// A table that is concave from ℓ to u, and anything outside.
+/// A table of one of eight shapes from ℓ to u, and anything outside.
 fn table(random: &mut Random, lent: &Lent, least: u64, curve: &[i64]) -> Vec<u64> {
     let mut table: Vec<u64> = (0..=lent.supplies[0]).map(|_| random.next()).collect();
+    let entries = entries(random, curve);
+    table[least as usize..][..curve.len()].copy_from_slice(&entries);
+    table
+}
+
+fn entries(random: &mut Random, curve: &[i64]) -> Vec<u64> {
     let splits = curve.len();
     let highest = *curve.iter().max().expect("a split");
     let lowest = *curve.iter().min().expect("a split");
-    let kind = random.within(0, 4);
-    for k in 0..splits {
-        table[least as usize + k] = match kind {
-            // every total the same: the smallest split is due
-            0 if highest - lowest <= 1_000_000_000 => (highest - curve[k]) as u64,
-            1 => 0,
-            _ => 0,
-        };
+    // the entries that make all totals equal, as far as the limit lets them
+    let level = |k: usize| ((highest - curve[k]) as u64).min(1_000_000_000);
+    match random.within(0, 7) {
+        // the smallest split is due
+        0 => (0..splits).map(level).collect(),
+        // all totals equal but one or two, which are less by one
+        1 => {
+            let mut entries: Vec<u64> = (0..splits).map(|k| (level(k) + 2).min(1_000_000_000)).collect();
+            for _ in 0..random.within(1, 2) {
+                entries[random.size(0, splits - 1)] -= 1;
+            }
+            entries
+        }
+        // rounded to tens, so that it misses any slope by a little
+        2 => (0..splits).map(|k| level(k) / 10 * 10).collect(),
+        // anything, small or large
+        3 => (0..splits).map(|_| random.within(0, 9)).collect(),
+        4 => (0..splits).map(|_| random.within(0, 1_000_000_000)).collect(),
+        // about as much as the freight differs
+        5 => {
+            let most = (highest - lowest).clamp(1, 1_000_000_000) as u64;
+            (0..splits).map(|_| random.within(0, most)).collect()
+        }
+        // steps, with a charge for each
+        6 => {
+            let (wide, charge) = (random.size(1, splits), random.within(0, 1_000_000));
+            (0..splits).map(|k| ((k / wide) as u64 * charge).min(1_000_000_000)).collect()
+        }
+        // a fixed charge, and slopes that rise or fall from there
+        _ => {
+            let charge = random.within(0, 100_000_000);
+            let most = 900_000_000 / splits as u64;
+            let mut slopes: Vec<u64> = (1..splits).map(|_| random.within(0, most)).collect();
+            slopes.sort_unstable();
+            if random.within(0, 1) == 0 {
+                slopes.reverse();
+            }
+            let mut entries = vec![0, charge];
+            for slope in slopes {
+                entries.push(entries[entries.len() - 1] + slope);
+            }
+            entries.truncate(splits);
+            if random.within(0, 1) == 0 {
+                entries.reverse();
+            }
+            entries
+        }
     }
-    if kind == 0 && highest - lowest <= 1_000_000_000 || kind == 1 {
-        return table;
-    }
-    // slopes that fall, from a step that is small or as large as the limit lets it be
-    let most = if random.within(0, 1) == 0 { 10 } else { 1_000_000_000 / (splits as u64).max(1) };
-    let mut slopes: Vec<i64> =
-        (1..splits).map(|_| random.within(0, most) as i64 - random.within(0, most) as i64).collect();
-    if kind == 2 {
-        // as steep as the freight curve is on average, so that both ends compete
-        let mean = (curve[splits - 1] - curve[0]) / splits as i64;
-        slopes.iter_mut().for_each(|s| *s = (*s % 3 - mean).clamp(-(most as i64), most as i64));
-    }
-    slopes.sort_unstable_by(|a, b| b.cmp(a));
-    let mut entries = vec![0i64];
-    for slope in slopes {
-        entries.push(entries[entries.len() - 1] + slope);
-    }
-    let lowest = *entries.iter().min().expect("a split");
-    for (k, entry) in entries.iter().enumerate() {
-        table[least as usize + k] = ((entry - lowest) as u64).min(1_000_000_000);
-    }
-    table
 }

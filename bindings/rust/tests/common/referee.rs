@@ -45,12 +45,8 @@ pub fn refusal(lent: &Lent) -> Option<(u64, u64)> {
         return Some((8, 0));
     }
     let (_, l, u) = splits(lent);
-    let entry = |y: u64| lent.table[y as usize];
-    if let Some(y) = (l..=u).find(|&y| entry(y) > 1_000_000_000) {
+    if let Some(y) = (l..=u).find(|&y| lent.table[y as usize] > 1_000_000_000) {
         return Some((9, y));
-    }
-    if let Some(y) = (l + 1..u).find(|&y| 2 * entry(y) < entry(y - 1) + entry(y + 1)) {
-        return Some((10, y));
     }
     let room = (u - l + 1) as usize;
     if lent.plan_cells < m * n || lent.split_cells < room || lent.freight_cells < room {

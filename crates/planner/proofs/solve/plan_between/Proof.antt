@@ -18,7 +18,7 @@ use Rattle.planner.proofs.solve.plan_between.Lts as lts
 use Rattle.planner.proofs.solve.solve.Reads as solve-reads
 use Rattle.planner.proofs.tests.entries_test.Reads as entries-test-reads
 
--- past tests 9 and 10
+-- past test 9
 passed : (c : tie.After-enum-told) → entriesRefusal (now (c .before .before .before .before .before .before .before .before .args .table)) (c .before .before .before .before .before .before .before .before .args .lo) (c .before .before .before .before .before .before .before .before .args .hi) ≡ none
 passed c = sym (c .before .before .entries-test .ensures) ∙ ap verdict (c .enum-told .given .1)
 

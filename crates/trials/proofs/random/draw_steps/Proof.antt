@@ -1,0 +1,29 @@
+-- `trials::random::draw_steps` is safe and ends. The slice keeps its length; the measure is what is left of the cells.
+-- Assumes nothing.
+use mathlib.Core.Path.{_≡_}
+use Prim.Native.Nat.{_-_}
+use borrow.Author.Needs.{needs}
+use lib.ListN.{length}
+use Rattle.trials.proofs.random.draw_steps.Statement.{statement}
+use Rattle.trials.proofs.random.draw_steps.Tie as tie
+
+abbrev Inv-loop : tie.InvT-loop
+Inv-loop b₀ cells first entry₀ k₀ b entry k = length b ≡ length b₀
+
+abbrev μ-loop : tie.MeasureT-loop
+μ-loop b₀ cells first entry₀ k₀ b entry k = cells - k
+
+pub draw-steps-spec : {M : Type 1} → statement M
+draw-steps-spec =
+    tie.close
+    (tie.spec
+    Inv-loop
+    μ-loop
+    (λ c. search needs)
+    (λ c κs. search needs)
+    (λ c κs. search needs)
+    (λ c. search needs)
+    (λ c. search needs)
+    (λ c. search needs)
+    (λ c. search needs)
+    (λ c. search needs))
