@@ -40,7 +40,7 @@ fn clocked<T>(work: impl FnOnce() -> T) -> (f64, T) {
 
 #[rustfmt::skip]
 type Planner = fn(
-    usize, usize, &[i64], &[u64], &[u64], &[u64],
+    usize, usize, u64, u64, &[i64], &[u64], &[u64], &[u64],
     &mut [u64], &mut [u64], &mut [i64], &mut [u64], &mut [i64],
 ) -> u64;
 
@@ -78,8 +78,9 @@ impl Lent {
         freights.fill(0);
         report.fill(0);
         worth.fill(0);
-        let work =
-            || planner(c.m, c.n, &c.costs, &c.supplies, &c.demands, &c.table, plan, splits, freights, report, worth);
+        let work = || {
+            planner(c.m, c.n, 0, 0, &c.costs, &c.supplies, &c.demands, &c.table, plan, splits, freights, report, worth)
+        };
         let (time, answer) = clocked(work);
         assert_eq!(answer, 0, "the case is planned");
         time

@@ -9,11 +9,11 @@
 static const uint64_t supplies[] = {3, 3, 1};
 static const uint64_t demands[] = {3, 2};
 
-static void print_plan(const char *name, const int64_t costs[6], const uint64_t table[4]) {
+static void print_plan(const char *name, uint64_t run1, uint64_t run2, const int64_t costs[6], const uint64_t table[4]) {
     uint64_t plan[6], splits[3], report[YADVORKHUL_REPORT_CELLS];
     int64_t freights[3], worth[YADVORKHUL_WORTH_CELLS];
-    uint64_t answer = yadvorkhul_plan(3, 2, costs, 6, supplies, CELLS(supplies), demands, CELLS(demands), table, 4,
-                                      plan, CELLS(plan), splits, CELLS(splits), freights, CELLS(freights),
+    uint64_t answer = yadvorkhul_plan(3, 2, run1, run2, costs, 6, supplies, CELLS(supplies), demands, CELLS(demands),
+                                      table, 4, plan, CELLS(plan), splits, CELLS(splits), freights, CELLS(freights),
                                       report, CELLS(report), worth, CELLS(worth));
     printf("%s\n", name);
     if (answer != 0) {
@@ -34,9 +34,11 @@ int main(void) {
     const int64_t too_much[] = {2, 6, 5, 3, 1, -1000001};
     const uint64_t table[] = {99, 20, 24, 20};
     const uint64_t sagging[] = {99, 20, 20, 22};
-    print_plan("case A", costs, table);
-    print_plan("40 back for each drum from source 3 to terminal 2", rebate, table);
-    print_plan("1,000,001 back", too_much, table);
-    print_plan("entry 2 lowered: the least total lies between two others", costs, sagging);
+    print_plan("case A", 0, 0, costs, table);
+    print_plan("40 back for each drum from source 3 to terminal 2", 0, 0, rebate, table);
+    print_plan("1,000,001 back", 0, 0, too_much, table);
+    print_plan("entry 2 lowered: the least total lies between two others", 0, 0, costs, sagging);
+    print_plan("each plant makes 2 at least", 2, 2, costs, table);
+    print_plan("plant 2 makes 4 at least, and can make 3", 2, 4, costs, table);
     return 0;
 }

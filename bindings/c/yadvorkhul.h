@@ -24,6 +24,7 @@ extern "C" {
 /* Plans a case, or refuses it. Any numbers and any lengths may be passed; nothing else is required of them.
 
    m, n         sources and terminals. Sources 1 and 2 are plants, the others depots.
+   run1, run2   the least that plant 1 and plant 2 must make, at most its supply each; 0 for none
    costs        m × n unit costs, one source's together, row after row: source i to terminal j (from 0) at i × n + j;
                 a rebate is a cost below 0
    supplies     m numbers: the most each of the plants can make, then each depot's stock, which must all leave
@@ -40,15 +41,19 @@ extern "C" {
    worth        at least YADVORKHUL_WORTH_CELLS cells; gets in its first cells
                   total, freight             where the answer is 0
 
+   The splits: with d for all demands minus all depot stock, plant 1 makes from l, the larger of run1 and d - supplies[1], to
+   u, the smaller of supplies[0] and d - run2, and plant 2 the rest of d. Where d is below run1 + run2 the answer is 7; where
+   run1 or run2 is above its plant's supply it is 23, with place 1 or 2, tested straight after 4.
+
    Costs, freights and worth are signed; the total is -128,000,000,000 to 129,000,000,000. Each pointer is followed by its
    number of cells. It points at that many numbers that lie together and are aligned for uint64_t; it may not be null, even
    where the number is 0. plan, splits, freights, report and worth overlap nothing.
 
-   Answers 0 where the case is planned, or the number of the first test that it fails (1 to 9 and 11, see docs/USING.md), or
-   YADVORKHUL_SHORT_REPORT where report or worth is too short for anything to be told. On a refusal plan, splits, freights
+   Answers 0 where the case is planned, or the number of the first test that it fails (1 to 9, 11 and 23, see docs/USING.md),
+   or YADVORKHUL_SHORT_REPORT where report or worth is too short for anything to be told. On a refusal plan, splits, freights
    and worth keep their contents. All cells that are not named here keep theirs always. It needs about 80 kB of stack, and
    no heap. */
-uint64_t yadvorkhul_plan(size_t m, size_t n,
+uint64_t yadvorkhul_plan(size_t m, size_t n, uint64_t run1, uint64_t run2,
                          const int64_t *costs, size_t costs_cells,
                          const uint64_t *supplies, size_t supplies_cells,
                          const uint64_t *demands, size_t demands_cells,

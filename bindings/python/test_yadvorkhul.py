@@ -32,12 +32,12 @@ def fill(n, total, most):
             yield [x] + rest
 
 
-def listed(costs, supplies, demands, table):
+def listed(costs, supplies, demands, table, runs):
     """Split, total, and f at each split, by a listing of all plans."""
     m, n = len(supplies), len(demands)
     d = sum(demands) - sum(supplies[2:])
     curve = {}
-    for y in range(max(0, d - supplies[1]), min(supplies[0], d) + 1):
+    for y in range(max(runs[0], d - supplies[1]), min(supplies[0], d - runs[1]) + 1):
         plans = rows(m, n, [y, d - y] + supplies[2:], demands)
         curve[y] = min(sum(c * x for cr, xr in zip(costs, p) for c, x in zip(cr, xr)) for p in plans)
     total, split = min((f + table[y], y) for y, f in curve.items())
@@ -81,6 +81,17 @@ class Cases(unittest.TestCase):
         self.assertEqual(found.split, 200)
         self.assertEqual(found.stops, [(100, 1430), (150, 1030), (180, 820), (200, 800)])
 
+    def test_runs(self):
+        self.expect(3, 33, runs=(2, 1))
+        found = self.expect(2, 35, runs=[2, 2])
+        self.assertEqual(found.stops, [(2, 11)])
+        self.refused(7, 0, runs=(2, 3))
+        self.refused(23, 1, runs=(4, 4))
+        self.refused(23, 2, runs=(3, (1 << 64) - 1))
+        for odd in ((-1, 0), (0, 1.5), (0, 1 << 64)):
+            with self.assertRaises(TypeError):
+                plan(**A, runs=odd)
+
     def test_rebates(self):
         found = self.expect(3, -11, costs=[[2, 6], [5, 3], [1, -40]])
         self.assertEqual((found.freight, found.stops), (-31, [(1, -25), (3, -31)]))
@@ -123,7 +134,7 @@ class Lent(unittest.TestCase):
         case = {**A, **changes}
         lent = [[7] * k for k in (plan_cells, split_cells, freight_cells, report_cells, worth_cells)]
         costs = [c for row in case["costs"] for c in row]
-        return plan_into(3, 2, costs, case["supplies"], case["demands"], case["table"], *lent), lent
+        return plan_into(3, 2, 0, 0, costs, case["supplies"], case["demands"], case["table"], *lent), lent
 
     def test_planned(self):
         number, lent = self.call()
@@ -161,21 +172,21 @@ class Listing(unittest.TestCase):
             demands = [draw.randint(0, 4) for _ in range(n)]
             most = draw.choice((3, 30, 1_000_000_000))
             table = [draw.randint(0, most) for _ in range(supplies[0] + 1)]
+            runs = draw.choice(((0, 0), tuple(draw.randint(0, a) for a in supplies[:2])))
             d = sum(demands) - sum(supplies[2:])
-            if d < 0 or d > supplies[0] + supplies[1]:
+            if d < sum(runs) or d > supplies[0] + supplies[1]:
                 with self.assertRaises(Refusal) as caught:
-                    plan(costs, supplies, demands, table)
-                self.assertEqual(caught.exception.number, 7 if d < 0 else 8)
+                    plan(costs, supplies, demands, table, runs)
+                self.assertEqual(caught.exception.number, 7 if d < sum(runs) else 8)
                 continue
-            low, high = max(0, d - supplies[1]), min(supplies[0], d)
-            found = plan(costs, supplies, demands, table)
-            split, total, curve = listed(costs, supplies, demands, table)
+            found = plan(costs, supplies, demands, table, runs)
+            split, total, curve = listed(costs, supplies, demands, table, runs)
             self.assertEqual((found.split, found.total, found.freight), (split, total, curve[split]))
             self.assertEqual([sum(row) for row in found.amounts], [split, d - split] + supplies[2:])
             self.assertEqual([sum(column) for column in zip(*found.amounts)], demands)
             spent = sum(c * x for cr, xr in zip(costs, found.amounts) for c, x in zip(cr, xr))
             self.assertEqual(spent, found.freight)
-            bends = [y for y in curve if y in (low, high) or curve[y - 1] + curve[y + 1] != 2 * curve[y]]
+            bends = [y for y in curve if y in (min(curve), max(curve)) or curve[y - 1] + curve[y + 1] != 2 * curve[y]]
             self.assertEqual(found.stops, [(y, curve[y]) for y in bends])
             planned += 1
 

@@ -9,13 +9,17 @@
     >>> p.stops
     [(1, 14), (2, 11), (3, 13)]
 
-A unit cost below 0 is a rebate; freights and totals are signed too.
+A unit cost below 0 is a rebate; freights and totals are signed too. A plant may have a least run, which every plan makes:
+
+    >>> p = plan([[2, 6], [5, 3], [1, 4]], [3, 3, 1], [3, 2], [99, 20, 24, 20], runs=(2, 2))
+    >>> p.split, p.total
+    (2, 35)
 
 A case that fails a test is refused by an exception that has the number and the place:
 
     >>> plan(costs=[[2, 6], [5, 3], [1, 4]], supplies=[3, 3, 6], demands=[3, 2], table=[99, 20, 24, 20])
     Traceback (most recent call last):
-    yadvorkhul.Refusal: refusal 7: the depots hold more than the terminals take
+    yadvorkhul.Refusal: refusal 7: the terminals take less than the depots hold and the least runs make
 
 The shared object is made from the proved archive by `bindings/python/build`. Nothing checks the declaration here against
 the Rattle source.
@@ -41,10 +45,11 @@ _MEANINGS = {
     4: "a supply or demand is above 4,000",
     5: "a unit cost is below -1,000,000 or above 1,000,000",
     6: "the table has not one entry more than plant 1's supply",
-    7: "the depots hold more than the terminals take",
+    7: "the terminals take less than the depots hold and the least runs make",
     8: "the terminals take more than depots and plants can give",
     9: "a table entry at a split in use is above 1,000,000,000",
     11: "a lent slice is too short for the plan or the stops",
+    23: "a least run is above its plant's supply",
     SHORT_REPORT: "the report or the worth has fewer than two cells",
 }
 
@@ -74,9 +79,9 @@ def _load():
     if not os.path.exists(path):
         raise ImportError("libyadvorkhul.so is not there: run bindings/python/build, or name it in YADVORKHUL_SO")
     function = ctypes.CDLL(path).yadvorkhul_plan
-    # m and n, then the slices, each a pointer and then a length
+    # m, n and the least runs, then the slices, each a pointer and then a length
     slices = [part for kind in _READ + _WRITTEN for part in (ctypes.POINTER(kind), ctypes.c_size_t)]
-    function.argtypes = [ctypes.c_size_t] * 2 + slices
+    function.argtypes = [ctypes.c_size_t] * 2 + [ctypes.c_uint64] * 2 + slices
     function.restype = ctypes.c_uint64
     return function
 
@@ -97,19 +102,19 @@ def _cells(kind, numbers):
     return (kind * (len(numbers) + 1))(*numbers), len(numbers)
 
 
-def plan_into(m, n, costs, supplies, demands, table, plan, splits, freights, report, worth):
+def plan_into(m, n, run1, run2, costs, supplies, demands, table, plan, splits, freights, report, worth):
     """The planner on lent lists. Each of the last five is changed in the cells that the planner writes. Answers its number."""
     read = [_cells(kind, numbers) for kind, numbers in zip(_READ, (costs, supplies, demands, table))]
     lent = [plan, splits, freights, report, worth]
     written = [_cells(kind, numbers) for kind, numbers in zip(_WRITTEN, lent)]
-    _cells(ctypes.c_size_t, [m, n])
-    answer = _function(m, n, *(part for pair in read + written for part in pair))
+    _cells(ctypes.c_uint64, [m, n, run1, run2])
+    answer = _function(m, n, run1, run2, *(part for pair in read + written for part in pair))
     for numbers, (cells, length) in zip(lent, written):
         numbers[:] = cells[:length]
     return answer
 
 
-def plan(costs, supplies, demands, table) -> Plan:
+def plan(costs, supplies, demands, table, runs=(0, 0)) -> Plan:
     """A cheapest plan, or a `Refusal`.
 
     costs     a row for each source: its unit cost to each terminal, below 0 for a rebate
@@ -117,17 +122,19 @@ def plan(costs, supplies, demands, table) -> Plan:
     demands   what each terminal takes
     table     one entry more than the first supply: entry y is the cost of both plants together when plant 1 makes y;
               of any shape
+    runs      the least that each of the two plants must make, at most its supply; 0 for none
     """
     rows = [list(row) for row in costs]
     supplies, demands = list(supplies), list(demands)
     m, n = len(supplies), len(demands)
+    run1, run2 = runs
     # rows of other lengths must not pass for a table of the right size
     even = len(rows) == m and all(len(row) == n for row in rows)
     lanes = [cost for row in rows for cost in row] if even else []
     amounts = [0] * (min(m, MOST_SOURCES) * min(n, MOST_TERMINALS))
     splits, freights = [0] * MOST_SPLITS, [0] * MOST_SPLITS
     report, worth = [0] * REPORT_CELLS, [0] * WORTH_CELLS
-    number = plan_into(m, n, lanes, supplies, demands, table, amounts, splits, freights, report, worth)
+    number = plan_into(m, n, run1, run2, lanes, supplies, demands, table, amounts, splits, freights, report, worth)
     if number != 0:
         raise Refusal(number, report[0])
     (split, count), (total, freight) = report, worth

@@ -10,6 +10,8 @@ use self::engine::{sweep, Curve};
 pub fn plan_into(
     m: usize,
     n: usize,
+    run1: u64,
+    run2: u64,
     costs: &[i64],
     supplies: &[u64],
     demands: &[u64],
@@ -23,7 +25,7 @@ pub fn plan_into(
     if report.len() < 2 || worth.len() < 2 {
         return 34;
     }
-    match checked(m, n, costs, supplies, demands, table, plan.len(), splits.len(), freights.len()) {
+    match checked(m, n, run1, run2, costs, supplies, demands, table, plan.len(), splits.len(), freights.len()) {
         Err((number, place)) => {
             report[0] = place;
             number
@@ -41,11 +43,13 @@ fn first_above(s: &[u64], limit: u64) -> Option<usize> {
     s.iter().position(|&a| limit < a)
 }
 
-/// Tests 1 to 9 and 11: the first and the last split, or the refusal.
+/// The tests in their order: the first and the last split, or the refusal.
 #[allow(clippy::too_many_arguments)]
 fn checked(
     m: usize,
     n: usize,
+    run1: u64,
+    run2: u64,
     costs: &[i64],
     supplies: &[u64],
     demands: &[u64],
@@ -69,6 +73,12 @@ fn checked(
     if let Some(k) = first_above(demands, 4_000) {
         return Err((4, (m + k) as u64 + 1));
     }
+    if supplies[0] < run1 {
+        return Err((23, 1));
+    }
+    if supplies[1] < run2 {
+        return Err((23, 2));
+    }
     if let Some(k) = costs.iter().position(|&c| !(-1_000_000..=1_000_000).contains(&c)) {
         return Err((5, k as u64 + 1));
     }
@@ -77,14 +87,14 @@ fn checked(
     }
     let all: u64 = demands.iter().sum();
     let stock: u64 = supplies[2..].iter().sum();
-    if all < stock {
+    if all < stock + run1 + run2 {
         return Err((7, 0));
     }
     let made = all - stock;
     if supplies[0] + supplies[1] < made {
         return Err((8, 0));
     }
-    let (lo, hi) = (made.saturating_sub(supplies[1]), made.min(supplies[0]));
+    let (lo, hi) = (run1.max(made.saturating_sub(supplies[1])), supplies[0].min(made - run2));
     let part = &table[lo as usize..=hi as usize];
     if let Some(k) = first_above(part, 1_000_000_000) {
         return Err((9, lo + k as u64));

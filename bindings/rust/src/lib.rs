@@ -11,6 +11,7 @@
 //!     supplies: vec![3, 3, 1],
 //!     demands: vec![3, 2],
 //!     table: vec![99, 20, 24, 20], // entry y: both plants together, when plant 1 makes y
+//!     ..Case::default() // no least runs
 //! };
 //! let plan = case.plan().unwrap();
 //! assert_eq!((plan.split, plan.total, plan.freight), (3, 33, 13));
@@ -19,7 +20,14 @@
 //! assert_eq!(curve, [(1, 14), (2, 11), (3, 13)]);
 //! ```
 //!
-//! A unit cost below 0 is a rebate; freights and totals are signed too.
+//! A unit cost below 0 is a rebate; freights and totals are signed too. A plant may have a least run, which every plan makes:
+//!
+//! ```
+//! # use yadvorkhul::Case;
+//! # let case = Case { costs: vec![2, 6, 5, 3, 1, 4], supplies: vec![3, 3, 1], demands: vec![3, 2], table: vec![99, 20, 24, 20], ..Case::default() };
+//! let plan = Case { runs: [2, 2], ..case }.plan().unwrap();
+//! assert_eq!((plan.split, plan.total), (2, 35));
+//! ```
 //!
 //! A case that cannot be planned is refused, with the number and the place of the first test that it fails:
 //!
@@ -31,6 +39,7 @@
 //!     supplies: vec![3, 3, 6],
 //!     demands: vec![3, 2],
 //!     table: vec![99, 20, 24, 20],
+//!     ..Case::default()
 //! };
 //! let refusal = case.plan().unwrap_err();
 //! assert_eq!((refusal.number, refusal.place), (7, 0));
@@ -66,6 +75,8 @@ extern "C" {
     fn yadvorkhul_plan(
         m: usize,
         n: usize,
+        run1: u64,
+        run2: u64,
         costs: *const i64,
         costs_len: usize,
         supplies: *const u64,
@@ -98,7 +109,7 @@ extern "C" {
 /// ```
 /// let (mut plan, mut splits, mut freights, mut report, mut worth) = ([7; 7], [7; 4], [7; 4], [7; 3], [7; 3]);
 /// let answer = yadvorkhul::plan_into(
-///     3, 2, &[2, 6, 5, 3, 1, 4], &[3, 3, 1], &[3, 2], &[99, 20, 24, 20],
+///     3, 2, 0, 0, &[2, 6, 5, 3, 1, 4], &[3, 3, 1], &[3, 2], &[99, 20, 24, 20],
 ///     &mut plan, &mut splits, &mut freights, &mut report, &mut worth,
 /// );
 /// assert_eq!(answer, 0);
@@ -112,6 +123,8 @@ extern "C" {
 pub fn plan_into(
     m: usize,
     n: usize,
+    run1: u64,
+    run2: u64,
     costs: &[i64],
     supplies: &[u64],
     demands: &[u64],
@@ -128,6 +141,8 @@ pub fn plan_into(
         yadvorkhul_plan(
             m,
             n,
+            run1,
+            run2,
             costs.as_ptr(),
             costs.len(),
             supplies.as_ptr(),
@@ -151,7 +166,7 @@ pub fn plan_into(
 }
 
 /// A planning case. There are as many sources as supplies and as many terminals as demands.
-#[derive(Clone, Debug, PartialEq, Eq)]
+#[derive(Clone, Debug, Default, PartialEq, Eq)]
 pub struct Case {
     /// Unit costs, one source's together, row after row: source i's cost to terminal j (both from 0) at i × n + j. A rebate
     /// is a cost below 0.
@@ -163,6 +178,8 @@ pub struct Case {
     /// Entry y: the cost of both plants together when plant 1 makes y and plant 2 the rest. One entry more than plant 1's
     /// supply; of any shape.
     pub table: Vec<u64>,
+    /// The least that each of the two plants must make, at most its supply; 0 for none.
+    pub runs: [u64; 2],
 }
 
 /// A cheapest plan.
@@ -202,6 +219,8 @@ impl Case {
         let number = plan_into(
             m,
             n,
+            self.runs[0],
+            self.runs[1],
             &self.costs,
             &self.supplies,
             &self.demands,
@@ -227,7 +246,8 @@ impl Plan {
     ///
     /// ```
     /// # let case = yadvorkhul::Case {
-    /// #     costs: vec![2, 6, 5, 3, 1, 4], supplies: vec![3, 3, 1], demands: vec![3, 2], table: vec![99, 20, 24, 20] };
+    /// #     costs: vec![2, 6, 5, 3, 1, 4], supplies: vec![3, 3, 1], demands: vec![3, 2], table: vec![99, 20, 24, 20],
+    /// #     ..Default::default() };
     /// let plan = case.plan().unwrap();
     /// assert_eq!(plan.amount(2, 1), 1);
     /// ```

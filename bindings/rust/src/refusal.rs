@@ -11,13 +11,14 @@ use std::fmt;
 ///     supplies: vec![3, 3, 1],
 ///     demands: vec![3, 4001],
 ///     table: vec![99, 20, 24, 20],
+///     ..Default::default()
 /// };
 /// let refusal = case.plan().unwrap_err();
 /// assert_eq!(refusal.to_string(), "refusal 4 at place 5: a supply or demand is above 4,000; look at the demand of terminal 2");
 /// ```
 #[derive(Clone, Copy, Debug, PartialEq, Eq)]
 pub struct Refusal {
-    /// 1 to 9, or 11.
+    /// 1 to 9, 11 or 23.
     pub number: u64,
     /// Where the test fails, as the number has it; 0 where it names no place.
     pub place: u64,
@@ -35,10 +36,11 @@ impl Refusal {
             4 => "a supply or demand is above 4,000",
             5 => "a unit cost is below -1,000,000 or above 1,000,000",
             6 => "the table has not one entry more than plant 1's supply",
-            7 => "the depots hold more than the terminals take",
+            7 => "the terminals take less than the depots hold and the least runs make",
             8 => "the terminals take more than depots and plants can give",
             9 => "a table entry at a split in use is above 1,000,000,000",
             11 => "a lent slice is too short for the plan or the stops",
+            23 => "a least run is above its plant's supply",
             _ => "a number that this wrapper does not know",
         }
     }
@@ -56,10 +58,11 @@ impl Refusal {
                 format!("look at the cost from source {} to terminal {}", (place - 1) / n + 1, (place - 1) % n + 1)
             }
             6 => "look at the table's length and the first supply".to_string(),
-            7 => "compare the sum of supplies from the third on with the sum of demands".to_string(),
+            7 => "compare the sum of demands with the supplies from the third on and the least runs".to_string(),
             8 => "compare the sum of all supplies with the sum of demands".to_string(),
             9 => format!("look at table entry {place}"),
             11 => "lend m × n cells for the plan and one for each split for the stops".to_string(),
+            23 => format!("look at the least run of plant {place}"),
             _ => "no place is named".to_string(),
         }
     }

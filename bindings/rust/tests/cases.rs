@@ -67,6 +67,26 @@ fn p10_one_split() {
     planned(&Lent { supplies: vec![3, 1, 1], ..Lent::a() }, 3, 33, 3, &[13]);
 }
 
+/// Least runs 2 and 1 leave case A its split; 2 and 2 do not. At their limits: a plant's supply, d together, one more.
+#[test]
+fn least_runs() {
+    let with = |run1: u64, run2: u64| Lent { run1, run2, ..Lent::a() };
+    planned(&with(2, 1), 3, 33, 2, &[11, 13]);
+    planned(&with(2, 2), 2, 35, 2, &[11]);
+    planned(&with(0, 2), 1, 34, 1, &[14, 11]);
+    planned(&with(3, 0), 3, 33, 3, &[13]);
+    planned(&with(3, 1), 3, 33, 3, &[13]);
+    planned(&with(0, 3), 1, 34, 1, &[14]);
+    planned(&with(1, 3), 1, 34, 1, &[14]);
+    expect_refusal(&with(2, 3), 7, 0);
+    expect_refusal(&with(4, 0), 23, 1);
+    expect_refusal(&with(0, 4), 23, 2);
+    expect_refusal(&with(4, 4), 23, 1);
+    // nothing to make, and nothing that must be made
+    planned(&Lent { supplies: vec![3, 3, 5], ..with(0, 0) }, 0, 110, 0, &[11]);
+    expect_refusal(&Lent { supplies: vec![3, 3, 5], ..with(0, 1) }, 7, 0);
+}
+
 /// Rebates: a curve that is negative throughout, and one that passes 0.
 #[test]
 fn rebates() {
@@ -120,18 +140,20 @@ fn report_example_with_its_table() {
 #[test]
 fn owned_types() {
     let a = Lent::a();
-    let case = Case { costs: a.costs, supplies: a.supplies, demands: a.demands, table: a.table };
+    let case = Case { costs: a.costs, supplies: a.supplies, demands: a.demands, table: a.table, ..Case::default() };
     let plan = case.plan().unwrap();
     assert_eq!((plan.split, plan.total, plan.freight), (3, 33, 13));
     assert_eq!(plan.rows().collect::<Vec<_>>(), [[3, 0], [0, 1], [0, 1]]);
     let stop = |split, freight| Stop { split, freight };
     assert_eq!(plan.stops, [stop(1, 14), stop(2, 11), stop(3, 13)]);
+    let plan = Case { runs: [2, 2], ..case }.plan().unwrap();
+    assert_eq!((plan.split, plan.total, plan.stops), (2, 35, vec![stop(2, 11)]));
 }
 
 #[test]
 fn refusals_are_readable() {
     let a = Lent::a();
-    let case = Case { costs: a.costs, supplies: a.supplies, demands: a.demands, table: a.table };
+    let case = Case { costs: a.costs, supplies: a.supplies, demands: a.demands, table: a.table, ..Case::default() };
     let text = |case: Case| case.plan().unwrap_err().to_string();
     for beyond in [1_000_001, -1_000_001] {
         let costs = vec![2, 6, 5, 3, 1, beyond];
@@ -144,6 +166,15 @@ fn refusals_are_readable() {
     assert_eq!(
         text(Case { table: vec![99, 20, 1_000_000_001, 22], ..case.clone() }),
         "refusal 9 at place 2: a table entry at a split in use is above 1,000,000,000; look at table entry 2"
+    );
+    assert_eq!(
+        text(Case { runs: [0, 4], ..case.clone() }),
+        "refusal 23 at place 2: a least run is above its plant's supply; look at the least run of plant 2"
+    );
+    assert_eq!(
+        text(Case { runs: [2, 3], ..case.clone() }),
+        "refusal 7: the terminals take less than the depots hold and the least runs make; \
+         compare the sum of demands with the supplies from the third on and the least runs"
     );
     assert_eq!(
         text(Case { supplies: vec![3], ..case.clone() }),

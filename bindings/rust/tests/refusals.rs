@@ -8,7 +8,7 @@ use common::{expect_referee, expect_refusal, referee, untouched, untouched_signe
 const SMALL: Limits = Limits { sources: (2, 6), terminals: (1, 8), amount: 12 };
 
 /// The numbers of the tests, in their order.
-const ORDER: [u64; 10] = [1, 2, 3, 4, 5, 6, 7, 8, 9, 11];
+const ORDER: [u64; 11] = [1, 2, 3, 4, 23, 5, 6, 7, 8, 9, 11];
 
 /// How often each of `ORDER` was seen, and how many cases were planned.
 struct Seen([usize; ORDER.len() + 1]);
@@ -58,18 +58,38 @@ fn spoil(random: &mut Random, lent: &mut Lent, number: u64) -> bool {
             let amount = [4_001, 1 << 32, u64::MAX][random.size(0, 2)];
             *if k < m { &mut lent.supplies[k] } else { &mut lent.demands[k - m] } = amount;
         }
+        23 => {
+            let beyond = |random: &mut Random, supply: u64| [supply + 1, 4_001, 1 << 32, u64::MAX][random.size(0, 3)];
+            let which = random.within(1, 3);
+            if which != 2 {
+                lent.run1 = beyond(random, lent.supplies[0]);
+            }
+            if which != 1 {
+                lent.run2 = beyond(random, lent.supplies[1]);
+            }
+        }
         5 => {
             let k = random.size(0, m * n - 1);
             let beyond = [1_000_001, 1 << 32, i64::MAX, -1_000_001, -(1 << 32), i64::MIN];
             lent.costs[k] = beyond[random.size(0, 5)];
         }
         6 => resize(&mut lent.table, random.size(0, 2)),
-        7 => {
-            // the last depot gets one more than all the terminals take beyond the others
-            if m == 2 || lent.supplies[m - 1] + d + 1 > 4_000 {
+        7 if random.within(0, 1) == 0 => {
+            // the last depot gets so much that what is left to the plants is one less than their runs
+            let more = d + 1 - lent.run1 - lent.run2;
+            if m == 2 || lent.supplies[m - 1] + more > 4_000 {
                 return false;
             }
-            lent.supplies[m - 1] += d + 1;
+            lent.supplies[m - 1] += more;
+        }
+        7 => {
+            // runs within the supplies, one more than d together
+            let (first, second) = (lent.supplies[0], lent.supplies[1]);
+            if first + second <= d {
+                return false;
+            }
+            lent.run1 = random.within((d + 1).saturating_sub(second), first.min(d + 1));
+            lent.run2 = d + 1 - lent.run1;
         }
         8 => {
             let short = lent.supplies[0] + lent.supplies[1] + 1 - d;
@@ -151,6 +171,10 @@ fn anything_at_all() {
         let entries = supplies.first().map_or(0, |a| (*a).min(4_000) as usize + 1);
         let table = list(&mut random, entries, 1_000_000_000, mild);
         let mut lent = Lent::new(m, n, &costs, &supplies, &demands, &table);
+        if random.within(0, 1) == 0 {
+            lent.run1 = odd(&mut random, 2);
+            lent.run2 = odd(&mut random, 2);
+        }
         lent.plan_cells = random.size(0, 12);
         lent.split_cells = random.size(0, 12);
         lent.freight_cells = random.size(0, 12);
@@ -174,6 +198,14 @@ fn lowest_place() {
     expect_refusal(&lent, 5, 4);
     lent.costs[1] = i64::MAX;
     expect_refusal(&lent, 5, 2);
+    let mut lent = Lent { run1: 4, run2: u64::MAX, ..Lent::a() };
+    expect_refusal(&lent, 23, 1);
+    lent.run1 = 3;
+    expect_refusal(&lent, 23, 2);
+    lent.costs[0] = 1_000_001;
+    expect_refusal(&lent, 23, 2);
+    lent.demands[1] = 4_001;
+    expect_refusal(&lent, 4, 5);
     let mut lent = Lent::a();
     lent.table = vec![u64::MAX, 20, 1_000_000_001, 1_000_000_001];
     expect_refusal(&lent, 9, 2);
@@ -191,6 +223,7 @@ fn examples() {
     expect_refusal(&Lent { costs: vec![-1_000_001, 6, 5, 3, 1, 4], ..a() }, 5, 1);
     expect_refusal(&Lent { table: vec![99, 20, 24], ..a() }, 6, 0);
     expect_refusal(&Lent { supplies: vec![3, 3, 6], ..a() }, 7, 0);
+    expect_refusal(&Lent { run1: 2, run2: 3, ..a() }, 7, 0);
     expect_refusal(&Lent { supplies: vec![1, 2, 1], table: vec![99, 20], ..a() }, 8, 0);
     expect_refusal(&Lent { table: vec![99, 20, 1_000_000_001, 20], ..a() }, 9, 2);
     expect_refusal(&Lent { plan_cells: 5, ..a() }, 11, 0);

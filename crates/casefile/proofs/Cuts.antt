@@ -11,7 +11,6 @@ use lib.Seq.{sets, sets-eq, take-at, take-all, length-sets, length-take-le}
 use Rattle.csvtext.specs.Text.{refusalText}
 use Rattle.planner.specs.Case.{Case}
 use Rattle.planner.specs.Outcome.{refused, outcomeOf}
-use Rattle.planner.specs.Verdict.{lent}
 use Rattle.planner.specs.Size.{checkedOf}
 use Rattle.planner.specs.declared.limits.Checked.{Checked}
 use Rattle.planner.specs.declared.limits.Checked.the-variants as checks
@@ -20,7 +19,7 @@ use Rattle.casefile.specs.declared.case.CaseAnswer.{CaseAnswer}
 use Rattle.casefile.specs.declared.case.CaseAnswer.the-variants as answers
 use Rattle.casefile.specs.declared.planned.Printed.{Printed}
 use Rattle.casefile.specs.CaseFiles.{costsIn, suppliesIn, demandsIn, entriesIn, caseAnswer, TariffStored, CaseStored}
-use Rattle.casefile.specs.Printed.{caseOf, fileCase, fileOutcome, Told, PlanPrinted, OutcomePrinted, FilesPrinted}
+use Rattle.casefile.specs.Printed.{filedCase, caseOf, fileCase, fileOutcome, Told, PlanPrinted, OutcomePrinted, CasePrinted, FilesPrinted}
 use Rattle.casefile.specs.Cuts.{cutCase, Stored}
 use Rattle.casefile.proofs.Lengths.{BothStand, both-stand}
 use Rattle.casefile.proofs.Printing.{printed-refusal}
@@ -33,9 +32,8 @@ few-lanes m n = mul-le-mul {n₁ = min m 32} {m₁ = min n 64} {n₂ = 32} {m₂
 -- a case lent in parts that have these lengths is the cut case
 pub cut-printed :
     (m n entries a b e : ℕ) (costs : List ℤ) (supplies demands table out out′ : List ℕ) (answer : Printed) → a ≡ min m 32 → b ≡ min n 64 → e ≡ min entries 4002 →
-    OutcomePrinted (lent m n (take (a * b) costs) (take a supplies) (take b demands) (take e table) 2048 4001 4001)
-    (outcomeOf (lent m n (take (a * b) costs) (take a supplies) (take b demands) (take e table) 2048 4001 4001)) m n out out′ answer →
-    OutcomePrinted (cutCase m n entries costs supplies demands table) (outcomeOf (cutCase m n entries costs supplies demands table)) m n out out′ answer
+    CasePrinted (filedCase m n (take (a * b) costs) (take a supplies) (take b demands) (take e table)) out out′ answer →
+    CasePrinted (cutCase m n entries costs supplies demands table) out out′ answer
 cut-printed m n entries a b e costs supplies demands table out out′ answer ea eb ee p = rw (sym ea, sym eb, sym ee) p
 
 -- cells with a list stored from the first on, cut to its length
@@ -54,7 +52,7 @@ module _ (t p : List ℕ) (costs : List ℤ) (supplies demands table : List ℕ)
   module _ (b : BothStand t p m n entries) where
     -- the case of the files, with its counts
     full : Case
-    full = lent m n (costsIn (b .rs)) (suppliesIn (b .rs)) (demandsIn (b .rs)) (entriesIn (b .qs)) 2048 4001 4001
+    full = filedCase m n (costsIn (b .rs)) (suppliesIn (b .rs)) (demandsIn (b .rs)) (entriesIn (b .qs))
 
     file-case : fileCase t p ≡ full
     unfolding fileCase caseOf full
@@ -84,7 +82,7 @@ module _ (t p : List ℕ) (costs : List ℤ) (supplies demands table : List ℕ)
       held-table = stored .table-stored (b .qs) m n entries (b .production) told
 
       cut-table : Case
-      cut-table = lent m n (costsIn (b .rs)) (suppliesIn (b .rs)) (demandsIn (b .rs)) (take (min entries 4002) table′) 2048 4001 4001
+      cut-table = filedCase m n (costsIn (b .rs)) (suppliesIn (b .rs)) (demandsIn (b .rs)) (take (min entries 4002) table′)
 
       cut-is : cutCase m n entries costs′ supplies′ demands′ table′ ≡ cut-table
       unfolding cut-table
@@ -101,7 +99,7 @@ module _ (t p : List ℕ) (costs : List ℤ) (supplies demands table : List ℕ)
       unfolding cut-table full
       long-table k =
           let e : length (take (min entries 4002) table′) ≡ min entries 4002 = length-take-le (min entries 4002) table′ (omega (arith, ap length held-table, length-sets table 0 (take 4002 (entriesIn (b .qs))), room .entries)) in
-          alike-long m n (costsIn (b .rs)) (suppliesIn (b .rs)) (demandsIn (b .rs)) (take (min entries 4002) table′) (entriesIn (b .qs)) 2048 4001 4001 h (b .costs-long) (b .supplies-long) (b .demands-long) (omega arith) (omega (arith, b .table-long))
+          alike-long m n (costsIn (b .rs)) (suppliesIn (b .rs)) (demandsIn (b .rs)) (take (min entries 4002) table′) (entriesIn (b .qs)) h (b .costs-long) (b .supplies-long) (b .demands-long) (omega arith) (omega (arith, b .table-long))
 
       alike-within : Alike (cutCase m n entries costs′ supplies′ demands′ table′) full
       alike-within = rw cut-is (elim (decLt 4002 entries) [ yes k ↦ long-table k | no k ↦ alike-equal cut-table full (short-table (omega arith)) ])
@@ -112,12 +110,12 @@ module _ (t p : List ℕ) (costs : List ℤ) (supplies demands table : List ℕ)
       where
         go : (x : Checked) → checkedOf m n ≡ x → Alike (cutCase m n entries costs′ supplies′ demands′ table′) full
         go (checks.Fits z) e = alike-within (in-limits m n z e)
-        go (checks.Refused k) e = alike-refused _ _ (refused k 0) (by-size m n _ _ _ _ 2048 4001 4001 k e) (by-size m n _ _ _ _ 2048 4001 4001 k e)
+        go (checks.Refused k) e = alike-refused _ _ (refused k 0) (by-size _ k e) (by-size _ k e)
 
   -- a case is read
   pub case-files :
       {out out′ : List ℕ} {r : Printed} →
-      OutcomePrinted (cutCase m n entries costs′ supplies′ demands′ table′) (outcomeOf (cutCase m n entries costs′ supplies′ demands′ table′)) m n out out′ r →
+      CasePrinted (cutCase m n entries costs′ supplies′ demands′ table′) out out′ r →
       FilesPrinted t p out out′ r
   unfolding fileOutcome
   case-files {out} {out′} {r} q =

@@ -21,7 +21,7 @@ use Rattle.planner.specs.Verdict.{lent}
 use Rattle.planner.specs.Answer.{Slices, Written, Answered}
 use Rattle.planner.proofs.Passed.{Formed}
 use Rattle.casefile.specs.declared.planned.Printed.{Printed}
-use Rattle.casefile.specs.Printed.{Told, PlanPrinted, OutcomePrinted}
+use Rattle.casefile.specs.Printed.{filedCase, Told, PlanPrinted, OutcomePrinted, CasePrinted}
 use Rattle.casefile.proofs.Refusals.{planned-formed}
 
 -- an amount is at most the demand of its terminal
@@ -59,9 +59,9 @@ printed-refusal c o {number} {place} {sources} {terminals} {out} {out′} {answe
 
 -- a case, lent with so many cells, and the planner's answer
 module _ {m n : ℕ} {costs : List ℤ} {supplies demands table : List ℕ} {p q u : ℕ} {before after : Slices} {o : Outcome}
-    (a : Answered (lent m n costs supplies demands table p q u) o before after) where
+    (a : Answered (lent m n 0 0 costs supplies demands table p q u) o before after) where
   abbrev C : Case
-  C = lent m n costs supplies demands table p q u
+  C = lent m n 0 0 costs supplies demands table p q u
 
   -- a plan
   module _ {s : ℕ} {t f : ℤ} {k : ℕ} (e : o ≡ planned s t f k) where
@@ -104,7 +104,7 @@ module _ {m n : ℕ} {costs : List ℤ} {supplies demands table : List ℕ} {p q
     ready = (room, fits)
 
     plan-lent : {out out′ : List ℕ} {answer : Printed} → Told 0 0 m n (planText m n costs (take (m * n) (after .plan)) s (getD table s 0)) out out′ answer
-        → OutcomePrinted C (outcomeOf C) m n out out′ answer
+        → CasePrinted C out out′ answer
     plan-lent {out} {out′} {answer} told = record {
       refusal = λ number place h. absurd (let g = is-planned in let z : _≡_ {A = ℕ} 0 1 = cc in omega arith);
       plan = λ s′ t′ f′ k′ h.
@@ -117,23 +117,23 @@ module _ {m n : ℕ} {costs : List ℤ} {supplies demands table : List ℕ} {p q
     }
 
   refusal-lent : {number place : ℕ} → o ≡ refused number place → {out out′ : List ℕ} {answer : Printed} → Told number place m n (refusalText number place) out out′ answer
-      → OutcomePrinted C (outcomeOf C) m n out out′ answer
+      → CasePrinted C out out′ answer
   refusal-lent e told = printed-refusal C _ (sym (a .answer) ∙ e) told
 
   -- with 2,048 cells for the lanes and 4,001 for the stops
   module _ (ep : p ≡ 2048) (eq : q ≡ 4001) (eu : u ≡ 4001) {out out′ : List ℕ} {answer : Printed} where
-    roomy : OutcomePrinted C (outcomeOf C) m n out out′ answer
-        → OutcomePrinted (lent m n costs supplies demands table 2048 4001 4001) (outcomeOf (lent m n costs supplies demands table 2048 4001 4001)) m n out out′ answer
+    roomy : CasePrinted C out out′ answer
+        → CasePrinted (filedCase m n costs supplies demands table) out out′ answer
     roomy h =
-        subst (λ (c : Case). OutcomePrinted c (outcomeOf c) m n out out′ answer)
-        (ap (λ (x : ℕ). lent m n costs supplies demands table x q u) ep
-        ∙ (ap (λ (y : ℕ). lent m n costs supplies demands table 2048 y u) eq ∙ ap (λ (z : ℕ). lent m n costs supplies demands table 2048 4001 z) eu))
+        subst (λ (c : Case). CasePrinted c out out′ answer)
+        (ap (λ (x : ℕ). lent m n 0 0 costs supplies demands table x q u) ep
+        ∙ (ap (λ (y : ℕ). lent m n 0 0 costs supplies demands table 2048 y u) eq ∙ ap (λ (z : ℕ). lent m n 0 0 costs supplies demands table 2048 4001 z) eu))
         h
 
     pub by-plan : {s : ℕ} {t f : ℤ} {k : ℕ} → o ≡ planned s t f k → Told 0 0 m n (planText m n costs (take (m * n) (after .plan)) s (getD table s 0)) out out′ answer
-        → OutcomePrinted (lent m n costs supplies demands table 2048 4001 4001) (outcomeOf (lent m n costs supplies demands table 2048 4001 4001)) m n out out′ answer
+        → CasePrinted (filedCase m n costs supplies demands table) out out′ answer
     by-plan e told = roomy (plan-lent e told)
 
     pub by-refusal : {number place : ℕ} → o ≡ refused number place → Told number place m n (refusalText number place) out out′ answer
-        → OutcomePrinted (lent m n costs supplies demands table 2048 4001 4001) (outcomeOf (lent m n costs supplies demands table 2048 4001 4001)) m n out out′ answer
+        → CasePrinted (filedCase m n costs supplies demands table) out out′ answer
     by-refusal e told = roomy (refusal-lent e told)

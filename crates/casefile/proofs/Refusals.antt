@@ -11,13 +11,14 @@ use lib.ListN.{length, getD}
 use borrow.Author.Tests.{le-ltb}
 use Rattle.planner.specs.Case.{Case, steps, greatestSplit}
 use Rattle.planner.specs.Outcome.{Outcome, planned, refused, refuseIf, refuseAt, _orElse_, formRefusal, refusalOf, planOf, outcomeOf}
-use Rattle.planner.specs.Outcome.{test1, test2, test3, test4, test5, test6, test7, test8, test9, test11}
-use Rattle.planner.specs.Verdict.{lent, firstOutside, amountsRefusal, AtMost}
+use Rattle.planner.specs.Outcome.{test1, test2, test3, test4, test23, test5, test6, test7, test8, test9, test11}
+use Rattle.planner.specs.Verdict.{firstOutside, amountsRefusal, runsRefusal, AtMost}
 use Rattle.planner.proofs.Passed.{some≢none, Formed, formed, accepted}
 use Rattle.planner.proofs.Promise.{refused-outcome}
 use Rattle.planner.proofs.Decide.{form-decides}
-use Rattle.planner.proofs.TestLaws.{unmet, amounts-none}
+use Rattle.planner.proofs.TestLaws.{unmet, amounts-none, runs-pass}
 use Rattle.planner.proofs.FormLaws.{Limits, by-amounts, by-cost, by-table}
+use Rattle.casefile.specs.Printed.{filedCase}
 
 -- ---- no test answers a plan
 
@@ -41,12 +42,13 @@ refuses-either (some r) b h l = h
 
 module _ (c : Case) where
   refuses-form : Refuses (formRefusal c)
-  unfolding formRefusal test1 test2 test3 test4 test5 test6
+  unfolding formRefusal test1 test2 test3 test4 test23 test5 test6
   refuses-form =
       refuses-either (test1 c) _ (refuses-if 1 _)
       (refuses-either (test2 c) _ (refuses-if 2 _)
       (refuses-either (test3 c) _ (refuses-if 3 _)
-      (refuses-either (test4 c) _ (refuses-at 4 _) (refuses-either (test5 c) _ (refuses-at 5 _) (refuses-if 6 _)))))
+      (refuses-either (test4 c) _ (refuses-at 4 _)
+      (refuses-either (test23 c) _ (refuses-at 23 _) (refuses-either (test5 c) _ (refuses-at 5 _) (refuses-if 6 _))))))
 
   refuses-all : Refuses (refusalOf c)
   unfolding refusalOf test7 test8 test9 test11
@@ -76,7 +78,7 @@ pub record Alike (c c′ : Case) : Type 0 where
 pub alike-equal : (c c′ : Case) → c ≡ c′ → Alike c c′
 alike-equal c c′ e = record { same = ap outcomeOf e; one = λ s t f k h. e }
 
--- tests 1 to 6 refuse both alike
+-- the tests before the balance refuse both alike
 pub alike-refused : (c c′ : Case) (r : Outcome) → formRefusal c ≡ some r → formRefusal c′ ≡ some r → Alike c c′
 alike-refused c c′ r e e′ = record {
   same = refused-outcome c r (form-decides c r e) ∙ sym (refused-outcome c′ r (form-decides c′ r e′));
@@ -87,22 +89,34 @@ first-small : (s : List ℕ) → AtMost 4000 s → getD s 0 0 ≤ 4000
 first-small [] h = omega arith
 first-small (a ∷ s) h = h 0 (omega arith)
 
+-- ---- with least runs 0, test 23 refuses none
+
+pub never-23 : (c : Case) → c .run1 ≡ 0 → c .run2 ≡ 0 → test23 c ≡ none
+unfolding test23 runsRefusal
+never-23 c e e′ = runs-pass (c .run1) (c .run2) (c .supplies) (omega arith) (omega arith)
+
 -- two tables that are both too long
-module _ (m n : ℕ) (costs : List ℤ) (s d t t′ : List ℕ) (p q r : ℕ) (h : Limits m n) (lc : length costs ≡ m * n) (ls : length s ≡ m) (ld : length d ≡ n) where
-  pub alike-long : 4001 < length t → 4001 < length t′ → Alike (lent m n costs s d t p q r) (lent m n costs s d t′ p q r)
+module _ (m n : ℕ) (costs : List ℤ) (s d t t′ : List ℕ) (h : Limits m n) (lc : length costs ≡ m * n) (ls : length s ≡ m) (ld : length d ≡ n) where
+  abbrev C : List ℕ → Case
+  C table = filedCase m n costs s d table
+
+  runs : runsRefusal 0 0 s ≡ none
+  unfolding test23 runsRefusal
+  runs = never-23 (C t) refl refl
+
+  pub alike-long : 4001 < length t → 4001 < length t′ → Alike (C t) (C t′)
   alike-long k k′ = go (amountsRefusal s d) refl (firstOutside costs) refl
     where
-      go : (a : Option Outcome) → amountsRefusal s d ≡ a → (b : Option ℕ) → firstOutside costs ≡ b → Alike (lent m n costs s d t p q r) (lent m n costs s d t′ p q r)
-      go (some o) ea b eb = alike-refused _ _ o (by-amounts m n costs s d t p q r h lc ls ld o ea) (by-amounts m n costs s d t′ p q r h lc ls ld o ea)
-      go none ea (some i) eb =
-          alike-refused _ _ (refused 5 (i + 1)) (by-cost m n costs s d t p q r h lc ls ld ea i eb) (by-cost m n costs s d t′ p q r h lc ls ld ea i eb)
+      go : (a : Option Outcome) → amountsRefusal s d ≡ a → (b : Option ℕ) → firstOutside costs ≡ b → Alike (C t) (C t′)
+      go (some o) ea b eb = alike-refused _ _ o (by-amounts (C t) h lc ls ld o ea) (by-amounts (C t′) h lc ls ld o ea)
+      go none ea (some i) eb = alike-refused _ _ (refused 5 (i + 1)) (by-cost (C t) h lc ls ld ea runs i eb) (by-cost (C t′) h lc ls ld ea runs i eb)
       go none ea none eb =
           let small = first-small s (amounts-none s d ea .0) in
           alike-refused _ _ (refused 6 0)
-          (by-table m n costs s d t p q r h lc ls ld ea eb (λ e. omega (arith, small)))
-          (by-table m n costs s d t′ p q r h lc ls ld ea eb (λ e. omega (arith, small)))
+          (by-table (C t) h lc ls ld ea runs eb (λ e. omega (arith, small)))
+          (by-table (C t′) h lc ls ld ea runs eb (λ e. omega (arith, small)))
 
--- ---- 2,048 cells for lanes and 4,001 for stops are enough: of a case that passes tests 1 to 6, test 11 refuses none
+-- ---- 2,048 cells for lanes and 4,001 for stops are enough: of a case that passes the tests before the balance, test 11 refuses none
 
 pub never-11 :
     (c : Case) → c .planCells ≡ 2048 → c .splitCells ≡ 4001 → c .freightCells ≡ 4001 → formRefusal c ≡ none → test11 c ≡ none

@@ -5,12 +5,12 @@ use Prim.Native.Nat.{ℕ, min, _*_}
 use lib.IntN.{ℤ}
 use lib.ListN.{length, take}
 use Rattle.planner.specs.Case.{Case}
-use Rattle.planner.specs.Verdict.{lent}
+use Rattle.casefile.specs.Printed.{filedCase}
 
 -- the first cells of each array: as many as the case has, and no more than are stored
 abbrev pub cutCase : ℕ → ℕ → ℕ → List ℤ → List ℕ → List ℕ → List ℕ → Case
 cutCase m n entries costs supplies demands table =
-    lent m n (take (min m 32 * min n 64) costs) (take (min m 32) supplies) (take (min n 64) demands) (take (min entries 4002) table) 2048 4001 4001
+    filedCase m n (take (min m 32 * min n 64) costs) (take (min m 32) supplies) (take (min n 64) demands) (take (min entries 4002) table)
 
 -- cells for 32 sources, 64 terminals, and one entry more than the longest table has
 pub record Stored (costs : List ℤ) (supplies demands table : List ℕ) : Type 0 where

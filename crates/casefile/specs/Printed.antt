@@ -26,9 +26,13 @@ abbrev pub recordsOf : Form → List (List ℤ)
 recordsOf (whole rs) = rs
 recordsOf (broken place) = []
 
--- the case of a tariff's and a production file's records, with room for 2,048 lanes and 4,001 stops
+-- a case as files give it: the least runs are 0, and there is room for 2,048 lanes and 4,001 stops
+abbrev pub filedCase : ℕ → ℕ → List ℤ → List ℕ → List ℕ → List ℕ → planner-case.Case
+filedCase m n costs supplies demands table = lent m n 0 0 costs supplies demands table 2048 4001 4001
+
+-- the case of a tariff's and a production file's records
 unfoldable pub caseOf : List (List ℤ) → List (List ℤ) → planner-case.Case
-caseOf rs qs = lent (sourcesIn rs) (terminalsIn rs) (costsIn rs) (suppliesIn rs) (demandsIn rs) (entriesIn qs) 2048 4001 4001
+caseOf rs qs = filedCase (sourcesIn rs) (terminalsIn rs) (costsIn rs) (suppliesIn rs) (demandsIn rs) (entriesIn qs)
 
 unfoldable pub fileCase : List ℕ → List ℕ → planner-case.Case
 fileCase t p = caseOf (recordsOf (formOf Tariff t)) (recordsOf (formOf Production p))
@@ -71,6 +75,10 @@ pub record PlanPrinted (c : planner-case.Case) (split : ℕ) (total : ℤ) (out 
 pub record OutcomePrinted (c : planner-case.Case) (o : Outcome) (sources terminals : ℕ) (out out′ : List ℕ) (answer : Printed) : Type 0 where
   pub refusal : (number place : ℕ) → o ≡ refused number place → Told number place sources terminals (refusalText number place) out out′ answer
   pub plan : (split : ℕ) (total freight : ℤ) (stops : ℕ) → o ≡ planned split total freight stops → PlanPrinted c split total out out′ answer
+
+-- what is printed of a case
+abbrev pub CasePrinted : planner-case.Case → List ℕ → List ℕ → Printed → Type 0
+CasePrinted c out out′ answer = OutcomePrinted c (outcomeOf c) (c .m) (c .n) out out′ answer
 
 -- what is printed of two files
 abbrev pub FilesPrinted : List ℕ → List ℕ → List ℕ → List ℕ → Printed → Type 0

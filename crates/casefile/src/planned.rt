@@ -13,11 +13,9 @@ ghost use Prim.Native.Nat.{_*_, _≤_};
 ghost use lib.ListN.{length, take};
 ghost use Rattle.csvtext.specs.Text.{planText, refusalText};
 ghost use Rattle.csvtext.specs.Writing.{Fits};
-ghost use Rattle.planner.specs.Outcome.{outcomeOf};
-ghost use Rattle.planner.specs.Verdict.{lent};
 ghost use Rattle.casefile.specs.declared.Kind.the-variants as kinds;
 ghost use Rattle.casefile.specs.Files.{tableOf};
-ghost use Rattle.casefile.specs.Printed.{Told, OutcomePrinted, FilesPrinted, stands};
+ghost use Rattle.casefile.specs.Printed.{filedCase, Told, CasePrinted, FilesPrinted, stands};
 ghost use Rattle.casefile.specs.Cuts.{cutCase, Stored};
 
 // What was printed: the text's length; 0, or the refusal's number and place; m and n of the case, 0 where a file is refused.
@@ -93,7 +91,7 @@ fn print_plan(
     }
 }
 
-// Plans a lent case, and prints the plan or the refusal.
+// Plans a lent case with least runs 0, and prints the plan or the refusal.
 fn print_case(
     m: usize,
     n: usize,
@@ -103,7 +101,7 @@ fn print_case(
     table: &[u64],
     out: &mut [u8],
 ) -> Printed
-    ensures { λ r. ⌜ OutcomePrinted (lent m n (now (costs .entry)) (now (supplies .entry)) (now (demands .entry)) (now (table .entry)) 2048 4001 4001) (outcomeOf (lent m n (now (costs .entry)) (now (supplies .entry)) (now (demands .entry)) (now (table .entry)) 2048 4001 4001)) m n (now (out .entry)) (now (out .exit)) r ⌝ }
+    ensures { λ r. ⌜ CasePrinted (filedCase m n (now (costs .entry)) (now (supplies .entry)) (now (demands .entry)) (now (table .entry))) (now (out .entry)) (now (out .exit)) r ⌝ }
 {
     let mut plan = lane_cells();
     let mut splits = stop_cells();
@@ -111,6 +109,8 @@ fn print_case(
     let answer = planner::plan(
         m,
         n,
+        0,
+        0,
         costs,
         supplies,
         demands,
@@ -146,7 +146,7 @@ fn print_stored(
     out: &mut [u8],
 ) -> Printed
     requires { ⌜ Stored (now costs) (now supplies) (now demands) (now table) ⌝ }
-    ensures { λ r. ⌜ OutcomePrinted (cutCase m n entries (now (costs .entry)) (now (supplies .entry)) (now (demands .entry)) (now (table .entry))) (outcomeOf (cutCase m n entries (now (costs .entry)) (now (supplies .entry)) (now (demands .entry)) (now (table .entry)))) m n (now (out .entry)) (now (out .exit)) r ⌝ }
+    ensures { λ r. ⌜ CasePrinted (cutCase m n entries (now (costs .entry)) (now (supplies .entry)) (now (demands .entry)) (now (table .entry))) (now (out .entry)) (now (out .exit)) r ⌝ }
 {
     let a = smaller(m, 32);
     let b = smaller(n, 64);

@@ -39,6 +39,8 @@ fn tell(answer: Answer, report: &mut [u64], worth: &mut [i64]) -> u64
 pub extern "C" fn yadvorkhul_plan(
     m: usize,
     n: usize,
+    run1: u64,
+    run2: u64,
     costs: &[i64],
     supplies: &[u64],
     demands: &[u64],
@@ -49,7 +51,7 @@ pub extern "C" fn yadvorkhul_plan(
     report: &mut [u64],
     worth: &mut [i64],
 ) -> u64
-    ensures { λ r. ⌜ Exported (lent m n (now (costs .entry)) (now (supplies .entry)) (now (demands .entry)) (now (table .entry)) (length (now (plan .entry))) (length (now (splits .entry))) (length (now (freights .entry)))) (slices (now (plan .entry)) (now (splits .entry)) (now (freights .entry))) (slices (now (plan .exit)) (now (splits .exit)) (now (freights .exit))) (now (report .entry)) (now (report .exit)) (now (worth .entry)) (now (worth .exit)) r ⌝ }
+    ensures { λ r. ⌜ Exported (lent m n run1 run2 (now (costs .entry)) (now (supplies .entry)) (now (demands .entry)) (now (table .entry)) (length (now (plan .entry))) (length (now (splits .entry))) (length (now (freights .entry)))) (slices (now (plan .entry)) (now (splits .entry)) (now (freights .entry))) (slices (now (plan .exit)) (now (splits .exit)) (now (freights .exit))) (now (report .entry)) (now (report .exit)) (now (worth .entry)) (now (worth .exit)) r ⌝ }
 {
     if report.len() < 2 {
         return 34;
@@ -60,6 +62,8 @@ pub extern "C" fn yadvorkhul_plan(
     let answer = planner::plan(
         m,
         n,
+        run1,
+        run2,
         costs,
         supplies,
         demands,

@@ -38,7 +38,7 @@ sends-little c f y a b (suc (suc i)) h = f .small-supply (suc (suc i)) h
 module _ {c : Case} (f : Formed c) (b : Balanced c) where
   all-sent : (y : ℕ) → y ≤ greatestSplit c → sum (c .m) (amountsAt (made c) (λ i. supply c i) y) ≡ allDemand c
   unfolding greatestSplit
-  all-sent y h = sent-all c y (f .two-sources) (b .stock) (omega arith)
+  all-sent y h = sent-all c y (f .two-sources) (omega (arith, b .stock)) (omega arith)
 
   -- at most 128,000 drums leave the sources
   pub few-drums : allDemand c ≤ 128000

@@ -14,15 +14,17 @@ use Rattle.transport.specs.Listing.{upFrom, select, compositions, rowLists, ser
 use Rattle.transport.specs.Curve.{amountsAt}
 use Rattle.planner.specs.Case.{Case, allDemand, depotStock, made, leastSplit, greatestSplit, steps}
 use Rattle.planner.specs.Plans.{leastFreightAt, totalAt, bestSplit, stops, stopFreights}
-use Rattle.planner.specs.Outcome.{Outcome, planned, refused, refuseIf, refuseAt, firstFrom, _orElse_, formRefusal, refusalOf, planOf, outcomeOf}
-use Rattle.planner.specs.Outcome.{test1, test2, test3, test4, test5, test6, test7, test8, test9, test11}
+use Rattle.planner.specs.Outcome.{Outcome, planned, refused, refuseIf, refuseAt, firstFrom, firstOver, _orElse_, formRefusal, refusalOf, planOf, outcomeOf}
+use Rattle.planner.specs.Outcome.{test1, test2, test3, test4, test23, test5, test6, test7, test8, test9, test11}
 use Rattle.planner.proofs.Example.{Example, whereAccepted, sameList, sameIntegers, sameOutcome, right, allRight, Right, each-right}
 
--- m, n, unit costs, supplies, demands, table, and the cells of the three slices to be written
-lend : ℕ → ℕ → List ℤ → List ℕ → List ℕ → List ℕ → ℕ → ℕ → ℕ → Case
-lend m n costs supplies demands table plan split freight = record {
+-- m, n, least runs, unit costs, supplies, demands, table, and the cells of the three slices to be written
+run : ℕ → ℕ → ℕ → ℕ → List ℤ → List ℕ → List ℕ → List ℕ → ℕ → ℕ → ℕ → Case
+run m n run1 run2 costs supplies demands table plan split freight = record {
   m = m;
   n = n;
+  run1 = run1;
+  run2 = run2;
   costs = costs;
   supplies = supplies;
   demands = demands;
@@ -31,6 +33,10 @@ lend m n costs supplies demands table plan split freight = record {
   splitCells = split;
   freightCells = freight;
 }
+
+-- the same with least runs 0
+lend : ℕ → ℕ → List ℤ → List ℕ → List ℕ → List ℕ → ℕ → ℕ → ℕ → Case
+lend m n costs supplies demands table plan split freight = run m n 0 0 costs supplies demands table plan split freight
 
 -- case A with other slices, with other supplies and another table, with other room to write, with other m and n
 slices : List ℤ → List ℕ → List ℕ → List ℕ → Case
@@ -45,6 +51,11 @@ rooms supplies table plan split freight = lend 3 2 (pos 2 ∷ pos 6 ∷ pos 5 �
 sized : ℕ → ℕ → Case
 sized m n = lend m n (pos 2 ∷ pos 6 ∷ pos 5 ∷ pos 3 ∷ pos 1 ∷ pos 4 ∷ []) (3 ∷ 3 ∷ 1 ∷ []) (3 ∷ 2 ∷ []) (99 ∷ 20 ∷ 24 ∷ 20 ∷ []) 6 3 3
 
+-- case A with least runs
+runs : ℕ → ℕ → Case
+runs run1 run2 =
+    run 3 2 run1 run2 (pos 2 ∷ pos 6 ∷ pos 5 ∷ pos 3 ∷ pos 1 ∷ pos 4 ∷ []) (3 ∷ 3 ∷ 1 ∷ []) (3 ∷ 2 ∷ []) (99 ∷ 20 ∷ 24 ∷ 20 ∷ []) 6 3 3
+
 -- the outcome (split, total, freight, count of stops), the stops, and f at each
 accept : Case → Outcome → List ℕ → List ℤ → Example
 accept c o splits freights = record { given = c; outcome = o; splits = splits; freights = freights }
@@ -53,7 +64,7 @@ accept c o splits freights = record { given = c; outcome = o; splits = splits; f
 refuse : Case → ℕ → ℕ → Example
 refuse c k p = accept c (refused k p) [] []
 
--- P1 to P10: case A with its supplies and its table
+-- P1 to P10: case A with its supplies and its table; then A with least runs 2 and 1, 2 and 2, 4 and 0, 0 and 4
 pub paper : List Example
 paper =
     accept (A (3 ∷ 3 ∷ 1 ∷ []) (99 ∷ 20 ∷ 24 ∷ 20 ∷ [])) (planned 3 (pos 33) (pos 13) 3) (1 ∷ 2 ∷ 3 ∷ []) (pos 14 ∷ pos 11 ∷ pos 13 ∷ [])
@@ -66,16 +77,20 @@ paper =
     ∷ refuse (A (4001 ∷ 3 ∷ 1 ∷ []) (99 ∷ 20 ∷ 24 ∷ 20 ∷ [])) 4 1
     ∷ accept (A (3 ∷ 3 ∷ 5 ∷ []) (99 ∷ 20 ∷ 24 ∷ 20 ∷ [])) (planned 0 (pos 110) (pos 11) 1) (0 ∷ []) (pos 11 ∷ [])
     ∷ accept (A (3 ∷ 1 ∷ 1 ∷ []) (99 ∷ 20 ∷ 24 ∷ 20 ∷ [])) (planned 3 (pos 33) (pos 13) 1) (3 ∷ []) (pos 13 ∷ [])
+    ∷ accept (runs 2 1) (planned 3 (pos 33) (pos 13) 2) (2 ∷ 3 ∷ []) (pos 11 ∷ pos 13 ∷ [])
+    ∷ accept (runs 2 2) (planned 2 (pos 35) (pos 11) 1) (2 ∷ []) (pos 11 ∷ [])
+    ∷ refuse (runs 4 0) 23 1
+    ∷ refuse (runs 0 4) 23 2
     ∷ []
 
 pub P1-to-P10 : allRight paper ≡ true
-unfolding paper lend slices A accept refuse flatMap sum row col upFrom select compositions rowLists served listing amountsAt allDemand depotStock made leastSplit greatestSplit steps leastFreightAt totalAt bestSplit stops stopFreights refuseIf refuseAt firstFrom _orElse_ formRefusal refusalOf planOf outcomeOf test1 test2 test3 test4 test5 test6 test7 test8 test9 test11 outside eqZ minℤ sumℤ leastℤ freightℤ leastFreightℤ leastAtℤ bendsℤ isStopℤ stopsOfℤ bestFromℤ whereAccepted sameList sameIntegers sameOutcome right allRight
+unfolding paper run lend slices A runs accept refuse flatMap sum row col upFrom select compositions rowLists served listing amountsAt allDemand depotStock made leastSplit greatestSplit steps leastFreightAt totalAt bestSplit stops stopFreights refuseIf refuseAt firstFrom firstOver _orElse_ formRefusal refusalOf planOf outcomeOf test1 test2 test3 test4 test23 test5 test6 test7 test8 test9 test11 outside eqZ minℤ sumℤ leastℤ freightℤ leastFreightℤ leastAtℤ bendsℤ isStopℤ stopsOfℤ bestFromℤ whereAccepted sameList sameIntegers sameOutcome right allRight
 P1-to-P10 = refl
 
 pub paper-right : (e : Example) → List·Memᴰ e paper → Right e
 paper-right = each-right paper P1-to-P10
 
--- each refusal 1 to 9 and 11, the order of the tests where two conditions hold, the places, the range of test 9, tables of any shape, straight splits, the limits
+-- each refusal 1 to 9, 11 and 23, the order of the tests where two conditions hold, the places, the range of test 9, tables of any shape, straight splits, the limits
 pub held : List Example
 held =
     -- the examples of refusals 1, 2, 3, 5, 6, 9 and 11
@@ -92,6 +107,17 @@ held =
     ∷ accept (lend 2 1 (negsuc 9 ∷ negsuc 4 ∷ []) (3 ∷ 3 ∷ []) (4 ∷ []) (99 ∷ 20 ∷ 24 ∷ 20 ∷ []) 2 8 8) (planned 3 (negsuc 14) (negsuc 34) 2) (1 ∷ 3 ∷ []) (negsuc 24 ∷ negsuc 34 ∷ [])
     -- the least unit cost
     ∷ accept (lend 2 1 (pos 7 ∷ negsuc 999999 ∷ []) (0 ∷ 4000 ∷ []) (4000 ∷ []) (0 ∷ []) 2 8 8) (planned 0 (negsuc 3999999999) (negsuc 3999999999) 1) (0 ∷ []) (negsuc 3999999999 ∷ [])
+    -- both runs too high: the lower place; a run and a supply; a run and a unit cost
+    ∷ refuse (runs 4 4) 23 1
+    ∷ refuse (run 3 2 4 0 (pos 2 ∷ pos 6 ∷ pos 5 ∷ pos 3 ∷ pos 1 ∷ pos 4 ∷ []) (3 ∷ 4001 ∷ 1 ∷ []) (3 ∷ 2 ∷ []) (99 ∷ 20 ∷ 24 ∷ 20 ∷ []) 6 3 3) 4 2
+    ∷ refuse (run 3 2 0 4 (pos 1000001 ∷ pos 6 ∷ pos 5 ∷ pos 3 ∷ pos 1 ∷ pos 4 ∷ []) (3 ∷ 3 ∷ 1 ∷ []) (3 ∷ 2 ∷ []) (99 ∷ 20 ∷ 24 ∷ 20 ∷ []) 6 3 3) 23 2
+    -- a run above its supply, and d above both supplies
+    ∷ refuse (run 3 2 2 0 (pos 2 ∷ pos 6 ∷ pos 5 ∷ pos 3 ∷ pos 1 ∷ pos 4 ∷ []) (1 ∷ 2 ∷ 1 ∷ []) (3 ∷ 2 ∷ []) (99 ∷ 20 ∷ []) 6 3 3) 23 1
+    -- both runs together above d
+    ∷ refuse (runs 3 2) 7 0
+    -- plant 2's run alone, and plant 1's
+    ∷ accept (runs 0 2) (planned 1 (pos 34) (pos 14) 2) (1 ∷ 2 ∷ []) (pos 14 ∷ pos 11 ∷ [])
+    ∷ accept (runs 3 0) (planned 3 (pos 33) (pos 13) 1) (3 ∷ []) (pos 13 ∷ [])
     -- m below 2, and n below 1
     ∷ refuse (sized 1 0) 1 0
     -- m above 32
@@ -161,7 +187,7 @@ held =
     ∷ []
 
 pub held-pass : allRight held ≡ true
-unfolding held lend slices A rooms sized accept refuse flatMap sum row col upFrom select compositions rowLists served listing amountsAt allDemand depotStock made leastSplit greatestSplit steps leastFreightAt totalAt bestSplit stops stopFreights refuseIf refuseAt firstFrom _orElse_ formRefusal refusalOf planOf outcomeOf test1 test2 test3 test4 test5 test6 test7 test8 test9 test11 outside eqZ minℤ sumℤ leastℤ freightℤ leastFreightℤ leastAtℤ bendsℤ isStopℤ stopsOfℤ bestFromℤ whereAccepted sameList sameIntegers sameOutcome right allRight
+unfolding held run lend slices A runs rooms sized accept refuse flatMap sum row col upFrom select compositions rowLists served listing amountsAt allDemand depotStock made leastSplit greatestSplit steps leastFreightAt totalAt bestSplit stops stopFreights refuseIf refuseAt firstFrom firstOver _orElse_ formRefusal refusalOf planOf outcomeOf test1 test2 test3 test4 test23 test5 test6 test7 test8 test9 test11 outside eqZ minℤ sumℤ leastℤ freightℤ leastFreightℤ leastAtℤ bendsℤ isStopℤ stopsOfℤ bestFromℤ whereAccepted sameList sameIntegers sameOutcome right allRight
 held-pass = refl
 
 pub held-right : (e : Example) → List·Memᴰ e held → Right e

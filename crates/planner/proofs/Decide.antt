@@ -3,7 +3,7 @@ use mathlib.Core.Path.{_≡_, refl, sym, ap, ap₂, _∙_, subst}
 use mathlib.Core.Bool.{Bool, true, false, _||_, cond}
 use mathlib.Core.Option.{Option, none, some}
 use mathlib.Core.List.{List}
-use Prim.Native.Nat.{ℕ, min, _+_, _-_, _*_, _≤_, _<_}
+use Prim.Native.Nat.{ℕ, max, min, _+_, _-_, _*_, _≤_, _<_}
 use native.Mathlib.Nat.{mul-le-mul}
 use native.Mathlib.Omega.{arith}
 use lib.Dec.{ltb}
@@ -23,13 +23,13 @@ use Rattle.planner.proofs.TestLaws.{met, unmet, splits-below, splits-ab
 use Rattle.planner.proofs.Promise.{from7, from8, from9}
 use Rattle.planner.proofs.Solution.{in-order, inside, gap}
 
--- ---- tests 1 to 6
+-- ---- the tests before the balance
 
 pub form-decides : (c : Case) (r : Outcome) → formRefusal c ≡ some r → refusalOf c ≡ some r
 unfolding refusalOf
 form-decides c r e = first-decides (formRefusal c) _ r e
 
-pub amounts : (c : Case) → formRefusal c ≡ none → Amounts (c .supplies) (c .demands)
+pub amounts : (c : Case) → formRefusal c ≡ none → Amounts (c .run1) (c .run2) (c .supplies) (c .demands)
 amounts c e =
     let f = formed c e in
     record {
@@ -38,6 +38,8 @@ amounts c e =
       terminals = omega (arith, f .demands-long, f .few-terminals);
       supplies = λ k h. f .small-supply k (omega (arith, f .supplies-long));
       demands = λ k h. f .small-demand k (omega (arith, f .demands-long));
+      run1 = f .first-run;
+      run2 = f .second-run;
     }
 
 -- ---- tests 7 and 8
@@ -52,15 +54,15 @@ module _ (c : Case) (e : formRefusal c ≡ none) where
   all-stock = ap (λ (m : ℕ). sum (m - 2) (λ k. supply c (2 + k))) (sym (formed c e .supplies-long))
 
   -- the definition by the case's own words
-  splits-by : splitsOf (c .supplies) (c .demands) ≡ cond (ltb (allDemand c) (depotStock c)) (Unbalanced 7) (cond (ltb (supply c 0 + supply c 1) (made c)) (Unbalanced 8) (Between (leastSplit c) (greatestSplit c) (made c)))
+  splits-by : splitsOf (c .run1) (c .run2) (c .supplies) (c .demands) ≡ cond (ltb (allDemand c) (depotStock c + c .run1 + c .run2)) (Unbalanced 7) (cond (ltb (supply c 0 + supply c 1) (made c)) (Unbalanced 8) (Between (leastSplit c) (greatestSplit c) (made c)))
   unfolding splitsOf made leastSplit greatestSplit
   splits-by = rw (all-demand, all-stock) refl
 
-  pub unbalanced : (k : ℕ) → splitsOf (c .supplies) (c .demands) ≡ Unbalanced k → refusalOf c ≡ some (refused k 0)
+  pub unbalanced : (k : ℕ) → splitsOf (c .run1) (c .run2) (c .supplies) (c .demands) ≡ Unbalanced k → refusalOf c ≡ some (refused k 0)
   unfolding test7 test8
-  unbalanced k q = go (ltb (allDemand c) (depotStock c)) refl (ltb (supply c 0 + supply c 1) (made c)) refl (sym splits-by ∙ q)
+  unbalanced k q = go (ltb (allDemand c) (depotStock c + c .run1 + c .run2)) refl (ltb (supply c 0 + supply c 1) (made c)) refl (sym splits-by ∙ q)
     where
-      go : (a : Bool) → ltb (allDemand c) (depotStock c) ≡ a → (b : Bool) → ltb (supply c 0 + supply c 1) (made c) ≡ b
+      go : (a : Bool) → ltb (allDemand c) (depotStock c + c .run1 + c .run2) ≡ a → (b : Bool) → ltb (supply c 0 + supply c 1) (made c) ≡ b
           → cond a (Unbalanced 7) (cond b (Unbalanced 8) (Between (leastSplit c) (greatestSplit c) (made c))) ≡ Unbalanced k → refusalOf c ≡ some (refused k 0)
       go true ea b eb q =
           let z : 7 ≡ k = cc in from7 c e ∙ first-decides _ _ _ (met 7 _ ea) ∙ ap (λ (i : ℕ). some (refused i 0)) z
@@ -68,11 +70,11 @@ module _ (c : Case) (e : formRefusal c ≡ none) where
           let z : 8 ≡ k = cc in from8 c e (unmet 7 _ ea) ∙ first-decides _ _ _ (met 8 _ eb) ∙ ap (λ (i : ℕ). some (refused i 0)) z
       go false ea false eb q = let z : _≡_ {A = ℕ} 0 1 = cc in absurd (omega arith)
 
-  pub on-splits : (lo hi all : ℕ) → splitsOf (c .supplies) (c .demands) ≡ Between lo hi all → OnSplits c lo hi all
+  pub on-splits : (lo hi all : ℕ) → splitsOf (c .run1) (c .run2) (c .supplies) (c .demands) ≡ Between lo hi all → OnSplits c lo hi all
   unfolding test7 test8
-  on-splits lo hi all q = go (ltb (allDemand c) (depotStock c)) refl (ltb (supply c 0 + supply c 1) (made c)) refl (sym splits-by ∙ q)
+  on-splits lo hi all q = go (ltb (allDemand c) (depotStock c + c .run1 + c .run2)) refl (ltb (supply c 0 + supply c 1) (made c)) refl (sym splits-by ∙ q)
     where
-      go : (a : Bool) → ltb (allDemand c) (depotStock c) ≡ a → (b : Bool) → ltb (supply c 0 + supply c 1) (made c) ≡ b
+      go : (a : Bool) → ltb (allDemand c) (depotStock c + c .run1 + c .run2) ≡ a → (b : Bool) → ltb (supply c 0 + supply c 1) (made c) ≡ b
           → cond a (Unbalanced 7) (cond b (Unbalanced 8) (Between (leastSplit c) (greatestSplit c) (made c))) ≡ Between lo hi all → OnSplits c lo hi all
       go true ea b eb q = let z : _≡_ {A = ℕ} 0 1 = cc in absurd (omega arith)
       go false ea true eb q = let z : _≡_ {A = ℕ} 0 1 = cc in absurd (omega arith)

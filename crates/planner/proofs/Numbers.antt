@@ -6,7 +6,7 @@ use Prim.Native.Nat.{ℕ, _<_}
 use native.Mathlib.Omega.{arith}
 use Rattle.planner.specs.Case.{Case}
 use Rattle.planner.specs.Outcome.{Outcome, planned, refused, refuseIf, refuseAt, _orElse_, formRefusal, refusalOf}
-use Rattle.planner.specs.Outcome.{test1, test2, test3, test4, test5, test6, test7, test8, test9, test11}
+use Rattle.planner.specs.Outcome.{test1, test2, test3, test4, test23, test5, test6, test7, test8, test9, test11}
 use Rattle.planner.proofs.Passed.{some≢none}
 
 -- the number of a refusal, 0 of a plan
@@ -44,13 +44,14 @@ abbrev Other : ℕ → Type 0
 Other k = k ≡ 10 → ⊥
 
 form-other : (c : Case) → Numbered Other (formRefusal c)
-unfolding formRefusal test1 test2 test3 test4 test5 test6
+unfolding formRefusal test1 test2 test3 test4 test23 test5 test6
 form-other c =
     by-either Other (test1 c) _ (by-if Other 1 _ (λ e. omega arith))
     (by-either Other (test2 c) _ (by-if Other 2 _ (λ e. omega arith))
     (by-either Other (test3 c) _ (by-if Other 3 _ (λ e. omega arith))
     (by-either Other (test4 c) _ (by-place Other 4 _ (λ e. omega arith))
-    (by-either Other (test5 c) _ (by-place Other 5 _ (λ e. omega arith)) (by-if Other 6 _ (λ e. omega arith))))))
+    (by-either Other (test23 c) _ (by-place Other 23 _ (λ e. omega arith))
+    (by-either Other (test5 c) _ (by-place Other 5 _ (λ e. omega arith)) (by-if Other 6 _ (λ e. omega arith)))))))
 
 pub never10 : (c : Case) (k p : ℕ) → refusalOf c ≡ some (refused k p) → k ≡ 10 → ⊥
 unfolding refusalOf test7 test8 test9 test11 number

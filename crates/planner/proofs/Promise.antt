@@ -73,7 +73,7 @@ module _ (c : Case) (e : formRefusal c ≡ none) where
   pub none-refused : NoPlan c → RefusedForBalance c
   none-refused n = elim cases7 [
     | inl e7 ↦ elim cases8 [
-      | inl e8 ↦ absurd (no-case (balanced c e7 e8))
+      | inl e8 ↦ absurd (no-case (balanced c (formed c e) e7 e8))
       | inr g ↦ inr (from8 c e e7 ∙ first-decides (test8 c) _ (refused 8 0) g)
     ]
     | inr g ↦ inl (from7 c e ∙ first-decides (test7 c) _ (refused 7 0) g)
@@ -84,7 +84,7 @@ module _ (c : Case) (e : formRefusal c ≡ none) where
           let h = formed c e .two-sources in
           let l = last-split c b in
           let p = plan-exists c (leastSplit c) h b (omega arith) in
-          n (p .0) (meets c (leastSplit c) (p .0) h (omega arith) (omega arith) (p .1) .plan)
+          n (p .0) (meets c (leastSplit c) (p .0) h b (omega arith) (omega arith) (p .1) .plan)
 
 pub balance-rule : (c : Case) → BalanceRule c (outcomeOf c)
 balance-rule c = record {
@@ -103,7 +103,7 @@ pub gets-plan : (c : Case) → refusalOf c ≡ none → (x : List ℕ) × PlanAt
 gets-plan c e =
     let a = accepted c e in
     let f = formed c (a .form) in
-    let bal = balanced c (a .t7) (a .t8) in
+    let bal = balanced c f (a .t7) (a .t8) in
     freight-met f bal (bestSplit c) (best-in f bal .1)
 
 -- a plan at the best split with freight f there is cheapest, and its split is the smallest of least total
@@ -114,10 +114,10 @@ cheapest c x e p q =
     let a = accepted c e in
     let f = formed c (a .form) in
     let two = f .two-sources in
-    let bal = balanced c (a .t7) (a .t8) in
+    let bal = balanced c f (a .t7) (a .t8) in
     let best = best-split f bal in
     let here = best-in f bal in
-    let met = meets c (bestSplit c) x two (here .0) (here .1) p in
+    let met = meets c (bestSplit c) x two bal (here .0) (here .1) p in
     record {
       plan = met .plan;
       own-split = met .split;

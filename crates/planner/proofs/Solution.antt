@@ -64,7 +64,7 @@ module _ {c : Case} {lo hi all : ℕ} (s : OnSplits c lo hi all) where
   form = formed c (s .form)
 
   even : Balanced c
-  even = balanced c (s .t7) (s .t8)
+  even = balanced c form (s .t7) (s .t8)
 
   pub in-order : lo ≤ hi
   in-order = omega (arith, s .low, s .high, last-split c even)
@@ -123,7 +123,7 @@ module _ {c : Case} {lo hi all : ℕ} (a : Accepts c lo hi all) {cost cap amount
   f = formed c (a .on .form)
 
   bal : Balanced c
-  bal = balanced c (a .on .t7) (a .on .t8)
+  bal = balanced c f (a .on .t7) (a .on .t8)
 
   cell : (i j : ℕ) → i < c .m → j < c .n → i * c .n + j < c .m * c .n
   cell i j h l = omega (arith, suc-mul i (c .n), mul-le-mul-right (c .n) (let z : suc i ≤ c .m = h in z))

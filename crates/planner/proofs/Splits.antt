@@ -3,7 +3,7 @@ use mathlib.Core.Path.{_≡_, refl, sym, ap, _∙_, subst}
 use mathlib.Core.Logic.{_≢_}
 use mathlib.Core.List.{List, []}
 use mathlib.Core.List.{List·Memᴰ·not-nil, List·Memᴰ}
-use Prim.Native.Nat.{ℕ, zero, suc, _+_, _-_, _≤_, _<_}
+use Prim.Native.Nat.{ℕ, zero, suc, max, min, _+_, _-_, _≤_, _<_}
 use native.Mathlib.Omega.{arith}
 use Rattle.transport.specs.Sum.{sum}
 use Rattle.transport.specs.Plan.{Plan}
@@ -26,7 +26,7 @@ first-two m g l =
 -- ---- ℓ and u
 
 pub last-split : (c : Case) → Balanced c → leastSplit c + steps c ≡ greatestSplit c
-unfolding leastSplit greatestSplit steps
+unfolding made leastSplit greatestSplit steps
 last-split c b = omega arith
 
 -- ---- a plan that meets (TP)
@@ -53,8 +53,10 @@ split-of c x l p =
     let e = balance c x l p in
     let h1 = p .plant1 in
     let h2 = p .plant2 in
+    let h3 = p .runs1 in
+    let h4 = p .runs2 in
     record {
-      balanced = record { stock = omega arith; reach = omega arith };
+      balanced = record { first-run = omega arith; second-run = omega arith; stock = omega arith; reach = omega arith };
       low = omega arith;
       high = omega arith;
       planAt = record { cells = p .cells; rows = sent (omega arith); columns = p .terminals };
@@ -72,13 +74,15 @@ pub record Met (c : Case) (y : ℕ) (x : List ℕ) : Type 0 where
   pub plan : MeetsTP c x
   pub split : rowSum c x 0 ≡ y
 
-pub meets : (c : Case) (y : ℕ) (x : List ℕ) → 2 ≤ c .m → leastSplit c ≤ y → y ≤ greatestSplit c → PlanAt c y x → Met c y x
+pub meets : (c : Case) (y : ℕ) (x : List ℕ) → 2 ≤ c .m → Balanced c → leastSplit c ≤ y → y ≤ greatestSplit c → PlanAt c y x → Met c y x
 unfolding made leastSplit greatestSplit rowSum columnSum amountsAt
-meets c y x l low high p = record {
+meets c y x l b low high p = let h = b .stock in record {
   plan = record {
     cells = p .cells;
     plant1 = omega (arith, p .rows 0 (omega arith));
     plant2 = omega (arith, p .rows 1 (omega arith));
+    runs1 = omega (arith, p .rows 0 (omega arith));
+    runs2 = omega (arith, p .rows 1 (omega arith));
     depots = depot;
     terminals = p .columns;
   };
@@ -108,7 +112,7 @@ sent-all c y l h g =
 pub plan-exists : (c : Case) (y : ℕ) → 2 ≤ c .m → Balanced c → y ≤ greatestSplit c → (x : List ℕ) × PlanAt c y x
 unfolding allDemand greatestSplit
 plan-exists c y l b g =
-    exists.plan-exists (c .n) (c .m) (amountsAt (made c) (λ i. supply c i) y) (λ j. demand c j) (sent-all c y l (b .stock) (omega arith))
+    exists.plan-exists (c .n) (c .m) (amountsAt (made c) (λ i. supply c i) y) (λ j. demand c j) (sent-all c y l (omega (arith, b .stock)) (omega arith))
 
 -- so f there is never the 0 of an empty listing
 pub some-listed : (c : Case) (y : ℕ) → 2 ≤ c .m → Balanced c → y ≤ greatestSplit c

@@ -3,7 +3,7 @@ use mathlib.Core.Path.{_≡_, refl, sym, ap, ap₂, _∙_, subst}
 use mathlib.Core.Bool.{Bool, true, false, not, _||_, cond}
 use mathlib.Core.Option.{Option, none, some}
 use mathlib.Core.List.{List, _++_}
-use Prim.Native.Nat.{ℕ, suc, min, _+_, _-_, _*_, _≤_, _<_}
+use Prim.Native.Nat.{ℕ, zero, suc, max, min, _+_, _-_, _*_, _≤_, _<_}
 use native.Mathlib.Nat.{mul-le-mul}
 use native.Mathlib.Omega.{arith}
 use lib.Dec.{ltb, eqb}
@@ -12,8 +12,8 @@ use lib.ListN.{length, getD, take, drop, length-append, List·getD-append, lengt
 use lib.Seq.{getD-append-add, getD-take, getD-drop}
 use borrow.Author.Tests.{lt-ltb, le-ltb, eq-eqb, ne-eqb, ltb-false, eqb-true, not-false}
 use Rattle.planner.specs.Case.{Case, supply}
-use Rattle.planner.specs.Outcome.{Outcome, refused, firstFrom, refuseIf, refuseAt, _orElse_, formRefusal, test1, test2, test3, test4, test5, test6}
-use Rattle.planner.specs.Verdict.{firstAbove, firstOutside, amountsRefusal, entriesRefusal, splitsOf, AtMost}
+use Rattle.planner.specs.Outcome.{Outcome, refused, firstFrom, firstOver, refuseIf, refuseAt, _orElse_, formRefusal, test1, test2, test3, test4, test5, test6}
+use Rattle.planner.specs.Verdict.{firstAbove, firstOutside, amountsRefusal, runsRefusal, entriesRefusal, splitsOf, AtMost}
 use Rattle.planner.specs.declared.tests.Splits.the-variants.{Between, Unbalanced}
 use Rattle.transport.specs.Sum.{sum}
 use Rattle.transport.proofs.Sums.{sum-ext}
@@ -83,6 +83,21 @@ module _ (s d : List ℕ) where
       no-place 4 _
       (first-then big 1 (length s) (length d) (of-supplies ∙ moved-none 1 0 _ n) ∙ of-demands ∙ moved-none (1 + length s) 0 _ e)
 
+-- ---- test 23
+
+module _ (r1 r2 : ℕ) (s : List ℕ) where
+  pub runs-first : getD s 0 0 < r1 → runsRefusal r1 r2 s ≡ some (refused 23 1)
+  unfolding runsRefusal firstOver refuseAt
+  runs-first h = rw (lt-ltb (getD s 0 0) r1 h) refl
+
+  pub runs-second : r1 ≤ getD s 0 0 → getD s 1 0 < r2 → runsRefusal r1 r2 s ≡ some (refused 23 2)
+  unfolding runsRefusal firstOver refuseAt
+  runs-second h l = rw (le-ltb (getD s 0 0) r1 h, lt-ltb (getD s 1 0) r2 l) refl
+
+  pub runs-pass : r1 ≤ getD s 0 0 → r2 ≤ getD s 1 0 → runsRefusal r1 r2 s ≡ none
+  unfolding runsRefusal firstOver refuseAt
+  runs-pass h l = rw (le-ltb (getD s 0 0) r1 h, le-ltb (getD s 1 0) r2 l) refl
+
 -- ---- test 9
 
 module _ (t : List ℕ) (lo hi : ℕ) (order : lo ≤ hi) (long : hi < length t) where
@@ -133,6 +148,15 @@ module _ (t : List ℕ) (lo hi : ℕ) (order : lo ≤ hi) (long : hi < length t)
 
 -- ---- tests 7 and 8
 
+sum-under : (k : ℕ) (g : ℕ → ℕ) → ((i : ℕ) → i < k → g i ≤ 4000) → sum k g ≤ 4000 * k
+unfolding sum
+sum-under zero g h = omega arith
+sum-under (suc k) g h = omega (arith, sum-under k g (λ i l. h i (omega arith)), h k (omega arith))
+
+-- numbers up to 4,000, summed
+pub sum-most : (l : List ℕ) → AtMost 4000 l → sum (length l) (λ j. getD l j 0) ≤ 4000 * length l
+sum-most l h = sum-under (length l) (λ j. getD l j 0) h
+
 module _ (s : List ℕ) (two : 2 ≤ length s) where
   depots : List ℕ
   depots = take (length s - 2) (drop 2 s)
@@ -150,19 +174,19 @@ module _ (s : List ℕ) (two : 2 ≤ length s) where
   depots-sum =
       ap (λ (n : ℕ). sum n (λ j. getD (take (length s - 2) (drop 2 s)) j 0)) depots-length ∙ sum-ext (length s - 2) _ _ (λ k h. depot-at k h)
 
-module _ (s d : List ℕ) (all stock : ℕ) (ea : all ≡ sum (length d) (λ j. getD d j 0)) (es : stock ≡ sum (length s - 2) (λ k. getD s (2 + k) 0)) where
-  pub splits-below : all < stock → splitsOf s d ≡ Unbalanced 7
+module _ (r1 r2 : ℕ) (s d : List ℕ) (all stock : ℕ) (ea : all ≡ sum (length d) (λ j. getD d j 0)) (es : stock ≡ sum (length s - 2) (λ k. getD s (2 + k) 0)) where
+  pub splits-below : all < stock + r1 + r2 → splitsOf r1 r2 s d ≡ Unbalanced 7
   unfolding splitsOf
-  splits-below h = rw (← ea, ← es, lt-ltb all stock h) refl
+  splits-below h = rw (← ea, ← es, lt-ltb all (stock + r1 + r2) h) refl
 
-  pub splits-above : stock ≤ all → getD s 0 0 + getD s 1 0 < all - stock → splitsOf s d ≡ Unbalanced 8
+  pub splits-above : stock + r1 + r2 ≤ all → getD s 0 0 + getD s 1 0 < all - stock → splitsOf r1 r2 s d ≡ Unbalanced 8
   unfolding splitsOf
-  splits-above h l = rw (← ea, ← es, le-ltb all stock h, lt-ltb (getD s 0 0 + getD s 1 0) (all - stock) l) refl
+  splits-above h l = rw (← ea, ← es, le-ltb all (stock + r1 + r2) h, lt-ltb (getD s 0 0 + getD s 1 0) (all - stock) l) refl
 
-  pub splits-between : stock ≤ all → all - stock ≤ getD s 0 0 + getD s 1 0
-      → splitsOf s d ≡ Between (all - stock - getD s 1 0) (min (getD s 0 0) (all - stock)) (all - stock)
+  pub splits-between : stock + r1 + r2 ≤ all → all - stock ≤ getD s 0 0 + getD s 1 0
+      → splitsOf r1 r2 s d ≡ Between (max r1 (all - stock - getD s 1 0)) (min (getD s 0 0) (all - stock - r2)) (all - stock)
   unfolding splitsOf
-  splits-between h l = rw (← ea, ← es, le-ltb all stock h, le-ltb (getD s 0 0 + getD s 1 0) (all - stock) l) refl
+  splits-between h l = rw (← ea, ← es, le-ltb all (stock + r1 + r2) h, le-ltb (getD s 0 0 + getD s 1 0) (all - stock) l) refl
 
 -- what the pass of test 4 says
 pub amounts-none : (s d : List ℕ) → amountsRefusal s d ≡ none → AtMost 4000 s × AtMost 4000 d

@@ -1,15 +1,17 @@
 -- The lent case, and d, ℓ and u of (2.4). Sources and terminals are counted from 0 here and from 1 in the report: sources 0 and 1 are the plants,
 -- the others the depots. Assumes nothing.
 use mathlib.Core.List.{List}
-use Prim.Native.Nat.{ℕ, _+_, _-_, min}
+use Prim.Native.Nat.{ℕ, _+_, _-_, max, min}
 use lib.IntN.{ℤ}
 use lib.ListN.{getD}
 use Rattle.transport.specs.Sum.{sum}
 
--- what is lent: m and n, the four slices that are read, and how many cells the three slices to be written have
+-- what is lent: m and n, the least runs of the two plants, the four slices that are read, and how many cells the three slices to be written have
 pub record Case : Type 0 where
   pub m : ℕ
   pub n : ℕ
+  pub run1 : ℕ
+  pub run2 : ℕ
   pub costs : List ℤ
   pub supplies : List ℕ
   pub demands : List ℕ
@@ -40,13 +42,13 @@ depotStock c = sum (c .m - 2) (λ k. supply c (2 + k))
 unfoldable pub made : Case → ℕ
 made c = allDemand c - depotStock c
 
--- ℓ of (2.4), the larger of 0 and d - a_2
+-- ℓ of (2.4) with the least runs, the larger of r_1 and d - a_2
 unfoldable pub leastSplit : Case → ℕ
-leastSplit c = made c - supply c 1
+leastSplit c = max (c .run1) (made c - supply c 1)
 
--- u of (2.4), the smaller of a_1 and d
+-- u of (2.4) with the least runs, the smaller of a_1 and d - r_2
 unfoldable pub greatestSplit : Case → ℕ
-greatestSplit c = min (supply c 0) (made c)
+greatestSplit c = min (supply c 0) (made c - c .run2)
 
 -- how many steps lead from ℓ to u: there is one split more
 unfoldable pub steps : Case → ℕ

@@ -1,5 +1,5 @@
--- The refusals 1 to 9 and 11, each a definition of its own, their order, and the outcome of a case. Assumes nothing.
-use mathlib.Core.Bool.{Bool, true, false, not, _||_}
+-- The refusals 1 to 9, 11 and 23, each a definition of its own, their order, and the outcome of a case. Assumes nothing.
+use mathlib.Core.Bool.{Bool, true, false, not, cond, _||_}
 use mathlib.Core.Option.{Option, none, some}
 use mathlib.Core.List.{List, _++_}
 use Prim.Native.Nat.{ℕ, zero, suc, _+_, _-_, _*_}
@@ -50,6 +50,14 @@ test3 c =
 unfoldable pub test4 : Case → Option Outcome
 test4 c = refuseAt 4 (firstFrom (λ p. ltb 4000 (getD (c .supplies ++ c .demands) (p - 1) 0)) 1 (c .m + c .n))
 
+-- the first of two runs that is above its supply: 1 or 2
+unfoldable pub firstOver : ℕ → ℕ → ℕ → ℕ → Option ℕ
+firstOver r1 r2 a1 a2 = cond (ltb a1 r1) (some 1) (cond (ltb a2 r2) (some 2) none)
+
+-- least run above its plant's supply; place 1 or 2
+unfoldable pub test23 : Case → Option Outcome
+test23 c = refuseAt 23 (firstOver (c .run1) (c .run2) (supply c 0) (supply c 1))
+
 -- unit cost below -1,000,000 or above 1,000,000; place: the lane in row order, from 1
 unfoldable pub test5 : Case → Option Outcome
 test5 c = refuseAt 5 (firstFrom (λ p. outside (getD (c .costs) (p - 1) (pos 0))) 1 (c .m * c .n))
@@ -58,9 +66,9 @@ test5 c = refuseAt 5 (firstFrom (λ p. outside (getD (c .costs) (p - 1) (pos 0))
 unfoldable pub test6 : Case → Option Outcome
 test6 c = refuseIf 6 (not (eqb (length (c .table)) (supply c 0 + 1)))
 
--- d below 0
+-- d below r_1 + r_2
 unfoldable pub test7 : Case → Option Outcome
-test7 c = refuseIf 7 (ltb (allDemand c) (depotStock c))
+test7 c = refuseIf 7 (ltb (allDemand c) (depotStock c + c .run1 + c .run2))
 
 -- d above a_1 + a_2
 unfoldable pub test8 : Case → Option Outcome
@@ -84,7 +92,7 @@ some r orElse b = some r
 
 -- the tests before the balance, in their order
 unfoldable pub formRefusal : Case → Option Outcome
-formRefusal c = test1 c orElse test2 c orElse test3 c orElse test4 c orElse test5 c orElse test6 c
+formRefusal c = test1 c orElse test2 c orElse test3 c orElse test4 c orElse test23 c orElse test5 c orElse test6 c
 
 -- all tests in their order
 unfoldable pub refusalOf : Case → Option Outcome

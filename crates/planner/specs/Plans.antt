@@ -20,11 +20,13 @@ columnSum c x j = col (c .m) (byRow (c .n) x) j
 unfoldable pub freightOf : Case → List ℕ → ℤ
 freightOf c x = freightℤ (c .m) (c .n) (ratesByRow (c .n) (c .costs)) (byRow (c .n) x)
 
--- a plan that meets (TP), judged from the input alone, without ℓ and u
+-- a plan that meets (TP) and both least runs, judged from the input alone, without ℓ and u
 pub record MeetsTP (c : Case) (x : List ℕ) : Type 0 where
   pub cells : length x ≡ c .m * c .n
   pub plant1 : rowSum c x 0 ≤ supply c 0
   pub plant2 : rowSum c x 1 ≤ supply c 1
+  pub runs1 : c .run1 ≤ rowSum c x 0
+  pub runs2 : c .run2 ≤ rowSum c x 1
   pub depots : (i : ℕ) → 2 ≤ i → i < c .m → rowSum c x i ≡ supply c i
   pub terminals : (j : ℕ) → j < c .n → columnSum c x j ≡ demand c j
 

@@ -31,7 +31,7 @@ NoPlan c = (x : List ℕ) → MeetsTP c x → ⊥
 abbrev pub Unbalanced : Outcome → Type 0
 Unbalanced o = (o ≡ refused 7 0) ⊎ (o ≡ refused 8 0)
 
--- of a case that passes tests 1 to 6, the outcome o is a refusal for balance exactly where no plan meets (TP)
+-- of a case that passes the tests before the balance, the outcome o is a refusal for balance exactly where no plan meets (TP)
 pub record BalanceRule (c : Case) (o : Outcome) : Type 0 where
   pub no-plan : formRefusal c ≡ none → Unbalanced o → NoPlan c
   pub refuses : formRefusal c ≡ none → NoPlan c → Unbalanced o

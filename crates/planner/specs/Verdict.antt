@@ -3,14 +3,14 @@ use mathlib.Core.Option.{Option, none, some}
 use mathlib.Core.Bool.{Bool, true, false, cond}
 use mathlib.Core.List.{List, _++_}
 use mathlib.Core.Path.{_≡_}
-use Prim.Native.Nat.{ℕ, min, _+_, _-_, _*_, _≤_, _<_}
+use Prim.Native.Nat.{ℕ, max, min, _+_, _-_, _*_, _≤_, _<_}
 use lib.Dec.{ltb}
 use lib.IntN.{ℤ, pos}
 use lib.ListN.{length, getD}
 use Rattle.planner.specs.Range.{outside}
 use Rattle.transport.specs.Sum.{sum}
 use Rattle.planner.specs.Case.{Case}
-use Rattle.planner.specs.Outcome.{Outcome, refused, firstFrom, refuseAt, formRefusal}
+use Rattle.planner.specs.Outcome.{Outcome, refused, firstFrom, firstOver, refuseAt, formRefusal}
 use Rattle.planner.specs.declared.tests.Found.{Found}
 use Rattle.planner.specs.declared.tests.Found.the-variants.{At, Nowhere}
 use Rattle.planner.specs.declared.tests.Verdict.{Verdict}
@@ -44,14 +44,18 @@ AtMost limit l = (k : ℕ) → k < length l → getD l k 0 ≤ limit
 unfoldable pub amountsRefusal : List ℕ → List ℕ → Option Outcome
 amountsRefusal s d = refuseAt 4 (firstFrom (λ p. ltb 4000 (getD (s ++ d) (p - 1) 0)) 1 (length s + length d))
 
+-- test 23 of the runs and the supplies as they are lent
+unfoldable pub runsRefusal : ℕ → ℕ → List ℕ → Option Outcome
+runsRefusal r1 r2 s = refuseAt 23 (firstOver r1 r2 (getD s 0 0) (getD s 1 0))
+
 -- ℓ, u and d, or the balance refusal that bars them
-unfoldable pub splitsOf : List ℕ → List ℕ → Splits
-splitsOf s d =
+unfoldable pub splitsOf : ℕ → ℕ → List ℕ → List ℕ → Splits
+splitsOf r1 r2 s d =
     let all = sum (length d) (λ j. getD d j 0) in
     let stock = sum (length s - 2) (λ k. getD s (2 + k) 0) in
-    cond (ltb all stock) (Unbalanced 7)
+    cond (ltb all (stock + r1 + r2)) (Unbalanced 7)
     (cond (ltb (getD s 0 0 + getD s 1 0) (all - stock)) (Unbalanced 8)
-    (Between (all - stock - getD s 1 0) (min (getD s 0 0) (all - stock)) (all - stock)))
+    (Between (max r1 (all - stock - getD s 1 0)) (min (getD s 0 0) (all - stock - r2)) (all - stock)))
 
 -- test 9 of the entries at the splits lo to hi
 unfoldable pub entriesRefusal : List ℕ → ℕ → ℕ → Option Outcome
@@ -59,10 +63,12 @@ entriesRefusal t lo hi =
     refuseAt 9 (firstFrom (λ y. ltb 1000000000 (getD t y 0)) lo (hi - lo + 1))
 
 -- the case that is lent by these numbers and slices
-abbrev pub lent : ℕ → ℕ → List ℤ → List ℕ → List ℕ → List ℕ → ℕ → ℕ → ℕ → Case
-lent m n costs supplies demands table plan splits freights = record {
+abbrev pub lent : ℕ → ℕ → ℕ → ℕ → List ℤ → List ℕ → List ℕ → List ℕ → ℕ → ℕ → ℕ → Case
+lent m n run1 run2 costs supplies demands table plan splits freights = record {
   m = m;
   n = n;
+  run1 = run1;
+  run2 = run2;
   costs = costs;
   supplies = supplies;
   demands = demands;
@@ -72,13 +78,15 @@ lent m n costs supplies demands table plan splits freights = record {
   freightCells = freights;
 }
 
--- the two lists hold amounts of a size that the planner admits
-pub record Amounts (s d : List ℕ) : Type 0 where
+-- the two runs and the two lists hold amounts of a size that the planner admits
+pub record Amounts (r1 r2 : ℕ) (s d : List ℕ) : Type 0 where
   pub two : 2 ≤ length s
   pub sources : length s ≤ 32
   pub terminals : length d ≤ 64
   pub supplies : AtMost 4000 s
   pub demands : AtMost 4000 d
+  pub run1 : r1 ≤ getD s 0 0
+  pub run2 : r2 ≤ getD s 1 0
 
 -- a range of splits within the table
 pub record Within (t : List ℕ) (lo hi : ℕ) : Type 0 where

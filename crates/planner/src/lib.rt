@@ -31,6 +31,8 @@ pub enum Answer {
 pub fn plan(
     m: usize,
     n: usize,
+    run1: u64,
+    run2: u64,
     costs: &[i64],
     supplies: &[u64],
     demands: &[u64],
@@ -39,16 +41,27 @@ pub fn plan(
     splits: &mut [u64],
     freights: &mut [i64],
 ) -> Answer
-    ensures { λ r. ⌜ Answered (lent m n (now (costs .entry)) (now (supplies .entry)) (now (demands .entry)) (now (table .entry)) (length (now (plan .entry))) (length (now (splits .entry))) (length (now (freights .entry)))) (outcome r) (slices (now (plan .entry)) (now (splits .entry)) (now (freights .entry))) (slices (now (plan .exit)) (now (splits .exit)) (now (freights .exit))) ⌝ }
+    ensures { λ r. ⌜ Answered (lent m n run1 run2 (now (costs .entry)) (now (supplies .entry)) (now (demands .entry)) (now (table .entry)) (length (now (plan .entry))) (length (now (splits .entry))) (length (now (freights .entry)))) (outcome r) (slices (now (plan .entry)) (now (splits .entry)) (now (freights .entry))) (slices (now (plan .exit)) (now (splits .exit)) (now (freights .exit))) ⌝ }
 {
-    if let Verdict::Refused(number, place) = form_test(m, n, costs, supplies, demands, table) {
+    if let Verdict::Refused(number, place) = form_test(
+        m,
+        n,
+        run1,
+        run2,
+        costs,
+        supplies,
+        demands,
+        table,
+    ) {
         return Answer::Refused { number, place };
     }
-    match splits_of(supplies, demands) {
+    match splits_of(run1, run2, supplies, demands) {
         Splits::Unbalanced(number) => Answer::Refused { number, place: 0 },
         Splits::Between(lo, hi, all) => plan_between(
             m,
             n,
+            run1,
+            run2,
             costs,
             supplies,
             demands,

@@ -21,6 +21,8 @@ use transport::curve::sweep;
 fn solve(
     m: usize,
     n: usize,
+    run1: u64,
+    run2: u64,
     costs: &[i64],
     supplies: &[u64],
     demands: &[u64],
@@ -32,8 +34,8 @@ fn solve(
     splits: &mut [u64],
     freights: &mut [i64],
 ) -> Answer
-    requires { ⌜ Accepts (lent m n (now costs) (now supplies) (now demands) (now table) (length (now plan)) (length (now splits)) (length (now freights))) lo hi all ⌝ }
-    ensures { λ r. ⌜ Answered (lent m n (now (costs .entry)) (now (supplies .entry)) (now (demands .entry)) (now (table .entry)) (length (now (plan .entry))) (length (now (splits .entry))) (length (now (freights .entry)))) (outcome r) (slices (now (plan .entry)) (now (splits .entry)) (now (freights .entry))) (slices (now (plan .exit)) (now (splits .exit)) (now (freights .exit))) ⌝ }
+    requires { ⌜ Accepts (lent m n run1 run2 (now costs) (now supplies) (now demands) (now table) (length (now plan)) (length (now splits)) (length (now freights))) lo hi all ⌝ }
+    ensures { λ r. ⌜ Answered (lent m n run1 run2 (now (costs .entry)) (now (supplies .entry)) (now (demands .entry)) (now (table .entry)) (length (now (plan .entry))) (length (now (splits .entry))) (length (now (freights .entry)))) (outcome r) (slices (now (plan .entry)) (now (splits .entry)) (now (freights .entry))) (slices (now (plan .exit)) (now (splits .exit)) (now (freights .exit))) ⌝ }
 {
     let cost = raised_rows(m, n, costs);
     let cap = ceilings();
@@ -73,6 +75,8 @@ fn solve(
 pub fn plan_between(
     m: usize,
     n: usize,
+    run1: u64,
+    run2: u64,
     costs: &[i64],
     supplies: &[u64],
     demands: &[u64],
@@ -84,8 +88,8 @@ pub fn plan_between(
     splits: &mut [u64],
     freights: &mut [i64],
 ) -> Answer
-    requires { ⌜ OnSplits (lent m n (now costs) (now supplies) (now demands) (now table) (length (now plan)) (length (now splits)) (length (now freights))) lo hi all ⌝ }
-    ensures { λ r. ⌜ Answered (lent m n (now (costs .entry)) (now (supplies .entry)) (now (demands .entry)) (now (table .entry)) (length (now (plan .entry))) (length (now (splits .entry))) (length (now (freights .entry)))) (outcome r) (slices (now (plan .entry)) (now (splits .entry)) (now (freights .entry))) (slices (now (plan .exit)) (now (splits .exit)) (now (freights .exit))) ⌝ }
+    requires { ⌜ OnSplits (lent m n run1 run2 (now costs) (now supplies) (now demands) (now table) (length (now plan)) (length (now splits)) (length (now freights))) lo hi all ⌝ }
+    ensures { λ r. ⌜ Answered (lent m n run1 run2 (now (costs .entry)) (now (supplies .entry)) (now (demands .entry)) (now (table .entry)) (length (now (plan .entry))) (length (now (splits .entry))) (length (now (freights .entry)))) (outcome r) (slices (now (plan .entry)) (now (splits .entry)) (now (freights .entry))) (slices (now (plan .exit)) (now (splits .exit)) (now (freights .exit))) ⌝ }
 {
     if let Verdict::Refused(number, place) = entries_test(table, lo, hi) {
         return Answer::Refused { number, place };
@@ -112,6 +116,8 @@ pub fn plan_between(
     solve(
         m,
         n,
+        run1,
+        run2,
         costs,
         supplies,
         demands,

@@ -1,12 +1,12 @@
 // The tests of a case, in the order of the refusals.
 ghost use mathlib.Core.Path.{_≡_};
-ghost use Prim.Native.Nat.{ℕ, min, _+_, _-_, _*_, _≤_, _<_};
+ghost use Prim.Native.Nat.{ℕ, max, min, _+_, _-_, _*_, _≤_, _<_};
 ghost use mathlib.Core.List.{List};
 ghost use lib.ListN.{length, getD};
 ghost use Rattle.transport.specs.Sum.{sum};
 ghost use Rattle.planner.specs.Range.{outside};
 ghost use Rattle.planner.specs.Outcome.{formRefusal};
-ghost use Rattle.planner.specs.Verdict.{found, verdict, firstAbove, firstOutside, amountsRefusal, splitsOf, entriesRefusal, lent, AtMost, Amounts, Within};
+ghost use Rattle.planner.specs.Verdict.{found, verdict, firstAbove, firstOutside, amountsRefusal, runsRefusal, splitsOf, entriesRefusal, lent, AtMost, Amounts, Within};
 use crate::limits::Checked;
 use crate::limits::Size;
 
@@ -102,16 +102,32 @@ pub fn amounts_test(supplies: &[u64], demands: &[u64]) -> Verdict
     Verdict::Passed
 }
 
-// Tests 1 to 6.
+// Test 23: a least run above its plant's supply.
+pub fn runs_test(run1: u64, run2: u64, supplies: &[u64]) -> Verdict
+    requires { ⌜ 2 ≤ length (now supplies) ⌝ }
+    ensures { λ r. ⌜ verdict r ≡ runsRefusal run1 run2 (now (supplies .entry)) ⌝ }
+{
+    if supplies[0] < run1 {
+        return Verdict::Refused(23, 1);
+    }
+    if supplies[1] < run2 {
+        return Verdict::Refused(23, 2);
+    }
+    Verdict::Passed
+}
+
+// Tests 1 to 6, with 23 after 4.
 pub fn form_test(
     m: usize,
     n: usize,
+    run1: u64,
+    run2: u64,
     costs: &[i64],
     supplies: &[u64],
     demands: &[u64],
     table: &[u64],
 ) -> Verdict
-    ensures { λ r. ⌜ ((p s f : ℕ) → verdict r ≡ formRefusal (lent m n (now (costs .entry)) (now (supplies .entry)) (now (demands .entry)) (now (table .entry)) p s f)) ⌝ }
+    ensures { λ r. ⌜ ((p s f : ℕ) → verdict r ≡ formRefusal (lent m n run1 run2 (now (costs .entry)) (now (supplies .entry)) (now (demands .entry)) (now (table .entry)) p s f)) ⌝ }
 {
     if let Checked::Refused(number) = Size::checked(m, n) {
         return Verdict::Refused(number, 0);
@@ -126,6 +142,9 @@ pub fn form_test(
         return Verdict::Refused(3, 0);
     }
     if let Verdict::Refused(number, place) = amounts_test(supplies, demands) {
+        return Verdict::Refused(number, place);
+    }
+    if let Verdict::Refused(number, place) = runs_test(run1, run2, supplies) {
         return Verdict::Refused(number, place);
     }
     if let Found::At(k) = first_outside(m, n, costs) {
@@ -143,6 +162,12 @@ fn smaller(a: u64, b: u64) -> u64
     if a < b { a } else { b }
 }
 
+fn larger(a: u64, b: u64) -> u64
+    ensures { λ r. ⌜ r ≡ max a b ⌝ }
+{
+    if a < b { b } else { a }
+}
+
 // What a is above b, or 0.
 fn excess(a: u64, b: u64) -> u64
     ensures { λ r. ⌜ r ≡ a - b ⌝ }
@@ -151,13 +176,13 @@ fn excess(a: u64, b: u64) -> u64
 }
 
 // Tests 7 and 8, and the first and the last split.
-pub fn splits_of(supplies: &[u64], demands: &[u64]) -> Splits
-    requires { ⌜ Amounts (now supplies) (now demands) ⌝ }
-    ensures { λ r. ⌜ r ≡ splitsOf (now (supplies .entry)) (now (demands .entry)) ⌝ }
+pub fn splits_of(run1: u64, run2: u64, supplies: &[u64], demands: &[u64]) -> Splits
+    requires { ⌜ Amounts run1 run2 (now supplies) (now demands) ⌝ }
+    ensures { λ r. ⌜ r ≡ splitsOf run1 run2 (now (supplies .entry)) (now (demands .entry)) ⌝ }
 {
     let all = sum_of(demands);
     let stock = sum_of(&supplies[2..]);
-    if all < stock {
+    if all < stock + run1 + run2 {
         return Splits::Unbalanced(7);
     }
     let made = all - stock;
@@ -166,7 +191,11 @@ pub fn splits_of(supplies: &[u64], demands: &[u64]) -> Splits
     if first + second < made {
         return Splits::Unbalanced(8);
     }
-    Splits::Between(excess(made, second), smaller(first, made), made)
+    Splits::Between(
+        larger(run1, excess(made, second)),
+        smaller(first, made - run2),
+        made,
+    )
 }
 
 // Test 9, at the splits lo to hi.

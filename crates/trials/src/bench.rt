@@ -32,6 +32,10 @@ pub const FIRST: u64 = 12;
 pub const LAST: u64 = 13;
 
 pub const WIDTH: u64 = 14;
+// The least runs of the plants.
+pub const RUN1: u64 = 15;
+
+pub const RUN2: u64 = 16;
 // The answer expected and the answer got: number (0 for a plan), place, split, total, freight, stops.
 pub const WANT: u64 = 20;
 

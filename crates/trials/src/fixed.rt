@@ -11,6 +11,8 @@ use crate::bench::LAST;
 use crate::bench::NONE;
 use crate::bench::PLAN_LEN;
 use crate::bench::ROOM;
+use crate::bench::RUN1;
+use crate::bench::RUN2;
 use crate::bench::SOURCES;
 use crate::bench::SPARE;
 use crate::bench::SPLITS_LEN;
@@ -57,9 +59,9 @@ const B_ANSWER: [u64; 6] = [0, 0, 200, ZERO + 800, ZERO + 800, 4];
 
 // Cases made from A by up to three changed cells: (cell, value) three times, then
 // number, place, split, total, freight, stops.
-const CHANGES: u64 = 32;
+const CHANGES: u64 = 38;
 
-const CHANGED: [u64; 384] = [
+const CHANGED: [u64; 456] = [
     // P1
     SPARE,
     0,
@@ -463,6 +465,79 @@ const CHANGED: [u64; 384] = [
     ZERO - 19,
     ZERO - 39,
     3,
+    // least runs: 2 and 1, 2 and 2, above a supply at each plant, with 8 too, and together above d
+    RUN1,
+    2,
+    RUN2,
+    1,
+    SPARE,
+    0,
+    0,
+    0,
+    3,
+    ZERO + 33,
+    ZERO + 13,
+    2,
+    RUN1,
+    2,
+    RUN2,
+    2,
+    SPARE,
+    0,
+    0,
+    0,
+    2,
+    ZERO + 35,
+    ZERO + 11,
+    1,
+    RUN1,
+    4,
+    SPARE,
+    0,
+    SPARE,
+    0,
+    23,
+    1,
+    0,
+    0,
+    0,
+    0,
+    RUN2,
+    4,
+    COSTS,
+    ZERO + 1_000_001,
+    SPARE,
+    0,
+    23,
+    2,
+    0,
+    0,
+    0,
+    0,
+    SUPPLIES,
+    1,
+    SUPPLIES + 1,
+    2,
+    RUN1,
+    2,
+    23,
+    1,
+    0,
+    0,
+    0,
+    0,
+    RUN1,
+    3,
+    RUN2,
+    2,
+    SPARE,
+    0,
+    7,
+    0,
+    0,
+    0,
+    0,
+    0,
 ];
 
 // Cases with equal supplies, equal demands, and unit costs of row 1 and of the other rows: m, n, supply, demand,
@@ -696,6 +771,8 @@ fn set_sizes(b: &mut [u64], m: u64, n: u64, entries: u64, width: u64) {
     let lanes = times(m, n);
     let sizes = [m, n, lanes, m, n, entries, lanes, width, width];
     copy(&sizes, b, SOURCES);
+    put(b, RUN1, 0);
+    put(b, RUN2, 0);
 }
 
 // Check 13: whether the answer is the one given.

@@ -1,11 +1,13 @@
 // A listing of all plans of a small case, judged from the input: row 1 sums to a_1 or less, row 2 to a_2 or less,
-// each depot row to its stock, each column to its demand. Lanes are gone through in row order; at each lane every
+// each to its least run or more, each depot row to its stock, each column to its demand. Lanes are gone through in row order; at each lane every
 // amount that rows and columns leave room for is tried.
 use crate::bench::BEST;
 use crate::bench::COSTS_LEN;
 use crate::bench::DEMANDS;
 use crate::bench::NONE;
 use crate::bench::ROOM;
+use crate::bench::RUN1;
+use crate::bench::RUN2;
 use crate::bench::SOURCES;
 use crate::bench::SUPPLIES;
 use crate::bench::TERMINALS;
@@ -53,12 +55,25 @@ fn keep_least(b: &mut [u64], y: u64, cost: u64) {
     }
 }
 
-// Keeps the freight of a full table.
-fn keep(b: &mut [u64]) {
-    let y = line(b, AMOUNTS, 1, at(b, TERMINALS));
+// Keeps the freight of a full table that sends y from plant 1.
+fn keep_plan(b: &mut [u64], y: u64) {
     let cost = freight(part(b, AMOUNTS, at(b, COSTS_LEN)), costs(b));
     raise(b, LISTED, 0, 1);
     keep_least(b, y, cost);
+}
+
+// Keeps a full table where both plants make their least run.
+fn keep(b: &mut [u64]) {
+    let n = at(b, TERMINALS);
+    let y = line(b, AMOUNTS, 1, n);
+    let z = line(b, plus(AMOUNTS, n), 1, n);
+    if y < at(b, RUN1) {
+        return;
+    }
+    if z < at(b, RUN2) {
+        return;
+    }
+    keep_plan(b, y);
 }
 
 // Gives a lane an amount out of what its row and its column have left.

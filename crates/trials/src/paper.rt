@@ -1,10 +1,12 @@
-// The refusals 1 to 9 and 11, judged as the table of the scope says, without the planner's code.
+// The refusals 1 to 9, 11 and 23, judged as the table of the scope says, without the planner's code.
 use crate::bench::COSTS_LEN;
 use crate::bench::DEMANDS_LEN;
 use crate::bench::FIRST;
 use crate::bench::FREIGHTS_LEN;
 use crate::bench::MADE;
 use crate::bench::PLAN_LEN;
+use crate::bench::RUN1;
+use crate::bench::RUN2;
 use crate::bench::SOURCES;
 use crate::bench::SPLITS_LEN;
 use crate::bench::SUPPLIES;
@@ -21,6 +23,7 @@ use crate::bench::table;
 use crate::cells::at;
 use crate::cells::copy;
 use crate::cells::get;
+use crate::cells::larger;
 use crate::cells::line;
 use crate::cells::minus;
 use crate::cells::part;
@@ -37,14 +40,18 @@ fn all_stock(b: &[u64]) -> u64 {
     line(supplies(b), 2, 1, minus(at(b, SUPPLIES_LEN), 2))
 }
 
-// Sets d, ℓ, u and the number of splits, which is 0 where d is below 0 or above a_1 + a_2.
+// What must leave depots and plants: all stock and both least runs.
+fn must_leave(b: &[u64]) -> u64 {
+    plus(all_stock(b), plus(at(b, RUN1), at(b, RUN2)))
+}
+
+// Sets d, ℓ, u and the number of splits, which is 0 where d is below both runs or above a_1 + a_2.
 pub fn set_span(b: &mut [u64]) {
     let all = all_demands(b);
-    let stock = all_stock(b);
-    let made = minus(all, stock);
-    let first = minus(made, get(b, SUPPLIES, 1));
-    let last = smaller(at(b, SUPPLIES), made);
-    let width = if all < stock {
+    let made = minus(all, all_stock(b));
+    let first = larger(at(b, RUN1), minus(made, get(b, SUPPLIES, 1)));
+    let last = smaller(at(b, SUPPLIES), minus(made, at(b, RUN2)));
+    let width = if all < must_leave(b) {
         0
     } else {
         minus(plus(last, 1), first)
@@ -126,13 +133,24 @@ fn high_amount(b: &[u64]) -> u64 {
     0
 }
 
+// Test 23: the plant whose least run is above its supply; 0 where there is none.
+fn high_run(b: &[u64]) -> u64 {
+    if at(b, SUPPLIES) < at(b, RUN1) {
+        return 1;
+    }
+    if get(b, SUPPLIES, 1) < at(b, RUN2) {
+        return 2;
+    }
+    0
+}
+
 // Tests 6 to 8, whose place is 0.
 fn balance_test(b: &[u64]) -> u64 {
     let a_1 = at(b, SUPPLIES);
     if at(b, TABLE_LEN) != plus(a_1, 1) {
         return 6;
     }
-    if all_demands(b) < all_stock(b) {
+    if all_demands(b) < must_leave(b) {
         return 7;
     }
     if plus(a_1, get(b, SUPPLIES, 1)) < at(b, MADE) {
@@ -175,7 +193,7 @@ fn refused(number: u64, place: u64) -> Verdict {
     Verdict { number, place }
 }
 
-// Tests 1 to 5.
+// Tests 1 to 5, with 23 after 4.
 fn judge_numbers(b: &[u64]) -> Verdict {
     let form = form_test(b);
     if form != 0 {
@@ -184,6 +202,10 @@ fn judge_numbers(b: &[u64]) -> Verdict {
     let amount = high_amount(b);
     if amount != 0 {
         return refused(4, amount);
+    }
+    let plant = high_run(b);
+    if plant != 0 {
+        return refused(23, plant);
     }
     let lane = first_outside(costs(b));
     if lane != 0 {

@@ -10,6 +10,8 @@ use crate::bench::MARK;
 use crate::bench::PLAN;
 use crate::bench::PLAN_LEN;
 use crate::bench::ROOM;
+use crate::bench::RUN1;
+use crate::bench::RUN2;
 use crate::bench::SOURCES;
 use crate::bench::SPLITS;
 use crate::bench::SPLITS_LEN;
@@ -66,6 +68,8 @@ fn lend(
     planner::plan(
         at(b, SOURCES) as usize,
         at(b, TERMINALS) as usize,
+        at(b, RUN1),
+        at(b, RUN2),
         costs,
         supplies(b),
         demands(b),

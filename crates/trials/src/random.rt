@@ -3,7 +3,10 @@ use crate::bench::COSTS;
 use crate::bench::COSTS_LEN;
 use crate::bench::DEMANDS;
 use crate::bench::FREIGHTS_LEN;
+use crate::bench::MADE;
 use crate::bench::PLAN_LEN;
+use crate::bench::RUN1;
+use crate::bench::RUN2;
 use crate::bench::SEED;
 use crate::bench::SOURCES;
 use crate::bench::SPLITS_LEN;
@@ -130,6 +133,42 @@ fn draw_amounts(b: &mut [u64], m: u64, n: u64) {
     draw_cells(b, SUPPLIES, 2, low, 20);
 }
 
+// Draws a least run up to a plant's supply, that supply itself, or one more.
+fn draw_run(b: &mut [u64], cell: u64, supply: u64) {
+    let kind = draw(b, 8);
+    let some = draw(b, plus(supply, 1));
+    let run = match kind {
+        0 => plus(supply, 1),
+        1 => supply,
+        _ => some,
+    };
+    put(b, cell, run);
+}
+
+// The least run of plant 2 that makes both together d.
+fn complete_runs(b: &mut [u64]) {
+    set_span(b);
+    let rest = minus(at(b, MADE), at(b, RUN1));
+    put(b, RUN2, rest);
+}
+
+// Draws the least runs: none, any, or both together d.
+fn draw_runs(b: &mut [u64]) {
+    put(b, RUN1, 0);
+    put(b, RUN2, 0);
+    let kind = draw(b, 8);
+    if kind < 4 {
+        return;
+    }
+    let a_1 = at(b, SUPPLIES);
+    draw_run(b, RUN1, a_1);
+    let a_2 = get(b, SUPPLIES, 1);
+    draw_run(b, RUN2, a_2);
+    if kind == 4 {
+        complete_runs(b);
+    }
+}
+
 // Draws unit costs: of the whole range, rebates and charges of a few values, or charges alone.
 fn draw_costs(b: &mut [u64], lanes: u64) {
     let kind = draw(b, 4);
@@ -149,6 +188,7 @@ fn draw_case(b: &mut [u64]) {
     copy(&sizes, b, SOURCES);
     draw_costs(b, lanes);
     draw_amounts(b, m, n);
+    draw_runs(b);
     draw_table(b);
     draw_lengths(b, lanes);
 }

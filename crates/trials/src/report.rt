@@ -4,11 +4,11 @@ use crate::cells::at;
 use crate::cells::get;
 
 // How many lines there are, how wide a name is, and the cell of the tally that each line shows.
-const LINES: usize = 26;
+const LINES: usize = 27;
 
 const WIDTH: usize = 25;
 
-const SHOWN: [u64; 26] = [
+const SHOWN: [u64; 27] = [
     0,
     1,
     2,
@@ -20,6 +20,7 @@ const SHOWN: [u64; 26] = [
     8,
     9,
     11,
+    23,
     28,
     29,
     30,
@@ -38,7 +39,7 @@ const SHOWN: [u64; 26] = [
 ];
 
 // The line from which on the cases are counted.
-pub const FROM_CASES: usize = 22;
+pub const FROM_CASES: usize = 23;
 
 // The count that line k shows.
 fn count_of(b: &[u64], k: u64) -> u64 {
@@ -72,11 +73,11 @@ pub fn report(b: &[u64], first: usize) {
     say_from(
         b"planned:                 refused 1:               refused 2:               refused 3:               \
           refused 4:               refused 5:               refused 6:               refused 7:               \
-          refused 8:               refused 9:               refused 11:              one split:               \
-          ties between splits:     ties between plans:      plans listed:            no depots:               \
-          one terminal:            a supply of 0:           a demand of 0:           balanced, with plans:    \
-          unbalanced, no plan:     best between two stops:  cases:                   differences:             \
-          first difference: case   first difference: check  ",
+          refused 8:               refused 9:               refused 11:              refused 23:              \
+          one split:               ties between splits:     ties between plans:      plans listed:            \
+          no depots:               one terminal:            a supply of 0:           a demand of 0:           \
+          balanced, with plans:    unbalanced, no plan:     best between two stops:  cases:                   \
+          differences:             first difference: case   first difference: check  ",
         b,
         first,
     );

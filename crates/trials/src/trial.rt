@@ -115,10 +115,18 @@ fn count_plan(b: &mut [u64]) {
     count_zeros(b);
 }
 
-// Lists the plans of a case that passes tests 1 to 6: there are some at the splits from ℓ to u and nowhere else.
+// Whether a test before the balance refuses: 1 to 6, or 23.
+fn ill_formed(number: u64) -> bool {
+    if number == 23 {
+        return true;
+    }
+    0 < number && number < 7
+}
+
+// Lists the plans of a case that passes the tests before the balance: there are some at the splits from ℓ to u and nowhere else.
 fn list_case(b: &mut [u64]) -> u64 {
     let number = at(b, WANT);
-    if 0 < number && number < 7 {
+    if ill_formed(number) {
         return 0;
     }
     if !list(b) {

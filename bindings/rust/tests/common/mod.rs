@@ -9,6 +9,8 @@ pub mod referee;
 pub struct Lent {
     pub m: usize,
     pub n: usize,
+    pub run1: u64,
+    pub run2: u64,
     pub costs: Vec<i64>,
     pub supplies: Vec<u64>,
     pub demands: Vec<u64>,
@@ -40,11 +42,13 @@ pub fn untouched_signed(slice: u64, cells: usize) -> Vec<i64> {
 }
 
 impl Lent {
-    /// Slices that are just long enough, and stops that fit any case.
+    /// No least runs, slices that are just long enough, and stops that fit any case.
     pub fn new(m: usize, n: usize, costs: &[i64], supplies: &[u64], demands: &[u64], table: &[u64]) -> Lent {
         Lent {
             m,
             n,
+            run1: 0,
+            run2: 0,
             costs: costs.to_vec(),
             supplies: supplies.to_vec(),
             demands: demands.to_vec(),
@@ -79,6 +83,8 @@ impl Lent {
         let number = yadvorkhul::plan_into(
             self.m,
             self.n,
+            self.run1,
+            self.run2,
             &self.costs,
             &self.supplies,
             &self.demands,

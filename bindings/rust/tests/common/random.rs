@@ -48,6 +48,7 @@ pub fn accepted(random: &mut Random, limits: Limits) -> (Lent, u64, Vec<i64>) {
     let (supplies, demands) = amounts(random, m, n, limits.amount);
     let blank = vec![0; supplies[0] as usize + 1];
     let mut lent = Lent::new(m, n, &costs, &supplies, &demands, &blank);
+    (lent.run1, lent.run2) = runs(random, &lent);
     let (least, curve) = referee::curve(&lent);
     lent.table = table(random, &lent, least, &curve);
     lent.plan_cells = m * n + random.size(0, 2);
@@ -131,6 +132,29 @@ fn amounts(random: &mut Random, m: usize, n: usize, most: u64) -> (Vec<u64>, Vec
     let mut supplies = vec![first, second];
     supplies.extend(depots);
     (supplies, demands)
+}
+
+/// Least runs that leave a split: none, any, and at their limits (a plant's whole supply, or d together).
+fn runs(random: &mut Random, lent: &Lent) -> (u64, u64) {
+    let (d, _, _) = referee::splits(lent);
+    let (first, second) = (lent.supplies[0].min(d), lent.supplies[1].min(d));
+    let rest = |run: u64, supply: u64| (d - run).min(supply);
+    match random.within(0, 9) {
+        0..=3 => (0, 0),
+        4 => (first, random.within(0, rest(first, second))),
+        5 => (random.within(0, rest(second, first)), second),
+        // together d: one split
+        6 => {
+            let run = random.within(d.saturating_sub(second), first);
+            (run, d - run)
+        }
+        7 => (random.within(0, first), 0),
+        8 => (0, random.within(0, second)),
+        _ => {
+            let run = random.within(0, first);
+            (run, random.within(0, rest(run, second)))
+        }
+    }
 }
 
 /// A table of one of eight shapes from ℓ to u, and anything outside.

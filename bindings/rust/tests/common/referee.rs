@@ -12,10 +12,10 @@ pub fn splits(lent: &Lent) -> (u64, u64, u64) {
     let demand: u64 = lent.demands.iter().sum();
     let stock: u64 = lent.supplies[2..].iter().sum();
     let d = demand - stock;
-    (d, d.saturating_sub(lent.supplies[1]), d.min(lent.supplies[0]))
+    (d, lent.run1.max(d.saturating_sub(lent.supplies[1])), lent.supplies[0].min(d - lent.run2))
 }
 
-/// The first of the tests 1 to 11 that the case fails, and its place.
+/// The first of the tests that the case fails, and its place.
 pub fn refusal(lent: &Lent) -> Option<(u64, u64)> {
     let Lent { m, n, .. } = *lent;
     if !(2..=32).contains(&m) {
@@ -30,6 +30,12 @@ pub fn refusal(lent: &Lent) -> Option<(u64, u64)> {
     if let Some(k) = lent.supplies.iter().chain(&lent.demands).position(|&a| a > 4_000) {
         return Some((4, k as u64 + 1));
     }
+    if lent.run1 > lent.supplies[0] {
+        return Some((23, 1));
+    }
+    if lent.run2 > lent.supplies[1] {
+        return Some((23, 2));
+    }
     if let Some(k) = lent.costs.iter().position(|&c| !(-1_000_000..=1_000_000).contains(&c)) {
         return Some((5, k as u64 + 1));
     }
@@ -38,7 +44,7 @@ pub fn refusal(lent: &Lent) -> Option<(u64, u64)> {
     }
     let demand: u64 = lent.demands.iter().sum();
     let stock: u64 = lent.supplies[2..].iter().sum();
-    if demand < stock {
+    if demand < stock + lent.run1 + lent.run2 {
         return Some((7, 0));
     }
     if demand - stock > lent.supplies[0] + lent.supplies[1] {
@@ -60,7 +66,7 @@ pub fn freight(lent: &Lent, amounts: &[u64]) -> i64 {
     amounts.iter().zip(&lent.costs).map(|(&x, &c)| x as i64 * c).sum()
 }
 
-/// What keeps `amounts` from being a plan at split y.
+/// What keeps `amounts` from being a plan at split y that respects the least runs.
 pub fn faults(lent: &Lent, y: u64, amounts: &[u64]) -> Vec<String> {
     let (d, _, _) = splits(lent);
     let mut faults = Vec::new();
@@ -75,6 +81,10 @@ pub fn faults(lent: &Lent, y: u64, amounts: &[u64]) -> Vec<String> {
         };
         if made != due {
             faults.push(format!("row {i} sums to {made}, not {due}"));
+        }
+        let run = [lent.run1, lent.run2].get(i).copied().unwrap_or(0);
+        if made < run || made > lent.supplies[i] {
+            faults.push(format!("row {i} sums to {made}, not {run} to {}", lent.supplies[i]));
         }
     }
     for j in 0..lent.n {

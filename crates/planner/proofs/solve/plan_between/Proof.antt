@@ -1,11 +1,12 @@
-use borrow.Author.Needs.{needs}
 -- `planner::solve::plan_between` meets its contract. Assumes nothing.
+use borrow.Author.Needs.{needs}
 use mathlib.Core.Path.{_≡_, sym, ap, _∙_}
 use mathlib.Core.Option.{none}
 use native.Mathlib.Omega.{arith}
 use native.Mathlib.Nat.{mul-le-mul}
 use lib.ListN.{length}
 use denote.Ref.{now}
+use Rattle.planner.specs.Case.{Case}
 use Rattle.planner.specs.Verdict.{lent, verdict, entriesRefusal}
 use Rattle.planner.proofs.Passed.{formed}
 use Rattle.planner.proofs.FormLaws.{Limits, lanes}
@@ -17,6 +18,12 @@ use Rattle.planner.proofs.solve.plan_between.Reads as reads
 use Rattle.planner.proofs.solve.plan_between.Lts as lts
 use Rattle.planner.proofs.solve.solve.Reads as solve-reads
 use Rattle.planner.proofs.tests.entries_test.Reads as entries-test-reads
+
+-- the lent case
+abbrev the : tie.Start → Case
+the s =
+    lent (s .args .m) (s .args .n) (s .args .run1) (s .args .run2) (now (s .args .costs)) (now (s .args .supplies)) (now (s .args .demands))
+    (now (s .args .table)) (length (now (s .args .plan))) (length (now (s .args .splits))) (length (now (s .args .freights)))
 
 -- past test 9
 passed : (c : tie.After-enum-told) → entriesRefusal (now (c .before .before .before .before .before .before .before .before .args .table)) (c .before .before .before .before .before .before .before .before .args .lo) (c .before .before .before .before .before .before .before .before .args .hi) ≡ none
@@ -42,7 +49,7 @@ add-count c = let h = most (c .before .before .before .before .before .before .b
 
 mul-if1 : tie.Need-mul-if1
 mul-if1 c =
-    let f = formed (lent (c .before .before .before .before .before .before .before .before .args .m) (c .before .before .before .before .before .before .before .before .args .n) (now (c .before .before .before .before .before .before .before .before .args .costs)) (now (c .before .before .before .before .before .before .before .before .args .supplies)) (now (c .before .before .before .before .before .before .before .before .args .demands)) (now (c .before .before .before .before .before .before .before .before .args .table)) (length (now (c .before .before .before .before .before .before .before .before .args .plan))) (length (now (c .before .before .before .before .before .before .before .before .args .splits))) (length (now (c .before .before .before .before .before .before .before .before .args .freights)))) (c .before .before .before .before .before .before .before .before .pre .form) in
+    let f = formed (the (c .before .before .before .before .before .before .before .before)) (c .before .before .before .before .before .before .before .before .pre .form) in
     omega (arith, mul-le-mul (f .few-sources) (f .few-terminals))
 
 returns-2 : tie.Need-returns-2

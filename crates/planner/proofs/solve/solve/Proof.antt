@@ -30,17 +30,17 @@ use Rattle.planner.proofs.work.raised_rows.Reads as raised-rows-reads
 use Rattle.planner.proofs.work.wanted.Reads as wanted-reads
 use Rattle.transport.proofs.curve.sweep.Reads as sweep-reads
 
--- the lent case, and what its tests left
+-- the lent case
 abbrev the : tie.Start → Case
 the s =
-    lent (s .args .m) (s .args .n) (now (s .args .costs)) (now (s .args .supplies)) (now (s .args .demands)) (now (s .args .table))
-    (length (now (s .args .plan))) (length (now (s .args .splits))) (length (now (s .args .freights)))
+    lent (s .args .m) (s .args .n) (s .args .run1) (s .args .run2) (now (s .args .costs)) (now (s .args .supplies)) (now (s .args .demands))
+    (now (s .args .table)) (length (now (s .args .plan))) (length (now (s .args .splits))) (length (now (s .args .freights)))
 
 form : (s : tie.Start) → Formed (the s)
 form s = formed (the s) (s .pre .on .form)
 
 bal : (s : tie.Start) → Balanced (the s)
-bal s = balanced (the s) (s .pre .on .t7) (s .pre .on .t8)
+bal s = balanced (the s) (form s) (s .pre .on .t7) (s .pre .on .t8)
 
 room : (s : tie.Start) → Roomy (the s)
 room s = roomy (the s) (s .pre .t11)
