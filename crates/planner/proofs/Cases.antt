@@ -172,6 +172,8 @@ held =
     ∷ accept (rooms (3 ∷ 3 ∷ 1 ∷ []) (99 ∷ 20 ∷ 24 ∷ 20 ∷ []) 9 7 8) (planned 3 (pos 33) (pos 13) 3) (1 ∷ 2 ∷ 3 ∷ []) (pos 14 ∷ pos 11 ∷ pos 13 ∷ [])
     -- all splits straight
     ∷ accept (lend 2 1 (pos 2 ∷ pos 5 ∷ []) (3 ∷ 3 ∷ []) (4 ∷ []) (99 ∷ 20 ∷ 24 ∷ 20 ∷ []) 2 8 8) (planned 3 (pos 31) (pos 11) 2) (1 ∷ 3 ∷ []) (pos 17 ∷ pos 11 ∷ [])
+    -- two stretches of one slope, one to each terminal: the split between is no stop
+    ∷ accept (lend 2 2 (pos 1 ∷ pos 1 ∷ pos 2 ∷ pos 2 ∷ []) (4 ∷ 4 ∷ []) (2 ∷ 2 ∷ []) (7 ∷ 7 ∷ 7 ∷ 7 ∷ 7 ∷ []) 4 8 8) (planned 4 (pos 11) (pos 4) 2) (0 ∷ 4 ∷ []) (pos 8 ∷ pos 4 ∷ [])
     -- a straight split before a bend
     ∷ accept (lend 2 2 (pos 1 ∷ pos 4 ∷ pos 3 ∷ pos 3 ∷ []) (4 ∷ 4 ∷ []) (3 ∷ 2 ∷ []) (50 ∷ 10 ∷ 10 ∷ 10 ∷ 10 ∷ []) 4 8 8) (planned 3 (pos 19) (pos 9) 3) (1 ∷ 3 ∷ 4 ∷ []) (pos 13 ∷ pos 9 ∷ pos 10 ∷ [])
     -- two depots, split 0 first and last

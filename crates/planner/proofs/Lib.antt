@@ -12,6 +12,7 @@ pub mod Splits
 pub mod Raised
 pub mod Promise
 pub mod Bounds
+pub mod Turns
 pub mod Rows
 pub mod TestLaws
 pub mod FormLaws

@@ -1,11 +1,12 @@
--- Which numbers a refusal has: of the later tests one above 8, of no test 10. Assumes nothing.
-use mathlib.Core.Path.{_≡_, sym, subst}
+-- Which numbers a refusal has: of the later tests one above 8, of no test 10; no test answers a plan. Assumes nothing.
+use mathlib.Core.Path.{_≡_, refl, sym, ap, subst}
 use mathlib.Core.Bool.{Bool, true, false}
 use mathlib.Core.Option.{Option, none, some}
 use Prim.Native.Nat.{ℕ, _<_}
 use native.Mathlib.Omega.{arith}
+use lib.IntN.{ℤ}
 use Rattle.planner.specs.Case.{Case}
-use Rattle.planner.specs.Outcome.{Outcome, planned, refused, refuseIf, refuseAt, _orElse_, formRefusal, refusalOf}
+use Rattle.planner.specs.Outcome.{Outcome, planned, refused, refuseIf, refuseAt, _orElse_, formRefusal, refusalOf, planOf, outcomeOf}
 use Rattle.planner.specs.Outcome.{test1, test2, test3, test4, test23, test5, test6, test7, test8, test9, test11}
 use Rattle.planner.proofs.Passed.{some≢none}
 
@@ -38,25 +39,46 @@ pub later-tests : (c : Case) (k p : ℕ) → (test9 c orElse test11 c) ≡ some 
 unfolding test9 test11 number
 later-tests c k p e = by-either (λ k. 8 < k) (test9 c) _ (by-place (λ k. 8 < k) 9 _ (omega arith)) (by-if (λ k. 8 < k) 11 _ (omega arith)) (refused k p) e
 
--- ---- the refusal that was numbered 10
+-- ---- the numbers of all tests
 
-abbrev Other : ℕ → Type 0
-Other k = k ≡ 10 → ⊥
+module _ (c : Case) (P : ℕ → Type 0) where
+  form-numbers : P 1 → P 2 → P 3 → P 4 → P 23 → P 5 → P 6 → Numbered P (formRefusal c)
+  unfolding formRefusal test1 test2 test3 test4 test23 test5 test6
+  form-numbers p1 p2 p3 p4 p23 p5 p6 =
+      by-either P (test1 c) _ (by-if P 1 _ p1)
+      (by-either P (test2 c) _ (by-if P 2 _ p2)
+      (by-either P (test3 c) _ (by-if P 3 _ p3)
+      (by-either P (test4 c) _ (by-place P 4 _ p4)
+      (by-either P (test23 c) _ (by-place P 23 _ p23) (by-either P (test5 c) _ (by-place P 5 _ p5) (by-if P 6 _ p6))))))
 
-form-other : (c : Case) → Numbered Other (formRefusal c)
-unfolding formRefusal test1 test2 test3 test4 test23 test5 test6
-form-other c =
-    by-either Other (test1 c) _ (by-if Other 1 _ (λ e. omega arith))
-    (by-either Other (test2 c) _ (by-if Other 2 _ (λ e. omega arith))
-    (by-either Other (test3 c) _ (by-if Other 3 _ (λ e. omega arith))
-    (by-either Other (test4 c) _ (by-place Other 4 _ (λ e. omega arith))
-    (by-either Other (test23 c) _ (by-place Other 23 _ (λ e. omega arith))
-    (by-either Other (test5 c) _ (by-place Other 5 _ (λ e. omega arith)) (by-if Other 6 _ (λ e. omega arith)))))))
+  all-numbers : P 1 → P 2 → P 3 → P 4 → P 23 → P 5 → P 6 → P 7 → P 8 → P 9 → P 11 → Numbered P (refusalOf c)
+  unfolding refusalOf test7 test8 test9 test11
+  all-numbers p1 p2 p3 p4 p23 p5 p6 p7 p8 p9 p11 =
+      by-either P (formRefusal c) _ (form-numbers p1 p2 p3 p4 p23 p5 p6)
+      (by-either P (test7 c) _ (by-if P 7 _ p7)
+      (by-either P (test8 c) _ (by-if P 8 _ p8) (by-either P (test9 c) _ (by-place P 9 _ p9) (by-if P 11 _ p11))))
 
+-- not this number
+abbrev Other : ℕ → ℕ → Type 0
+Other n k = k ≡ n → ⊥
+
+-- the refusal that was numbered 10 is gone
 pub never10 : (c : Case) (k p : ℕ) → refusalOf c ≡ some (refused k p) → k ≡ 10 → ⊥
-unfolding refusalOf test7 test8 test9 test11 number
+unfolding number
 never10 c k p e =
-    by-either Other (formRefusal c) _ (form-other c)
-    (by-either Other (test7 c) _ (by-if Other 7 _ (λ e. omega arith))
-    (by-either Other (test8 c) _ (by-if Other 8 _ (λ e. omega arith))
-    (by-either Other (test9 c) _ (by-place Other 9 _ (λ e. omega arith)) (by-if Other 11 _ (λ e. omega arith))))) (refused k p) e
+    all-numbers c (Other 10) (λ e. omega arith) (λ e. omega arith) (λ e. omega arith) (λ e. omega arith) (λ e. omega arith) (λ e. omega arith) (λ e. omega arith) (λ e. omega arith) (λ e. omega arith) (λ e. omega arith) (λ e. omega arith) (refused k p) e
+
+-- no test answers a plan
+never-planned : (c : Case) (s : ℕ) (t f : ℤ) (k : ℕ) → refusalOf c ≡ some (planned s t f k) → ⊥
+unfolding number
+never-planned c s t f k e =
+    all-numbers c (Other 0) (λ e. omega arith) (λ e. omega arith) (λ e. omega arith) (λ e. omega arith) (λ e. omega arith) (λ e. omega arith) (λ e. omega arith) (λ e. omega arith) (λ e. omega arith) (λ e. omega arith) (λ e. omega arith) (planned s t f k) e refl
+
+-- where the outcome is a plan, all tests pass
+pub planned-passes : (c : Case) (s : ℕ) (t f : ℤ) (k : ℕ) → outcomeOf c ≡ planned s t f k → refusalOf c ≡ none
+unfolding outcomeOf
+planned-passes c s t f k e = step (refusalOf c) (never-planned c s t f k) e
+  where
+    step : (o : Option Outcome) → (o ≡ some (planned s t f k) → ⊥) → (elim o [ some r ↦ r | none ↦ planOf c ]) ≡ planned s t f k → o ≡ none
+    step none h q = refl
+    step (some r) h q = absurd (h (ap some q))

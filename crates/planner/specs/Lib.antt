@@ -9,4 +9,5 @@ pub mod Size
 pub mod Verdict
 pub mod Copy
 pub mod Answer
+pub mod Bends
 pub mod Ready
