@@ -16,7 +16,14 @@ pub struct Times {
 }
 
 extern "C" {
-    fn lemon_new(m: usize, n: usize, costs: *const i64, supplies: *const u64, demands: *const u64) -> *mut c_void;
+    fn lemon_new(
+        m: usize,
+        n: usize,
+        costs: *const i64,
+        supplies: *const u64,
+        demands: *const u64,
+        ceilings: *const u64,
+    ) -> *mut c_void;
     fn lemon_split(solver: *mut c_void, y: u64) -> i64;
     fn lemon_free(solver: *mut c_void);
     fn clock_gettime(clock: i32, time: *mut [i64; 2]) -> i32;
@@ -40,7 +47,7 @@ fn clocked<T>(work: impl FnOnce() -> T) -> (f64, T) {
 
 #[rustfmt::skip]
 type Planner = fn(
-    usize, usize, u64, u64, &[i64], &[u64], &[u64], &[u64],
+    usize, usize, u64, u64, &[i64], &[u64], &[u64], &[u64], &[u64],
     &mut [u64], &mut [u64], &mut [i64], &mut [u64], &mut [i64],
 ) -> u64;
 
@@ -78,9 +85,9 @@ impl Lent {
         freights.fill(0);
         report.fill(0);
         worth.fill(0);
-        let work = || {
-            planner(c.m, c.n, 0, 0, &c.costs, &c.supplies, &c.demands, &c.table, plan, splits, freights, report, worth)
-        };
+        let Case { m, n, costs, supplies, demands, ceilings, table, .. } = c;
+        let work =
+            || planner(*m, *n, 0, 0, costs, supplies, demands, ceilings, table, plan, splits, freights, report, worth);
         let (time, answer) = clocked(work);
         assert_eq!(answer, 0, "the case is planned");
         time
@@ -92,8 +99,9 @@ struct Lemon(*mut c_void);
 
 impl Lemon {
     fn of(c: &Case) -> Lemon {
+        let (costs, ceilings) = (c.costs.as_ptr(), c.ceilings.as_ptr());
         // Safety: the slices have the lengths that m and n say, and outlive the call.
-        Lemon(unsafe { lemon_new(c.m, c.n, c.costs.as_ptr(), c.supplies.as_ptr(), c.demands.as_ptr()) })
+        Lemon(unsafe { lemon_new(c.m, c.n, costs, c.supplies.as_ptr(), c.demands.as_ptr(), ceilings) })
     }
 
     fn split(&self, y: u64) -> i64 {

@@ -9,13 +9,24 @@
 static const uint64_t supplies[] = {3, 3, 1};
 static const uint64_t demands[] = {3, 2};
 
-static void print_plan(const char *name, uint64_t run1, uint64_t run2, const int64_t costs[6], const uint64_t table[4]) {
+struct change {
+    const char *name;
+    uint64_t run1, run2;
+    int64_t last_cost;
+    uint64_t first_ceiling, last_ceiling, entry2, entry3;
+};
+
+static void print_plan(struct change c) {
+    const int64_t costs[] = {2, 6, 5, 3, 1, c.last_cost};
+    const uint64_t ceilings[] = {c.first_ceiling, 4000, 4000, 4000, 4000, c.last_ceiling};
+    const uint64_t table[] = {99, 20, c.entry2, c.entry3};
     uint64_t plan[6], splits[3], report[YADVORKHUL_REPORT_CELLS];
     int64_t freights[3], worth[YADVORKHUL_WORTH_CELLS];
-    uint64_t answer = yadvorkhul_plan(3, 2, run1, run2, costs, 6, supplies, CELLS(supplies), demands, CELLS(demands),
-                                      table, 4, plan, CELLS(plan), splits, CELLS(splits), freights, CELLS(freights),
+    uint64_t answer = yadvorkhul_plan(3, 2, c.run1, c.run2, costs, CELLS(costs), supplies, CELLS(supplies),
+                                      demands, CELLS(demands), ceilings, CELLS(ceilings), table, CELLS(table),
+                                      plan, CELLS(plan), splits, CELLS(splits), freights, CELLS(freights),
                                       report, CELLS(report), worth, CELLS(worth));
-    printf("%s\n", name);
+    printf("%s\n", c.name);
     if (answer != 0) {
         printf("  refusal %" PRIu64 " at place %" PRIu64 "\n", answer, report[0]);
         return;
@@ -29,16 +40,16 @@ static void print_plan(const char *name, uint64_t run1, uint64_t run2, const int
 }
 
 int main(void) {
-    const int64_t costs[] = {2, 6, 5, 3, 1, 4};
-    const int64_t rebate[] = {2, 6, 5, 3, 1, -40};
-    const int64_t too_much[] = {2, 6, 5, 3, 1, -1000001};
-    const uint64_t table[] = {99, 20, 24, 20};
-    const uint64_t sagging[] = {99, 20, 20, 22};
-    print_plan("case A", 0, 0, costs, table);
-    print_plan("40 back for each drum from source 3 to terminal 2", 0, 0, rebate, table);
-    print_plan("1,000,001 back", 0, 0, too_much, table);
-    print_plan("entry 2 lowered: the least total lies between two others", 0, 0, costs, sagging);
-    print_plan("each plant makes 2 at least", 2, 2, costs, table);
-    print_plan("plant 2 makes 4 at least, and can make 3", 2, 4, costs, table);
+    const struct change changes[] = {
+        {"case A", 0, 0, 4, 4000, 4000, 24, 20},
+        {"40 back for each drum from source 3 to terminal 2", 0, 0, -40, 4000, 4000, 24, 20},
+        {"1,000,001 back", 0, 0, -1000001, 4000, 4000, 24, 20},
+        {"entry 2 lowered: the least total lies between two others", 0, 0, 4, 4000, 4000, 20, 22},
+        {"each plant makes 2 at least", 2, 2, 4, 4000, 4000, 24, 20},
+        {"plant 2 makes 4 at least, and can make 3", 2, 4, 4, 4000, 4000, 24, 20},
+        {"1 at most from source 1 to terminal 1", 0, 0, 4, 1, 4000, 24, 20},
+        {"4,001 at most from source 3 to terminal 2", 0, 0, 4, 4000, 4001, 24, 20},
+    };
+    for (size_t k = 0; k < CELLS(changes); k++) print_plan(changes[k]);
     return 0;
 }

@@ -10,15 +10,15 @@ from yadvorkhul import Refusal, plan, plan_into
 A = dict(costs=[[2, 6], [5, 3], [1, 4]], supplies=[3, 3, 1], demands=[3, 2], table=[99, 20, 24, 20])
 
 
-def rows(m, n, total_rows, columns):
-    """All ways to fill m rows of n amounts with these row and column sums."""
+def rows(m, n, total_rows, columns, ceilings):
+    """All ways to fill m rows of n amounts with these row and column sums, none above its ceiling."""
     if m == 0:
         if not any(columns):
             yield []
         return
-    for row in fill(n, total_rows[0], columns):
+    for row in fill(n, total_rows[0], [min(pair) for pair in zip(columns, ceilings[0])]):
         left = [b - x for b, x in zip(columns, row)]
-        for rest in rows(m - 1, n, total_rows[1:], left):
+        for rest in rows(m - 1, n, total_rows[1:], left, ceilings[1:]):
             yield [row] + rest
 
 
@@ -32,14 +32,17 @@ def fill(n, total, most):
             yield [x] + rest
 
 
-def listed(costs, supplies, demands, table, runs):
-    """Split, total, and f at each split, by a listing of all plans."""
+def listed(costs, supplies, demands, table, runs, ceilings):
+    """Split, total, and f at each split that has a plan, by a listing of all plans; None where no split has one."""
     m, n = len(supplies), len(demands)
     d = sum(demands) - sum(supplies[2:])
     curve = {}
     for y in range(max(runs[0], d - supplies[1]), min(supplies[0], d - runs[1]) + 1):
-        plans = rows(m, n, [y, d - y] + supplies[2:], demands)
-        curve[y] = min(sum(c * x for cr, xr in zip(costs, p) for c, x in zip(cr, xr)) for p in plans)
+        plans = list(rows(m, n, [y, d - y] + supplies[2:], demands, ceilings))
+        if plans:
+            curve[y] = min(sum(c * x for cr, xr in zip(costs, p) for c, x in zip(cr, xr)) for p in plans)
+    if not curve:
+        return None
     total, split = min((f + table[y], y) for y, f in curve.items())
     return split, total, curve
 
@@ -92,6 +95,18 @@ class Cases(unittest.TestCase):
             with self.assertRaises(TypeError):
                 plan(**A, runs=odd)
 
+    def test_ceilings(self):
+        found = self.expect(1, 34, ceilings=[[1, 4000], [4000, 4000], [4000, 4000]])
+        self.assertEqual(found.stops, [(1, 14), (3, 20)])
+        self.expect(3, 33, ceilings=[[4000] * 2] * 3)
+        self.refused(26, 0, ceilings=[[4000] * 2] * 2)
+        self.refused(26, 0, ceilings=[[4000] * 3, [4000], [4000] * 2])
+        self.refused(26, 4, ceilings=[[4000] * 2, [4000, 4001], [4001] * 2])
+        self.refused(27, 0, ceilings=[[4000] * 2, [4000] * 2, [0, 0]])
+        self.refused(27, 0, ceilings=[[1, 1], [4000] * 2, [4000] * 2], runs=(3, 0))
+        with self.assertRaises(TypeError):
+            plan(**A, ceilings=[[-1, 4000], [4000] * 2, [4000] * 2])
+
     def test_rebates(self):
         found = self.expect(3, -11, costs=[[2, 6], [5, 3], [1, -40]])
         self.assertEqual((found.freight, found.stops), (-31, [(1, -25), (3, -31)]))
@@ -134,7 +149,8 @@ class Lent(unittest.TestCase):
         case = {**A, **changes}
         lent = [[7] * k for k in (plan_cells, split_cells, freight_cells, report_cells, worth_cells)]
         costs = [c for row in case["costs"] for c in row]
-        return plan_into(3, 2, 0, 0, costs, case["supplies"], case["demands"], case["table"], *lent), lent
+        read = costs, case["supplies"], case["demands"], [4000] * 6, case["table"]
+        return plan_into(3, 2, 0, 0, *read, *lent), lent
 
     def test_planned(self):
         number, lent = self.call()
@@ -163,7 +179,7 @@ class Lent(unittest.TestCase):
 class Listing(unittest.TestCase):
     def test_random_small_cases(self):
         draw = random.Random(1995)
-        planned = 0
+        planned, without = 0, 0
         while planned < 500:
             m, n = draw.randint(2, 3), draw.randint(1, 3)
             size = draw.choice((1, 9, 1_000_000))
@@ -173,22 +189,32 @@ class Listing(unittest.TestCase):
             most = draw.choice((3, 30, 1_000_000_000))
             table = [draw.randint(0, most) for _ in range(supplies[0] + 1)]
             runs = draw.choice(((0, 0), tuple(draw.randint(0, a) for a in supplies[:2])))
+            most = draw.choice((2, 4, 4000))
+            ceilings = [[draw.randint(most // 2, most) for _ in range(n)] for _ in range(m)]
+            case = costs, supplies, demands, table, runs, ceilings
             d = sum(demands) - sum(supplies[2:])
-            if d < sum(runs) or d > supplies[0] + supplies[1]:
+            number = 7 if d < sum(runs) else 8 if d > supplies[0] + supplies[1] else 0 if listed(*case) else 27
+            if number:
                 with self.assertRaises(Refusal) as caught:
-                    plan(costs, supplies, demands, table, runs)
-                self.assertEqual(caught.exception.number, 7 if d < sum(runs) else 8)
+                    plan(*case)
+                self.assertEqual((caught.exception.number, caught.exception.place), (number, 0))
+                without += number == 27
                 continue
-            found = plan(costs, supplies, demands, table, runs)
-            split, total, curve = listed(costs, supplies, demands, table, runs)
-            self.assertEqual((found.split, found.total, found.freight), (split, total, curve[split]))
-            self.assertEqual([sum(row) for row in found.amounts], [split, d - split] + supplies[2:])
-            self.assertEqual([sum(column) for column in zip(*found.amounts)], demands)
-            spent = sum(c * x for cr, xr in zip(costs, found.amounts) for c, x in zip(cr, xr))
-            self.assertEqual(spent, found.freight)
-            bends = [y for y in curve if y in (min(curve), max(curve)) or curve[y - 1] + curve[y + 1] != 2 * curve[y]]
-            self.assertEqual(found.stops, [(y, curve[y]) for y in bends])
+            self.check(plan(*case), d, *case)
             planned += 1
+        self.assertGreater(without, 50)
+
+    def check(self, found, d, costs, supplies, demands, table, runs, ceilings):
+        split, total, curve = listed(costs, supplies, demands, table, runs, ceilings)
+        self.assertEqual((found.split, found.total, found.freight), (split, total, curve[split]))
+        self.assertEqual([sum(row) for row in found.amounts], [split, d - split] + supplies[2:])
+        self.assertEqual([sum(column) for column in zip(*found.amounts)], demands)
+        self.assertTrue(all(0 <= x <= u for xr, ur in zip(found.amounts, ceilings) for x, u in zip(xr, ur)))
+        spent = sum(c * x for cr, xr in zip(costs, found.amounts) for c, x in zip(cr, xr))
+        self.assertEqual(spent, found.freight)
+        ends = min(curve), max(curve)
+        bends = [y for y in curve if y in ends or curve[y - 1] + curve[y + 1] != 2 * curve[y]]
+        self.assertEqual(found.stops, [(y, curve[y]) for y in bends])
 
 
 if __name__ == "__main__":

@@ -9,11 +9,15 @@
     >>> p.stops
     [(1, 14), (2, 11), (3, 13)]
 
-A unit cost below 0 is a rebate; freights and totals are signed too. A plant may have a least run, which every plan makes:
+A unit cost below 0 is a rebate; freights and totals are signed too. A plant may have a least run, which every plan makes, and
+a lane a ceiling, which no plan passes:
 
     >>> p = plan([[2, 6], [5, 3], [1, 4]], [3, 3, 1], [3, 2], [99, 20, 24, 20], runs=(2, 2))
     >>> p.split, p.total
     (2, 35)
+    >>> p = plan([[2, 6], [5, 3], [1, 4]], [3, 3, 1], [3, 2], [99, 20, 24, 20], ceilings=[[1, 9], [9, 9], [9, 9]])
+    >>> p.split, p.total
+    (1, 34)
 
 A case that fails a test is refused by an exception that has the number and the place:
 
@@ -33,6 +37,7 @@ __all__ = ["plan", "plan_into", "Plan", "Refusal", "SHORT_REPORT"]
 
 MOST_SOURCES = 32
 MOST_TERMINALS = 64
+MOST_AMOUNT = 4000
 MOST_SPLITS = 4001
 REPORT_CELLS = 2
 WORTH_CELLS = 2
@@ -50,6 +55,8 @@ _MEANINGS = {
     9: "a table entry at a split in use is above 1,000,000,000",
     11: "a lent slice is too short for the plan or the stops",
     23: "a least run is above its plant's supply",
+    26: "the ceilings are not one for each lane, or a ceiling is above 4,000",
+    27: "no plan is within both the ceilings and the least runs",
     SHORT_REPORT: "the report or the worth has fewer than two cells",
 }
 
@@ -86,7 +93,7 @@ def _load():
     return function
 
 
-_READ = [ctypes.c_int64] + [ctypes.c_uint64] * 3  # costs; supplies, demands, table
+_READ = [ctypes.c_int64] + [ctypes.c_uint64] * 4  # costs; supplies, demands, ceilings, table
 _WRITTEN = [ctypes.c_uint64] * 2 + [ctypes.c_int64, ctypes.c_uint64, ctypes.c_int64]  # plan, splits; freights; report; worth
 _function = _load()
 
@@ -102,9 +109,9 @@ def _cells(kind, numbers):
     return (kind * (len(numbers) + 1))(*numbers), len(numbers)
 
 
-def plan_into(m, n, run1, run2, costs, supplies, demands, table, plan, splits, freights, report, worth):
+def plan_into(m, n, run1, run2, costs, supplies, demands, ceilings, table, plan, splits, freights, report, worth):
     """The planner on lent lists. Each of the last five is changed in the cells that the planner writes. Answers its number."""
-    read = [_cells(kind, numbers) for kind, numbers in zip(_READ, (costs, supplies, demands, table))]
+    read = [_cells(kind, numbers) for kind, numbers in zip(_READ, (costs, supplies, demands, ceilings, table))]
     lent = [plan, splits, freights, report, worth]
     written = [_cells(kind, numbers) for kind, numbers in zip(_WRITTEN, lent)]
     _cells(ctypes.c_uint64, [m, n, run1, run2])
@@ -114,7 +121,14 @@ def plan_into(m, n, run1, run2, costs, supplies, demands, table, plan, splits, f
     return answer
 
 
-def plan(costs, supplies, demands, table, runs=(0, 0)) -> Plan:
+def _lanes(rows, m, n):
+    """The numbers of m rows of n, one row after the other; rows of other lengths must not pass for a table of the right size."""
+    rows = [list(row) for row in rows]
+    even = len(rows) == m and all(len(row) == n for row in rows)
+    return [number for row in rows for number in row] if even else []
+
+
+def plan(costs, supplies, demands, table, runs=(0, 0), ceilings=None) -> Plan:
     """A cheapest plan, or a `Refusal`.
 
     costs     a row for each source: its unit cost to each terminal, below 0 for a rebate
@@ -123,18 +137,18 @@ def plan(costs, supplies, demands, table, runs=(0, 0)) -> Plan:
     table     one entry more than the first supply: entry y is the cost of both plants together when plant 1 makes y;
               of any shape
     runs      the least that each of the two plants must make, at most its supply; 0 for none
+    ceilings  a row for each source: the most that its lane to each terminal carries; 0 closes it; None for no bound
     """
-    rows = [list(row) for row in costs]
     supplies, demands = list(supplies), list(demands)
     m, n = len(supplies), len(demands)
     run1, run2 = runs
-    # rows of other lengths must not pass for a table of the right size
-    even = len(rows) == m and all(len(row) == n for row in rows)
-    lanes = [cost for row in rows for cost in row] if even else []
-    amounts = [0] * (min(m, MOST_SOURCES) * min(n, MOST_TERMINALS))
+    cells = min(m, MOST_SOURCES) * min(n, MOST_TERMINALS)
+    wide = [MOST_AMOUNT] * cells if ceilings is None else _lanes(ceilings, m, n)
+    amounts = [0] * cells
     splits, freights = [0] * MOST_SPLITS, [0] * MOST_SPLITS
     report, worth = [0] * REPORT_CELLS, [0] * WORTH_CELLS
-    number = plan_into(m, n, run1, run2, lanes, supplies, demands, table, amounts, splits, freights, report, worth)
+    lanes = _lanes(costs, m, n)
+    number = plan_into(m, n, run1, run2, lanes, supplies, demands, wide, table, amounts, splits, freights, report, worth)
     if number != 0:
         raise Refusal(number, report[0])
     (split, count), (total, freight) = report, worth

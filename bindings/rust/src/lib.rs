@@ -11,7 +11,7 @@
 //!     supplies: vec![3, 3, 1],
 //!     demands: vec![3, 2],
 //!     table: vec![99, 20, 24, 20], // entry y: both plants together, when plant 1 makes y
-//!     ..Case::default() // no least runs
+//!     ..Case::default() // no least runs, no ceilings
 //! };
 //! let plan = case.plan().unwrap();
 //! assert_eq!((plan.split, plan.total, plan.freight), (3, 33, 13));
@@ -20,13 +20,16 @@
 //! assert_eq!(curve, [(1, 14), (2, 11), (3, 13)]);
 //! ```
 //!
-//! A unit cost below 0 is a rebate; freights and totals are signed too. A plant may have a least run, which every plan makes:
+//! A unit cost below 0 is a rebate; freights and totals are signed too. A plant may have a least run, which every plan makes,
+//! and a lane a ceiling, which no plan passes:
 //!
 //! ```
 //! # use yadvorkhul::Case;
 //! # let case = Case { costs: vec![2, 6, 5, 3, 1, 4], supplies: vec![3, 3, 1], demands: vec![3, 2], table: vec![99, 20, 24, 20], ..Case::default() };
-//! let plan = Case { runs: [2, 2], ..case }.plan().unwrap();
+//! let plan = Case { runs: [2, 2], ..case.clone() }.plan().unwrap();
 //! assert_eq!((plan.split, plan.total), (2, 35));
+//! let plan = Case { ceilings: Some(vec![1, 9, 9, 9, 9, 9]), ..case }.plan().unwrap();
+//! assert_eq!((plan.split, plan.total), (1, 34));
 //! ```
 //!
 //! A case that cannot be planned is refused, with the number and the place of the first test that it fails:
@@ -57,7 +60,7 @@ pub use refusal::Refusal;
 pub const MOST_SOURCES: usize = 32;
 /// Most terminals of a case.
 pub const MOST_TERMINALS: usize = 64;
-/// Largest supply or demand.
+/// Largest supply, demand or ceiling.
 pub const MOST_AMOUNT: u64 = 4_000;
 /// Largest unit cost, and the largest rebate: the least unit cost is its negative.
 pub const MOST_COST: i64 = 1_000_000;
@@ -83,6 +86,8 @@ extern "C" {
         supplies_len: usize,
         demands: *const u64,
         demands_len: usize,
+        ceilings: *const u64,
+        ceilings_len: usize,
         table: *const u64,
         table_len: usize,
         plan: *mut u64,
@@ -109,7 +114,7 @@ extern "C" {
 /// ```
 /// let (mut plan, mut splits, mut freights, mut report, mut worth) = ([7; 7], [7; 4], [7; 4], [7; 3], [7; 3]);
 /// let answer = yadvorkhul::plan_into(
-///     3, 2, 0, 0, &[2, 6, 5, 3, 1, 4], &[3, 3, 1], &[3, 2], &[99, 20, 24, 20],
+///     3, 2, 0, 0, &[2, 6, 5, 3, 1, 4], &[3, 3, 1], &[3, 2], &[4_000; 6], &[99, 20, 24, 20],
 ///     &mut plan, &mut splits, &mut freights, &mut report, &mut worth,
 /// );
 /// assert_eq!(answer, 0);
@@ -128,6 +133,7 @@ pub fn plan_into(
     costs: &[i64],
     supplies: &[u64],
     demands: &[u64],
+    ceilings: &[u64],
     table: &[u64],
     plan: &mut [u64],
     splits: &mut [u64],
@@ -149,6 +155,8 @@ pub fn plan_into(
             supplies.len(),
             demands.as_ptr(),
             demands.len(),
+            ceilings.as_ptr(),
+            ceilings.len(),
             table.as_ptr(),
             table.len(),
             plan.as_mut_ptr(),
@@ -180,6 +188,9 @@ pub struct Case {
     pub table: Vec<u64>,
     /// The least that each of the two plants must make, at most its supply; 0 for none.
     pub runs: [u64; 2],
+    /// The most that each lane carries, in the order of the costs; 0 closes it. Where not given, 4,000 on every lane, which no
+    /// plan passes.
+    pub ceilings: Option<Vec<u64>>,
 }
 
 /// A cheapest plan.
@@ -193,7 +204,7 @@ pub struct Plan {
     pub freight: i64,
     /// The amount of each lane, in the order of the costs.
     pub amounts: Vec<u64>,
-    /// The freight curve: the first and the last split, and each one between where the slope changes; no others.
+    /// The freight curve: the first and the last split that have a plan, and each one between where the slope changes; no others.
     pub stops: Vec<Stop>,
     terminals: usize,
 }
@@ -211,7 +222,9 @@ impl Case {
     pub fn plan(&self) -> Result<Plan, Refusal> {
         let (m, n) = (self.supplies.len(), self.demands.len());
         // Room for any case that is accepted: refusal 11 cannot arise.
-        let mut amounts = vec![0; m.min(MOST_SOURCES) * n.min(MOST_TERMINALS)];
+        let lanes = m.min(MOST_SOURCES) * n.min(MOST_TERMINALS);
+        let wide = vec![MOST_AMOUNT; lanes];
+        let mut amounts = vec![0; lanes];
         let mut splits = vec![0; MOST_AMOUNT as usize + 1];
         let mut freights = vec![0; MOST_AMOUNT as usize + 1];
         let mut report = [0; REPORT_CELLS];
@@ -224,6 +237,7 @@ impl Case {
             &self.costs,
             &self.supplies,
             &self.demands,
+            self.ceilings.as_deref().unwrap_or(&wide),
             &self.table,
             &mut amounts,
             &mut splits,

@@ -18,7 +18,7 @@ use std::fmt;
 /// ```
 #[derive(Clone, Copy, Debug, PartialEq, Eq)]
 pub struct Refusal {
-    /// 1 to 9, 11 or 23.
+    /// 1 to 9, 11, 23, 26 or 27.
     pub number: u64,
     /// Where the test fails, as the number has it; 0 where it names no place.
     pub place: u64,
@@ -41,8 +41,16 @@ impl Refusal {
             9 => "a table entry at a split in use is above 1,000,000,000",
             11 => "a lent slice is too short for the plan or the stops",
             23 => "a least run is above its plant's supply",
+            26 => "the ceilings are not one for each lane, or a ceiling is above 4,000",
+            27 => "no plan is within both the ceilings and the least runs",
             _ => "a number that this wrapper does not know",
         }
+    }
+
+    /// The lane that the place names, by its source and terminal.
+    fn lane(&self) -> String {
+        let (k, n) = (self.place.saturating_sub(1), (self.terminals as u64).max(1));
+        format!("from source {} to terminal {}", k / n + 1, k % n + 1)
     }
 
     /// Where to look, with sources and terminals counted from 1 and table entries from 0, as in the paper.
@@ -54,15 +62,16 @@ impl Refusal {
             3 => format!("{m} sources and {n} terminals need {} costs", m * n),
             4 if place <= m => format!("look at the supply of source {place}"),
             4 => format!("look at the demand of terminal {}", place - m),
-            5 if n > 0 && place > 0 => {
-                format!("look at the cost from source {} to terminal {}", (place - 1) / n + 1, (place - 1) % n + 1)
-            }
+            5 => format!("look at the cost {}", self.lane()),
             6 => "look at the table's length and the first supply".to_string(),
             7 => "compare the sum of demands with the supplies from the third on and the least runs".to_string(),
             8 => "compare the sum of all supplies with the sum of demands".to_string(),
             9 => format!("look at table entry {place}"),
             11 => "lend m × n cells for the plan and one for each split for the stops".to_string(),
             23 => format!("look at the least run of plant {place}"),
+            26 if place == 0 => format!("{m} sources and {n} terminals need {} ceilings", m * n),
+            26 => format!("look at the ceiling {}", self.lane()),
+            27 => "look for closed or narrow lanes of a depot, a terminal or a plant that has a least run".to_string(),
             _ => "no place is named".to_string(),
         }
     }

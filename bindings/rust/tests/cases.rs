@@ -87,6 +87,32 @@ fn least_runs() {
     expect_refusal(&Lent { supplies: vec![3, 3, 5], ..with(0, 1) }, 7, 0);
 }
 
+/// Ceiling 1 from plant 1 to terminal 1 moves case A's split; ceilings can move ℓ, u and both, and stand against a run.
+#[test]
+fn ceilings() {
+    let with = |ceilings: [u64; 6]| Lent { ceilings: ceilings.to_vec(), ..Lent::a() };
+    planned(&with([1, 4_000, 4_000, 4_000, 4_000, 4_000]), 1, 34, 1, &[14, 17, 20]);
+    planned(&with([4_000; 6]), 3, 33, 1, &[14, 11, 13]);
+    planned(&with([3; 6]), 3, 33, 1, &[14, 11, 13]);
+    // plant 2 has one lane, to terminal 2: ℓ is 2
+    planned(&with([4_000, 4_000, 0, 4_000, 4_000, 4_000]), 3, 33, 2, &[11, 13]);
+    // plant 1 carries 2 at most: u is 2
+    planned(&with([1, 1, 4_000, 4_000, 4_000, 4_000]), 1, 34, 1, &[14, 17]);
+    // both
+    planned(&with([2, 0, 0, 4_000, 4_000, 4_000]), 2, 35, 2, &[11]);
+    expect_refusal(&Lent { run1: 3, ..with([2, 0, 0, 4_000, 4_000, 4_000]) }, 27, 0);
+    expect_refusal(&Lent { run2: 3, ..with([2, 0, 0, 4_000, 4_000, 4_000]) }, 27, 0);
+    expect_refusal(&with([0; 6]), 27, 0);
+    // no drum is made or sent: closed lanes do not matter
+    let idle = Lent { supplies: vec![3, 3, 0], demands: vec![0, 0], ..with([0; 6]) };
+    planned(&idle, 0, 99, 0, &[0]);
+    // an entry beyond u does not matter, nor the room for its split
+    let narrow = Lent { table: vec![99, 20, 24, u64::MAX], ..with([1, 1, 4_000, 4_000, 4_000, 4_000]) };
+    planned(&Lent { split_cells: 2, freight_cells: 2, ..narrow.clone() }, 1, 34, 1, &[14, 17]);
+    expect_refusal(&Lent { split_cells: 1, ..narrow.clone() }, 11, 0);
+    expect_refusal(&Lent { table: vec![99, 20, 1_000_000_001, 0], ..narrow }, 9, 2);
+}
+
 /// Rebates: a curve that is negative throughout, and one that passes 0.
 #[test]
 fn rebates() {
@@ -146,8 +172,12 @@ fn owned_types() {
     assert_eq!(plan.rows().collect::<Vec<_>>(), [[3, 0], [0, 1], [0, 1]]);
     let stop = |split, freight| Stop { split, freight };
     assert_eq!(plan.stops, [stop(1, 14), stop(2, 11), stop(3, 13)]);
-    let plan = Case { runs: [2, 2], ..case }.plan().unwrap();
+    let plan = Case { runs: [2, 2], ..case.clone() }.plan().unwrap();
     assert_eq!((plan.split, plan.total, plan.stops), (2, 35, vec![stop(2, 11)]));
+    let plan = Case { ceilings: Some(vec![1, 9, 9, 9, 9, 9]), ..case.clone() }.plan().unwrap();
+    assert_eq!((plan.split, plan.total, plan.stops), (1, 34, vec![stop(1, 14), stop(3, 20)]));
+    let wide = Case { ceilings: Some(vec![4_000; 6]), ..case.clone() };
+    assert_eq!(wide.plan(), case.plan());
 }
 
 #[test]
@@ -175,6 +205,21 @@ fn refusals_are_readable() {
         text(Case { runs: [2, 3], ..case.clone() }),
         "refusal 7: the terminals take less than the depots hold and the least runs make; \
          compare the sum of demands with the supplies from the third on and the least runs"
+    );
+    assert_eq!(
+        text(Case { ceilings: Some(vec![9, 9, 9, 4_001, 9, 9]), ..case.clone() }),
+        "refusal 26 at place 4: the ceilings are not one for each lane, or a ceiling is above 4,000; \
+         look at the ceiling from source 2 to terminal 2"
+    );
+    assert_eq!(
+        text(Case { ceilings: Some(vec![9; 5]), ..case.clone() }),
+        "refusal 26: the ceilings are not one for each lane, or a ceiling is above 4,000; \
+         3 sources and 2 terminals need 6 ceilings"
+    );
+    assert_eq!(
+        text(Case { ceilings: Some(vec![0; 6]), ..case.clone() }),
+        "refusal 27: no plan is within both the ceilings and the least runs; \
+         look for closed or narrow lanes of a depot, a terminal or a plant that has a least run"
     );
     assert_eq!(
         text(Case { supplies: vec![3], ..case.clone() }),

@@ -8,7 +8,7 @@ use common::{expect_referee, expect_refusal, referee, untouched, untouched_signe
 const SMALL: Limits = Limits { sources: (2, 6), terminals: (1, 8), amount: 12 };
 
 /// The numbers of the tests, in their order.
-const ORDER: [u64; 11] = [1, 2, 3, 4, 23, 5, 6, 7, 8, 9, 11];
+const ORDER: [u64; 13] = [1, 2, 3, 4, 23, 5, 26, 6, 7, 8, 27, 9, 11];
 
 /// How often each of `ORDER` was seen, and how many cases were planned.
 struct Seen([usize; ORDER.len() + 1]);
@@ -41,7 +41,7 @@ fn resize<T: Default>(slice: &mut Vec<T>, how: usize) {
 /// Spoils the case so that test `number` fails; answers false where this case has no such fault.
 fn spoil(random: &mut Random, lent: &mut Lent, number: u64) -> bool {
     let Lent { m, n, .. } = *lent;
-    let (d, l, u) = referee::splits(lent);
+    let (d, ..) = referee::splits(lent);
     match number {
         1 => lent.m = [0, 1, 33, 64, usize::MAX, 1 << 63][random.size(0, 5)],
         2 => lent.n = [0, 65, 66, usize::MAX, 1 << 58, 1 << 63][random.size(0, 5)],
@@ -73,6 +73,11 @@ fn spoil(random: &mut Random, lent: &mut Lent, number: u64) -> bool {
             let beyond = [1_000_001, 1 << 32, i64::MAX, -1_000_001, -(1 << 32), i64::MIN];
             lent.costs[k] = beyond[random.size(0, 5)];
         }
+        26 if random.within(0, 1) == 0 => resize(&mut lent.ceilings, random.size(0, 2)),
+        26 => {
+            let k = random.size(0, m * n - 1);
+            lent.ceilings[k] = [4_001, 1 << 32, u64::MAX][random.size(0, 2)];
+        }
         6 => resize(&mut lent.table, random.size(0, 2)),
         7 if random.within(0, 1) == 0 => {
             // the last depot gets so much that what is left to the plants is one less than their runs
@@ -96,12 +101,47 @@ fn spoil(random: &mut Random, lent: &mut Lent, number: u64) -> bool {
             let Some(demand) = lent.demands.iter_mut().find(|b| **b + short <= 4_000) else { return false };
             *demand += short;
         }
-        9 => lent.table[random.within(l, u) as usize] = [1_000_000_001, u64::MAX / 2, u64::MAX][random.size(0, 2)],
-        _ => match random.within(0, 2) {
-            0 => lent.plan_cells = m * n - 1,
-            1 => lent.split_cells = (u - l) as usize,
-            _ => lent.freight_cells = (u - l) as usize,
-        },
+        27 => return squeeze(random, lent),
+        9 => {
+            let Some((l, u)) = referee::range(lent) else { return false };
+            lent.table[random.within(l, u) as usize] = [1_000_000_001, u64::MAX / 2, u64::MAX][random.size(0, 2)];
+        }
+        _ => {
+            let Some((l, u)) = referee::range(lent) else { return false };
+            match random.within(0, 2) {
+                0 => lent.plan_cells = m * n - 1,
+                1 => lent.split_cells = (u - l) as usize,
+                _ => lent.freight_cells = (u - l) as usize,
+            }
+        }
+    }
+    true
+}
+
+/// Narrows the lanes of a terminal, a depot or a plant with a least run until they carry one drum too few.
+fn squeeze(random: &mut Random, lent: &mut Lent) -> bool {
+    let Lent { m, n, .. } = *lent;
+    let (lanes, due): (Vec<usize>, u64) = match random.within(0, 2) {
+        0 => {
+            let j = random.size(0, n - 1);
+            ((0..m).map(|i| i * n + j).collect(), lent.demands[j])
+        }
+        1 if m > 2 => {
+            let i = random.size(2, m - 1);
+            ((i * n..(i + 1) * n).collect(), lent.supplies[i])
+        }
+        _ => {
+            let i = random.size(0, 1);
+            ((i * n..(i + 1) * n).collect(), [lent.run1, lent.run2][i])
+        }
+    };
+    if due == 0 {
+        return false;
+    }
+    let mut left = due - 1;
+    for k in lanes {
+        lent.ceilings[k] = lent.ceilings[k].min(left);
+        left -= lent.ceilings[k];
     }
     true
 }
@@ -168,9 +208,13 @@ fn anything_at_all() {
         let costs: Vec<i64> = costs.into_iter().map(|c| (c as i64).wrapping_mul(1 - 2 * random.signed(0, 1))).collect();
         let supplies = list(&mut random, m, 4_000, mild);
         let demands = list(&mut random, n, 4_000, mild);
+        let mut ceilings = list(&mut random, m.saturating_mul(n), 4_000, mild);
+        if random.within(0, 1) == 0 {
+            ceilings.fill(4_000);
+        }
         let entries = supplies.first().map_or(0, |a| (*a).min(4_000) as usize + 1);
         let table = list(&mut random, entries, 1_000_000_000, mild);
-        let mut lent = Lent::new(m, n, &costs, &supplies, &demands, &table);
+        let mut lent = Lent { ceilings, ..Lent::new(m, n, &costs, &supplies, &demands, &table) };
         if random.within(0, 1) == 0 {
             lent.run1 = odd(&mut random, 2);
             lent.run2 = odd(&mut random, 2);
@@ -207,6 +251,15 @@ fn lowest_place() {
     lent.demands[1] = 4_001;
     expect_refusal(&lent, 4, 5);
     let mut lent = Lent::a();
+    lent.ceilings = vec![4_000, 4_000, 4_001, 0, u64::MAX, 0];
+    expect_refusal(&lent, 26, 3);
+    lent.ceilings.push(0);
+    expect_refusal(&lent, 26, 0);
+    lent.table.clear();
+    expect_refusal(&lent, 26, 0);
+    lent.costs[5] = -1_000_001;
+    expect_refusal(&lent, 5, 6);
+    let mut lent = Lent::a();
     lent.table = vec![u64::MAX, 20, 1_000_000_001, 1_000_000_001];
     expect_refusal(&lent, 9, 2);
 }
@@ -226,6 +279,9 @@ fn examples() {
     expect_refusal(&Lent { run1: 2, run2: 3, ..a() }, 7, 0);
     expect_refusal(&Lent { supplies: vec![1, 2, 1], table: vec![99, 20], ..a() }, 8, 0);
     expect_refusal(&Lent { table: vec![99, 20, 1_000_000_001, 20], ..a() }, 9, 2);
+    expect_refusal(&Lent { ceilings: vec![4_000; 5], ..a() }, 26, 0);
+    expect_refusal(&Lent { ceilings: vec![4_000, 4_000, 4_000, 4_000, 4_000, 4_001], ..a() }, 26, 6);
+    expect_refusal(&Lent { ceilings: vec![4_000, 4_000, 4_000, 4_000, 0, 0], ..a() }, 27, 0);
     expect_refusal(&Lent { plan_cells: 5, ..a() }, 11, 0);
 }
 
@@ -271,6 +327,7 @@ fn short_by_one() {
         expect_refusal(&shortened(|lent| resize(&mut lent.costs, 0)), 3, 0);
         expect_refusal(&shortened(|lent| resize(&mut lent.supplies, 0)), 3, 0);
         expect_refusal(&shortened(|lent| resize(&mut lent.demands, 0)), 3, 0);
+        expect_refusal(&shortened(|lent| resize(&mut lent.ceilings, 0)), 26, 0);
         expect_refusal(&shortened(|lent| resize(&mut lent.table, 0)), 6, 0);
     }
 }

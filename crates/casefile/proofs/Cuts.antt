@@ -1,12 +1,12 @@
 -- The stored case, cut to what it has, is answered as the case of the two files. Assumes nothing.
 use mathlib.Core.Path.{_≡_, refl, sym, ap, _∙_, subst}
 use mathlib.Core.List.{List}
-use Prim.Native.Nat.{ℕ, min, _+_, _*_, _≤_, _<_}
+use Prim.Native.Nat.{ℕ, min, _+_, _-_, _*_, _≤_, _<_}
 use native.Mathlib.Nat.{min-eq-left, mul-le-mul}
 use native.Mathlib.Decide.{decLt}
 use native.Mathlib.Omega.{arith}
 use lib.IntN.{ℤ}
-use lib.ListN.{length, take, drop}
+use lib.ListN.{length, take, drop, replicate, length-replicate, replicate-append-replicate}
 use lib.Seq.{sets, sets-eq, take-at, take-all, length-sets, length-take-le}
 use Rattle.csvtext.specs.Text.{refusalText}
 use Rattle.planner.specs.Case.{Case}
@@ -29,12 +29,24 @@ use Rattle.casefile.proofs.Refusals.{Alike, alike-equal, alike-refused,
 pub few-lanes : (m n : ℕ) → min m 32 * min n 64 ≤ 2048
 few-lanes m n = mul-le-mul {n₁ = min m 32} {m₁ = min n 64} {n₂ = 32} {m₂ = 64} (omega arith) (omega arith)
 
+-- the ceilings that are lent, and as many of them as there are lanes
+pub ceilings-long : (l : List ℕ) → l ≡ replicate {A = ℕ} 2048 4000 → length l ≡ 2048
+ceilings-long l e = ap length e ∙ length-replicate {A = ℕ} 2048 4000
+
+cut-ceilings : (k : ℕ) → k ≤ 2048 → take k (replicate {A = ℕ} 2048 4000) ≡ replicate {A = ℕ} k 4000
+cut-ceilings k h =
+    let e : k + (2048 - k) ≡ 2048 = omega arith in
+    ap (λ (l : List ℕ). take k l) (sym (replicate-append-replicate {A = ℕ} k (2048 - k) 4000 ∙ ap (λ (j : ℕ). replicate {A = ℕ} j 4000) e))
+    ∙ take-at (replicate {A = ℕ} k 4000) (replicate {A = ℕ} (2048 - k) 4000) k (length-replicate {A = ℕ} k 4000)
+
 -- a case lent in parts that have these lengths is the cut case
 pub cut-printed :
-    (m n entries a b e : ℕ) (costs : List ℤ) (supplies demands table out out′ : List ℕ) (answer : Printed) → a ≡ min m 32 → b ≡ min n 64 → e ≡ min entries 4002 →
-    CasePrinted (filedCase m n (take (a * b) costs) (take a supplies) (take b demands) (take e table)) out out′ answer →
+    (m n entries a b e : ℕ) (costs : List ℤ) (supplies demands ceilings table out out′ : List ℕ) (answer : Printed) → a ≡ min m 32 → b ≡ min n 64 → e ≡ min entries 4002 → ceilings ≡ replicate {A = ℕ} 2048 4000 →
+    CasePrinted (filedCase m n (take (a * b) costs) (take a supplies) (take b demands) (take (a * b) ceilings) (take e table)) out out′ answer →
     CasePrinted (cutCase m n entries costs supplies demands table) out out′ answer
-cut-printed m n entries a b e costs supplies demands table out out′ answer ea eb ee p = rw (sym ea, sym eb, sym ee) p
+cut-printed m n entries a b e costs supplies demands ceilings table out out′ answer ea eb ee ec p =
+    let k : take (min m 32 * min n 64) ceilings ≡ replicate {A = ℕ} (min m 32 * min n 64) 4000 = ap (λ (l : List ℕ). take (min m 32 * min n 64) l) ec ∙ cut-ceilings _ (few-lanes m n) in
+    rw (← k, sym ea, sym eb, sym ee) p
 
 -- cells with a list stored from the first on, cut to its length
 cut-stored : {A : Type 0} (l cells : List A) (k : ℕ) → length l ≡ k → k ≤ length cells → take k (sets cells 0 l) ≡ l
@@ -52,7 +64,7 @@ module _ (t p : List ℕ) (costs : List ℤ) (supplies demands table : List ℕ)
   module _ (b : BothStand t p m n entries) where
     -- the case of the files, with its counts
     full : Case
-    full = filedCase m n (costsIn (b .rs)) (suppliesIn (b .rs)) (demandsIn (b .rs)) (entriesIn (b .qs))
+    full = filedCase m n (costsIn (b .rs)) (suppliesIn (b .rs)) (demandsIn (b .rs)) (replicate (m * n) 4000) (entriesIn (b .qs))
 
     file-case : fileCase t p ≡ full
     unfolding fileCase caseOf full
@@ -82,11 +94,11 @@ module _ (t p : List ℕ) (costs : List ℤ) (supplies demands table : List ℕ)
       held-table = stored .table-stored (b .qs) m n entries (b .production) told
 
       cut-table : Case
-      cut-table = filedCase m n (costsIn (b .rs)) (suppliesIn (b .rs)) (demandsIn (b .rs)) (take (min entries 4002) table′)
+      cut-table = filedCase m n (costsIn (b .rs)) (suppliesIn (b .rs)) (demandsIn (b .rs)) (replicate (m * n) 4000) (take (min entries 4002) table′)
 
       cut-is : cutCase m n entries costs′ supplies′ demands′ table′ ≡ cut-table
       unfolding cut-table
-      cut-is = rw (held-costs, held-supplies, held-demands) refl
+      cut-is = rw (held-costs, held-supplies, held-demands, em, en) refl
 
       short-table : entries ≤ 4002 → cut-table ≡ full
       unfolding cut-table full

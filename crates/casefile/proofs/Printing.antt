@@ -33,7 +33,7 @@ small-amount c s x f p k h =
     let lj : j < c .n = mod-lt k (f .one-terminal) in
     let li : i < c .m = div-lt-iff-lt-mul (f .one-terminal) .1 h in
     let cell : getD x (i * c .n + j) 0 ≡ getD x k 0 = ap (λ (a : ℕ). getD x a 0) (div-add-mod' k (c .n)) in
-    omega (arith, cell, sum-at (c .m) i (λ a. byRow (c .n) x a j) li, p .columns j lj, f .small-demand j lj)
+    omega (arith, cell, sum-at (c .m) i (λ a. byRow (c .n) x a j) li, p .plan .columns j lj, f .small-demand j lj)
 
 -- a unit cost in range
 small-cost : (z : ℤ) → outside z ≡ false → natAbs z ≤ 1000000
@@ -58,10 +58,10 @@ printed-refusal c o {number} {place} {sources} {terminals} {out} {out′} {answe
 }
 
 -- a case, lent with so many cells, and the planner's answer
-module _ {m n : ℕ} {costs : List ℤ} {supplies demands table : List ℕ} {p q u : ℕ} {before after : Slices} {o : Outcome}
-    (a : Answered (lent m n 0 0 costs supplies demands table p q u) o before after) where
+module _ {m n : ℕ} {costs : List ℤ} {supplies demands ceilings table : List ℕ} {p q u : ℕ} {before after : Slices} {o : Outcome}
+    (a : Answered (lent m n 0 0 costs supplies demands ceilings table p q u) o before after) where
   abbrev C : Case
-  C = lent m n 0 0 costs supplies demands table p q u
+  C = lent m n 0 0 costs supplies demands ceilings table p q u
 
   -- a plan
   module _ {s : ℕ} {t f : ℤ} {k : ℕ} (e : o ≡ planned s t f k) where
@@ -83,10 +83,10 @@ module _ {m n : ℕ} {costs : List ℤ} {supplies demands table : List ℕ} {p q
 
     -- the first m × n cells are the amounts
     cut : take (m * n) (after .plan) ≡ w .amounts
-    cut = ap (λ (l : List ℕ). take (m * n) l) (w .cells) ∙ take-at (w .amounts) (drop (length (w .amounts)) (before .plan)) (m * n) (w .plan .cells)
+    cut = ap (λ (l : List ℕ). take (m * n) l) (w .cells) ∙ take-at (w .amounts) (drop (length (w .amounts)) (before .plan)) (m * n) (w .plan .plan .cells)
 
     room : m * n ≤ length (after .plan)
-    room = omega (arith, ap length (w .cells), length-append (w .amounts) (drop (length (w .amounts)) (before .plan)), w .plan .cells)
+    room = omega (arith, ap length (w .cells), length-append (w .amounts) (drop (length (w .amounts)) (before .plan)), w .plan .plan .cells)
 
     fits : Fits m n costs (take (m * n) (after .plan))
     fits = rw cut (record {
@@ -94,7 +94,7 @@ module _ {m n : ℕ} {costs : List ℤ} {supplies demands table : List ℕ} {p q
       terminals = form .few-terminals;
       narrow-costs = record { there = omega (arith, form .costs-long); below = λ k h. omega (arith, small-cost _ (form .cost-inside k h)) };
       narrow-plan = record {
-        there = omega (arith, w .plan .cells);
+        there = omega (arith, w .plan .plan .cells);
         below = λ k h. omega (arith, small-amount C s (w .amounts) form (w .plan) k h);
       };
     })
@@ -123,17 +123,17 @@ module _ {m n : ℕ} {costs : List ℤ} {supplies demands table : List ℕ} {p q
   -- with 2,048 cells for the lanes and 4,001 for the stops
   module _ (ep : p ≡ 2048) (eq : q ≡ 4001) (eu : u ≡ 4001) {out out′ : List ℕ} {answer : Printed} where
     roomy : CasePrinted C out out′ answer
-        → CasePrinted (filedCase m n costs supplies demands table) out out′ answer
+        → CasePrinted (filedCase m n costs supplies demands ceilings table) out out′ answer
     roomy h =
         subst (λ (c : Case). CasePrinted c out out′ answer)
-        (ap (λ (x : ℕ). lent m n 0 0 costs supplies demands table x q u) ep
-        ∙ (ap (λ (y : ℕ). lent m n 0 0 costs supplies demands table 2048 y u) eq ∙ ap (λ (z : ℕ). lent m n 0 0 costs supplies demands table 2048 4001 z) eu))
+        (ap (λ (x : ℕ). lent m n 0 0 costs supplies demands ceilings table x q u) ep
+        ∙ (ap (λ (y : ℕ). lent m n 0 0 costs supplies demands ceilings table 2048 y u) eq ∙ ap (λ (z : ℕ). lent m n 0 0 costs supplies demands ceilings table 2048 4001 z) eu))
         h
 
     pub by-plan : {s : ℕ} {t f : ℤ} {k : ℕ} → o ≡ planned s t f k → Told 0 0 m n (planText m n costs (take (m * n) (after .plan)) s (getD table s 0)) out out′ answer
-        → CasePrinted (filedCase m n costs supplies demands table) out out′ answer
+        → CasePrinted (filedCase m n costs supplies demands ceilings table) out out′ answer
     by-plan e told = roomy (plan-lent e told)
 
     pub by-refusal : {number place : ℕ} → o ≡ refused number place → Told number place m n (refusalText number place) out out′ answer
-        → CasePrinted (filedCase m n costs supplies demands table) out out′ answer
+        → CasePrinted (filedCase m n costs supplies demands ceilings table) out out′ answer
     by-refusal e told = roomy (refusal-lent e told)

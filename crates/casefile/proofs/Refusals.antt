@@ -7,18 +7,21 @@ use Prim.Native.Nat.{ℕ, _+_, _*_, _≤_, _<_}
 use native.Mathlib.Nat.{mul-le-mul}
 use native.Mathlib.Omega.{arith}
 use lib.IntN.{ℤ}
-use lib.ListN.{length, getD}
+use lib.ListN.{length, getD, replicate}
 use borrow.Author.Tests.{le-ltb}
-use Rattle.planner.specs.Case.{Case, steps, greatestSplit}
+use Rattle.planner.specs.Case.{Case, steps}
 use Rattle.planner.specs.Outcome.{Outcome, planned, refused, refuseIf, refuseAt, _orElse_, formRefusal, refusalOf, planOf, outcomeOf}
-use Rattle.planner.specs.Outcome.{test1, test2, test3, test4, test23, test5, test6, test7, test8, test9, test11}
-use Rattle.planner.specs.Verdict.{firstOutside, amountsRefusal, runsRefusal, AtMost}
+use Rattle.planner.specs.Outcome.{test1, test2, test3, test4, test23, test5, test26, test6, test7, test8, test27, test9, test11}
+use Rattle.planner.specs.Verdict.{firstOutside, amountsRefusal, runsRefusal, ceilingsRefusal, AtMost}
 use Rattle.planner.proofs.Passed.{some≢none, Formed, formed, accepted}
 use Rattle.planner.proofs.Promise.{refused-outcome}
+use Rattle.planner.proofs.Splits.{greatest-most}
+use Rattle.planner.proofs.Earlier as earlier
+use Rattle.planner.proofs.Unchanged.{no-26, unchanged}
 use Rattle.planner.proofs.Decide.{form-decides}
 use Rattle.planner.proofs.TestLaws.{unmet, amounts-none, runs-pass}
 use Rattle.planner.proofs.FormLaws.{Limits, by-amounts, by-cost, by-table}
-use Rattle.casefile.specs.Printed.{filedCase}
+use Rattle.casefile.specs.Printed.{filedCase, caseOf, fileCase}
 
 -- ---- no test answers a plan
 
@@ -42,21 +45,23 @@ refuses-either (some r) b h l = h
 
 module _ (c : Case) where
   refuses-form : Refuses (formRefusal c)
-  unfolding formRefusal test1 test2 test3 test4 test23 test5 test6
+  unfolding formRefusal test1 test2 test3 test4 test23 test5 test26 test6
   refuses-form =
       refuses-either (test1 c) _ (refuses-if 1 _)
       (refuses-either (test2 c) _ (refuses-if 2 _)
       (refuses-either (test3 c) _ (refuses-if 3 _)
       (refuses-either (test4 c) _ (refuses-at 4 _)
-      (refuses-either (test23 c) _ (refuses-at 23 _) (refuses-either (test5 c) _ (refuses-at 5 _) (refuses-if 6 _))))))
+      (refuses-either (test23 c) _ (refuses-at 23 _)
+      (refuses-either (test5 c) _ (refuses-at 5 _)
+      (refuses-either (test26 c) _ (refuses-either _ _ (refuses-if 26 _) (refuses-at 26 _)) (refuses-if 6 _)))))))
 
   refuses-all : Refuses (refusalOf c)
-  unfolding refusalOf test7 test8 test9 test11
+  unfolding refusalOf test7 test8 test27 test9 test11
   refuses-all =
       refuses-either (formRefusal c) _ refuses-form
       (refuses-either (test7 c) _ (refuses-if 7 _)
       (refuses-either (test8 c) _ (refuses-if 8 _)
-      (refuses-either (test9 c) _ (refuses-at 9 _) (refuses-if 11 _))))
+      (refuses-either (test27 c) _ (refuses-if 27 _) (refuses-either (test9 c) _ (refuses-at 9 _) (refuses-if 11 _)))))
 
   pub planned-passes : (s : ℕ) (t f : ℤ) (k : ℕ) → outcomeOf c ≡ planned s t f k → refusalOf c ≡ none
   unfolding outcomeOf
@@ -95,14 +100,26 @@ pub never-23 : (c : Case) → c .run1 ≡ 0 → c .run2 ≡ 0 → test23 c ≡ n
 unfolding test23 runsRefusal
 never-23 c e e′ = runs-pass (c .run1) (c .run2) (c .supplies) (omega arith) (omega arith)
 
--- two tables that are both too long
+-- ---- the case of two files has 4,000 on every lane: its outcome is the one that is defined without ceilings, so neither 26 nor 27
+
+pub file-unchanged : (t p : List ℕ) → outcomeOf (fileCase t p) ≡ earlier.outcomeOf (fileCase t p)
+unfolding fileCase caseOf
+file-unchanged t p = unchanged (fileCase t p) refl
+
+-- ---- two tables that are both too long
+
 module _ (m n : ℕ) (costs : List ℤ) (s d t t′ : List ℕ) (h : Limits m n) (lc : length costs ≡ m * n) (ls : length s ≡ m) (ld : length d ≡ n) where
   abbrev C : List ℕ → Case
-  C table = filedCase m n costs s d table
+  C table = filedCase m n costs s d (replicate (m * n) 4000) table
 
   runs : runsRefusal 0 0 s ≡ none
   unfolding test23 runsRefusal
   runs = never-23 (C t) refl refl
+
+  -- no ceiling is above 4,000
+  caps : ceilingsRefusal (m * n) (replicate (m * n) 4000) ≡ none
+  unfolding ceilingsRefusal test26
+  caps = no-26 (C t) refl
 
   pub alike-long : 4001 < length t → 4001 < length t′ → Alike (C t) (C t′)
   alike-long k k′ = go (amountsRefusal s d) refl (firstOutside costs) refl
@@ -113,16 +130,17 @@ module _ (m n : ℕ) (costs : List ℤ) (s d t t′ : List ℕ) (h : Limits m n)
       go none ea none eb =
           let small = first-small s (amounts-none s d ea .0) in
           alike-refused _ _ (refused 6 0)
-          (by-table (C t) h lc ls ld ea runs eb (λ e. omega (arith, small)))
-          (by-table (C t′) h lc ls ld ea runs eb (λ e. omega (arith, small)))
+          (by-table (C t) h lc ls ld ea runs eb caps (λ e. omega (arith, small)))
+          (by-table (C t′) h lc ls ld ea runs eb caps (λ e. omega (arith, small)))
 
 -- ---- 2,048 cells for lanes and 4,001 for stops are enough: of a case that passes the tests before the balance, test 11 refuses none
 
 pub never-11 :
     (c : Case) → c .planCells ≡ 2048 → c .splitCells ≡ 4001 → c .freightCells ≡ 4001 → formRefusal c ≡ none → test11 c ≡ none
-unfolding test11 steps greatestSplit
+unfolding test11 steps
 never-11 c ep es ef e =
     let f = formed c e in
+    let last = greatest-most c in
     let lanes : c .m * c .n ≤ 32 * 64 = mul-le-mul (f .few-sources) (f .few-terminals) in
     let first = f .small-supply 0 (omega (arith, f .two-sources)) in
     let stops : steps c + 1 ≤ 4001 = omega arith in

@@ -2,9 +2,9 @@
 use mathlib.Core.Path.{_≡_}
 use mathlib.Core.Bool.{Bool, true, false}
 use mathlib.Core.List.{List, []}
-use Prim.Native.Nat.{ℕ}
+use Prim.Native.Nat.{ℕ, _*_}
 use lib.IntN.{ℤ}
-use lib.ListN.{length}
+use lib.ListN.{length, replicate}
 use lib.Seq.{sets}
 use Rattle.csvtext.specs.Text.{planText, refusalText}
 use Rattle.planner.specs.Case as planner-case
@@ -27,12 +27,13 @@ recordsOf (whole rs) = rs
 recordsOf (broken place) = []
 
 -- a case as files give it: the least runs are 0, and there is room for 2,048 lanes and 4,001 stops
-abbrev pub filedCase : ℕ → ℕ → List ℤ → List ℕ → List ℕ → List ℕ → planner-case.Case
-filedCase m n costs supplies demands table = lent m n 0 0 costs supplies demands table 2048 4001 4001
+abbrev pub filedCase : ℕ → ℕ → List ℤ → List ℕ → List ℕ → List ℕ → List ℕ → planner-case.Case
+filedCase m n costs supplies demands ceilings table = lent m n 0 0 costs supplies demands ceilings table 2048 4001 4001
 
--- the case of a tariff's and a production file's records
+-- the case of a tariff's and a production file's records, with the ceiling 4,000 on every lane
 unfoldable pub caseOf : List (List ℤ) → List (List ℤ) → planner-case.Case
-caseOf rs qs = filedCase (sourcesIn rs) (terminalsIn rs) (costsIn rs) (suppliesIn rs) (demandsIn rs) (entriesIn qs)
+caseOf rs qs =
+    filedCase (sourcesIn rs) (terminalsIn rs) (costsIn rs) (suppliesIn rs) (demandsIn rs) (replicate (sourcesIn rs * terminalsIn rs) 4000) (entriesIn qs)
 
 unfoldable pub fileCase : List ℕ → List ℕ → planner-case.Case
 fileCase t p = caseOf (recordsOf (formOf Tariff t)) (recordsOf (formOf Production p))

@@ -10,7 +10,7 @@ use csvtext::put_refusal;
 use planner::Answer;
 ghost use mathlib.Core.Path.{_≡_};
 ghost use Prim.Native.Nat.{_*_, _≤_};
-ghost use lib.ListN.{length, take};
+ghost use lib.ListN.{length, take, replicate};
 ghost use Rattle.csvtext.specs.Text.{planText, refusalText};
 ghost use Rattle.csvtext.specs.Writing.{Fits};
 ghost use Rattle.casefile.specs.declared.Kind.the-variants as kinds;
@@ -35,6 +35,13 @@ fn lane_cells() -> [u64; 2048] {
 // Cells for their unit costs.
 fn cost_cells() -> [i64; 2048] {
     [0; 2048]
+}
+
+// The ceiling 4,000 on every lane: no amount of an accepted case passes it.
+fn lane_ceilings() -> [u64; 2048]
+    ensures { λ r. ⌜ r ≡ replicate 2048 4000 ⌝ }
+{
+    [4_000; 2048]
 }
 
 // One cell more than the longest table has entries.
@@ -98,10 +105,11 @@ fn print_case(
     costs: &[i64],
     supplies: &[u64],
     demands: &[u64],
+    ceilings: &[u64],
     table: &[u64],
     out: &mut [u8],
 ) -> Printed
-    ensures { λ r. ⌜ CasePrinted (filedCase m n (now (costs .entry)) (now (supplies .entry)) (now (demands .entry)) (now (table .entry))) (now (out .entry)) (now (out .exit)) r ⌝ }
+    ensures { λ r. ⌜ CasePrinted (filedCase m n (now (costs .entry)) (now (supplies .entry)) (now (demands .entry)) (now (ceilings .entry)) (now (table .entry))) (now (out .entry)) (now (out .exit)) r ⌝ }
 {
     let mut plan = lane_cells();
     let mut splits = stop_cells();
@@ -114,6 +122,7 @@ fn print_case(
         costs,
         supplies,
         demands,
+        ceilings,
         table,
         &mut plan,
         &mut splits,
@@ -134,7 +143,7 @@ fn print_case(
     }
 }
 
-// Cuts the stored case to what it has, and prints its plan or its refusal.
+// Cuts the stored case to what it has, and prints its plan or its refusal, with the ceiling 4,000 on every lane.
 fn print_stored(
     m: usize,
     n: usize,
@@ -152,12 +161,14 @@ fn print_stored(
     let b = smaller(n, 64);
     let e = smaller(entries, 4002);
     let lanes = a * b;
+    let ceilings = lane_ceilings();
     print_case(
         m,
         n,
         &costs[..lanes],
         &supplies[..a],
         &demands[..b],
+        &ceilings[..lanes],
         &table[..e],
         out,
     )

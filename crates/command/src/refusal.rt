@@ -51,7 +51,8 @@ fn explain_entry(split: u64) {
     say(b" of the production file) is above 1,000,000,000.\n");
 }
 
-// The refusals of a case, by its numbers of sources and terminals. The case of two files has least runs 0, so 23 is none of them.
+// The refusals of a case, by its numbers of sources and terminals. The case of two files has least runs 0
+// and the ceiling 4,000 on every lane, so 23, 26 and 27 are none of them.
 fn explain_case(number: u64, place: u64, m: u64, n: u64) {
     match number {
         1 => say(

@@ -2,7 +2,7 @@
 use mathlib.Core.Path.{_≡_, refl}
 use mathlib.Core.Bool.{true}
 use mathlib.Core.List.{List, [], _∷_, flatMap, List·Memᴰ}
-use Prim.Native.Nat.{ℕ}
+use Prim.Native.Nat.{ℕ, _*_}
 use lib.ListN.{replicate}
 use lib.IntN.{ℤ, pos, negsuc}
 use Rattle.planner.specs.Integer.{eqZ, minℤ, sumℤ, leastℤ}
@@ -10,17 +10,17 @@ use Rattle.planner.specs.Freight.{freightℤ, leastFreightℤ, leastAt�
 use Rattle.planner.specs.Range.{outside}
 use Rattle.transport.specs.Sum.{sum}
 use Rattle.transport.specs.Plan.{row, col}
-use Rattle.transport.specs.Listing.{upFrom, select, compositions, rowLists, served, listing}
-use Rattle.transport.specs.Curve.{amountsAt}
-use Rattle.planner.specs.Case.{Case, allDemand, depotStock, made, leastSplit, greatestSplit, steps}
+use Rattle.transport.specs.Listing.{upFrom, select, compositions, rowLists, served, listing, every, fits, listingIn, some, least, greatest}
+use Rattle.transport.specs.Curve.{amountsAt, hasPlan, splitsIn}
+use Rattle.planner.specs.Case.{Case, allDemand, depotStock, made, lowestSplit, highestSplit, splits, hasSplit, leastSplit, greatestSplit, steps}
 use Rattle.planner.specs.Plans.{leastFreightAt, totalAt, bestSplit, stops, stopFreights}
 use Rattle.planner.specs.Outcome.{Outcome, planned, refused, refuseIf, refuseAt, firstFrom, firstOver, _orElse_, formRefusal, refusalOf, planOf, outcomeOf}
-use Rattle.planner.specs.Outcome.{test1, test2, test3, test4, test23, test5, test6, test7, test8, test9, test11}
+use Rattle.planner.specs.Outcome.{test1, test2, test3, test4, test23, test5, test26, test6, test7, test8, test27, test9, test11}
 use Rattle.planner.proofs.Example.{Example, whereAccepted, sameList, sameIntegers, sameOutcome, right, allRight, Right, each-right}
 
--- m, n, least runs, unit costs, supplies, demands, table, and the cells of the three slices to be written
-run : ℕ → ℕ → ℕ → ℕ → List ℤ → List ℕ → List ℕ → List ℕ → ℕ → ℕ → ℕ → Case
-run m n run1 run2 costs supplies demands table plan split freight = record {
+-- m, n, least runs, unit costs, supplies, demands, ceilings, table, and the cells of the three slices to be written
+capped : ℕ → ℕ → ℕ → ℕ → List ℤ → List ℕ → List ℕ → List ℕ → List ℕ → ℕ → ℕ → ℕ → Case
+capped m n run1 run2 costs supplies demands ceilings table plan split freight = record {
   m = m;
   n = n;
   run1 = run1;
@@ -28,11 +28,17 @@ run m n run1 run2 costs supplies demands table plan split freight = record {
   costs = costs;
   supplies = supplies;
   demands = demands;
+  ceilings = ceilings;
   table = table;
   planCells = plan;
   splitCells = split;
   freightCells = freight;
 }
+
+-- the same with 4,000 on every lane
+run : ℕ → ℕ → ℕ → ℕ → List ℤ → List ℕ → List ℕ → List ℕ → ℕ → ℕ → ℕ → Case
+run m n run1 run2 costs supplies demands table plan split freight =
+    capped m n run1 run2 costs supplies demands (replicate {A = ℕ} (m * n) 4000) table plan split freight
 
 -- the same with least runs 0
 lend : ℕ → ℕ → List ℤ → List ℕ → List ℕ → List ℕ → ℕ → ℕ → ℕ → Case
@@ -56,6 +62,19 @@ runs : ℕ → ℕ → Case
 runs run1 run2 =
     run 3 2 run1 run2 (pos 2 ∷ pos 6 ∷ pos 5 ∷ pos 3 ∷ pos 1 ∷ pos 4 ∷ []) (3 ∷ 3 ∷ 1 ∷ []) (3 ∷ 2 ∷ []) (99 ∷ 20 ∷ 24 ∷ 20 ∷ []) 6 3 3
 
+-- case A with ceilings, with another table too, with least runs too
+caps : List ℕ → Case
+caps ceilings =
+    capped 3 2 0 0 (pos 2 ∷ pos 6 ∷ pos 5 ∷ pos 3 ∷ pos 1 ∷ pos 4 ∷ []) (3 ∷ 3 ∷ 1 ∷ []) (3 ∷ 2 ∷ []) ceilings (99 ∷ 20 ∷ 24 ∷ 20 ∷ []) 6 3 3
+
+capsTable : List ℕ → List ℕ → Case
+capsTable ceilings table =
+    capped 3 2 0 0 (pos 2 ∷ pos 6 ∷ pos 5 ∷ pos 3 ∷ pos 1 ∷ pos 4 ∷ []) (3 ∷ 3 ∷ 1 ∷ []) (3 ∷ 2 ∷ []) ceilings table 6 3 3
+
+capsRun : ℕ → ℕ → List ℕ → Case
+capsRun run1 run2 ceilings =
+    capped 3 2 run1 run2 (pos 2 ∷ pos 6 ∷ pos 5 ∷ pos 3 ∷ pos 1 ∷ pos 4 ∷ []) (3 ∷ 3 ∷ 1 ∷ []) (3 ∷ 2 ∷ []) ceilings (99 ∷ 20 ∷ 24 ∷ 20 ∷ []) 6 3 3
+
 -- the outcome (split, total, freight, count of stops), the stops, and f at each
 accept : Case → Outcome → List ℕ → List ℤ → Example
 accept c o splits freights = record { given = c; outcome = o; splits = splits; freights = freights }
@@ -64,7 +83,8 @@ accept c o splits freights = record { given = c; outcome = o; splits = splits; f
 refuse : Case → ℕ → ℕ → Example
 refuse c k p = accept c (refused k p) [] []
 
--- P1 to P10: case A with its supplies and its table; then A with least runs 2 and 1, 2 and 2, 4 and 0, 0 and 4
+-- P1 to P10: case A with its supplies and its table; then A with least runs 2 and 1, 2 and 2, 4 and 0, 0 and 4,
+-- and A with ceiling 1 on lane 1 to 1
 pub paper : List Example
 paper =
     accept (A (3 ∷ 3 ∷ 1 ∷ []) (99 ∷ 20 ∷ 24 ∷ 20 ∷ [])) (planned 3 (pos 33) (pos 13) 3) (1 ∷ 2 ∷ 3 ∷ []) (pos 14 ∷ pos 11 ∷ pos 13 ∷ [])
@@ -81,16 +101,17 @@ paper =
     ∷ accept (runs 2 2) (planned 2 (pos 35) (pos 11) 1) (2 ∷ []) (pos 11 ∷ [])
     ∷ refuse (runs 4 0) 23 1
     ∷ refuse (runs 0 4) 23 2
+    ∷ accept (caps (1 ∷ 4000 ∷ 4000 ∷ 4000 ∷ 4000 ∷ 4000 ∷ [])) (planned 1 (pos 34) (pos 14) 2) (1 ∷ 3 ∷ []) (pos 14 ∷ pos 20 ∷ [])
     ∷ []
 
 pub P1-to-P10 : allRight paper ≡ true
-unfolding paper run lend slices A runs accept refuse flatMap sum row col upFrom select compositions rowLists served listing amountsAt allDemand depotStock made leastSplit greatestSplit steps leastFreightAt totalAt bestSplit stops stopFreights refuseIf refuseAt firstFrom firstOver _orElse_ formRefusal refusalOf planOf outcomeOf test1 test2 test3 test4 test23 test5 test6 test7 test8 test9 test11 outside eqZ minℤ sumℤ leastℤ freightℤ leastFreightℤ leastAtℤ bendsℤ isStopℤ stopsOfℤ bestFromℤ whereAccepted sameList sameIntegers sameOutcome right allRight
+unfolding paper capped run lend slices A runs caps accept refuse flatMap sum row col upFrom select compositions rowLists served listing every fits listingIn some least greatest hasPlan splitsIn amountsAt allDemand depotStock made lowestSplit highestSplit splits hasSplit leastSplit greatestSplit steps leastFreightAt totalAt bestSplit stops stopFreights refuseIf refuseAt firstFrom firstOver _orElse_ formRefusal refusalOf planOf outcomeOf test1 test2 test3 test4 test23 test5 test26 test6 test7 test8 test27 test9 test11 outside eqZ minℤ sumℤ leastℤ freightℤ leastFreightℤ leastAtℤ bendsℤ isStopℤ stopsOfℤ bestFromℤ whereAccepted sameList sameIntegers sameOutcome right allRight
 P1-to-P10 = refl
 
 pub paper-right : (e : Example) → List·Memᴰ e paper → Right e
 paper-right = each-right paper P1-to-P10
 
--- each refusal 1 to 9, 11 and 23, the order of the tests where two conditions hold, the places, the range of test 9, tables of any shape, straight splits, the limits
+-- each refusal 1 to 9, 11, 23, 26 and 27, the order of the tests where two conditions hold, the places, the range of test 9, tables of any shape, straight splits, the limits
 pub held : List Example
 held =
     -- the examples of refusals 1, 2, 3, 5, 6, 9 and 11
@@ -118,6 +139,24 @@ held =
     -- plant 2's run alone, and plant 1's
     ∷ accept (runs 0 2) (planned 1 (pos 34) (pos 14) 2) (1 ∷ 2 ∷ []) (pos 14 ∷ pos 11 ∷ [])
     ∷ accept (runs 3 0) (planned 3 (pos 33) (pos 13) 1) (3 ∷ []) (pos 13 ∷ [])
+    -- five ceilings; a ceiling too high, on the last lane, on two lanes
+    ∷ refuse (caps (4000 ∷ 4000 ∷ 4000 ∷ 4000 ∷ 4000 ∷ [])) 26 0
+    ∷ refuse (caps (4000 ∷ 4000 ∷ 4000 ∷ 4000 ∷ 4000 ∷ 4001 ∷ [])) 26 6
+    ∷ refuse (caps (4000 ∷ 4001 ∷ 4000 ∷ 4001 ∷ 4000 ∷ 4000 ∷ [])) 26 2
+    -- no ceilings, and a unit cost; a ceiling, and the table
+    ∷ refuse (capped 3 2 0 0 (pos 2 ∷ pos 6 ∷ pos 5 ∷ pos 3 ∷ pos 1 ∷ pos 1000001 ∷ []) (3 ∷ 3 ∷ 1 ∷ []) (3 ∷ 2 ∷ []) [] (99 ∷ 20 ∷ 24 ∷ 20 ∷ []) 6 3 3) 5 6
+    ∷ refuse (capsTable (4000 ∷ 4000 ∷ 4001 ∷ 4000 ∷ 4000 ∷ 4000 ∷ []) (99 ∷ 20 ∷ 24 ∷ [])) 26 3
+    -- plant 1 shut off: no plan, whatever the entries and the room
+    ∷ refuse (capsTable (0 ∷ 0 ∷ 4000 ∷ 4000 ∷ 4000 ∷ 4000 ∷ []) (99 ∷ 1000000001 ∷ 24 ∷ 20 ∷ [])) 27 0
+    -- a depot shut off; the balance and all lanes shut off
+    ∷ refuse (caps (4000 ∷ 4000 ∷ 4000 ∷ 4000 ∷ 0 ∷ 0 ∷ [])) 27 0
+    ∷ refuse (capped 3 2 3 2 (pos 2 ∷ pos 6 ∷ pos 5 ∷ pos 3 ∷ pos 1 ∷ pos 4 ∷ []) (3 ∷ 3 ∷ 1 ∷ []) (3 ∷ 2 ∷ []) (0 ∷ 0 ∷ 0 ∷ 0 ∷ 0 ∷ 0 ∷ []) (99 ∷ 20 ∷ 24 ∷ 20 ∷ []) 6 3 3) 7 0
+    -- ceilings that move ℓ, that move u, and ceilings against a least run
+    ∷ accept (caps (4000 ∷ 4000 ∷ 1 ∷ 1 ∷ 4000 ∷ 4000 ∷ [])) (planned 3 (pos 33) (pos 13) 2) (2 ∷ 3 ∷ []) (pos 16 ∷ pos 13 ∷ [])
+    ∷ accept (caps (1 ∷ 1 ∷ 4000 ∷ 4000 ∷ 4000 ∷ 4000 ∷ [])) (planned 1 (pos 34) (pos 14) 2) (1 ∷ 2 ∷ []) (pos 14 ∷ pos 17 ∷ [])
+    ∷ refuse (capsRun 0 3 (4000 ∷ 4000 ∷ 1 ∷ 1 ∷ 4000 ∷ 4000 ∷ [])) 27 0
+    -- the entry at a split that a ceiling shuts off
+    ∷ accept (capsTable (4000 ∷ 4000 ∷ 1 ∷ 1 ∷ 4000 ∷ 4000 ∷ []) (99 ∷ 1000000001 ∷ 24 ∷ 20 ∷ [])) (planned 3 (pos 33) (pos 13) 2) (2 ∷ 3 ∷ []) (pos 16 ∷ pos 13 ∷ [])
     -- m below 2, and n below 1
     ∷ refuse (sized 1 0) 1 0
     -- m above 32
@@ -189,7 +228,7 @@ held =
     ∷ []
 
 pub held-pass : allRight held ≡ true
-unfolding held run lend slices A runs rooms sized accept refuse flatMap sum row col upFrom select compositions rowLists served listing amountsAt allDemand depotStock made leastSplit greatestSplit steps leastFreightAt totalAt bestSplit stops stopFreights refuseIf refuseAt firstFrom firstOver _orElse_ formRefusal refusalOf planOf outcomeOf test1 test2 test3 test4 test23 test5 test6 test7 test8 test9 test11 outside eqZ minℤ sumℤ leastℤ freightℤ leastFreightℤ leastAtℤ bendsℤ isStopℤ stopsOfℤ bestFromℤ whereAccepted sameList sameIntegers sameOutcome right allRight
+unfolding held capped run lend slices A runs caps capsTable capsRun rooms sized accept refuse flatMap sum row col upFrom select compositions rowLists served listing every fits listingIn some least greatest hasPlan splitsIn amountsAt allDemand depotStock made lowestSplit highestSplit splits hasSplit leastSplit greatestSplit steps leastFreightAt totalAt bestSplit stops stopFreights refuseIf refuseAt firstFrom firstOver _orElse_ formRefusal refusalOf planOf outcomeOf test1 test2 test3 test4 test23 test5 test26 test6 test7 test8 test27 test9 test11 outside eqZ minℤ sumℤ leastℤ freightℤ leastFreightℤ leastAtℤ bendsℤ isStopℤ stopsOfℤ bestFromℤ whereAccepted sameList sameIntegers sameOutcome right allRight
 held-pass = refl
 
 pub held-right : (e : Example) → List·Memᴰ e held → Right e

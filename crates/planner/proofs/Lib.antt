@@ -19,3 +19,5 @@ pub mod FormLaws
 pub mod Copies
 pub mod Solution
 pub mod Decide
+pub mod Earlier
+pub mod Unchanged

@@ -12,9 +12,9 @@ use lib.ListN.{length, getD, List·getD-append}
 use Rattle.planner.specs.Range.{outside}
 use lib.Seq.{getD-append-add}
 use borrow.Author.Tests.{eqb-true, ltb-false, le-ltb, not-false}
-use Rattle.planner.specs.Case.{Case, supply, demand, entry, allDemand, depotStock, made, leastSplit, steps}
+use Rattle.planner.specs.Case.{Case, supply, demand, entry, allDemand, depotStock, made, hasSplit, leastSplit, steps}
 use Rattle.planner.specs.Outcome.{Outcome, refused, refuseIf, refuseAt, firstFrom, firstOver, _orElse_, formRefusal, refusalOf}
-use Rattle.planner.specs.Outcome.{test1, test2, test3, test4, test23, test5, test6, test7, test8, test9, test11}
+use Rattle.planner.specs.Outcome.{test1, test2, test3, test4, test23, test5, test26, test6, test7, test8, test27, test9, test11}
 use Rattle.planner.proofs.First.{none-passes}
 
 pub some≢none : (r : Outcome) → _≡_ {A = Option Outcome} (some r) none → ⊥
@@ -119,6 +119,8 @@ pub record Formed (c : Case) : Type 0 where
   pub first-run : c .run1 ≤ supply c 0
   pub second-run : c .run2 ≤ supply c 1
   pub cost-inside : (k : ℕ) → k < c .m * c .n → outside (getD (c .costs) k (pos 0)) ≡ false
+  pub ceilings-long : length (c .ceilings) ≡ c .m * c .n
+  pub ceiling-most : (k : ℕ) → k < c .m * c .n → getD (c .ceilings) k 0 ≤ 4000
   pub table-long : length (c .table) ≡ supply c 0 + 1
 
 record Passes6 (c : Case) : Type 0 where
@@ -128,6 +130,7 @@ record Passes6 (c : Case) : Type 0 where
   t4 : test4 c ≡ none
   t23 : test23 c ≡ none
   t5 : test5 c ≡ none
+  t26 : test26 c ≡ none
   t6 : test6 c ≡ none
 
 passes6 : (c : Case) → formRefusal c ≡ none → Passes6 c
@@ -138,6 +141,7 @@ passes6 c e =
     let e4 = second-passes (test3 c) _ e3 in
     let e23 = second-passes (test4 c) _ e4 in
     let e5 = second-passes (test23 c) _ e23 in
+    let e26 = second-passes (test5 c) _ e5 in
     record {
       t1 = first-passes (test1 c) _ e;
       t2 = first-passes (test2 c) _ e2;
@@ -145,11 +149,12 @@ passes6 c e =
       t4 = first-passes (test4 c) _ e4;
       t23 = first-passes (test23 c) _ e23;
       t5 = first-passes (test5 c) _ e5;
-      t6 = second-passes (test5 c) _ e5;
+      t26 = first-passes (test26 c) _ e26;
+      t6 = second-passes (test26 c) _ e26;
     }
 
 pub formed : (c : Case) → formRefusal c ≡ none → Formed c
-unfolding test1 test2 test3 test4 test23 test5 test6
+unfolding test1 test2 test3 test4 test23 test5 test26 test6
 formed c e =
     let t = passes6 c e in
     let b1 = refuseIf-none 1 (ltb (c .m) 2 || ltb 32 (c .m)) (t .t1) in
@@ -160,6 +165,7 @@ formed c e =
     let b3 = refuseIf-none 3 (nc || (ns || nd)) (t .t3) in
     let b4 = under 4000 (c .supplies ++ c .demands) (c .m + c .n) (refuseAt-none 4 _ (t .t4)) in
     let b23 = over-none (c .run1) (c .run2) (supply c 0) (supply c 1) (refuseAt-none 23 _ (t .t23)) in
+    let b26 = refuseIf-none 26 (not (eqb (length (c .ceilings)) (c .m * c .n))) (first-passes _ _ (t .t26)) in
     let ls = eqb-true (length (c .supplies)) (c .m) (not-false _ (either-first ns nd (either-second nc (ns || nd) b3))) in
     record {
       two-sources = ltb-false (c .m) 2 (either-first (ltb (c .m) 2) (ltb 32 (c .m)) b1);
@@ -180,6 +186,8 @@ formed c e =
       first-run = b23 .0;
       second-run = b23 .1;
       cost-inside = within (c .costs) (c .m * c .n) (refuseAt-none 5 _ (t .t5));
+      ceilings-long = eqb-true (length (c .ceilings)) (c .m * c .n) (not-false _ b26);
+      ceiling-most = under 4000 (c .ceilings) (c .m * c .n) (refuseAt-none 26 _ (second-passes _ _ (t .t26)));
       table-long = eqb-true (length (c .table)) (supply c 0 + 1) (not-false _ (refuseIf-none 6 (not (eqb (length (c .table)) (supply c 0 + 1))) (t .t6)));
     }
 
@@ -209,6 +217,15 @@ balanced-passes c b = (
   ap (λ (t : Bool). refuseIf 7 t) (le-ltb (allDemand c) (depotStock c + c .run1 + c .run2) (b .stock)),
   ap (λ (t : Bool). refuseIf 8 t) (le-ltb (supply c 0 + supply c 1) (made c) (b .reach)),
 )
+
+-- what test 27 leaves: there is a split
+pub has-split : (c : Case) → test27 c ≡ none → hasSplit c ≡ true
+unfolding test27
+has-split c e = not-false _ (refuseIf-none 27 (not (hasSplit c)) e)
+
+pub split-passes : (c : Case) → hasSplit c ≡ true → test27 c ≡ none
+unfolding test27 refuseIf
+split-passes c e = ap (λ (t : Bool). refuseIf 27 (not t)) e
 
 -- what test 9 leaves: no entry at a split is above 1,000,000,000
 pub small-entry : (c : Case) → test9 c ≡ none → (y : ℕ) → leastSplit c ≤ y → y ≤ leastSplit c + steps c → entry c y ≤ 1000000000
@@ -241,6 +258,7 @@ pub record Accepted (c : Case) : Type 0 where
   pub form : formRefusal c ≡ none
   pub t7 : test7 c ≡ none
   pub t8 : test8 c ≡ none
+  pub t27 : test27 c ≡ none
   pub t9 : test9 c ≡ none
   pub t11 : test11 c ≡ none
 
@@ -249,11 +267,13 @@ unfolding refusalOf
 accepted c e =
     let e7 = second-passes (formRefusal c) _ e in
     let e8 = second-passes (test7 c) _ e7 in
-    let e9 = second-passes (test8 c) _ e8 in
+    let e27 = second-passes (test8 c) _ e8 in
+    let e9 = second-passes (test27 c) _ e27 in
     record {
       form = first-passes (formRefusal c) _ e;
       t7 = first-passes (test7 c) _ e7;
       t8 = first-passes (test8 c) _ e8;
+      t27 = first-passes (test27 c) _ e27;
       t9 = first-passes (test9 c) _ e9;
       t11 = second-passes (test9 c) _ e9;
     }

@@ -12,12 +12,12 @@ use lib.IntN.{ℤ, pos, subℕ, _+ℤ_, _*ℤ_}
 use lib.Signed.{ltZ, leZ}
 use borrow.Author.Tests.{eqb-false, lt-leb, le-leb}
 use Rattle.transport.specs.Sum.{sum}
-use Rattle.transport.specs.Plan.{Table, byRow, row, col, total, freight, Plan}
-use Rattle.transport.specs.Listing.{listing, least, leastFreight, upFrom, select}
+use Rattle.transport.specs.Plan.{Table, byRow, row, col, total, freight, Plan, Fits}
+use Rattle.transport.specs.Listing.{listingIn, least, leastFreightIn, upFrom, select}
 use Rattle.transport.specs.Curve.{bends, isStop, stopsOf, bestFrom}
 use Rattle.transport.proofs.Sums.{sum-ext, sum-scale, sum-swap}
 use Rattle.transport.proofs.Members.{select-ext, upFrom-out}
-use Rattle.transport.proofs.Listing.{sound, complete}
+use Rattle.transport.proofs.Within.{sound-in, complete-in}
 use Rattle.transport.proofs.Best.{Best, bestFrom-best}
 use Rattle.transport.proofs.Stops.{Stop, stops-out}
 use Rattle.planner.specs.Integer.{eqZ, minℤ, sumℤ, leastℤ, Above}
@@ -70,10 +70,11 @@ least-above k f g a [] h = h a (List·Memᴰ·head refl)
 least-above k f g a (b ∷ l) h = min-above (h a (List·Memᴰ·head refl)) (least-above k f g b l (λ x q. h x (List·Memᴰ·tail q)))
 
 -- where there is a plan, the least freight is the raised one less k for each drum
-pub least-freight-above : {k m n : ℕ} {c : Rates} {c' : Table} → Raised k m n c c' → (r b : ℕ → ℕ) (x : List ℕ) → Plan m n r b x
-    → Above (k * sum n b) (leastFreightℤ m n c r b) (leastFreight m n c' r b)
-unfolding leastFreightℤ leastFreight
-least-freight-above {k} {m} {n} {c} {c'} raised r b x p = step (listing m n r b) (complete m n r b x p) (λ z q. sound m n r b z q)
+pub least-freight-above : {k m n : ℕ} {c : Rates} {c' : Table} → Raised k m n c c' → (u : Table) (r b : ℕ → ℕ) (x : List ℕ) → Fits m n u r b x
+    → Above (k * sum n b) (leastFreightℤ m n c u r b) (leastFreightIn m n c' u r b)
+unfolding leastFreightℤ leastFreightIn
+least-freight-above {k} {m} {n} {c} {c'} raised u r b x p =
+    step (listingIn m n u r b) (complete-in m n u r b x p) (λ z q. sound-in m n u r b z q .plan)
   where
     step : (l : List (List ℕ)) → List·Memᴰ x l → ((z : List ℕ) → List·Memᴰ z l → Plan m n r b z)
         → Above (k * sum n b) (leastℤ (map (λ x. freightℤ m n c (byRow n x)) l)) (least (map (λ x. freight m n c' (byRow n x)) l))

@@ -1,26 +1,29 @@
 -- What the tests' parts say of the tests. Assumes nothing.
-use mathlib.Core.Path.{_≡_, refl, sym, ap, ap₂, _∙_, subst}
-use mathlib.Core.Bool.{Bool, true, false, not, _||_, cond}
+use mathlib.Core.Path.{_≡_, refl, sym, ap, _∙_}
+use mathlib.Core.Bool.{Bool, true, false, _||_}
 use mathlib.Core.Option.{Option, none, some}
 use mathlib.Core.List.{List, _++_}
-use Prim.Native.Nat.{ℕ, zero, suc, max, min, _+_, _-_, _*_, _≤_, _<_}
-use native.Mathlib.Nat.{mul-le-mul}
+use Prim.Native.Nat.{ℕ, zero, suc, _+_, _-_, _*_, _≤_, _<_}
+use native.Mathlib.Nat.{suc-mul}
 use native.Mathlib.Omega.{arith}
-use lib.Dec.{ltb, eqb}
+use lib.Dec.{ltb}
 use lib.IntN.{ℤ}
-use lib.ListN.{length, getD, take, drop, length-append, List·getD-append, length-take, length-drop}
+use lib.ListN.{length, getD, take, drop, List·getD-append, length-take, length-drop}
 use lib.Seq.{getD-append-add, getD-take, getD-drop}
-use borrow.Author.Tests.{lt-ltb, le-ltb, eq-eqb, ne-eqb, ltb-false, eqb-true, not-false}
-use Rattle.planner.specs.Case.{Case, supply}
-use Rattle.planner.specs.Outcome.{Outcome, refused, firstFrom, firstOver, refuseIf, refuseAt, _orElse_, formRefusal, test1, test2, test3, test4, test5, test6}
-use Rattle.planner.specs.Verdict.{firstAbove, firstOutside, amountsRefusal, runsRefusal, entriesRefusal, splitsOf, AtMost}
-use Rattle.planner.specs.declared.tests.Splits.the-variants.{Between, Unbalanced}
+use borrow.Author.Tests.{lt-ltb, le-ltb, eq-eqb, ne-eqb, ltb-false}
+use Rattle.planner.specs.Outcome.{Outcome, refused, firstFrom, firstOver, refuseIf, refuseAt}
+use Rattle.planner.specs.Verdict.{firstAbove, firstOutside, amountsRefusal, runsRefusal, ceilingsRefusal, entriesRefusal, splitsRefusal, madeOf, AtMost}
+use Rattle.planner.specs.declared.tests.Made.the-variants.{Drums, Unbalanced}
 use Rattle.transport.specs.Sum.{sum}
-use Rattle.transport.proofs.Sums.{sum-ext}
+use Rattle.transport.proofs.Sums.{sum-zero, sum-suc, sum-ext}
 use Rattle.planner.proofs.Passed.{first-decides, second-decides}
 use Rattle.planner.proofs.First.{moved, first-moved, first-then, first-within, none-passes, some-first}
 
 -- ---- a condition, a place
+
+pub or-true : (a : Bool) → (a || true) ≡ true
+or-true true = refl
+or-true false = refl
 
 pub met : (k : ℕ) (t : Bool) → t ≡ true → refuseIf k t ≡ some (refused k 0)
 unfolding refuseIf
@@ -98,6 +101,31 @@ module _ (r1 r2 : ℕ) (s : List ℕ) where
   unfolding runsRefusal firstOver refuseAt
   runs-pass h l = rw (le-ltb (getD s 0 0) r1 h, le-ltb (getD s 1 0) r2 l) refl
 
+-- ---- test 26
+
+module _ (lanes : ℕ) (l : List ℕ) where
+  pub ceilings-length : (length l ≡ lanes → ⊥) → ceilingsRefusal lanes l ≡ some (refused 26 0)
+  unfolding ceilingsRefusal
+  ceilings-length h = first-decides _ _ _ (met 26 _ (simp (ne-eqb (length l) lanes h)))
+
+  module _ (e : length l ≡ lanes) where
+    by-index : firstFrom (λ p. ltb 4000 (getD l (p - 1) 0)) 1 lanes ≡ moved 1 0 (firstAbove 4000 l)
+    unfolding firstAbove
+    by-index =
+        first-moved (λ p. ltb 4000 (getD l (p - 1) 0)) (λ k. ltb 4000 (getD l k 0)) 1 0 lanes
+        (λ t h. ap (λ (k : ℕ). ltb 4000 (getD l k 0)) (let z : 1 + t - 1 ≡ 0 + t = omega arith in z))
+        ∙ ap (λ (n : ℕ). moved 1 0 (firstFrom (λ k. ltb 4000 (getD l k 0)) 0 n)) (sym e)
+
+    pub ceilings-high : (k : ℕ) → firstAbove 4000 l ≡ some k → ceilingsRefusal lanes l ≡ some (refused 26 (k + 1))
+    unfolding ceilingsRefusal
+    ceilings-high k h =
+        second-decides _ _ (unmet 26 _ (simp (eq-eqb (length l) lanes e)))
+        ∙ at-place 26 (k + 1) _ (by-index ∙ moved-some 1 0 k (k + 1) _ h (omega arith))
+
+    pub ceilings-pass : firstAbove 4000 l ≡ none → ceilingsRefusal lanes l ≡ none
+    unfolding ceilingsRefusal
+    ceilings-pass h = second-decides _ _ (unmet 26 _ (simp (eq-eqb (length l) lanes e))) ∙ no-place 26 _ (by-index ∙ moved-none 1 0 _ h)
+
 -- ---- test 9
 
 module _ (t : List ℕ) (lo hi : ℕ) (order : lo ≤ hi) (long : hi < length t) where
@@ -128,6 +156,33 @@ module _ (t : List ℕ) (lo hi : ℕ) (order : lo ≤ hi) (long : hi < length t)
   unfolding entriesRefusal
   entries-pass n = no-place 9 _ (high ∙ moved-none lo 0 _ n)
 
+-- ---- tests 9 and 11
+
+module _ (t : List ℕ) (lo hi lanes plan splits freights : ℕ) where
+  pub splits-entry : (r : Outcome) → entriesRefusal t lo hi ≡ some r → splitsRefusal t lo hi lanes plan splits freights ≡ some r
+  unfolding splitsRefusal
+  splits-entry r e = first-decides _ _ r e
+
+  module _ (e : entriesRefusal t lo hi ≡ none) where
+    no-room : (ltb plan lanes || (ltb splits (hi - lo + 1) || ltb freights (hi - lo + 1))) ≡ true
+        → splitsRefusal t lo hi lanes plan splits freights ≡ some (refused 11 0)
+    unfolding splitsRefusal
+    no-room h = second-decides _ _ e ∙ met 11 _ h
+
+    pub splits-plan : plan < lanes → splitsRefusal t lo hi lanes plan splits freights ≡ some (refused 11 0)
+    splits-plan h = no-room (simp (lt-ltb plan lanes h))
+
+    pub splits-split : splits < hi - lo + 1 → splitsRefusal t lo hi lanes plan splits freights ≡ some (refused 11 0)
+    splits-split h = no-room (simp (lt-ltb splits (hi - lo + 1) h, or-true))
+
+    pub splits-freight : freights < hi - lo + 1 → splitsRefusal t lo hi lanes plan splits freights ≡ some (refused 11 0)
+    splits-freight h = no-room (simp (lt-ltb freights (hi - lo + 1) h, or-true))
+
+    pub splits-pass : lanes ≤ plan → hi - lo + 1 ≤ splits → hi - lo + 1 ≤ freights → splitsRefusal t lo hi lanes plan splits freights ≡ none
+    unfolding splitsRefusal
+    splits-pass p q r =
+        second-decides _ _ e ∙ unmet 11 _ (simp (le-ltb plan lanes p, le-ltb splits (hi - lo + 1) q, le-ltb freights (hi - lo + 1) r))
+
 -- ---- what an answer of the search for a number above a limit says
 
 pub above-all : (limit : ℕ) (l : List ℕ) → firstAbove limit l ≡ none → AtMost limit l
@@ -148,14 +203,14 @@ module _ (t : List ℕ) (lo hi : ℕ) (order : lo ≤ hi) (long : hi < length t)
 
 -- ---- tests 7 and 8
 
-sum-under : (k : ℕ) (g : ℕ → ℕ) → ((i : ℕ) → i < k → g i ≤ 4000) → sum k g ≤ 4000 * k
-unfolding sum
-sum-under zero g h = omega arith
-sum-under (suc k) g h = omega (arith, sum-under k g (λ i l. h i (omega arith)), h k (omega arith))
+-- k numbers up to a limit
+pub sum-under : (k limit : ℕ) (g : ℕ → ℕ) → ((i : ℕ) → i < k → g i ≤ limit) → sum k g ≤ k * limit
+sum-under zero limit g h = omega (arith, sum-zero g)
+sum-under (suc k) limit g h = omega (arith, sum-suc k g, sum-under k limit g (λ i l. h i (omega arith)), h k (omega arith), suc-mul k limit)
 
 -- numbers up to 4,000, summed
 pub sum-most : (l : List ℕ) → AtMost 4000 l → sum (length l) (λ j. getD l j 0) ≤ 4000 * length l
-sum-most l h = sum-under (length l) (λ j. getD l j 0) h
+sum-most l h = omega (arith, sum-under (length l) 4000 (λ j. getD l j 0) h)
 
 module _ (s : List ℕ) (two : 2 ≤ length s) where
   depots : List ℕ
@@ -175,18 +230,17 @@ module _ (s : List ℕ) (two : 2 ≤ length s) where
       ap (λ (n : ℕ). sum n (λ j. getD (take (length s - 2) (drop 2 s)) j 0)) depots-length ∙ sum-ext (length s - 2) _ _ (λ k h. depot-at k h)
 
 module _ (r1 r2 : ℕ) (s d : List ℕ) (all stock : ℕ) (ea : all ≡ sum (length d) (λ j. getD d j 0)) (es : stock ≡ sum (length s - 2) (λ k. getD s (2 + k) 0)) where
-  pub splits-below : all < stock + r1 + r2 → splitsOf r1 r2 s d ≡ Unbalanced 7
-  unfolding splitsOf
-  splits-below h = rw (← ea, ← es, lt-ltb all (stock + r1 + r2) h) refl
+  pub made-below : all < stock + r1 + r2 → madeOf r1 r2 s d ≡ Unbalanced 7
+  unfolding madeOf
+  made-below h = rw (← ea, ← es, lt-ltb all (stock + r1 + r2) h) refl
 
-  pub splits-above : stock + r1 + r2 ≤ all → getD s 0 0 + getD s 1 0 < all - stock → splitsOf r1 r2 s d ≡ Unbalanced 8
-  unfolding splitsOf
-  splits-above h l = rw (← ea, ← es, le-ltb all (stock + r1 + r2) h, lt-ltb (getD s 0 0 + getD s 1 0) (all - stock) l) refl
+  pub made-above : stock + r1 + r2 ≤ all → getD s 0 0 + getD s 1 0 < all - stock → madeOf r1 r2 s d ≡ Unbalanced 8
+  unfolding madeOf
+  made-above h l = rw (← ea, ← es, le-ltb all (stock + r1 + r2) h, lt-ltb (getD s 0 0 + getD s 1 0) (all - stock) l) refl
 
-  pub splits-between : stock + r1 + r2 ≤ all → all - stock ≤ getD s 0 0 + getD s 1 0
-      → splitsOf r1 r2 s d ≡ Between (max r1 (all - stock - getD s 1 0)) (min (getD s 0 0) (all - stock - r2)) (all - stock)
-  unfolding splitsOf
-  splits-between h l = rw (← ea, ← es, le-ltb all (stock + r1 + r2) h, le-ltb (getD s 0 0 + getD s 1 0) (all - stock) l) refl
+  pub made-drums : stock + r1 + r2 ≤ all → all - stock ≤ getD s 0 0 + getD s 1 0 → madeOf r1 r2 s d ≡ Drums (all - stock)
+  unfolding madeOf
+  made-drums h l = rw (← ea, ← es, le-ltb all (stock + r1 + r2) h, le-ltb (getD s 0 0 + getD s 1 0) (all - stock) l) refl
 
 -- what the pass of test 4 says
 pub amounts-none : (s d : List ℕ) → amountsRefusal s d ≡ none → AtMost 4000 s × AtMost 4000 d

@@ -21,9 +21,9 @@ use Rattle.planner.specs.Bends.{Bend, ListsBends}
 use Rattle.planner.proofs.Integers.{sub-sub, sub-same, at-most-sub}
 use Rattle.planner.proofs.Shift.{Follows}
 use Rattle.planner.proofs.Numbers.{planned-passes}
-use Rattle.planner.proofs.Passed.{formed, balanced, accepted}
-use Rattle.planner.proofs.Splits.{last-split}
-use Rattle.planner.proofs.Raised.{raisedAt, added, least-above, stops-are}
+use Rattle.planner.proofs.Splits.{in-order}
+use Rattle.planner.proofs.Raised.{raisedAt, least-above, stops-are}
+use Rattle.planner.proofs.Promise.{accepted-fitting}
 
 -- ---- members and places
 
@@ -152,14 +152,12 @@ pub bends-listed : (c : Case) (s : ℕ) (t f : ℤ) (k : ℕ) (before after : Sl
     → ListsBends c k (after .splits) (after .freights)
 unfolding outcomeOf planOf
 bends-listed c s t f k before after w =
-    let a = accepted c (planned-passes c s t f k (sym (w .answer))) in
-    let fm = formed c (a .form) in
-    let bal = balanced c fm (a .t7) (a .t8) in
+    let a = accepted-fitting c (planned-passes c s t f k (sym (w .answer))) in
     let said = w .written s t f k refl in
     let q : k ≡ length (stops c) = count (refusalOf c) (planned-passes c s t f k (sym (w .answer))) (w .answer) in
     subst (λ (k : ℕ). ListsBends c k (after .splits) (after .freights)) (sym q)
     (subst₂ (λ (x : List ℕ) (z : List ℤ). ListsBends c (length (stops c)) x z) (sym (said .splits)) (sym (said .freights))
-    (lists-bends c (raisedAt c) (λ y a b. least-above fm bal y b) (omega (arith, last-split c bal)) (stops-are fm bal) (before .splits) (before .freights)))
+    (lists-bends c (raisedAt c) (least-above (a .0) (a .1)) (in-order (a .0) (a .1)) (stops-are (a .0) (a .1)) (before .splits) (before .freights)))
   where
     count : (o : Option Outcome) → o ≡ none → planned s t f k ≡ (elim o [ some r ↦ r | none ↦ planOf c ]) → k ≡ length (stops c)
     count none e q = cc

@@ -8,7 +8,7 @@ use lib.IntN.{ℤ, pos, _+ℤ_, _*ℤ_}
 use lib.Signed.{ltZ}
 use lib.ListN.{getD}
 use Rattle.transport.specs.Plan.{Table, byRow}
-use Rattle.transport.specs.Listing.{listing, upFrom, select}
+use Rattle.transport.specs.Listing.{listingIn, upFrom, select}
 use Rattle.transport.specs.Curve.{amountsAt}
 use Rattle.planner.specs.Integer.{eqZ, sumℤ, leastℤ}
 
@@ -24,13 +24,13 @@ ratesByRow n l i j = getD l (i * n + j) (pos 0)
 unfoldable pub freightℤ : ℕ → ℕ → Rates → Table → ℤ
 freightℤ m n c x = sumℤ m (λ i. sumℤ n (λ j. c i j *ℤ pos (x i j)))
 
--- the least freight of any plan
-unfoldable pub leastFreightℤ : ℕ → ℕ → Rates → (ℕ → ℕ) → (ℕ → ℕ) → ℤ
-leastFreightℤ m n c r b = leastℤ (map (λ x. freightℤ m n c (byRow n x)) (listing m n r b))
+-- the least freight of any plan within the ceilings u
+unfoldable pub leastFreightℤ : ℕ → ℕ → Rates → Table → (ℕ → ℕ) → (ℕ → ℕ) → ℤ
+leastFreightℤ m n c u r b = leastℤ (map (λ x. freightℤ m n c (byRow n x)) (listingIn m n u r b))
 
--- f(y): the least freight of any plan at split y
-unfoldable pub leastAtℤ : ℕ → ℕ → Rates → ℕ → (ℕ → ℕ) → (ℕ → ℕ) → ℕ → ℤ
-leastAtℤ m n c d a b y = leastFreightℤ m n c (amountsAt d a y) b
+-- f(y): the least freight of any plan within the ceilings at split y
+unfoldable pub leastAtℤ : ℕ → ℕ → Rates → Table → ℕ → (ℕ → ℕ) → (ℕ → ℕ) → ℕ → ℤ
+leastAtℤ m n c u d a b y = leastFreightℤ m n c u (amountsAt d a y) b
 
 -- the slope of f changes at y: f(y+1) - f(y) ≠ f(y) - f(y-1)
 unfoldable pub bendsℤ : (ℕ → ℤ) → ℕ → Bool

@@ -4,10 +4,10 @@ use mathlib.Core.List.{List, map}
 use Prim.Native.Nat.{ℕ, _*_, _≤_, _<_}
 use lib.IntN.{ℤ, pos, _+ℤ_}
 use lib.ListN.{length}
-use Rattle.transport.specs.Plan.{byRow, row, col, Plan}
+use Rattle.transport.specs.Plan.{byRow, row, col, Under, Fits}
 use Rattle.transport.specs.Curve.{amountsAt}
 use Rattle.planner.specs.Freight.{ratesByRow, freightℤ, leastAtℤ, stopsOfℤ, bestFromℤ}
-use Rattle.planner.specs.Case.{Case, supply, demand, entry, made, leastSplit, greatestSplit, steps}
+use Rattle.planner.specs.Case.{Case, supply, demand, ceiling, entry, made, leastSplit, greatestSplit, steps}
 
 -- what source i sends in the plan x, a list of m × n amounts in row order; of row 0 it is the plan's split
 unfoldable pub rowSum : Case → List ℕ → ℕ → ℕ
@@ -20,7 +20,7 @@ columnSum c x j = col (c .m) (byRow (c .n) x) j
 unfoldable pub freightOf : Case → List ℕ → ℤ
 freightOf c x = freightℤ (c .m) (c .n) (ratesByRow (c .n) (c .costs)) (byRow (c .n) x)
 
--- a plan that meets (TP) and both least runs, judged from the input alone, without ℓ and u
+-- a plan that meets (TP), both least runs and every ceiling, judged from the input alone, without ℓ and u
 pub record MeetsTP (c : Case) (x : List ℕ) : Type 0 where
   pub cells : length x ≡ c .m * c .n
   pub plant1 : rowSum c x 0 ≤ supply c 0
@@ -29,19 +29,21 @@ pub record MeetsTP (c : Case) (x : List ℕ) : Type 0 where
   pub runs2 : c .run2 ≤ rowSum c x 1
   pub depots : (i : ℕ) → 2 ≤ i → i < c .m → rowSum c x i ≡ supply c i
   pub terminals : (j : ℕ) → j < c .n → columnSum c x j ≡ demand c j
+  pub lanes : Under (c .m) (c .n) (byRow (c .n) x) (ceiling c)
 
 -- the total of a plan: its freight plus the entry at its own split
 unfoldable pub planTotal : Case → List ℕ → ℤ
 planTotal c x = freightOf c x +ℤ pos (entry c (rowSum c x 0))
 
--- a plan at split y, (TP(y)): row 1 sums to y, row 2 to d - y, each depot row to its stock, each column to its demand
+-- a plan at split y, (TP(y)): row 1 sums to y, row 2 to d - y, each depot row to its stock, each column to its demand,
+-- and no lane carries more than its ceiling
 abbrev pub PlanAt : Case → ℕ → List ℕ → Type 0
-PlanAt c y x = Plan (c .m) (c .n) (amountsAt (made c) (λ i. supply c i) y) (λ j. demand c j) x
+PlanAt c y x = Fits (c .m) (c .n) (ceiling c) (amountsAt (made c) (λ i. supply c i) y) (λ j. demand c j) x
 
 -- f(y) of (2.5), the least freight of any plan at split y
 unfoldable pub leastFreightAt : Case → ℕ → ℤ
 leastFreightAt c y =
-    leastAtℤ (c .m) (c .n) (ratesByRow (c .n) (c .costs)) (made c) (λ i. supply c i) (λ j. demand c j) y
+    leastAtℤ (c .m) (c .n) (ratesByRow (c .n) (c .costs)) (ceiling c) (made c) (λ i. supply c i) (λ j. demand c j) y
 
 -- F(y) of (2.6), the total at y
 unfoldable pub totalAt : Case → ℕ → ℤ

@@ -1,4 +1,4 @@
--- What is promised of the plan given and of the refusals for balance, for any plan that meets (TP). Assumes nothing.
+-- What is promised of the plan given and of the refusals for balance, for any plan that meets (TP), the least runs and the ceilings. Assumes nothing.
 use mathlib.Core.Path.{_≡_}
 use mathlib.Core.Logic.{_⊎_}
 use mathlib.Core.Option.{none}
@@ -29,7 +29,7 @@ NoPlan c = (x : List ℕ) → MeetsTP c x → ⊥
 
 -- one of the refusals for balance
 abbrev pub Unbalanced : Outcome → Type 0
-Unbalanced o = (o ≡ refused 7 0) ⊎ (o ≡ refused 8 0)
+Unbalanced o = (o ≡ refused 7 0) ⊎ ((o ≡ refused 8 0) ⊎ (o ≡ refused 27 0))
 
 -- of a case that passes the tests before the balance, the outcome o is a refusal for balance exactly where no plan meets (TP)
 pub record BalanceRule (c : Case) (o : Outcome) : Type 0 where

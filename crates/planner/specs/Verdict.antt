@@ -1,22 +1,21 @@
 -- What the answers of the tests' functions stand for. Assumes nothing.
 use mathlib.Core.Option.{Option, none, some}
-use mathlib.Core.Bool.{Bool, true, false, cond}
+use mathlib.Core.Bool.{not, cond, _||_}
 use mathlib.Core.List.{List, _++_}
-use mathlib.Core.Path.{_≡_}
-use Prim.Native.Nat.{ℕ, max, min, _+_, _-_, _*_, _≤_, _<_}
-use lib.Dec.{ltb}
+use Prim.Native.Nat.{ℕ, _+_, _-_, _≤_, _<_}
+use lib.Dec.{eqb, ltb}
 use lib.IntN.{ℤ, pos}
 use lib.ListN.{length, getD}
 use Rattle.planner.specs.Range.{outside}
 use Rattle.transport.specs.Sum.{sum}
 use Rattle.planner.specs.Case.{Case}
-use Rattle.planner.specs.Outcome.{Outcome, refused, firstFrom, firstOver, refuseAt, formRefusal}
+use Rattle.planner.specs.Outcome.{Outcome, refused, firstFrom, firstOver, refuseIf, refuseAt, _orElse_}
 use Rattle.planner.specs.declared.tests.Found.{Found}
 use Rattle.planner.specs.declared.tests.Found.the-variants.{At, Nowhere}
 use Rattle.planner.specs.declared.tests.Verdict.{Verdict}
 use Rattle.planner.specs.declared.tests.Verdict.the-variants.{Passed, Refused}
-use Rattle.planner.specs.declared.tests.Splits.{Splits}
-use Rattle.planner.specs.declared.tests.Splits.the-variants.{Between, Unbalanced}
+use Rattle.planner.specs.declared.tests.Made.{Made}
+use Rattle.planner.specs.declared.tests.Made.the-variants.{Drums, Unbalanced}
 
 -- the index found, if any
 abbrev pub found : Found → Option ℕ
@@ -48,23 +47,33 @@ amountsRefusal s d = refuseAt 4 (firstFrom (λ p. ltb 4000 (getD (s ++ d) (p - 1
 unfoldable pub runsRefusal : ℕ → ℕ → List ℕ → Option Outcome
 runsRefusal r1 r2 s = refuseAt 23 (firstOver r1 r2 (getD s 0 0) (getD s 1 0))
 
--- ℓ, u and d, or the balance refusal that bars them
-unfoldable pub splitsOf : ℕ → ℕ → List ℕ → List ℕ → Splits
-splitsOf r1 r2 s d =
+-- test 26 of the ceilings as they are lent
+unfoldable pub ceilingsRefusal : ℕ → List ℕ → Option Outcome
+ceilingsRefusal lanes l =
+    refuseIf 26 (not (eqb (length l) lanes)) orElse refuseAt 26 (firstFrom (λ p. ltb 4000 (getD l (p - 1) 0)) 1 lanes)
+
+-- d, or the balance refusal that bars it
+unfoldable pub madeOf : ℕ → ℕ → List ℕ → List ℕ → Made
+madeOf r1 r2 s d =
     let all = sum (length d) (λ j. getD d j 0) in
     let stock = sum (length s - 2) (λ k. getD s (2 + k) 0) in
     cond (ltb all (stock + r1 + r2)) (Unbalanced 7)
-    (cond (ltb (getD s 0 0 + getD s 1 0) (all - stock)) (Unbalanced 8)
-    (Between (max r1 (all - stock - getD s 1 0)) (min (getD s 0 0) (all - stock - r2)) (all - stock)))
+    (cond (ltb (getD s 0 0 + getD s 1 0) (all - stock)) (Unbalanced 8) (Drums (all - stock)))
 
 -- test 9 of the entries at the splits lo to hi
 unfoldable pub entriesRefusal : List ℕ → ℕ → ℕ → Option Outcome
 entriesRefusal t lo hi =
     refuseAt 9 (firstFrom (λ y. ltb 1000000000 (getD t y 0)) lo (hi - lo + 1))
 
+-- tests 9 and 11: the entries at the splits lo to hi, and the cells of the plan's slice and the two of the stops
+unfoldable pub splitsRefusal : List ℕ → ℕ → ℕ → ℕ → ℕ → ℕ → ℕ → Option Outcome
+splitsRefusal t lo hi lanes plan splits freights =
+    entriesRefusal t lo hi
+    orElse refuseIf 11 (ltb plan lanes || (ltb splits (hi - lo + 1) || ltb freights (hi - lo + 1)))
+
 -- the case that is lent by these numbers and slices
-abbrev pub lent : ℕ → ℕ → ℕ → ℕ → List ℤ → List ℕ → List ℕ → List ℕ → ℕ → ℕ → ℕ → Case
-lent m n run1 run2 costs supplies demands table plan splits freights = record {
+abbrev pub lent : ℕ → ℕ → ℕ → ℕ → List ℤ → List ℕ → List ℕ → List ℕ → List ℕ → ℕ → ℕ → ℕ → Case
+lent m n run1 run2 costs supplies demands ceilings table plan splits freights = record {
   m = m;
   n = n;
   run1 = run1;
@@ -72,6 +81,7 @@ lent m n run1 run2 costs supplies demands table plan splits freights = record {
   costs = costs;
   supplies = supplies;
   demands = demands;
+  ceilings = ceilings;
   table = table;
   planCells = plan;
   splitCells = splits;

@@ -1,12 +1,11 @@
 // The tests of a case, in the order of the refusals.
 ghost use mathlib.Core.Path.{_≡_};
-ghost use Prim.Native.Nat.{ℕ, max, min, _+_, _-_, _*_, _≤_, _<_};
-ghost use mathlib.Core.List.{List};
+ghost use Prim.Native.Nat.{ℕ, _+_, _-_, _*_, _≤_, _<_};
 ghost use lib.ListN.{length, getD};
 ghost use Rattle.transport.specs.Sum.{sum};
 ghost use Rattle.planner.specs.Range.{outside};
 ghost use Rattle.planner.specs.Outcome.{formRefusal};
-ghost use Rattle.planner.specs.Verdict.{found, verdict, firstAbove, firstOutside, amountsRefusal, runsRefusal, splitsOf, entriesRefusal, lent, AtMost, Amounts, Within};
+ghost use Rattle.planner.specs.Verdict.{found, verdict, firstAbove, firstOutside, amountsRefusal, runsRefusal, ceilingsRefusal, madeOf, entriesRefusal, splitsRefusal, lent, AtMost, Amounts, Within};
 use crate::limits::Checked;
 use crate::limits::Size;
 
@@ -83,9 +82,9 @@ pub fn sum_of(s: &[u64]) -> u64
     total
 }
 
-// ℓ, u and d, or the number of the refusal for balance.
-pub enum Splits {
-    Between(u64, u64, u64),
+// d, or the number of the refusal for balance.
+pub enum Made {
+    Drums(u64),
     Unbalanced(u64),
 }
 
@@ -116,7 +115,20 @@ pub fn runs_test(run1: u64, run2: u64, supplies: &[u64]) -> Verdict
     Verdict::Passed
 }
 
-// Tests 1 to 6, with 23 after 4.
+// Test 26: a ceiling slice of another length than the lanes, or a ceiling above 4,000.
+pub fn ceilings_test(lanes: usize, ceilings: &[u64]) -> Verdict
+    ensures { λ r. ⌜ verdict r ≡ ceilingsRefusal lanes (now (ceilings .entry)) ⌝ }
+{
+    if ceilings.len() != lanes {
+        return Verdict::Refused(26, 0);
+    }
+    if let Found::At(k) = first_above(ceilings, 4_000) {
+        return Verdict::Refused(26, k as u64 + 1);
+    }
+    Verdict::Passed
+}
+
+// Tests 1 to 6, with 23 after 4 and 26 after 5.
 pub fn form_test(
     m: usize,
     n: usize,
@@ -125,9 +137,10 @@ pub fn form_test(
     costs: &[i64],
     supplies: &[u64],
     demands: &[u64],
+    ceilings: &[u64],
     table: &[u64],
 ) -> Verdict
-    ensures { λ r. ⌜ ((p s f : ℕ) → verdict r ≡ formRefusal (lent m n run1 run2 (now (costs .entry)) (now (supplies .entry)) (now (demands .entry)) (now (table .entry)) p s f)) ⌝ }
+    ensures { λ r. ⌜ ((p s f : ℕ) → verdict r ≡ formRefusal (lent m n run1 run2 (now (costs .entry)) (now (supplies .entry)) (now (demands .entry)) (now (ceilings .entry)) (now (table .entry)) p s f)) ⌝ }
 {
     if let Checked::Refused(number) = Size::checked(m, n) {
         return Verdict::Refused(number, 0);
@@ -150,52 +163,32 @@ pub fn form_test(
     if let Found::At(k) = first_outside(m, n, costs) {
         return Verdict::Refused(5, k as u64 + 1);
     }
+    if let Verdict::Refused(number, place) = ceilings_test(m * n, ceilings) {
+        return Verdict::Refused(number, place);
+    }
     if table.len() as u64 != supplies[0] + 1 {
         return Verdict::Refused(6, 0);
     }
     Verdict::Passed
 }
 
-fn smaller(a: u64, b: u64) -> u64
-    ensures { λ r. ⌜ r ≡ min a b ⌝ }
-{
-    if a < b { a } else { b }
-}
-
-fn larger(a: u64, b: u64) -> u64
-    ensures { λ r. ⌜ r ≡ max a b ⌝ }
-{
-    if a < b { b } else { a }
-}
-
-// What a is above b, or 0.
-fn excess(a: u64, b: u64) -> u64
-    ensures { λ r. ⌜ r ≡ a - b ⌝ }
-{
-    if b < a { a - b } else { 0 }
-}
-
-// Tests 7 and 8, and the first and the last split.
-pub fn splits_of(run1: u64, run2: u64, supplies: &[u64], demands: &[u64]) -> Splits
+// Tests 7 and 8, and d.
+pub fn made_of(run1: u64, run2: u64, supplies: &[u64], demands: &[u64]) -> Made
     requires { ⌜ Amounts run1 run2 (now supplies) (now demands) ⌝ }
-    ensures { λ r. ⌜ r ≡ splitsOf run1 run2 (now (supplies .entry)) (now (demands .entry)) ⌝ }
+    ensures { λ r. ⌜ r ≡ madeOf run1 run2 (now (supplies .entry)) (now (demands .entry)) ⌝ }
 {
     let all = sum_of(demands);
     let stock = sum_of(&supplies[2..]);
     if all < stock + run1 + run2 {
-        return Splits::Unbalanced(7);
+        return Made::Unbalanced(7);
     }
     let made = all - stock;
     let first = supplies[0];
     let second = supplies[1];
     if first + second < made {
-        return Splits::Unbalanced(8);
+        return Made::Unbalanced(8);
     }
-    Splits::Between(
-        larger(run1, excess(made, second)),
-        smaller(first, made - run2),
-        made,
-    )
+    Made::Drums(made)
 }
 
 // Test 9, at the splits lo to hi.
@@ -208,6 +201,35 @@ pub fn entries_test(table: &[u64], lo: u64, hi: u64) -> Verdict
     let part = &table[start..end];
     if let Found::At(k) = first_above(part, 1_000_000_000) {
         return Verdict::Refused(9, lo + k as u64);
+    }
+    Verdict::Passed
+}
+
+// Tests 9 and 11, at the splits lo to hi: the entries, and the room in the three slices to be written.
+pub fn splits_test(
+    table: &[u64],
+    lo: u64,
+    hi: u64,
+    lanes: usize,
+    plan: usize,
+    splits: usize,
+    freights: usize,
+) -> Verdict
+    requires { ⌜ Within (now table) lo hi ⌝ }
+    ensures { λ r. ⌜ verdict r ≡ splitsRefusal (now (table .entry)) lo hi lanes plan splits freights ⌝ }
+{
+    if let Verdict::Refused(number, place) = entries_test(table, lo, hi) {
+        return Verdict::Refused(number, place);
+    }
+    let count = (hi - lo) as usize + 1;
+    if plan < lanes {
+        return Verdict::Refused(11, 0);
+    }
+    if splits < count {
+        return Verdict::Refused(11, 0);
+    }
+    if freights < count {
+        return Verdict::Refused(11, 0);
     }
     Verdict::Passed
 }

@@ -7,7 +7,7 @@ ghost use lib.IntN.{subℕ};
 ghost use lib.ListN.{length, getD, take};
 ghost use Rattle.transport.specs.Curve.{written};
 ghost use Rattle.planner.specs.Range.{outside, raisedOf, AllInside, lower, Moderate};
-ghost use Rattle.planner.specs.Copy.{Narrow, Copied, RowsMoved, FirstAmounts, Wanted};
+ghost use Rattle.planner.specs.Copy.{Narrow, Copied, RowsMoved, Supplied, Wanted};
 
 // Copies a slice whose numbers fit 32 bits into working cells from index `at` on.
 pub fn copy_into(source: &[u64], at: usize, to: &mut [u32])
@@ -109,22 +109,36 @@ pub fn gather_rows(m: usize, n: usize, cells: &[u32; 2048], to: &mut [u64])
     }
 }
 
-// A ceiling on each lane that no amount reaches.
-pub fn ceilings() -> [u32; 2048]
-    ensures { λ r. ⌜ ((k : ℕ) → k < 2048 → getD r k 0 ≡ 4000) ⌝ }
+// Copies the m rows of n ceilings into rows of 64.
+pub fn copy_rows(m: usize, n: usize, ceilings: &[u64], to: &mut [u32; 2048])
+    requires { ⌜ (m ≤ 32) × (n ≤ 64) × (length (now ceilings) ≡ m * n) × (length (now to) ≡ 2048) × Narrow (now ceilings) ⌝ }
+    ensures { λ _. ⌜ RowsMoved m n n 64 (now (ceilings .entry)) (now (to .exit)) × (length (now (to .exit)) ≡ 2048) ⌝ }
 {
-    [4_000u32; 2048]
+    let mut start: usize = 0;
+    for i in 0..m {
+        let end = start + n;
+        copy_into(&ceilings[start..end], i * 64, to);
+        start = end;
+    }
 }
 
-// What each source sends at the first split: plant 1 first, plant 2 second, the depots their stock.
-pub fn first_amounts(supplies: &[u64], first: u64, second: u64) -> [u32; 32]
-    requires { ⌜ (length (now supplies) ≤ 32) × Narrow (now supplies) × (first < 4294967296) × (second < 4294967296) ⌝ }
-    ensures { λ r. ⌜ FirstAmounts (now (supplies .entry)) first second r ⌝ }
+// The ceilings in rows of 64.
+pub fn ceiling_rows(m: usize, n: usize, ceilings: &[u64]) -> [u32; 2048]
+    requires { ⌜ (m ≤ 32) × (n ≤ 64) × (length (now ceilings) ≡ m * n) × Narrow (now ceilings) ⌝ }
+    ensures { λ r. ⌜ RowsMoved m n n 64 (now (ceilings .entry)) r ⌝ }
+{
+    let mut cap = [0u32; 2048];
+    copy_rows(m, n, ceilings, &mut cap);
+    cap
+}
+
+// The supplies at the sources' nodes.
+pub fn supplied(supplies: &[u64]) -> [u32; 32]
+    requires { ⌜ (length (now supplies) ≤ 32) × Narrow (now supplies) ⌝ }
+    ensures { λ r. ⌜ Supplied (now (supplies .entry)) r ⌝ }
 {
     let mut amounts = [0u32; 32];
     copy_into(supplies, 0, &mut amounts);
-    amounts[0] = first as u32;
-    amounts[1] = second as u32;
     amounts
 }
 

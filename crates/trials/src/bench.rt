@@ -36,6 +36,8 @@ pub const WIDTH: u64 = 14;
 pub const RUN1: u64 = 15;
 
 pub const RUN2: u64 = 16;
+
+pub const CEILINGS_LEN: u64 = 17;
 // The answer expected and the answer got: number (0 for a plan), place, split, total, freight, stops.
 pub const WANT: u64 = 20;
 
@@ -64,6 +66,8 @@ pub const SPLITS: u64 = 14_800;
 pub const FREIGHTS: u64 = 18_900;
 
 pub const ROOM: u64 = 4_100;
+// The ceilings of the lanes.
+pub const CEILINGS: u64 = 24_000;
 
 pub const NONE: u64 = u64::MAX;
 // What every cell that the planner may write holds before.
@@ -74,6 +78,10 @@ pub const ZERO: u64 = 500_000_000_000;
 
 pub fn costs(b: &[u64]) -> &[u64] {
     part(b, COSTS, at(b, COSTS_LEN))
+}
+
+pub fn ceilings(b: &[u64]) -> &[u64] {
+    part(b, CEILINGS, at(b, CEILINGS_LEN))
 }
 
 pub fn supplies(b: &[u64]) -> &[u64] {

@@ -98,17 +98,32 @@ fn others_from(b: &[u64], base: u64, k: u64, v: u64) -> u64 {
     others(part(b, plus(base, k), minus(ROOM, k)), v)
 }
 
-// Whether exactly the splits from ℓ to u have a plan.
-pub fn spans(b: &[u64]) -> bool {
-    let first = at(b, FIRST);
-    let width = at(b, WIDTH);
-    if others_from(b, BEST, 0, NONE) != width {
-        return false;
+// The first split from y on that has a plan; past the last where none has.
+fn next_with_plan(b: &[u64], y: u64) -> u64 {
+    let mut k = y;
+    while k < ROOM {
+        if get(b, BEST, k) != NONE {
+            return k;
+        }
+        k += 1;
     }
+    k
+}
+
+// Takes ℓ, u and the number of splits from the listing. False where a split between two with a plan has none, or one lies outside supplies and runs.
+pub fn spans(b: &mut [u64]) -> bool {
+    let low = at(b, FIRST);
+    let high = at(b, LAST);
+    let width = others_from(b, BEST, 0, NONE);
+    let first = next_with_plan(b, 0);
+    put(b, WIDTH, width);
     if width == 0 {
         return true;
     }
-    if others_from(b, BEST, first, NONE) != width {
+    let last = minus(plus(first, width), 1);
+    put(b, FIRST, first);
+    put(b, LAST, last);
+    if first < low || high < last {
         return false;
     }
     others_from(b, BEST, plus(first, width), NONE) == 0

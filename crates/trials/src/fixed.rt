@@ -1,5 +1,7 @@
 // The fixed cases of the scope, with the answers that it gives.
 use crate::bench::BEST;
+use crate::bench::CEILINGS;
+use crate::bench::CEILINGS_LEN;
 use crate::bench::COSTS;
 use crate::bench::COSTS_LEN;
 use crate::bench::DEMANDS;
@@ -32,6 +34,7 @@ use crate::cells::plus;
 use crate::cells::put;
 use crate::cells::repeat;
 use crate::cells::set;
+use crate::cells::smaller;
 use crate::cells::times;
 use crate::paper::judge;
 use crate::trial::close;
@@ -59,9 +62,9 @@ const B_ANSWER: [u64; 6] = [0, 0, 200, ZERO + 800, ZERO + 800, 4];
 
 // Cases made from A by up to three changed cells: (cell, value) three times, then
 // number, place, split, total, freight, stops.
-const CHANGES: u64 = 38;
+const CHANGES: u64 = 44;
 
-const CHANGED: [u64; 456] = [
+const CHANGED: [u64; 528] = [
     // P1
     SPARE,
     0,
@@ -538,6 +541,79 @@ const CHANGED: [u64; 456] = [
     0,
     0,
     0,
+    // ceilings: 1 on the first lane, a closed lane, none left for the depot, with a run, above 4,000, and one too few
+    CEILINGS,
+    1,
+    SPARE,
+    0,
+    SPARE,
+    0,
+    0,
+    0,
+    1,
+    ZERO + 34,
+    ZERO + 14,
+    2,
+    CEILINGS + 5,
+    0,
+    SPARE,
+    0,
+    SPARE,
+    0,
+    0,
+    0,
+    1,
+    ZERO + 34,
+    ZERO + 14,
+    3,
+    CEILINGS + 4,
+    0,
+    CEILINGS + 5,
+    0,
+    SPARE,
+    0,
+    27,
+    0,
+    0,
+    0,
+    0,
+    0,
+    CEILINGS + 2,
+    1,
+    CEILINGS + 3,
+    1,
+    RUN2,
+    3,
+    27,
+    0,
+    0,
+    0,
+    0,
+    0,
+    CEILINGS + 3,
+    4001,
+    TABLE_LEN,
+    3,
+    SPARE,
+    0,
+    26,
+    4,
+    0,
+    0,
+    0,
+    0,
+    CEILINGS_LEN,
+    5,
+    SPARE,
+    0,
+    SPARE,
+    0,
+    26,
+    0,
+    0,
+    0,
+    0,
+    0,
 ];
 
 // Cases with equal supplies, equal demands, and unit costs of row 1 and of the other rows: m, n, supply, demand,
@@ -773,6 +849,8 @@ fn set_sizes(b: &mut [u64], m: u64, n: u64, entries: u64, width: u64) {
     copy(&sizes, b, SOURCES);
     put(b, RUN1, 0);
     put(b, RUN2, 0);
+    put(b, CEILINGS_LEN, lanes);
+    repeat(b, CEILINGS, smaller(lanes, 2_100), 4_000);
 }
 
 // Check 13: whether the answer is the one given.

@@ -1,7 +1,8 @@
 // A listing of all plans of a small case, judged from the input: row 1 sums to a_1 or less, row 2 to a_2 or less,
 // each to its least run or more, each depot row to its stock, each column to its demand. Lanes are gone through in row order; at each lane every
-// amount that rows and columns leave room for is tried.
+// amount that rows, columns and the lane's ceiling leave room for is tried.
 use crate::bench::BEST;
+use crate::bench::CEILINGS;
 use crate::bench::COSTS_LEN;
 use crate::bench::DEMANDS;
 use crate::bench::NONE;
@@ -135,10 +136,16 @@ fn back(b: &mut [u64], n: u64, lane: u64) -> u64 {
     before
 }
 
+// The most that a lane can take: what its row, its column and its ceiling leave.
+fn most(b: &[u64], lane: u64, row: u64, column: u64) -> u64 {
+    let left = smaller(get(b, ROWS, row), get(b, COLUMNS, column));
+    smaller(left, get(b, CEILINGS, lane))
+}
+
 // Tries the least amount left at a lane. The lane to look at next, or NONE where all is tried.
 fn try_lane(b: &mut [u64], n: u64, lane: u64, row: u64, column: u64) -> u64 {
     let amount = least(b, lane, row, column);
-    if smaller(get(b, ROWS, row), get(b, COLUMNS, column)) < amount {
+    if most(b, lane, row, column) < amount {
         return back(b, n, lane);
     }
     give(b, lane, row, column, amount);

@@ -27,10 +27,10 @@ use crate::trial::run_small;
 
 const RANDOM_CASES: u64 = 10_000;
 
-fn new_bench() -> [u64; 24000]
-    ensures { λ r. ⌜ 24000 ≡ length r ⌝ }
+fn new_bench() -> [u64; 26200]
+    ensures { λ r. ⌜ 26200 ≡ length r ⌝ }
 {
-    [0; 24000]
+    [0; 26200]
 }
 
 // Runs the random cases, from a fixed seed.

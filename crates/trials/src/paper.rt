@@ -1,4 +1,5 @@
-// The refusals 1 to 9, 11 and 23, judged as the table of the scope says, without the planner's code.
+// The refusals but 27, judged as the table of the scope says, without the planner's code.
+use crate::bench::CEILINGS_LEN;
 use crate::bench::COSTS_LEN;
 use crate::bench::DEMANDS_LEN;
 use crate::bench::FIRST;
@@ -16,6 +17,7 @@ use crate::bench::TERMINALS;
 use crate::bench::WANT;
 use crate::bench::WIDTH;
 use crate::bench::ZERO;
+use crate::bench::ceilings;
 use crate::bench::costs;
 use crate::bench::demands;
 use crate::bench::supplies;
@@ -144,6 +146,18 @@ fn high_run(b: &[u64]) -> u64 {
     0
 }
 
+// Test 26: one more than the place of the first wrong ceiling, 1 where the slice has not a ceiling for each lane; 0 where it passes.
+fn wrong_ceiling(b: &[u64]) -> u64 {
+    if at(b, CEILINGS_LEN) != at(b, COSTS_LEN) {
+        return 1;
+    }
+    let lane = first_above(ceilings(b), 4_000);
+    if lane == 0 {
+        return 0;
+    }
+    plus(lane, 1)
+}
+
 // Tests 6 to 8, whose place is 0.
 fn balance_test(b: &[u64]) -> u64 {
     let a_1 = at(b, SUPPLIES);
@@ -193,7 +207,7 @@ fn refused(number: u64, place: u64) -> Verdict {
     Verdict { number, place }
 }
 
-// Tests 1 to 5, with 23 after 4.
+// Tests 1 to 5, with 23 after 4 and 26 after 5.
 fn judge_numbers(b: &[u64]) -> Verdict {
     let form = form_test(b);
     if form != 0 {
@@ -211,15 +225,24 @@ fn judge_numbers(b: &[u64]) -> Verdict {
     if lane != 0 {
         return refused(5, lane);
     }
+    let ceiling = wrong_ceiling(b);
+    if ceiling != 0 {
+        return refused(26, ceiling - 1);
+    }
     refused(0, 0)
 }
 
-// Tests 6 to 9, and 11.
-fn judge_splits(b: &[u64]) -> Verdict {
-    let balance = balance_test(b);
-    if balance != 0 {
-        return refused(balance, 0);
+// The tests up to 8.
+fn before_plans(b: &[u64]) -> Verdict {
+    let numbers = judge_numbers(b);
+    if numbers.number != 0 {
+        return numbers;
     }
+    refused(balance_test(b), 0)
+}
+
+// Tests 9 and 11, at the splits from ℓ to u.
+fn at_splits(b: &[u64]) -> Verdict {
     let entry = high_entry(b);
     if entry != 0 {
         return refused(9, entry - 1);
@@ -227,19 +250,28 @@ fn judge_splits(b: &[u64]) -> Verdict {
     refused(room_test(b), 0)
 }
 
-// All tests, in the order of their numbers.
-fn verdict_of(b: &[u64]) -> Verdict {
-    let numbers = judge_numbers(b);
-    if numbers.number != 0 {
-        return numbers;
-    }
-    judge_splits(b)
-}
-
-// Sets the splits, and the number and place expected.
-pub fn judge(b: &mut [u64]) {
-    set_span(b);
-    let v = verdict_of(b);
+fn want(b: &mut [u64], v: Verdict) {
     put(b, WANT, v.number);
     put(b, WANT + 1, v.place);
+}
+
+// Sets the splits within supplies and runs, and the number and place expected of the tests up to 8.
+pub fn judge_balance(b: &mut [u64]) {
+    set_span(b);
+    let v = before_plans(b);
+    want(b, v);
+}
+
+// Sets the number and place expected of tests 9 and 11, where those before pass.
+pub fn judge_splits(b: &mut [u64]) {
+    if at(b, WANT) == 0 {
+        let v = at_splits(b);
+        want(b, v);
+    }
+}
+
+// The same where each split within supplies and runs has a plan.
+pub fn judge(b: &mut [u64]) {
+    judge_balance(b);
+    judge_splits(b);
 }

@@ -16,6 +16,7 @@ use crate::bench::SOURCES;
 use crate::bench::SPLITS;
 use crate::bench::SPLITS_LEN;
 use crate::bench::TERMINALS;
+use crate::bench::ceilings;
 use crate::bench::demands;
 use crate::bench::supplies;
 use crate::bench::table;
@@ -73,6 +74,7 @@ fn lend(
         costs,
         supplies(b),
         demands(b),
+        ceilings(b),
         table(b),
         plan,
         splits,

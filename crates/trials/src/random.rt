@@ -1,4 +1,6 @@
 // Random small cases, the same at each run.
+use crate::bench::CEILINGS;
+use crate::bench::CEILINGS_LEN;
 use crate::bench::COSTS;
 use crate::bench::COSTS_LEN;
 use crate::bench::DEMANDS;
@@ -9,6 +11,7 @@ use crate::bench::RUN1;
 use crate::bench::RUN2;
 use crate::bench::SEED;
 use crate::bench::SOURCES;
+use crate::bench::SPARE;
 use crate::bench::SPLITS_LEN;
 use crate::bench::SUPPLIES;
 use crate::bench::TABLE;
@@ -24,6 +27,7 @@ use crate::cells::part;
 use crate::cells::plus;
 use crate::cells::put;
 use crate::cells::raise;
+use crate::cells::repeat;
 use crate::cells::set;
 use crate::cells::smaller;
 use crate::cells::times;
@@ -169,6 +173,34 @@ fn draw_runs(b: &mut [u64]) {
     }
 }
 
+// Draws the ceilings: wide, or 0 to 9 or less, or 0 to 3 or less.
+fn draw_ceilings(b: &mut [u64], lanes: u64, kind: u64) {
+    put(b, CEILINGS_LEN, lanes);
+    match kind {
+        0 | 1 | 2 => repeat(b, CEILINGS, lanes, 4_000),
+        3 | 4 => draw_cells(b, CEILINGS, lanes, 0, 10),
+        _ => draw_cells(b, CEILINGS, lanes, 0, 4),
+    }
+}
+
+// Gives one lane a ceiling of 4,000, or closes it.
+fn draw_odd_lane(b: &mut [u64], lanes: u64, kind: u64) {
+    let lane = draw(b, lanes);
+    match kind {
+        3 | 5 => set(b, CEILINGS, lane, 4_000),
+        0 | 6 => set(b, CEILINGS, lane, 0),
+        _ => set(b, SPARE, 0, 0),
+    }
+}
+
+// Draws unit costs and ceilings.
+fn draw_lanes(b: &mut [u64], lanes: u64) {
+    draw_costs(b, lanes);
+    let kind = draw(b, 8);
+    draw_ceilings(b, lanes, kind);
+    draw_odd_lane(b, lanes, kind);
+}
+
 // Draws unit costs: of the whole range, rebates and charges of a few values, or charges alone.
 fn draw_costs(b: &mut [u64], lanes: u64) {
     let kind = draw(b, 4);
@@ -186,7 +218,7 @@ fn draw_case(b: &mut [u64]) {
     let lanes = times(m, n);
     let sizes = [m, n, lanes, m, n];
     copy(&sizes, b, SOURCES);
-    draw_costs(b, lanes);
+    draw_lanes(b, lanes);
     draw_amounts(b, m, n);
     draw_runs(b);
     draw_table(b);
@@ -194,9 +226,21 @@ fn draw_case(b: &mut [u64]) {
 }
 
 // Ways to spoil a case: the first of the cells to choose from, how many there are, and four numbers to choose from.
-const WAYS: u64 = 12;
+const WAYS: u64 = 14;
 
-const SPOILS: [u64; 72] = [
+const SPOILS: [u64; 84] = [
+    CEILINGS,
+    12,
+    4_000,
+    4_001,
+    0,
+    u64::MAX,
+    CEILINGS_LEN,
+    1,
+    0,
+    2,
+    5,
+    13,
     SOURCES,
     1,
     0,

@@ -4,11 +4,11 @@ use crate::cells::at;
 use crate::cells::get;
 
 // How many lines there are, how wide a name is, and the cell of the tally that each line shows.
-const LINES: usize = 27;
+const LINES: usize = 29;
 
 const WIDTH: usize = 25;
 
-const SHOWN: [u64; 27] = [
+const SHOWN: [u64; 29] = [
     0,
     1,
     2,
@@ -21,6 +21,8 @@ const SHOWN: [u64; 27] = [
     9,
     11,
     23,
+    26,
+    27,
     28,
     29,
     30,
@@ -39,7 +41,7 @@ const SHOWN: [u64; 27] = [
 ];
 
 // The line from which on the cases are counted.
-pub const FROM_CASES: usize = 23;
+pub const FROM_CASES: usize = 25;
 
 // The count that line k shows.
 fn count_of(b: &[u64], k: u64) -> u64 {
@@ -74,10 +76,11 @@ pub fn report(b: &[u64], first: usize) {
         b"planned:                 refused 1:               refused 2:               refused 3:               \
           refused 4:               refused 5:               refused 6:               refused 7:               \
           refused 8:               refused 9:               refused 11:              refused 23:              \
-          one split:               ties between splits:     ties between plans:      plans listed:            \
-          no depots:               one terminal:            a supply of 0:           a demand of 0:           \
-          balanced, with plans:    unbalanced, no plan:     best between two stops:  cases:                   \
-          differences:             first difference: case   first difference: check  ",
+          refused 26:              refused 27:              one split:               ties between splits:     \
+          ties between plans:      plans listed:            no depots:               one terminal:            \
+          a supply of 0:           a demand of 0:           balanced, with plans:    unbalanced, no plan:     \
+          best between two stops:  cases:                   differences:             first difference: case   \
+          first difference: check  ",
         b,
         first,
     );

@@ -11,6 +11,7 @@ use crate::cells::at;
 use crate::cells::count;
 use crate::cells::get;
 use crate::cells::others;
+use crate::cells::put;
 use crate::cells::raise;
 use crate::cells::repeat;
 use crate::cells::set;
@@ -22,7 +23,8 @@ use crate::compare::spans;
 use crate::listing::CHEAPEST;
 use crate::listing::LISTED;
 use crate::listing::list;
-use crate::paper::judge;
+use crate::paper::judge_balance;
+use crate::paper::judge_splits;
 use crate::planned::run;
 
 // The tally: the expected answers by number (0 for a plan), then these.
@@ -115,15 +117,29 @@ fn count_plan(b: &mut [u64]) {
     count_zeros(b);
 }
 
-// Whether a test before the balance refuses: 1 to 6, or 23.
+// Whether a test before the balance refuses: 1 to 6, 23 or 26.
 fn ill_formed(number: u64) -> bool {
-    if number == 23 {
+    if number == 23 || number == 26 {
         return true;
     }
     0 < number && number < 7
 }
 
-// Lists the plans of a case that passes the tests before the balance: there are some at the splits from ℓ to u and nowhere else.
+// What the listing says of balance: 27 where tests 7 and 8 pass and there is no plan. False where it contradicts them.
+fn balance_holds(b: &mut [u64]) -> bool {
+    let balanced = at(b, WIDTH) != 0;
+    count(b, TALLY, BALANCED, balanced);
+    count(b, TALLY, UNBALANCED, !balanced);
+    if at(b, WANT) != 0 {
+        return !balanced;
+    }
+    if !balanced {
+        put(b, WANT, 27);
+    }
+    true
+}
+
+// Lists the plans of a case that passes the tests before the balance, and takes ℓ, u and 27 from there.
 fn list_case(b: &mut [u64]) -> u64 {
     let number = at(b, WANT);
     if ill_formed(number) {
@@ -135,10 +151,7 @@ fn list_case(b: &mut [u64]) -> u64 {
     if !spans(b) {
         return 12;
     }
-    let balanced = at(b, WIDTH) != 0;
-    count(b, TALLY, BALANCED, balanced);
-    count(b, TALLY, UNBALANCED, !balanced);
-    0
+    if balance_holds(b) { 0 } else { 12 }
 }
 
 fn expect(b: &mut [u64]) {
@@ -167,10 +180,11 @@ fn run_listed(b: &mut [u64]) -> u64 {
 
 // Runs and checks a case small enough for the listing.
 pub fn run_small(b: &mut [u64]) -> u64 {
-    judge(b);
+    judge_balance(b);
+    let failed = list_case(b);
+    judge_splits(b);
     let number = at(b, WANT);
     raise(b, TALLY, number, 1);
-    let failed = list_case(b);
     if failed != 0 {
         return failed;
     }

@@ -14,6 +14,7 @@ pub struct Lent {
     pub costs: Vec<i64>,
     pub supplies: Vec<u64>,
     pub demands: Vec<u64>,
+    pub ceilings: Vec<u64>,
     pub table: Vec<u64>,
     pub plan_cells: usize,
     pub split_cells: usize,
@@ -42,7 +43,7 @@ pub fn untouched_signed(slice: u64, cells: usize) -> Vec<i64> {
 }
 
 impl Lent {
-    /// No least runs, slices that are just long enough, and stops that fit any case.
+    /// No least runs, ceilings of 4,000, slices that are just long enough, and stops that fit any case.
     pub fn new(m: usize, n: usize, costs: &[i64], supplies: &[u64], demands: &[u64], table: &[u64]) -> Lent {
         Lent {
             m,
@@ -52,6 +53,7 @@ impl Lent {
             costs: costs.to_vec(),
             supplies: supplies.to_vec(),
             demands: demands.to_vec(),
+            ceilings: vec![4_000; costs.len()],
             table: table.to_vec(),
             plan_cells: costs.len() + 2,
             split_cells: table.len() + 2,
@@ -88,6 +90,7 @@ impl Lent {
             &self.costs,
             &self.supplies,
             &self.demands,
+            &self.ceilings,
             &self.table,
             &mut plan,
             &mut splits,

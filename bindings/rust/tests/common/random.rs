@@ -49,12 +49,84 @@ pub fn accepted(random: &mut Random, limits: Limits) -> (Lent, u64, Vec<i64>) {
     let blank = vec![0; supplies[0] as usize + 1];
     let mut lent = Lent::new(m, n, &costs, &supplies, &demands, &blank);
     (lent.run1, lent.run2) = runs(random, &lent);
+    lent.ceilings = ceilings(random, &lent);
     let (least, curve) = referee::curve(&lent);
     lent.table = table(random, &lent, least, &curve);
     lent.plan_cells = m * n + random.size(0, 2);
     lent.split_cells = curve.len() + random.size(0, 2);
     lent.freight_cells = curve.len() + random.size(0, 2);
     (lent, least, curve)
+}
+
+/// A case that passes tests 1 to 8, with ceilings that may leave it no plan.
+pub fn balanced(random: &mut Random, limits: Limits) -> Lent {
+    let (mut lent, _, _) = accepted(random, limits);
+    let most = limits.amount.max(1);
+    let high = random.within(1, most);
+    lent.ceilings.iter_mut().for_each(|u| *u = if random.within(0, 3) == 0 { 0 } else { random.within(0, high) });
+    lent.table.fill(0);
+    lent.split_cells = lent.table.len();
+    lent.freight_cells = lent.table.len();
+    lent
+}
+
+/// Ceilings of one of seven kinds that leave the case some plan at least: the one that they are drawn around.
+fn ceilings(random: &mut Random, lent: &Lent) -> Vec<u64> {
+    let kind = random.within(0, 9);
+    if kind <= 2 {
+        return vec![4_000; lent.costs.len()];
+    }
+    let plan = any_plan(random, lent);
+    let most = *plan.iter().max().expect("a lane");
+    let slack = random.within(0, (most / 2).max(1));
+    plan.iter()
+        .map(|&x| match kind {
+            // this plan alone
+            3 => x,
+            // a drum more or none
+            4 => x + random.within(0, 1),
+            // some room everywhere
+            5 => x + random.within(0, slack),
+            // half of the idle lanes closed, the others free
+            6 if x == 0 && random.within(0, 1) == 0 => 0,
+            6 => 4_000,
+            // one lane in four narrow
+            7 if random.within(0, 3) == 0 => x + random.within(0, 1),
+            7 => 4_000,
+            // all as wide as the widest needed
+            8 => most,
+            // anything
+            _ => random.within(x, 4_000),
+        })
+        .map(|u| u.min(4_000))
+        .collect()
+}
+
+/// Some plan within the runs: random amounts on lanes in a random order, and then all that is left.
+fn any_plan(random: &mut Random, lent: &Lent) -> Vec<u64> {
+    let (d, l, u) = referee::splits(lent);
+    let y = random.within(l, u);
+    let mut left = lent.supplies.clone();
+    left[0] = y;
+    left[1] = d - y;
+    let mut wanted = lent.demands.clone();
+    let mut lanes: Vec<usize> = (0..lent.costs.len()).collect();
+    for k in (1..lanes.len()).rev() {
+        lanes.swap(k, random.size(0, k));
+    }
+    let mut plan = vec![0; lanes.len()];
+    let spread = random.within(0, 2);
+    for pass in 0..2 {
+        for &k in &lanes {
+            let (i, j) = (k / lent.n, k % lent.n);
+            let room = left[i].min(wanted[j]);
+            let x = if pass == 0 && spread > 0 { random.within(0, room) / spread } else { room };
+            plan[k] += x;
+            left[i] -= x;
+            wanted[j] -= x;
+        }
+    }
+    plan
 }
 
 /// Unit costs of one of ten kinds: of all sizes and both signs.

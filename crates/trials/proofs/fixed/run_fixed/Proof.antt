@@ -11,7 +11,7 @@ abbrev Inv-loop : tie.InvT-loop
 Inv-loop b₀ k₀ b k = length b ≡ length b₀
 
 abbrev μ-loop : tie.MeasureT-loop
-μ-loop b₀ k₀ b k = 54 - k
+μ-loop b₀ k₀ b k = 60 - k
 
 pub run-fixed-spec : {M : Type 1} → statement M
 run-fixed-spec =

@@ -9,7 +9,7 @@ abbrev Inv-loop : tie.InvT-loop
 Inv-loop names b first k₀ k = Unit {0}
 
 abbrev μ-loop : tie.MeasureT-loop
-μ-loop names b first k₀ k = 27 - k
+μ-loop names b first k₀ k = 29 - k
 
 pub say-from-spec : {M : Type 1} → statement M
 say-from-spec =
