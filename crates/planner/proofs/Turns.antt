@@ -1,6 +1,6 @@
 -- What is listed as the stops are exactly ℓ, u and the bends of f, cell by cell (specs/Bends). Assumes nothing.
 use mathlib.Core.Path.{_≡_, refl, sym, ap, ap₂, _∙_, subst, subst₂}
-use mathlib.Core.Logic.{_≢_, _⊎_, inl, inr}
+use mathlib.Core.Logic.{_≢_, inl, inr}
 use mathlib.Core.Option.{Option, none, some}
 use mathlib.Core.List.{List, [], _∷_, _++_, map, List·Memᴰ, List·Memᴰ·head, List·Memᴰ·tail, List·Memᴰ·not-nil}
 use Prim.Native.Nat.{ℕ, zero, suc, _+_, _-_, _*_, _≤_, _<_}
@@ -12,7 +12,6 @@ use lib.ListN.{length, getD, drop, length-map, length-append, List·getD-append}
 use Rattle.transport.specs.Listing.{upFrom, select}
 use Rattle.transport.specs.Curve.{isStop, stopsOf, written}
 use Rattle.transport.proofs.Stops.{Stop, stops-in, stops-out, stops-front, stops-back, stops-rising, stops-few}
-use Rattle.planner.specs.Integer.{Above}
 use Rattle.planner.specs.Case.{Case, leastSplit, greatestSplit}
 use Rattle.planner.specs.Plans.{leastFreightAt, stops, stopFreights}
 use Rattle.planner.specs.Outcome.{Outcome, planned, refusalOf, planOf, outcomeOf}
