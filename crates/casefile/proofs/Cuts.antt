@@ -5,8 +5,9 @@ use Prim.Native.Nat.{ℕ, min, _+_, _*_, _≤_, _<_}
 use native.Mathlib.Nat.{min-eq-left, mul-le-mul}
 use native.Mathlib.Decide.{decLt}
 use native.Mathlib.Omega.{arith}
+use lib.IntN.{ℤ}
 use lib.ListN.{length, take, drop}
-use lib.Seq.{sets, sets-eq, take-at, length-sets, length-take-le}
+use lib.Seq.{sets, sets-eq, take-at, take-all, length-sets, length-take-le}
 use Rattle.csvtext.specs.Text.{refusalText}
 use Rattle.planner.specs.Case.{Case}
 use Rattle.planner.specs.Outcome.{refused, outcomeOf}
@@ -18,8 +19,7 @@ use Rattle.planner.proofs.FormLaws.{Limits, lanes, in-limits, by-size}
 use Rattle.casefile.specs.declared.case.CaseAnswer.{CaseAnswer}
 use Rattle.casefile.specs.declared.case.CaseAnswer.the-variants as answers
 use Rattle.casefile.specs.declared.planned.Printed.{Printed}
-use Rattle.casefile.specs.Files.{inOrder}
-use Rattle.casefile.specs.CaseFiles.{costsIn, suppliesIn, demandsIn, caseAnswer, TariffStored, CaseStored}
+use Rattle.casefile.specs.CaseFiles.{costsIn, suppliesIn, demandsIn, entriesIn, caseAnswer, TariffStored, CaseStored}
 use Rattle.casefile.specs.Printed.{caseOf, fileCase, fileOutcome, Told, PlanPrinted, OutcomePrinted, FilesPrinted}
 use Rattle.casefile.specs.Cuts.{cutCase, Stored}
 use Rattle.casefile.proofs.Lengths.{BothStand, both-stand}
@@ -32,14 +32,14 @@ few-lanes m n = mul-le-mul {n₁ = min m 32} {m₁ = min n 64} {n₂ = 32} {m₂
 
 -- a case lent in parts that have these lengths is the cut case
 pub cut-printed :
-    (m n entries a b e : ℕ) (costs supplies demands table out out′ : List ℕ) (answer : Printed) → a ≡ min m 32 → b ≡ min n 64 → e ≡ min entries 4002 →
+    (m n entries a b e : ℕ) (costs : List ℤ) (supplies demands table out out′ : List ℕ) (answer : Printed) → a ≡ min m 32 → b ≡ min n 64 → e ≡ min entries 4002 →
     OutcomePrinted (lent m n (take (a * b) costs) (take a supplies) (take b demands) (take e table) 2048 4001 4001)
     (outcomeOf (lent m n (take (a * b) costs) (take a supplies) (take b demands) (take e table) 2048 4001 4001)) m n out out′ answer →
     OutcomePrinted (cutCase m n entries costs supplies demands table) (outcomeOf (cutCase m n entries costs supplies demands table)) m n out out′ answer
 cut-printed m n entries a b e costs supplies demands table out out′ answer ea eb ee p = rw (sym ea, sym eb, sym ee) p
 
 -- cells with a list stored from the first on, cut to its length
-cut-stored : (l cells : List ℕ) (k : ℕ) → length l ≡ k → k ≤ length cells → take k (sets cells 0 l) ≡ l
+cut-stored : {A : Type 0} (l cells : List A) (k : ℕ) → length l ≡ k → k ≤ length cells → take k (sets cells 0 l) ≡ l
 cut-stored l cells k e h = rw (sets-eq l cells 0 (omega arith)) (take-at l (drop (0 + length l) cells) k e)
 
 -- what is printed of a case is printed of one that is alike
@@ -49,12 +49,12 @@ carry c c′ m n out out′ answer a p = record {
   plan = λ s t f k h. subst (λ (x : Case). PlanPrinted x s t out out′ answer) (a .one s t f k h) (p .plan s t f k (a .same ∙ h));
 }
 
-module _ (t p costs supplies demands table costs′ supplies′ demands′ table′ : List ℕ) (room : Stored costs supplies demands table) (m n entries : ℕ) {answer : CaseAnswer}
+module _ (t p : List ℕ) (costs : List ℤ) (supplies demands table : List ℕ) (costs′ : List ℤ) (supplies′ demands′ table′ : List ℕ) (room : Stored costs supplies demands table) (m n entries : ℕ) {answer : CaseAnswer}
     (told : answer ≡ answers.Case m n entries) (stored : CaseStored t p costs supplies demands table costs′ supplies′ demands′ table′ answer) where
   module _ (b : BothStand t p m n entries) where
     -- the case of the files, with its counts
     full : Case
-    full = lent m n (costsIn (b .rs)) (suppliesIn (b .rs)) (demandsIn (b .rs)) (inOrder (b .qs)) 2048 4001 4001
+    full = lent m n (costsIn (b .rs)) (suppliesIn (b .rs)) (demandsIn (b .rs)) (entriesIn (b .qs)) 2048 4001 4001
 
     file-case : fileCase t p ≡ full
     unfolding fileCase caseOf full
@@ -80,7 +80,7 @@ module _ (t p costs supplies demands table costs′ supplies′ demands′ table
       held-demands : take (min n 64) demands′ ≡ demandsIn (b .rs)
       held-demands = rw (en, held .demands-stored) (cut-stored (demandsIn (b .rs)) demands n (b .demands-long) (omega (arith, h .terminals, room .terminals)))
 
-      held-table : table′ ≡ sets table 0 (inOrder (b .qs))
+      held-table : table′ ≡ sets table 0 (take 4002 (entriesIn (b .qs)))
       held-table = stored .table-stored (b .qs) m n entries (b .production) told
 
       cut-table : Case
@@ -93,14 +93,15 @@ module _ (t p costs supplies demands table costs′ supplies′ demands′ table
       short-table : entries ≤ 4002 → cut-table ≡ full
       unfolding cut-table full
       short-table k =
-          let e : take (min entries 4002) table′ ≡ inOrder (b .qs) = rw (min-eq-left k, held-table) (cut-stored (inOrder (b .qs)) table entries (b .table-long) (omega (arith, room .entries))) in
+          let all : take 4002 (entriesIn (b .qs)) ≡ entriesIn (b .qs) = take-all 4002 (entriesIn (b .qs)) (omega (arith, b .table-long)) in
+          let e : take (min entries 4002) table′ ≡ entriesIn (b .qs) = rw (min-eq-left k, held-table, all) (cut-stored (entriesIn (b .qs)) table entries (b .table-long) (omega (arith, room .entries))) in
           rw e refl
 
       long-table : 4002 < entries → Alike cut-table full
       unfolding cut-table full
       long-table k =
-          let e : length (take (min entries 4002) table′) ≡ min entries 4002 = length-take-le (min entries 4002) table′ (omega (arith, ap length held-table, length-sets table 0 (inOrder (b .qs)), room .entries)) in
-          alike-long m n (costsIn (b .rs)) (suppliesIn (b .rs)) (demandsIn (b .rs)) (take (min entries 4002) table′) (inOrder (b .qs)) 2048 4001 4001 h (b .costs-long) (b .supplies-long) (b .demands-long) (omega arith) (omega (arith, b .table-long))
+          let e : length (take (min entries 4002) table′) ≡ min entries 4002 = length-take-le (min entries 4002) table′ (omega (arith, ap length held-table, length-sets table 0 (take 4002 (entriesIn (b .qs))), room .entries)) in
+          alike-long m n (costsIn (b .rs)) (suppliesIn (b .rs)) (demandsIn (b .rs)) (take (min entries 4002) table′) (entriesIn (b .qs)) 2048 4001 4001 h (b .costs-long) (b .supplies-long) (b .demands-long) (omega arith) (omega (arith, b .table-long))
 
       alike-within : Alike (cutCase m n entries costs′ supplies′ demands′ table′) full
       alike-within = rw cut-is (elim (decLt 4002 entries) [ yes k ↦ long-table k | no k ↦ alike-equal cut-table full (short-table (omega arith)) ])
@@ -126,7 +127,7 @@ module _ (t p costs supplies demands table costs′ supplies′ demands′ table
 
 -- a file is refused
 pub refused-files :
-    (t p costs supplies demands table costs′ supplies′ demands′ table′ : List ℕ) {number place : ℕ} {answer : CaseAnswer} → answer ≡ answers.Refused number place →
+    (t p : List ℕ) (costs : List ℤ) (supplies demands table : List ℕ) (costs′ : List ℤ) (supplies′ demands′ table′ : List ℕ) {number place : ℕ} {answer : CaseAnswer} → answer ≡ answers.Refused number place →
     CaseStored t p costs supplies demands table costs′ supplies′ demands′ table′ answer → {out out′ : List ℕ} {r : Printed} →
     Told number place 0 0 (refusalText number place) out out′ r → FilesPrinted t p out out′ r
 unfolding fileOutcome

@@ -6,6 +6,7 @@ use Prim.Native.Nat.{ℕ, suc, _+_, _*_, _-_, _≤_, _<_, _^_}
 use native.Mathlib.Omega.{arith}
 use native.Mathlib.Decide.{decLt}
 use native.Mathlib.Nat.{pow-suc, pow-le-pow-right}
+use lib.IntN.{ℤ}
 use lib.ListN.{length, getD, drop}
 use Rattle.casefile.specs.declared.Kind.{Kind}
 use Rattle.casefile.specs.Form.{Mark, digit, mark}
@@ -22,15 +23,15 @@ pub record DigitsSoFar (s : List ℕ) (at value next left : ℕ) : Type 0 where
   pub used : next + left ≡ at + 10
   pub small : value < 10 ^ (10 - left)
   pub meaning :
-      (kind : Kind) (q : Bool) (r : List ℕ) (rs : List (List ℕ)) →
-      run kind at (reading (within q 10) 0 r rs) (drop at s) ≡ run kind next (reading (within q left) value r rs) (drop next s)
+      (kind : Kind) (q m b : Bool) (r : List ℤ) (rs : List (List ℤ)) →
+      run kind at (reading (within q m 10) 0 m b r rs) (drop at s) ≡ run kind next (reading (within q m left) value m b r rs) (drop next s)
 
 powers : (left : ℕ) → left ≤ 10 → 10 ^ (10 - left) ≤ 10 ^ 10
 powers left h = pow-le-pow-right {n = 10} (omega arith) {i = 10 - left} {j = 10} (omega arith)
 
 module _ (s : List ℕ) (at : ℕ) where
   pub none-yet : at ≤ length s → DigitsSoFar s at 0 at 10
-  none-yet h = record { from = omega arith; upto = h; most = omega arith; used = refl; small = omega arith; meaning = λ kind q r rs. refl }
+  none-yet h = record { from = omega arith; upto = h; most = omega arith; used = refl; small = omega arith; meaning = λ kind q m b r rs. refl }
 
   module _ (value next left : ℕ) (so-far : DigitsSoFar s at value next left) where
     -- the value stays small
@@ -49,11 +50,11 @@ module _ (s : List ℕ) (at : ℕ) where
       most = omega (arith, so-far .most);
       used = omega (arith, so-far .used);
       small = room _ h k;
-      meaning = λ kind q r rs.
-          so-far .meaning kind q r rs
+      meaning = λ kind q m b r rs.
+          so-far .meaning kind q m b r rs
           ∙ (let e : left ≡ suc (left - 1) = omega arith in
-          ap (λ (n : ℕ). run kind next (reading (within q n) value r rs) (drop next s)) e
-          ∙ digits-more kind q (left - 1) value r rs s next _ (inside s next h) (digit-found _ h));
+          ap (λ (n : ℕ). run kind next (reading (within q m n) value m b r rs) (drop next s)) e
+          ∙ digits-more kind q m b r rs s next _ (inside s next h) (digit-found _ h) (left - 1) value);
     }
 
     pub no-more : 9 < digitOr10 (mark (getD s next 0)) → DigitsRead s at value next
@@ -66,7 +67,7 @@ module _ (s : List ℕ) (at : ℕ) where
             | yes lt ↦ lt
             | no ge ↦ absurd (let e : at ≡ next = omega (arith, so-far .from) in omega (arith, h, ap (λ (i : ℕ). digitOr10 (mark (getD s i 0))) e))
           ];
-      meaning = λ kind q r rs. so-far .meaning kind q r rs ∙ digits-end kind q left value r rs s next (no-digit-found _ h);
+      meaning = λ kind q m b r rs. so-far .meaning kind q m b r rs ∙ digits-end kind q m b r rs s next left value (no-digit-found _ h);
     }
 
     pub all-ten : left ≤ 0 → DigitsRead s at value next
@@ -75,7 +76,7 @@ module _ (s : List ℕ) (at : ℕ) where
       upto = so-far .upto;
       small = omega (arith, so-far .small, powers left (so-far .most));
       some = λ k. omega (arith, so-far .used);
-      meaning = λ kind q r rs.
-          so-far .meaning kind q r rs
-          ∙ (let e : left ≡ 0 = omega arith in ap (λ (n : ℕ). run kind next (reading (within q n) value r rs) (drop next s)) e);
+      meaning = λ kind q m b r rs.
+          so-far .meaning kind q m b r rs
+          ∙ (let e : left ≡ 0 = omega arith in ap (λ (n : ℕ). run kind next (reading (within q m n) value m b r rs) (drop next s)) e);
     }

@@ -2,11 +2,12 @@
 use mathlib.Core.Path.{_≡_, refl}
 use mathlib.Core.List.{List, [], _∷_, map}
 use Prim.Native.Nat.{ℕ}
+use lib.IntN.{ℤ, pos, negsuc}
 use Rattle.casefile.specs.declared.Kind.{Kind}
 use Rattle.casefile.specs.declared.Kind.the-variants.{Tariff, Production}
 use Rattle.casefile.specs.declared.table.Table.{Table}
 use Rattle.casefile.specs.declared.table.Table.the-variants.{Whole, Refused}
-use Rattle.casefile.specs.Form.{mark, step, more, mayEnd, isProduction, afterComma, afterLine}
+use Rattle.casefile.specs.Form.{mark, step, more, mayEnd, isProduction, afterComma, afterLine, inTariff}
 use Rattle.casefile.specs.Records.{run, absorb, recordsAtEnd, formOf, Form, whole}
 use Rattle.casefile.specs.Files.{wanted, oddFrom, judge, tableOf}
 
@@ -75,6 +76,30 @@ examples =
     -- the first record has one field: 5CR LF 6,
     example Tariff (53 ∷ 13 ∷ 10 ∷ 54 ∷ 44 ∷ []) (Refused 22 2)
     ∷
+    -- costs with a minus, bare and in quotes: -5,"-6",3CR LF 2,1,
+    example Tariff (45 ∷ 53 ∷ 44 ∷ 34 ∷ 45 ∷ 54 ∷ 34 ∷ 44 ∷ 51 ∷ 13 ∷ 10 ∷ 50 ∷ 44 ∷ 49 ∷ 44 ∷ []) (Whole 2 3)
+    ∷
+    -- ten digits after a minus: -9999999999,3CR LF 2,
+    example Tariff (45 ∷ 57 ∷ 57 ∷ 57 ∷ 57 ∷ 57 ∷ 57 ∷ 57 ∷ 57 ∷ 57 ∷ 57 ∷ 44 ∷ 51 ∷ 13 ∷ 10 ∷ 50 ∷ 44 ∷ []) (Whole 2 2)
+    ∷
+    -- an eleventh digit after a minus: -12345678901
+    example Tariff (45 ∷ 49 ∷ 50 ∷ 51 ∷ 52 ∷ 53 ∷ 54 ∷ 55 ∷ 56 ∷ 57 ∷ 48 ∷ 49 ∷ []) (Refused 21 11)
+    ∷
+    -- a supply has no minus, so its record cannot end after it: 5,-3CR LF 2,
+    example Tariff (53 ∷ 44 ∷ 45 ∷ 51 ∷ 13 ∷ 10 ∷ 50 ∷ 44 ∷ []) (Refused 21 4)
+    ∷
+    -- a record with a minus is a source's, so it cannot end in an empty field: 5,3CR LF -2,
+    example Tariff (53 ∷ 44 ∷ 51 ∷ 13 ∷ 10 ∷ 45 ∷ 50 ∷ 44 ∷ []) (Refused 21 8)
+    ∷
+    -- two minus signs: --5
+    example Tariff (45 ∷ 45 ∷ 53 ∷ []) (Refused 21 1)
+    ∷
+    -- a minus before the quote: -"5"
+    example Tariff (45 ∷ 34 ∷ 53 ∷ 34 ∷ []) (Refused 21 1)
+    ∷
+    -- a minus alone: -,3
+    example Tariff (45 ∷ 44 ∷ 51 ∷ []) (Refused 21 1)
+    ∷
     -- case A's table: 99CR LF 20CR LF 24CR LF 20
     example Production (57 ∷ 57 ∷ 13 ∷ 10 ∷ 50 ∷ 48 ∷ 13 ∷ 10 ∷ 50 ∷ 52 ∷ 13 ∷ 10 ∷ 50 ∷ 48 ∷ []) (Whole 4 1)
     ∷
@@ -99,6 +124,9 @@ examples =
     -- a minus sign: -1
     example Production (45 ∷ 49 ∷ []) (Refused 21 0)
     ∷
+    -- the same in quotes: "-1"
+    example Production (34 ∷ 45 ∷ 49 ∷ 34 ∷ []) (Refused 21 1)
+    ∷
     -- the file ends in a comma: 3,
     example Production (51 ∷ 44 ∷ []) (Refused 21 2)
     ∷
@@ -114,12 +142,17 @@ examples =
     []
 
 pub all-right : map (λ (e : Example). tableOf (e .kind) (e .bytes)) examples ≡ map (λ (e : Example). e .table) examples
-unfolding examples example mark step more mayEnd isProduction afterComma afterLine run absorb recordsAtEnd formOf wanted oddFrom judge tableOf
+unfolding examples example mark step more mayEnd isProduction afterComma afterLine inTariff run absorb recordsAtEnd formOf wanted oddFrom judge tableOf
 all-right = refl
 
 -- the records of case A's tariff
 pub tariff-A :
     formOf Tariff (50 ∷ 44 ∷ 54 ∷ 44 ∷ 51 ∷ 13 ∷ 10 ∷ 53 ∷ 44 ∷ 51 ∷ 44 ∷ 51 ∷ 13 ∷ 10 ∷ 49 ∷ 44 ∷ 52 ∷ 44 ∷ 49 ∷ 13 ∷ 10 ∷ 51 ∷ 44 ∷ 50 ∷ 44 ∷ 13 ∷ 10 ∷ [])
-    ≡ whole ((2 ∷ 6 ∷ 3 ∷ []) ∷ (5 ∷ 3 ∷ 3 ∷ []) ∷ (1 ∷ 4 ∷ 1 ∷ []) ∷ (3 ∷ 2 ∷ 0 ∷ []) ∷ [])
-unfolding mark step more mayEnd isProduction afterComma afterLine run absorb recordsAtEnd formOf
+    ≡ whole (map (λ (l : List ℕ). map pos l) ((2 ∷ 6 ∷ 3 ∷ []) ∷ (5 ∷ 3 ∷ 3 ∷ []) ∷ (1 ∷ 4 ∷ 1 ∷ []) ∷ (3 ∷ 2 ∷ 0 ∷ []) ∷ []))
+unfolding mark step more mayEnd isProduction afterComma afterLine inTariff run absorb recordsAtEnd formOf
 tariff-A = refl
+
+-- the records of -5,3CR LF 2,
+pub rebate-5 : formOf Tariff (45 ∷ 53 ∷ 44 ∷ 51 ∷ 13 ∷ 10 ∷ 50 ∷ 44 ∷ []) ≡ whole ((negsuc 4 ∷ pos 3 ∷ []) ∷ (pos 2 ∷ pos 0 ∷ []) ∷ [])
+unfolding mark step more mayEnd isProduction afterComma afterLine inTariff run absorb recordsAtEnd formOf
+rebate-5 = refl

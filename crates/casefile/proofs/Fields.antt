@@ -1,79 +1,139 @@
 -- The answers at a field. Assumes nothing.
 use mathlib.Core.Path.{_≡_, refl, ap, sym, _∙_, subst}
-use mathlib.Core.Bool.{Bool, true, false}
+use mathlib.Core.Bool.{Bool, true, false, _||_, true≢false, false≢true}
+use mathlib.Core.Option.{none}
 use mathlib.Core.List.{List}
 use Prim.Native.Nat.{ℕ, suc, _+_, _≤_, _<_}
 use native.Mathlib.Omega.{arith}
+use native.Mathlib.Decide.{decLt}
+use borrow.Author.Tests.{eqb-true, eqb-false}
+use lib.Dec.{eqb}
+use lib.IntN.{ℤ}
 use lib.ListN.{length, getD, drop}
 use Rattle.casefile.specs.declared.Kind.{Kind}
 use Rattle.casefile.specs.declared.field.Field.{Field}
 use Rattle.casefile.specs.declared.field.Field.the-variants.{Value, Refused}
-use Rattle.casefile.specs.Form.{Mark, digit, quote, mark, field, opened, quoted, closed, step, mayEnd}
-use Rattle.casefile.specs.Records.{reading, run, isFirst, absorb}
-use Rattle.casefile.specs.Reader.{digitOr10, DigitsRead, FieldRead, fieldEnds}
-use Rattle.casefile.proofs.Marks.{no-digit-found, digit-found, seen, below-digit, known, inside, past, nothing-ten}
-use Rattle.casefile.proofs.Runs.{here, refused, no-digit, no-field, no-quote, begins-bare, begins-quoted, bare-closed}
+use Rattle.casefile.specs.Form.{Mark, quote, mark, field, opened, step}
+use Rattle.casefile.specs.Records.{reading, run, isFirst, absorb, Form, broken}
+use Rattle.casefile.specs.Reader.{digitOr10, isMinus, within, closedAs, DigitsRead, NumberRead, pickField, closeQuote, onField, FieldRead, fieldEnds}
+use Rattle.casefile.proofs.Marks.{no-digit-found, digit-found, seen, known, inside, past, nothing-ten, minus-inside, no-minus}
+use Rattle.casefile.proofs.Runs.{here, refused, start, start-on, quoted-on, no-field, no-opened, no-signed, no-quote, begins, bare-closed, quote-closed, minus-begins}
 
-module _ (s : List ℕ) (at : ℕ) where
-  -- no digit after the opening quote
-  pub quoted-empty : 9 < digitOr10 (mark (getD s at 0)) → FieldRead opened s at (Refused at)
-  unfolding mayEnd
-  quoted-empty h = record {
-    ends = tt;
-    meaning = λ kind r rs. refused kind (reading opened 0 r rs) s at (no-digit kind (isFirst rs) _ (no-digit-found _ h)) refl;
-  }
+-- after a number: its digits are read, or there is none
+abbrev onNumber : Kind → Bool → Bool → Bool → List ℤ → List (List ℤ) → List ℕ → Field → Form
+onNumber kind q m b r rs s (Value v m′ next) = run kind next (reading (within q m 0) v m b r rs) (drop next s)
+onNumber kind q m b r rs s (Refused place) = broken place
 
-  module _ (v next : ℕ) (found : digitOr10 (mark (getD s at 0)) ≤ 9) (read : DigitsRead s at v next) where
-    -- the digits after the opening quote, and then no quote
-    pub quoted-open : (getD s next 0 ≡ 34 → ⊥) → FieldRead opened s at (Refused next)
-    unfolding mayEnd
-    quoted-open h = record {
-      ends = tt;
-      meaning = λ kind r rs.
-          begins-quoted kind r rs s at _ (inside s at found) (digit-found _ found)
-          ∙ read .meaning kind true r rs
-          ∙ refused kind (reading (quoted 0) v r rs) s next (no-quote kind (isFirst rs) _ _ (seen _) h) refl;
-    }
+-- a byte that no number begins with
+abbrev None : Kind → Bool → Bool → List ℕ → ℕ → Type 0
+None kind q m s at = (source : Bool) → 9 < digitOr10 (mark (getD s at 0)) → step kind source (start q m) (mark (getD s at 0)) ≡ none
 
-    -- the digits and the closing quote
-    pub quoted-closed : next < length s → getD s next 0 ≡ 34 → FieldRead opened s at (Value v (next + 1))
-    unfolding step mark absorb
-    quoted-closed h e = record {
-      ends = (omega (arith, read .from), omega arith, read .small);
-      meaning = λ kind r rs.
-          begins-quoted kind r rs s at _ (inside s at found) (digit-found _ found)
-          ∙ read .meaning kind true r rs
-          ∙ here kind (reading (quoted 0) v r rs) s next quote h (known _ 34 e);
-    }
+module _ (kind : Kind) (s : List ℕ) where
+  signed-none : (q : Bool) (at : ℕ) → None kind q true s at
+  signed-none q at source h = no-signed kind source q _ (no-digit-found _ h)
 
-    pub field-bare : FieldRead field s at (Value v next)
-    field-bare = record {
-      ends = (read .some found, read .upto, read .small);
-      meaning = λ kind r rs.
-          begins-bare kind r rs s at _ (inside s at found) (digit-found _ found)
-          ∙ read .meaning kind false r rs
-          ∙ bare-closed kind v r rs s next;
-    }
+  opened-none : (at : ℕ) → isMinus kind (mark (getD s at 0)) ≡ false → None kind true false s at
+  opened-none at e source h = no-opened kind source _ e (no-digit-found _ h)
 
-  pub field-quoted : (a : Field) → at < length s → getD s at 0 ≡ 34 → FieldRead opened s (at + 1) a → FieldRead field s at a
-  unfolding step mark absorb
-  field-quoted a h e read = record {
-    ends = later a (read .ends);
-    meaning = λ kind r rs. here kind (reading field 0 r rs) s at quote h (known _ 34 e) ∙ read .meaning kind r rs;
-  }
+  field-none : (at : ℕ) → (getD s at 0 ≡ 34 → ⊥) → isMinus kind (mark (getD s at 0)) ≡ false → None kind false false s at
+  field-none at q e source h = no-field kind source _ _ (seen _) q e (no-digit-found _ h)
+
+  number : (at : ℕ) (a : Field) (q m b : Bool) (r : List ℤ) (rs : List (List ℤ)) → NumberRead m s at a → None kind q m s at →
+      run kind at (reading (start q m) 0 m b r rs) (drop at s) ≡ onNumber kind q m b r rs s a
+  number at (Value v m′ next) q m b r rs n bar =
+      begins kind q m b r rs s at _ (inside s at (n .1)) (digit-found _ (n .1)) ∙ n .2 .meaning kind q m b r rs
+  number at (Refused place) q m b r rs n bar =
+      refused kind (reading (start q m) 0 m b r rs) s at (bar (b || isFirst rs) (n .1)) (start-on kind q m) ∙ ap broken (sym (n .0))
+
+  -- a bare number is a field
+  bare-end : (at : ℕ) (a : Field) (m b : Bool) (r : List ℤ) (rs : List (List ℤ)) → NumberRead m s at a →
+      onNumber kind false m (m || b) r rs s a ≡ onField kind b r rs s a
+  bare-end at (Value v true next) true b r rs n = bare-closed kind true true v r rs s next
+  bare-end at (Value v false next) false b r rs n = bare-closed kind false b v r rs s next
+  bare-end at (Value v true next) false b r rs n = absurd (true≢false (n .0))
+  bare-end at (Value v false next) true b r rs n = absurd (false≢true (n .0))
+  bare-end at (Refused place) m b r rs n = refl
+
+  bare-ends : (at : ℕ) (a : Field) (m : Bool) → NumberRead m s at a → fieldEnds s at a
+  bare-ends at (Value v m′ next) m n = (n .2 .some (n .1), n .2 .upto, n .2 .small)
+  bare-ends at (Refused place) m n = tt
+
+  -- a number in quotes is one where the quote is closed
+  quote-end : (at : ℕ) (a : Field) (m b : Bool) (r : List ℤ) (rs : List (List ℤ)) → NumberRead m s at a →
+      onNumber kind true m (m || b) r rs s a ≡ onField kind b r rs s (closeQuote s a)
+  unfolding mark
+  quote-end at (Refused place) m b r rs n = refl
+  quote-end at (Value v m′ next) m b r rs n = go (eqb (getD s next 0) 34) refl
     where
-      later : (a : Field) → fieldEnds s (at + 1) a → fieldEnds s at a
-      later (Value v next) k = (omega arith, k .1, k .2)
-      later (Refused place) k = tt
+      closed-on : (m′ m : Bool) → m′ ≡ m → next < length s → getD s next 0 ≡ 34 →
+          run kind next (reading (within true m 0) v m (m || b) r rs) (drop next s)
+          ≡ run kind (next + 1) (reading (closedAs m′) v m′ (m′ || b) r rs) (drop (next + 1) s)
+      closed-on true true k h e = quote-closed kind true true v r rs s next h (known _ 34 e)
+      closed-on false false k h e = quote-closed kind false b v r rs s next h (known _ 34 e)
+      closed-on true false k h e = absurd (true≢false k)
+      closed-on false true k h e = absurd (false≢true k)
 
-  pub field-none : (getD s at 0 ≡ 34 → ⊥) → 9 < digitOr10 (mark (getD s at 0)) → FieldRead field s at (Refused at)
-  unfolding mayEnd
-  field-none q h = record {
-    ends = tt;
-    meaning = λ kind r rs.
-        refused kind (reading field 0 r rs) s at (no-field kind (isFirst rs) _ _ (seen _) q (no-digit-found _ h)) refl;
-  }
+      go : (t : Bool) → eqb (getD s next 0) 34 ≡ t →
+          run kind next (reading (within true m 0) v m (m || b) r rs) (drop next s)
+          ≡ onField kind b r rs s (pickField t (Value v m′ (next + 1)) (Refused next))
+      go true e =
+          let k = eqb-true (getD s next 0) 34 e in
+          closed-on m′ m (n .0) (elim (decLt next (length s)) [ yes h ↦ h | no h ↦ absurd (past s next 33 (omega arith) k) ]) k
+      go false e =
+          refused kind (reading (within true m 0) v m (m || b) r rs) s next
+          (no-quote kind ((m || b) || isFirst rs) m (getD s next 0) (mark (getD s next 0)) (seen (getD s next 0)) (λ k. eqb-false (getD s next 0) 34 e k)) (quoted-on kind m)
+
+  quote-ends : (at : ℕ) (a : Field) (m : Bool) → NumberRead m s at a → fieldEnds s at (closeQuote s a)
+  quote-ends at (Refused place) m n = tt
+  quote-ends at (Value v m′ next) m n = go (eqb (getD s next 0) 34) refl
+    where
+      go : (t : Bool) → eqb (getD s next 0) 34 ≡ t → fieldEnds s at (pickField t (Value v m′ (next + 1)) (Refused next))
+      go true e =
+          let k = eqb-true (getD s next 0) 34 e in
+          let h : next < length s = elim (decLt next (length s)) [ yes h ↦ h | no h ↦ absurd (past s next 33 (omega arith) k) ] in
+          (omega (arith, n .2 .from), omega arith, n .2 .small)
+      go false e = tt
+
+  later : (at : ℕ) (a : Field) → fieldEnds s (at + 1) a → fieldEnds s at a
+  later at (Value v m next) k = (omega (arith, k .0), k .1, k .2)
+  later at (Refused place) k = tt
+
+  module _ (at : ℕ) (a : Field) where
+    pub opened-plain : isMinus kind (mark (getD s at 0)) ≡ false → NumberRead false s at a → FieldRead kind opened s at (closeQuote s a)
+    opened-plain e n = record {
+      ends = quote-ends at a false n;
+      meaning = λ b r rs. number at a true false b r rs n (opened-none at e) ∙ quote-end at a false b r rs n;
+    }
+
+    pub opened-minus : isMinus kind (mark (getD s at 0)) ≡ true → NumberRead true s (at + 1) a → FieldRead kind opened s at (closeQuote s a)
+    opened-minus e n = record {
+      ends = later at (closeQuote s a) (quote-ends (at + 1) a true n);
+      meaning = λ b r rs.
+          minus-begins kind true b r rs s at (minus-inside kind s at e) e
+          ∙ number (at + 1) a true true true r rs n (signed-none true (at + 1)) ∙ quote-end (at + 1) a true b r rs n;
+    }
+
+    pub field-plain : (getD s at 0 ≡ 34 → ⊥) → isMinus kind (mark (getD s at 0)) ≡ false → NumberRead false s at a → FieldRead kind field s at a
+    field-plain q e n = record {
+      ends = bare-ends at a false n;
+      meaning = λ b r rs. number at a false false b r rs n (field-none at q e) ∙ bare-end at a false b r rs n;
+    }
+
+    pub field-minus : isMinus kind (mark (getD s at 0)) ≡ true → NumberRead true s (at + 1) a → FieldRead kind field s at a
+    field-minus e n = record {
+      ends = later at a (bare-ends (at + 1) a true n);
+      meaning = λ b r rs.
+          minus-begins kind false b r rs s at (minus-inside kind s at e) e
+          ∙ number (at + 1) a false true true r rs n (signed-none false (at + 1)) ∙ bare-end (at + 1) a true b r rs n;
+    }
+
+    pub field-quoted : at < length s → getD s at 0 ≡ 34 → FieldRead kind opened s (at + 1) a → FieldRead kind field s at a
+    unfolding step mark absorb
+    field-quoted h e read = record {
+      ends = later at a (read .ends);
+      meaning = λ b r rs. here kind (reading field 0 false b r rs) s at quote h (known _ 34 e) ∙ read .meaning b r rs;
+    }
 
   -- no field at the end of the file
-  pub field-end : length s ≤ at → FieldRead field s at (Refused at)
-  field-end h = field-none (past s at 33 h) (omega (arith, nothing-ten s at h))
+  pub field-end : (at : ℕ) → length s ≤ at → FieldRead kind field s at (Refused at)
+  field-end at h = field-plain at (Refused at) (past s at 33 h) (sym (no-minus kind s at h)) (refl, omega (arith, nothing-ten s at h))

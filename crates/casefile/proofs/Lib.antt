@@ -1,3 +1,4 @@
+pub mod Machine
 pub mod Marks
 pub mod Runs
 pub mod Digits
@@ -5,6 +6,7 @@ pub mod Fields
 pub mod Afters
 pub mod Tallies
 pub mod Tables
+pub mod Signs
 pub mod Viable
 pub mod Places
 pub mod Examples

@@ -1,18 +1,21 @@
 -- What the tests on a byte say of its mark. Assumes nothing.
 use mathlib.Core.Path.{_≡_, refl, ap, sym, _∙_, subst}
-use mathlib.Core.Bool.{Bool, true, false, _&&_, and-false}
+use mathlib.Core.Bool.{Bool, true, false, _&&_, and-false, false≢true}
 use Prim.Native.Nat.{ℕ, suc, _-_, _≤_, _<_}
 use native.Mathlib.Omega.{arith}
 use native.Mathlib.Decide.{decLe, decLt}
-use borrow.Author.Tests.{le-leb, lt-leb, eqb-true}
+use borrow.Author.Tests.{le-leb, lt-leb, eqb-true, ne-eqb}
 use lib.Dec.{eqb, leb}
 use lib.ListN.{length, getD, List·getD-eq-default}
 use mathlib.Core.List.{List}
-use Rattle.casefile.specs.Form.{Mark, digit, quote, comma, cr, lf, other, pickMark, mark}
-use Rattle.casefile.specs.Reader.{digitOr10}
+use Rattle.casefile.specs.declared.Kind.{Kind}
+use Rattle.casefile.specs.declared.Kind.the-variants.{Tariff, Production}
+use Rattle.casefile.specs.Form.{Mark, digit, minus, quote, comma, cr, lf, other, pickMark, mark}
+use Rattle.casefile.specs.Reader.{digitOr10, isMinus}
 
 abbrev pub NotDigit : Mark → Type 0
 NotDigit (digit d) = ⊥
+NotDigit minus = Unit {0}
 NotDigit quote = Unit {0}
 NotDigit comma = Unit {0}
 NotDigit cr = Unit {0}
@@ -23,23 +26,25 @@ pub mark-digit : (b : ℕ) → 48 ≤ b → b ≤ 57 → mark b ≡ digit (b - 4
 unfolding mark
 mark-digit b lo hi = simp (le-leb 48 b lo, le-leb b 57 hi)
 
-no-digit : (q c r l : Bool) → NotDigit (pickMark q quote (pickMark c comma (pickMark r cr (pickMark l lf other))))
-no-digit true c r l = tt
-no-digit false true r l = tt
-no-digit false false true l = tt
-no-digit false false false true = tt
-no-digit false false false false = tt
+no-digit : (m q c r l : Bool) → NotDigit (pickMark m minus (pickMark q quote (pickMark c comma (pickMark r cr (pickMark l lf other)))))
+no-digit true q c r l = tt
+no-digit false true c r l = tt
+no-digit false false true r l = tt
+no-digit false false false true l = tt
+no-digit false false false false true = tt
+no-digit false false false false false = tt
 
 pub below-digit : (b : ℕ) → b < 48 → NotDigit (mark b)
 unfolding mark
-below-digit b h = simp (lt-leb 48 b h) (no-digit (eqb b 34) (eqb b 44) (eqb b 13) (eqb b 10))
+below-digit b h = simp (lt-leb 48 b h) (no-digit (eqb b 45) (eqb b 34) (eqb b 44) (eqb b 13) (eqb b 10))
 
 pub above-digit : (b : ℕ) → 57 < b → NotDigit (mark b)
 unfolding mark
-above-digit b h = simp (lt-leb b 57 h, and-false) (no-digit (eqb b 34) (eqb b 44) (eqb b 13) (eqb b 10))
+above-digit b h = simp (lt-leb b 57 h, and-false) (no-digit (eqb b 45) (eqb b 34) (eqb b 44) (eqb b 13) (eqb b 10))
 
 ten : (m : Mark) → NotDigit m → 10 ≡ digitOr10 m
 ten (digit d) h = absurd h
+ten minus h = refl
 ten quote h = refl
 ten comma h = refl
 ten cr h = refl
@@ -69,6 +74,7 @@ no-digit-found b h =
 
 pub digit-found : (m : Mark) → digitOr10 m ≤ 9 → m ≡ digit (digitOr10 m)
 digit-found (digit d) h = refl
+digit-found minus h = absurd (omega arith)
 digit-found quote h = absurd (omega arith)
 digit-found comma h = absurd (omega arith)
 digit-found cr h = absurd (omega arith)
@@ -78,6 +84,7 @@ digit-found other h = absurd (omega arith)
 -- which byte has a mark
 abbrev pub Seen : ℕ → Mark → Type 0
 Seen b (digit d) = Unit {0}
+Seen b minus = b ≡ 45
 Seen b quote = b ≡ 34
 Seen b comma = b ≡ 44
 Seen b cr = b ≡ 13
@@ -85,19 +92,20 @@ Seen b lf = b ≡ 10
 Seen b other = Unit {0}
 
 seen-by :
-    (b : ℕ) (d q c r l : Bool) →
-    eqb b 34 ≡ q → eqb b 44 ≡ c → eqb b 13 ≡ r → eqb b 10 ≡ l →
-    Seen b (pickMark d (digit (b - 48)) (pickMark q quote (pickMark c comma (pickMark r cr (pickMark l lf other)))))
-seen-by b true q c r l eq ec er el = tt
-seen-by b false true c r l eq ec er el = eqb-true b 34 eq
-seen-by b false false true r l eq ec er el = eqb-true b 44 ec
-seen-by b false false false true l eq ec er el = eqb-true b 13 er
-seen-by b false false false false true eq ec er el = eqb-true b 10 el
-seen-by b false false false false false eq ec er el = tt
+    (b : ℕ) (d m q c r l : Bool) →
+    eqb b 45 ≡ m → eqb b 34 ≡ q → eqb b 44 ≡ c → eqb b 13 ≡ r → eqb b 10 ≡ l →
+    Seen b (pickMark d (digit (b - 48)) (pickMark m minus (pickMark q quote (pickMark c comma (pickMark r cr (pickMark l lf other))))))
+seen-by b true m q c r l em eq ec er el = tt
+seen-by b false true q c r l em eq ec er el = eqb-true b 45 em
+seen-by b false false true c r l em eq ec er el = eqb-true b 34 eq
+seen-by b false false false true r l em eq ec er el = eqb-true b 44 ec
+seen-by b false false false false true l em eq ec er el = eqb-true b 13 er
+seen-by b false false false false false true em eq ec er el = eqb-true b 10 el
+seen-by b false false false false false false em eq ec er el = tt
 
 pub seen : (b : ℕ) → Seen b (mark b)
 unfolding mark
-seen b = seen-by b (leb 48 b && leb b 57) (eqb b 34) (eqb b 44) (eqb b 13) (eqb b 10) refl refl refl refl
+seen b = seen-by b (leb 48 b && leb b 57) (eqb b 45) (eqb b 34) (eqb b 44) (eqb b 13) (eqb b 10) refl refl refl refl refl
 
 -- the mark of a byte that is known
 pub known : (b k : ℕ) → b ≡ k → mark b ≡ mark k
@@ -110,3 +118,36 @@ inside s at h = elim (decLt at (length s)) [ yes k ↦ k | no k ↦ absurd (omeg
 -- nothing stands past the end
 pub past : (s : List ℕ) (at k : ℕ) → length s ≤ at → getD s at 0 ≡ suc k → ⊥
 past s at k h e = omega (arith, List·getD-eq-default s 0 h)
+
+-- ---- a minus
+
+digit-plain : (b : ℕ) → (leb 48 b && leb b 57) ≡ true → eqb b 45 ≡ false
+digit-plain b e =
+    elim (decLe 48 b) [
+      | yes lo ↦ ne-eqb b 45 (λ z. omega arith)
+      | no lo ↦ absurd (false≢true (sym (ap (λ (x : Bool). x && leb b 57) (lt-leb 48 b (omega arith))) ∙ e))
+    ]
+
+pub minus-byte : (b : ℕ) → eqb b 45 ≡ isMinus Tariff (mark b)
+unfolding mark
+minus-byte b = by (leb 48 b && leb b 57) (eqb b 45) (eqb b 34) (eqb b 44) (eqb b 13) (eqb b 10) (digit-plain b)
+  where
+    by : (d m q c r l : Bool) → (d ≡ true → m ≡ false) →
+        m ≡ isMinus Tariff (pickMark d (digit (b - 48)) (pickMark m minus (pickMark q quote (pickMark c comma (pickMark r cr (pickMark l lf other))))))
+    by true m q c r l h = h refl
+    by false true q c r l h = refl
+    by false false true c r l h = refl
+    by false false false true r l h = refl
+    by false false false false true l h = refl
+    by false false false false false true h = refl
+    by false false false false false false h = refl
+
+-- nothing stands past the end
+pub no-minus : (kind : Kind) (s : List ℕ) (at : ℕ) → length s ≤ at → false ≡ isMinus kind (mark (getD s at 0))
+no-minus Production s at h = refl
+no-minus Tariff s at h = rw (List·getD-eq-default s 0 h) (minus-byte 0)
+
+-- a minus is within the list
+pub minus-inside : (kind : Kind) (s : List ℕ) (at : ℕ) → isMinus kind (mark (getD s at 0)) ≡ true → at < length s
+minus-inside kind s at e =
+    elim (decLt at (length s)) [ yes k ↦ k | no k ↦ absurd (false≢true (no-minus kind s at (omega arith) ∙ e)) ]

@@ -6,10 +6,11 @@ use mathlib.Core.Option.{Option, none, some}
 use mathlib.Core.List.{List, [], _∷_, _++_}
 use Prim.Native.Nat.{ℕ, zero, suc, _+_, _≤_, _<_}
 use native.Mathlib.Omega.{arith}
+use lib.IntN.{ℤ}
 use lib.ListN.{length, take}
 use Rattle.casefile.specs.declared.Kind.{Kind}
 use Rattle.casefile.specs.Form.{State, field, mark, step, mayEnd}
-use Rattle.casefile.specs.Records.{Reading, reading, run, absorb, isFirst, recordsAtEnd, Form, whole, broken, formOf}
+use Rattle.casefile.specs.Records.{Reading, reading, run, absorb, isSource, recordsAtEnd, Form, whole, broken, formOf}
 use Rattle.casefile.proofs.Viable.{EndsWell, viable}
 
 pub record Place (kind : Kind) (at : ℕ) (r : Reading) (l : List ℕ) (place : ℕ) : Type 0 where
@@ -18,13 +19,13 @@ pub record Place (kind : Kind) (at : ℕ) (r : Reading) (l : List ℕ) (place : 
   pub upto : offset ≤ length l
   pub no-file : offset < length l → (t : List ℕ) → run kind at r (take (suc offset) l ++ t) ≡ broken place
   pub bytes : List ℕ
-  pub records : List (List ℕ)
+  pub records : List (List ℤ)
   pub some-file : run kind at r (take offset l ++ bytes) ≡ whole records
 
 here-broken :
     (kind : Kind) (at place : ℕ) (r : Reading) (l : List ℕ) → place ≡ at → (0 < length l → (t : List ℕ) → run kind at r (take 1 l ++ t) ≡ broken place) →
     Place kind at r l place
-here-broken kind at place r l e no-file = let w = viable kind at (r .state) (r .value) (r .row) (r .rows) in record {
+here-broken kind at place r l e no-file = let w = viable kind at (r .state) (r .value) (r .negative) (r .rebate) (r .row) (r .rows) in record {
   offset = 0;
   from = omega arith;
   upto = omega arith;
@@ -35,12 +36,12 @@ here-broken kind at place r l e no-file = let w = viable kind at (r .state) (r .
 }
 
 -- one byte of a run
-run-none : (kind : Kind) (at : ℕ) (r : Reading) (b : ℕ) (l : List ℕ) → step kind (isFirst (r .rows)) (r .state) (mark b) ≡ none → run kind at r (b ∷ l) ≡ broken at
+run-none : (kind : Kind) (at : ℕ) (r : Reading) (b : ℕ) (l : List ℕ) → step kind (isSource r) (r .state) (mark b) ≡ none → run kind at r (b ∷ l) ≡ broken at
 unfolding run
 run-none kind at r b l e = rw (e, run)
 
 run-some :
-    (kind : Kind) (at : ℕ) (r : Reading) (b : ℕ) (l : List ℕ) (s : State) → step kind (isFirst (r .rows)) (r .state) (mark b) ≡ some s →
+    (kind : Kind) (at : ℕ) (r : Reading) (b : ℕ) (l : List ℕ) (s : State) → step kind (isSource r) (r .state) (mark b) ≡ some s →
     run kind at r (b ∷ l) ≡ run kind (suc at) (absorb (mark b) s r) l
 unfolding run
 run-some kind at r b l s e = rw (e, run)
@@ -56,9 +57,9 @@ run-end kind at place r e = go (mayEnd kind (r .state)) e
 pub places : (kind : Kind) (at place : ℕ) (r : Reading) (l : List ℕ) → run kind at r l ≡ broken place → Place kind at r l place
 places kind at place r [] e = here-broken kind at place r [] (run-end kind at place r e) (λ h. absurd (omega arith))
 places kind at place r (b ∷ l) e =
-    go (step kind (isFirst (r .rows)) (r .state) (mark b)) refl (λ s k. places kind (suc at) place (absorb (mark b) s r) l k)
+    go (step kind (isSource r) (r .state) (mark b)) refl (λ s k. places kind (suc at) place (absorb (mark b) s r) l k)
   where
-    go : (o : Option State) → step kind (isFirst (r .rows)) (r .state) (mark b) ≡ o →
+    go : (o : Option State) → step kind (isSource r) (r .state) (mark b) ≡ o →
         ((s : State) → run kind (suc at) (absorb (mark b) s r) l ≡ broken place → Place kind (suc at) (absorb (mark b) s r) l place) →
         Place kind at r (b ∷ l) place
     go none k ih =
@@ -82,18 +83,18 @@ pub record FirstWrong (kind : Kind) (l : List ℕ) (place : ℕ) : Type 0 where
   pub upto : place ≤ length l
   pub no-file : place < length l → (t : List ℕ) → formOf kind (take (suc place) l ++ t) ≡ broken place
   pub bytes : List ℕ
-  pub records : List (List ℕ)
+  pub records : List (List ℤ)
   pub some-file : formOf kind (take place l ++ bytes) ≡ whole records
 
 pub first-wrong : (kind : Kind) (l : List ℕ) (place : ℕ) → formOf kind l ≡ broken place → FirstWrong kind l place
 unfolding formOf
 first-wrong kind l place e =
-    let w = places kind 0 place (reading field 0 [] []) l e in
+    let w = places kind 0 place (reading field 0 false false [] []) l e in
     let p : w .offset ≡ place = omega (arith, w .from) in
     record {
       upto = omega (arith, w .upto);
-      no-file = λ h t. subst (λ (n : ℕ). run kind 0 (reading field 0 [] []) (take (suc n) l ++ t) ≡ broken place) p (w .no-file (omega arith) t);
+      no-file = λ h t. subst (λ (n : ℕ). run kind 0 (reading field 0 false false [] []) (take (suc n) l ++ t) ≡ broken place) p (w .no-file (omega arith) t);
       bytes = w .bytes;
       records = w .records;
-      some-file = subst (λ (n : ℕ). run kind 0 (reading field 0 [] []) (take n l ++ w .bytes) ≡ whole (w .records)) p (w .some-file);
+      some-file = subst (λ (n : ℕ). run kind 0 (reading field 0 false false [] []) (take n l ++ w .bytes) ≡ whole (w .records)) p (w .some-file);
     }

@@ -1,9 +1,12 @@
 -- From the planner's answer on a lent case to what is printed of it. Assumes nothing.
-use mathlib.Core.Path.{_≡_, sym, ap, _∙_, subst}
+use mathlib.Core.Path.{_≡_, refl, sym, ap, _∙_, subst}
+use mathlib.Core.Bool.{Bool, true, false, _||_}
 use mathlib.Core.List.{List}
 use Prim.Native.Nat.{ℕ, _+_, _*_, _/_, _%_, _≤_, _<_}
 use native.Mathlib.Nat.{div-add-mod', mod-lt, div-lt-iff-lt-mul}
 use native.Mathlib.Omega.{arith}
+use borrow.Author.Tests.{ltb-false}
+use lib.IntN.{ℤ, pos, negsuc, natAbs}
 use lib.ListN.{length, getD, take, drop, length-append}
 use lib.Seq.{take-at}
 use Rattle.transport.specs.Plan.{byRow, col}
@@ -11,6 +14,7 @@ use Rattle.transport.proofs.Sums.{sum-at}
 use Rattle.csvtext.specs.Text.{planText, refusalText}
 use Rattle.csvtext.specs.Writing.{Fits}
 use Rattle.planner.specs.Case.{Case}
+use Rattle.planner.specs.Range.{outside}
 use Rattle.planner.specs.Plans.{PlanAt}
 use Rattle.planner.specs.Outcome.{Outcome, planned, refused, outcomeOf}
 use Rattle.planner.specs.Verdict.{lent}
@@ -31,6 +35,16 @@ small-amount c s x f p k h =
     let cell : getD x (i * c .n + j) 0 ≡ getD x k 0 = ap (λ (a : ℕ). getD x a 0) (div-add-mod' k (c .n)) in
     omega (arith, cell, sum-at (c .m) i (λ a. byRow (c .n) x a j) li, p .columns j lj, f .small-demand j lj)
 
+-- a unit cost in range
+small-cost : (z : ℤ) → outside z ≡ false → natAbs z ≤ 1000000
+unfolding outside
+small-cost (pos n) e = omega (arith, ltb-false 1000000 n e)
+small-cost (negsuc n) e = omega (arith, ltb-false 999999 n (first _ e))
+  where
+    first : (b : Bool) → (b || false) ≡ false → b ≡ false
+    first true e = e
+    first false e = refl
+
 -- an outcome that is a refusal
 pub printed-refusal : (c : Case) (o : Outcome) {number place sources terminals : ℕ} {out out′ : List ℕ} {answer : Printed} → o ≡ refused number place
     → Told number place sources terminals (refusalText number place) out out′ answer → OutcomePrinted c o sources terminals out out′ answer
@@ -44,13 +58,13 @@ printed-refusal c o {number} {place} {sources} {terminals} {out} {out′} {answe
 }
 
 -- a case, lent with so many cells, and the planner's answer
-module _ {m n : ℕ} {costs supplies demands table : List ℕ} {p q u : ℕ} {before after : Slices} {o : Outcome}
+module _ {m n : ℕ} {costs : List ℤ} {supplies demands table : List ℕ} {p q u : ℕ} {before after : Slices} {o : Outcome}
     (a : Answered (lent m n costs supplies demands table p q u) o before after) where
   abbrev C : Case
   C = lent m n costs supplies demands table p q u
 
   -- a plan
-  module _ {s t f k : ℕ} (e : o ≡ planned s t f k) where
+  module _ {s : ℕ} {t f : ℤ} {k : ℕ} (e : o ≡ planned s t f k) where
     is-planned : outcomeOf C ≡ planned s t f k
     is-planned = sym (a .answer) ∙ e
 
@@ -78,7 +92,7 @@ module _ {m n : ℕ} {costs supplies demands table : List ℕ} {p q u : ℕ} {be
     fits = rw cut (record {
       sources = form .few-sources;
       terminals = form .few-terminals;
-      narrow-costs = record { there = omega (arith, form .costs-long); below = λ k h. omega (arith, form .small-cost k h) };
+      narrow-costs = record { there = omega (arith, form .costs-long); below = λ k h. omega (arith, small-cost _ (form .cost-inside k h)) };
       narrow-plan = record {
         there = omega (arith, w .plan .cells);
         below = λ k h. omega (arith, small-amount C s (w .amounts) form (w .plan) k h);
@@ -98,7 +112,7 @@ module _ {m n : ℕ} {costs supplies demands table : List ℕ} {p q u : ℕ} {be
           let es : s ≡ s′ = cc in
           let et : t ≡ t′ = cc in
           subst (λ (x : ℕ). PlanPrinted C x t′ out out′ answer) es
-          (subst (λ (y : ℕ). PlanPrinted C s y out out′ answer) et
+          (subst (λ (y : ℤ). PlanPrinted C s y out out′ answer) et
           (record { amounts = w .amounts; plan = w .plan; freight = w .freight; cheapest = w .cheapest; text = rw cut at told }));
     }
 
@@ -116,7 +130,7 @@ module _ {m n : ℕ} {costs supplies demands table : List ℕ} {p q u : ℕ} {be
         ∙ (ap (λ (y : ℕ). lent m n costs supplies demands table 2048 y u) eq ∙ ap (λ (z : ℕ). lent m n costs supplies demands table 2048 4001 z) eu))
         h
 
-    pub by-plan : {s t f k : ℕ} → o ≡ planned s t f k → Told 0 0 m n (planText m n costs (take (m * n) (after .plan)) s (getD table s 0)) out out′ answer
+    pub by-plan : {s : ℕ} {t f : ℤ} {k : ℕ} → o ≡ planned s t f k → Told 0 0 m n (planText m n costs (take (m * n) (after .plan)) s (getD table s 0)) out out′ answer
         → OutcomePrinted (lent m n costs supplies demands table 2048 4001 4001) (outcomeOf (lent m n costs supplies demands table 2048 4001 4001)) m n out out′ answer
     by-plan e told = roomy (plan-lent e told)
 

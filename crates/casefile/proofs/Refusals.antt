@@ -6,12 +6,13 @@ use mathlib.Core.List.{List, [], _∷_}
 use Prim.Native.Nat.{ℕ, _+_, _*_, _≤_, _<_}
 use native.Mathlib.Nat.{mul-le-mul}
 use native.Mathlib.Omega.{arith}
+use lib.IntN.{ℤ}
 use lib.ListN.{length, getD}
 use borrow.Author.Tests.{le-ltb}
 use Rattle.planner.specs.Case.{Case, steps, greatestSplit}
 use Rattle.planner.specs.Outcome.{Outcome, planned, refused, refuseIf, refuseAt, _orElse_, formRefusal, refusalOf, planOf, outcomeOf}
-use Rattle.planner.specs.Outcome.{test1, test2, test3, test4, test5, test6, test7, test8, test9, test10, test11, test12}
-use Rattle.planner.specs.Verdict.{lent, firstAbove, amountsRefusal, AtMost}
+use Rattle.planner.specs.Outcome.{test1, test2, test3, test4, test5, test6, test7, test8, test9, test10, test11}
+use Rattle.planner.specs.Verdict.{lent, firstOutside, amountsRefusal, AtMost}
 use Rattle.planner.proofs.Passed.{some≢none, Formed, formed, accepted}
 use Rattle.planner.proofs.Promise.{refused-outcome}
 use Rattle.planner.proofs.Decide.{form-decides}
@@ -21,7 +22,7 @@ use Rattle.planner.proofs.FormLaws.{Limits, by-amounts, by-cost, by-table}
 -- ---- no test answers a plan
 
 abbrev Refuses : Option Outcome → Type 0
-Refuses o = (s t f k : ℕ) → o ≡ some (planned s t f k) → ⊥
+Refuses o = (s : ℕ) (t f : ℤ) (k : ℕ) → o ≡ some (planned s t f k) → ⊥
 
 refuses-if : (k : ℕ) (b : Bool) → Refuses (refuseIf k b)
 unfolding refuseIf
@@ -48,15 +49,15 @@ module _ (c : Case) where
       (refuses-either (test4 c) _ (refuses-at 4 _) (refuses-either (test5 c) _ (refuses-at 5 _) (refuses-if 6 _)))))
 
   refuses-all : Refuses (refusalOf c)
-  unfolding refusalOf test7 test8 test9 test10 test11 test12
+  unfolding refusalOf test7 test8 test9 test10 test11
   refuses-all =
       refuses-either (formRefusal c) _ refuses-form
       (refuses-either (test7 c) _ (refuses-if 7 _)
       (refuses-either (test8 c) _ (refuses-if 8 _)
       (refuses-either (test9 c) _ (refuses-at 9 _)
-      (refuses-either (test10 c) _ (refuses-at 10 _) (refuses-either (test11 c) _ (refuses-if 11 _) (refuses-if 12 _))))))
+      (refuses-either (test10 c) _ (refuses-at 10 _) (refuses-if 11 _)))))
 
-  pub planned-passes : (s t f k : ℕ) → outcomeOf c ≡ planned s t f k → refusalOf c ≡ none
+  pub planned-passes : (s : ℕ) (t f : ℤ) (k : ℕ) → outcomeOf c ≡ planned s t f k → refusalOf c ≡ none
   unfolding outcomeOf
   planned-passes s t f k e = step (refusalOf c) refuses-all e
     where
@@ -64,14 +65,14 @@ module _ (c : Case) where
       step none h q = refl
       step (some r) h q = absurd (h s t f k (ap some q))
 
-  pub planned-formed : (s t f k : ℕ) → outcomeOf c ≡ planned s t f k → Formed c
+  pub planned-formed : (s : ℕ) (t f : ℤ) (k : ℕ) → outcomeOf c ≡ planned s t f k → Formed c
   planned-formed s t f k e = formed c (accepted c (planned-passes s t f k e) .form)
 
 -- ---- two cases with one outcome, which are one case where that is a plan
 
 pub record Alike (c c′ : Case) : Type 0 where
   pub same : outcomeOf c ≡ outcomeOf c′
-  pub one : (s t f k : ℕ) → outcomeOf c′ ≡ planned s t f k → c ≡ c′
+  pub one : (s : ℕ) (t f : ℤ) (k : ℕ) → outcomeOf c′ ≡ planned s t f k → c ≡ c′
 
 pub alike-equal : (c c′ : Case) → c ≡ c′ → Alike c c′
 alike-equal c c′ e = record { same = ap outcomeOf e; one = λ s t f k h. e }
@@ -88,11 +89,11 @@ first-small [] h = omega arith
 first-small (a ∷ s) h = h 0 (omega arith)
 
 -- two tables that are both too long
-module _ (m n : ℕ) (costs s d t t′ : List ℕ) (p q r : ℕ) (h : Limits m n) (lc : length costs ≡ m * n) (ls : length s ≡ m) (ld : length d ≡ n) where
+module _ (m n : ℕ) (costs : List ℤ) (s d t t′ : List ℕ) (p q r : ℕ) (h : Limits m n) (lc : length costs ≡ m * n) (ls : length s ≡ m) (ld : length d ≡ n) where
   pub alike-long : 4001 < length t → 4001 < length t′ → Alike (lent m n costs s d t p q r) (lent m n costs s d t′ p q r)
-  alike-long k k′ = go (amountsRefusal s d) refl (firstAbove 1000000 costs) refl
+  alike-long k k′ = go (amountsRefusal s d) refl (firstOutside costs) refl
     where
-      go : (a : Option Outcome) → amountsRefusal s d ≡ a → (b : Option ℕ) → firstAbove 1000000 costs ≡ b → Alike (lent m n costs s d t p q r) (lent m n costs s d t′ p q r)
+      go : (a : Option Outcome) → amountsRefusal s d ≡ a → (b : Option ℕ) → firstOutside costs ≡ b → Alike (lent m n costs s d t p q r) (lent m n costs s d t′ p q r)
       go (some o) ea b eb = alike-refused _ _ o (by-amounts m n costs s d t p q r h lc ls ld o ea) (by-amounts m n costs s d t′ p q r h lc ls ld o ea)
       go none ea (some i) eb =
           alike-refused _ _ (refused 5 (i + 1)) (by-cost m n costs s d t p q r h lc ls ld ea i eb) (by-cost m n costs s d t′ p q r h lc ls ld ea i eb)

@@ -1,24 +1,53 @@
 -- How a run goes on at an offset. Assumes nothing.
 use mathlib.Core.Path.{_≡_, refl, ap, sym, _∙_, subst}
-use mathlib.Core.Bool.{Bool, true, false}
+use mathlib.Core.Bool.{Bool, true, false, _||_, true≢false}
 use mathlib.Core.Option.{Option, none, some}
 use mathlib.Core.List.{List, [], _∷_, _++_}
 use Prim.Native.Nat.{ℕ, zero, suc, _+_, _*_, _-_, _≤_, _<_}
 use native.Mathlib.Omega.{arith}
 use native.Mathlib.Decide.{decLt}
 use native.Mathlib.Numerals.{add-one}
+use lib.IntN.{ℤ}
 use lib.ListN.{length, getD, drop, drop-of-length-le, List·getD-eq-default}
 use lib.Seq.{drop-cons}
 use Rattle.casefile.specs.declared.Kind.{Kind}
-use Rattle.casefile.specs.Form.{Mark, digit, quote, comma, cr, lf, other, mark, State, bare, quoted, closed, field, opened, lineEnd, lastLineEnd, step, more, mayEnd}
-use Rattle.casefile.specs.Records.{Reading, reading, run, absorb, recordsAtEnd, isFirst, Form, whole, broken}
-use Rattle.casefile.specs.Reader.{within}
+use Rattle.casefile.specs.declared.Kind.the-variants.{Tariff, Production}
+use Rattle.casefile.specs.Form.{
+  Mark,
+  digit,
+  minus,
+  quote,
+  comma,
+  cr,
+  lf,
+  other,
+  mark,
+  State,
+  field,
+  opened,
+  bare,
+  quoted,
+  closed,
+  minusBare,
+  minusQuoted,
+  bareCost,
+  quotedCost,
+  closedCost,
+  lineEnd,
+  lastLineEnd,
+  inTariff,
+  step,
+  more,
+  mayEnd,
+}
+use Rattle.casefile.specs.Records.{Reading, reading, run, absorb, recordsAtEnd, isFirst, isSource, Form, whole, broken}
+use Rattle.casefile.specs.Reader.{isMinus, within, closedAs}
 use Rattle.casefile.proofs.Marks.{NotDigit, Seen}
 
 -- after a byte of the mark m
 abbrev pub onward : Kind → Reading → Mark → List ℕ → ℕ → ℕ → Form
 onward kind r m s at next =
-    elim (step kind (isFirst (r .rows)) (r .state) m) [ none ↦ broken at | some t ↦ run kind next (absorb m t r) (drop next s) ]
+    elim (step kind (isSource r) (r .state) m) [ none ↦ broken at | some t ↦ run kind next (absorb m t r) (drop next s) ]
 
 -- where the file ends
 abbrev pub ended : Kind → Reading → ℕ → Form
@@ -35,7 +64,7 @@ at-end kind r s at h = rw (drop-of-length-le s h) refl
 -- a byte that no file has there, or the end where no file ends
 pub refused :
     (kind : Kind) (r : Reading) (s : List ℕ) (at : ℕ) →
-    step kind (isFirst (r .rows)) (r .state) (mark (getD s at 0)) ≡ none →
+    step kind (isSource r) (r .state) (mark (getD s at 0)) ≡ none →
     mayEnd kind (r .state) ≡ false →
     run kind at r (drop at s) ≡ broken at
 refused kind r s at no-step no-end =
@@ -44,123 +73,255 @@ refused kind r s at no-step no-end =
       | no h ↦ at-end kind r s at (omega arith) ∙ rw (no-end, ended)
     ]
 
-module _ (kind : Kind) (first : Bool) where
+-- where a number begins: quoted or bare, after a minus or not
+abbrev pub start : Bool → Bool → State
+start true false = opened
+start false false = field
+start true true = minusQuoted
+start false true = minusBare
+
+minus-none : (kind : Kind) (s : State) → isMinus kind minus ≡ false → inTariff kind s ≡ none
+unfolding inTariff
+minus-none Tariff s e = absurd (true≢false e)
+minus-none Production s e = refl
+
+module _ (kind : Kind) (source : Bool) where
   -- what has no next state
-  pub no-digit : (m : Mark) → NotDigit m → step kind first opened m ≡ none
-  unfolding step
-  no-digit (digit d) h = absurd h
-  no-digit quote h = refl
-  no-digit comma h = refl
-  no-digit cr h = refl
-  no-digit lf h = refl
-  no-digit other h = refl
+  pub no-field : (b : ℕ) (m : Mark) → Seen b m → (b ≡ 34 → ⊥) → isMinus kind m ≡ false → NotDigit m → step kind source field m ≡ none
+  unfolding step inTariff
+  no-field b (digit d) k q e h = absurd h
+  no-field b minus k q e h = minus-none kind minusBare e
+  no-field b quote k q e h = absurd (q k)
+  no-field b comma k q e h = refl
+  no-field b cr k q e h = refl
+  no-field b lf k q e h = refl
+  no-field b other k q e h = refl
 
-  pub no-field : (b : ℕ) (m : Mark) → Seen b m → (b ≡ 34 → ⊥) → NotDigit m → step kind first field m ≡ none
-  unfolding step
-  no-field b (digit d) k q h = absurd h
-  no-field b quote k q h = absurd (q k)
-  no-field b comma k q h = refl
-  no-field b cr k q h = refl
-  no-field b lf k q h = refl
-  no-field b other k q h = refl
+  pub no-opened : (m : Mark) → isMinus kind m ≡ false → NotDigit m → step kind source opened m ≡ none
+  unfolding step inTariff
+  no-opened (digit d) e h = absurd h
+  no-opened minus e h = minus-none kind minusQuoted e
+  no-opened quote e h = refl
+  no-opened comma e h = refl
+  no-opened cr e h = refl
+  no-opened lf e h = refl
+  no-opened other e h = refl
 
-  pub no-quote : (b : ℕ) (m : Mark) → Seen b m → (b ≡ 34 → ⊥) → step kind first (quoted 0) m ≡ none
+  pub no-signed : (q : Bool) (m : Mark) → NotDigit m → step kind source (start q true) m ≡ none
+  unfolding step
+  no-signed true (digit d) h = absurd h
+  no-signed true minus h = refl
+  no-signed true quote h = refl
+  no-signed true comma h = refl
+  no-signed true cr h = refl
+  no-signed true lf h = refl
+  no-signed true other h = refl
+  no-signed false (digit d) h = absurd h
+  no-signed false minus h = refl
+  no-signed false quote h = refl
+  no-signed false comma h = refl
+  no-signed false cr h = refl
+  no-signed false lf h = refl
+  no-signed false other h = refl
+
+  pub no-quote : (n : Bool) (b : ℕ) (m : Mark) → Seen b m → (b ≡ 34 → ⊥) → step kind source (within true n 0) m ≡ none
   unfolding step more
-  no-quote b (digit d) k q = refl
-  no-quote b quote k q = absurd (q k)
-  no-quote b comma k q = refl
-  no-quote b cr k q = refl
-  no-quote b lf k q = refl
-  no-quote b other k q = refl
+  no-quote true b (digit d) k q = refl
+  no-quote true b minus k q = refl
+  no-quote true b quote k q = absurd (q k)
+  no-quote true b comma k q = refl
+  no-quote true b cr k q = refl
+  no-quote true b lf k q = refl
+  no-quote true b other k q = refl
+  no-quote false b (digit d) k q = refl
+  no-quote false b minus k q = refl
+  no-quote false b quote k q = absurd (q k)
+  no-quote false b comma k q = refl
+  no-quote false b cr k q = refl
+  no-quote false b lf k q = refl
+  no-quote false b other k q = refl
 
-  pub no-mark : (b : ℕ) (m : Mark) → Seen b m → (b ≡ 44 → ⊥) → (b ≡ 13 → ⊥) → step kind first closed m ≡ none
+  pub no-mark : (b : ℕ) (m : Mark) → Seen b m → (b ≡ 44 → ⊥) → (b ≡ 13 → ⊥) → step kind source closed m ≡ none
   unfolding step
   no-mark b (digit d) k c r = refl
+  no-mark b minus k c r = refl
   no-mark b quote k c r = refl
   no-mark b comma k c r = absurd (c k)
   no-mark b cr k c r = absurd (r k)
   no-mark b lf k c r = refl
   no-mark b other k c r = refl
 
-  pub no-feed : (b : ℕ) (m : Mark) → Seen b m → (b ≡ 10 → ⊥) → (step kind first lineEnd m ≡ none) × (step kind first lastLineEnd m ≡ none)
+  pub no-comma : (b : ℕ) (m : Mark) → Seen b m → (b ≡ 44 → ⊥) → step kind source closedCost m ≡ none
+  unfolding step
+  no-comma b (digit d) k c = refl
+  no-comma b minus k c = refl
+  no-comma b quote k c = refl
+  no-comma b comma k c = absurd (c k)
+  no-comma b cr k c = refl
+  no-comma b lf k c = refl
+  no-comma b other k c = refl
+
+  pub no-feed : (b : ℕ) (m : Mark) → Seen b m → (b ≡ 10 → ⊥) → (step kind source lineEnd m ≡ none) × (step kind source lastLineEnd m ≡ none)
   unfolding step
   no-feed b (digit d) k f = (refl, refl)
+  no-feed b minus k f = (refl, refl)
   no-feed b quote k f = (refl, refl)
   no-feed b comma k f = (refl, refl)
   no-feed b cr k f = (refl, refl)
   no-feed b lf k f = absurd (f k)
   no-feed b other k f = (refl, refl)
 
--- where no digit comes, the digits end
-pub digits-end :
-    (kind : Kind) (q : Bool) (left v : ℕ) (r : List ℕ) (rs : List (List ℕ)) (s : List ℕ) (at : ℕ) →
-    NotDigit (mark (getD s at 0)) →
-    run kind at (reading (within q left) v r rs) (drop at s) ≡ run kind at (reading (within q 0) v r rs) (drop at s)
-unfolding absorb step recordsAtEnd mayEnd
-digits-end kind q left v r rs s at h =
-    elim (decLt at (length s)) [
-      | yes k ↦ here kind _ s at _ k refl ∙ on q (mark (getD s at 0)) h ∙ sym (here kind _ s at _ k refl)
-      | no k ↦ at-end kind _ s at (omega arith) ∙ off q ∙ sym (at-end kind _ s at (omega arith))
-    ]
+-- no file ends where a number begins, nor in a quoted number
+pub start-on : (kind : Kind) (q m : Bool) → mayEnd kind (start q m) ≡ false
+unfolding mayEnd
+start-on kind true true = refl
+start-on kind true false = refl
+start-on kind false true = refl
+start-on kind false false = refl
+
+pub quoted-on : (kind : Kind) (m : Bool) → mayEnd kind (within true m 0) ≡ false
+unfolding mayEnd
+quoted-on kind true = refl
+quoted-on kind false = refl
+
+-- a field with its number: quoted or bare, after a minus or not
+module _ (kind : Kind) (q m b : Bool) (r : List ℤ) (rs : List (List ℤ)) (s : List ℕ) (at : ℕ) where
+  -- where no digit comes, the digits end
+  pub digits-end :
+      (left v : ℕ) → NotDigit (mark (getD s at 0)) →
+      run kind at (reading (within q m left) v m b r rs) (drop at s) ≡ run kind at (reading (within q m 0) v m b r rs) (drop at s)
+  unfolding absorb step recordsAtEnd mayEnd
+  digits-end left v h =
+      elim (decLt at (length s)) [
+        | yes k ↦ here kind _ s at _ k refl ∙ on q m (mark (getD s at 0)) h ∙ sym (here kind _ s at _ k refl)
+        | no k ↦ at-end kind _ s at (omega arith) ∙ off q m ∙ sym (at-end kind _ s at (omega arith))
+      ]
+    where
+      on : (q m : Bool) (k : Mark) → NotDigit k →
+          onward kind (reading (within q m left) v m b r rs) k s at (at + 1) ≡ onward kind (reading (within q m 0) v m b r rs) k s at (at + 1)
+      on true true (digit d) h = absurd h
+      on true true minus h = refl
+      on true true quote h = refl
+      on true true comma h = refl
+      on true true cr h = refl
+      on true true lf h = refl
+      on true true other h = refl
+      on true false (digit d) h = absurd h
+      on true false minus h = refl
+      on true false quote h = refl
+      on true false comma h = refl
+      on true false cr h = refl
+      on true false lf h = refl
+      on true false other h = refl
+      on false true (digit d) h = absurd h
+      on false true minus h = refl
+      on false true quote h = refl
+      on false true comma h = refl
+      on false true cr h = refl
+      on false true lf h = refl
+      on false true other h = refl
+      on false false (digit d) h = absurd h
+      on false false minus h = refl
+      on false false quote h = refl
+      on false false comma h = refl
+      on false false cr h = refl
+      on false false lf h = refl
+      on false false other h = refl
+
+      off : (q m : Bool) → ended kind (reading (within q m left) v m b r rs) at ≡ ended kind (reading (within q m 0) v m b r rs) at
+      off true true = refl
+      off true false = refl
+      off false true = refl
+      off false false = refl
+
+  module _ (d : ℕ) (h : at < length s) (e : mark (getD s at 0) ≡ digit d) where
+    -- one digit more
+    pub digits-more :
+        (left v : ℕ) → run kind at (reading (within q m (suc left)) v m b r rs) (drop at s)
+        ≡ run kind (at + 1) (reading (within q m left) (v * 10 + d) m b r rs) (drop (at + 1) s)
+    unfolding step more absorb
+    digits-more left v = here kind (reading (within q m (suc left)) v m b r rs) s at (digit d) h e ∙ go q m
+      where
+        go : (q m : Bool) →
+            onward kind (reading (within q m (suc left)) v m b r rs) (digit d) s at (at + 1)
+            ≡ run kind (at + 1) (reading (within q m left) (v * 10 + d) m b r rs) (drop (at + 1) s)
+        go true true = refl
+        go true false = refl
+        go false true = refl
+        go false false = refl
+
+    -- a number that begins with a digit
+    pub begins : run kind at (reading (start q m) 0 m b r rs) (drop at s) ≡ run kind at (reading (within q m 10) 0 m b r rs) (drop at s)
+    unfolding step more absorb
+    begins = here kind (reading (start q m) 0 m b r rs) s at (digit d) h e ∙ go q m ∙ sym (here kind (reading (within q m 10) 0 m b r rs) s at (digit d) h e)
+      where
+        go : (q m : Bool) →
+            onward kind (reading (start q m) 0 m b r rs) (digit d) s at (at + 1) ≡ onward kind (reading (within q m 10) 0 m b r rs) (digit d) s at (at + 1)
+        go true true = refl
+        go true false = refl
+        go false true = refl
+        go false false = refl
+
+module _ (kind : Kind) (m b : Bool) (v : ℕ) (r : List ℤ) (rs : List (List ℤ)) (s : List ℕ) (at : ℕ) where
+  -- a bare field that has all its digits is as one that is closed
+  pub bare-closed : run kind at (reading (within false m 0) v m b r rs) (drop at s) ≡ run kind at (reading (closedAs m) v m b r rs) (drop at s)
+  unfolding absorb step more recordsAtEnd mayEnd
+  bare-closed =
+      elim (decLt at (length s)) [
+        | yes k ↦
+            here kind (reading (within false m 0) v m b r rs) s at (mark (getD s at 0)) k refl ∙ on m (mark (getD s at 0))
+            ∙ sym (here kind (reading (closedAs m) v m b r rs) s at (mark (getD s at 0)) k refl)
+        | no k ↦
+            at-end kind (reading (within false m 0) v m b r rs) s at (omega arith) ∙ off m
+            ∙ sym (at-end kind (reading (closedAs m) v m b r rs) s at (omega arith))
+      ]
+    where
+      on : (m : Bool) (k : Mark) → onward kind (reading (within false m 0) v m b r rs) k s at (at + 1) ≡ onward kind (reading (closedAs m) v m b r rs) k s at (at + 1)
+      on true (digit d) = refl
+      on true minus = refl
+      on true quote = refl
+      on true comma = refl
+      on true cr = refl
+      on true lf = refl
+      on true other = refl
+      on false (digit d) = refl
+      on false minus = refl
+      on false quote = refl
+      on false comma = refl
+      on false cr = refl
+      on false lf = refl
+      on false other = refl
+
+      off : (m : Bool) → ended kind (reading (within false m 0) v m b r rs) at ≡ ended kind (reading (closedAs m) v m b r rs) at
+      off true = refl
+      off false = refl
+
+  -- the quote that closes a field
+  pub quote-closed :
+      at < length s → mark (getD s at 0) ≡ quote →
+      run kind at (reading (within true m 0) v m b r rs) (drop at s) ≡ run kind (at + 1) (reading (closedAs m) v m b r rs) (drop (at + 1) s)
+  unfolding absorb step
+  quote-closed h e = here kind (reading (within true m 0) v m b r rs) s at quote h e ∙ go m
+    where
+      go : (m : Bool) → onward kind (reading (within true m 0) v m b r rs) quote s at (at + 1) ≡ run kind (at + 1) (reading (closedAs m) v m b r rs) (drop (at + 1) s)
+      go true = refl
+      go false = refl
+
+-- a minus before a number, bare and quoted
+pub minus-begins :
+    (kind : Kind) (q b : Bool) (r : List ℤ) (rs : List (List ℤ)) (s : List ℕ) (at : ℕ) → at < length s → isMinus kind (mark (getD s at 0)) ≡ true →
+    run kind at (reading (start q false) 0 false b r rs) (drop at s) ≡ run kind (at + 1) (reading (start q true) 0 true true r rs) (drop (at + 1) s)
+unfolding absorb step inTariff
+minus-begins kind q b r rs s at h e = here kind (reading (start q false) 0 false b r rs) s at (mark (getD s at 0)) h refl ∙ go kind q (mark (getD s at 0)) e
   where
-    on : (q : Bool) (m : Mark) → NotDigit m →
-        onward kind (reading (within q left) v r rs) m s at (at + 1) ≡ onward kind (reading (within q 0) v r rs) m s at (at + 1)
-    on true (digit d) h = absurd h
-    on false (digit d) h = absurd h
-    on true quote h = refl
-    on false quote h = refl
-    on true comma h = refl
-    on false comma h = refl
-    on true cr h = refl
-    on false cr h = refl
-    on true lf h = refl
-    on false lf h = refl
-    on true other h = refl
-    on false other h = refl
-
-    off : (q : Bool) → ended kind (reading (within q left) v r rs) at ≡ ended kind (reading (within q 0) v r rs) at
-    off true = refl
-    off false = refl
-
--- one digit more
-pub digits-more :
-    (kind : Kind) (q : Bool) (left v : ℕ) (r : List ℕ) (rs : List (List ℕ)) (s : List ℕ) (at d : ℕ) →
-    at < length s → mark (getD s at 0) ≡ digit d →
-    run kind at (reading (within q (suc left)) v r rs) (drop at s) ≡ run kind (at + 1) (reading (within q left) (v * 10 + d) r rs) (drop (at + 1) s)
-unfolding step more absorb
-digits-more kind true left v r rs s at d h e = here kind _ s at (digit d) h e
-digits-more kind false left v r rs s at d h e = here kind _ s at (digit d) h e
-
--- a field that begins with a digit, bare and quoted
-pub begins-bare :
-    (kind : Kind) (r : List ℕ) (rs : List (List ℕ)) (s : List ℕ) (at d : ℕ) → at < length s → mark (getD s at 0) ≡ digit d →
-    run kind at (reading field 0 r rs) (drop at s) ≡ run kind at (reading (bare 10) 0 r rs) (drop at s)
-unfolding step more absorb
-begins-bare kind r rs s at d h e = here kind _ s at (digit d) h e ∙ sym (here kind _ s at (digit d) h e)
-
-pub begins-quoted :
-    (kind : Kind) (r : List ℕ) (rs : List (List ℕ)) (s : List ℕ) (at d : ℕ) → at < length s → mark (getD s at 0) ≡ digit d →
-    run kind at (reading opened 0 r rs) (drop at s) ≡ run kind at (reading (quoted 10) 0 r rs) (drop at s)
-unfolding step more absorb
-begins-quoted kind r rs s at d h e = here kind _ s at (digit d) h e ∙ sym (here kind _ s at (digit d) h e)
-
--- a bare field that has all its digits is as one that is closed
-pub bare-closed :
-    (kind : Kind) (v : ℕ) (r : List ℕ) (rs : List (List ℕ)) (s : List ℕ) (at : ℕ) →
-    run kind at (reading (bare 0) v r rs) (drop at s) ≡ run kind at (reading closed v r rs) (drop at s)
-unfolding absorb step more recordsAtEnd mayEnd
-bare-closed kind v r rs s at =
-    elim (decLt at (length s)) [
-      | yes k ↦
-          here kind (reading (bare 0) v r rs) s at (mark (getD s at 0)) k refl ∙ on (mark (getD s at 0))
-          ∙ sym (here kind (reading closed v r rs) s at (mark (getD s at 0)) k refl)
-      | no k ↦ at-end kind (reading (bare 0) v r rs) s at (omega arith) ∙ sym (at-end kind (reading closed v r rs) s at (omega arith))
-    ]
-  where
-    on : (m : Mark) → onward kind (reading (bare 0) v r rs) m s at (at + 1) ≡ onward kind (reading closed v r rs) m s at (at + 1)
-    on (digit d) = refl
-    on quote = refl
-    on comma = refl
-    on cr = refl
-    on lf = refl
-    on other = refl
+    go : (kind : Kind) (q : Bool) (m : Mark) → isMinus kind m ≡ true →
+        onward kind (reading (start q false) 0 false b r rs) m s at (at + 1) ≡ run kind (at + 1) (reading (start q true) 0 true true r rs) (drop (at + 1) s)
+    go Production q m e = absurd (true≢false (sym e))
+    go Tariff true minus e = refl
+    go Tariff false minus e = refl
+    go Tariff q (digit d) e = absurd (true≢false (sym e))
+    go Tariff q quote e = absurd (true≢false (sym e))
+    go Tariff q comma e = absurd (true≢false (sym e))
+    go Tariff q cr e = absurd (true≢false (sym e))
+    go Tariff q lf e = absurd (true≢false (sym e))
+    go Tariff q other e = absurd (true≢false (sym e))

@@ -5,6 +5,7 @@ use Prim.Native.Nat.{ℕ, zero, suc, _+_, _-_, _*_, _≤_, _<_}
 use native.Mathlib.Omega.{arith}
 use native.Mathlib.Nat.{add-zero, zero-mul, suc-mul, mul-le-mul-right, sub-zero}
 use native.Mathlib.Numerals.{add-one}
+use lib.IntN.{ℤ, pos, natAbs}
 use lib.ListN.{length, getD, take, drop, set, length-append, length-set}
 use lib.Seq.{sets, length-sets, drop-drop, getD-drop}
 use Rattle.casefile.specs.Files.{inOrder}
@@ -12,7 +13,7 @@ use Rattle.casefile.specs.CaseFiles.{costRows, supplyRows}
 use Rattle.csvtext.proofs.Stores.{sets-append, part-length}
 
 -- the loop over the sources, after i of them
-pub record Sharing (cells : List ℕ) (m n : ℕ) (costs₀ supplies₀ costs supplies : List ℕ) (start at i : ℕ) : Type 0 where
+pub record Sharing (cells : List ℤ) (m n : ℕ) (costs₀ : List ℤ) (supplies₀ : List ℕ) (costs : List ℤ) (supplies : List ℕ) (start at i : ℕ) : Type 0 where
   pub upto : i ≤ m
   pub from : start ≡ i * (n + 1)
   pub behind : at ≤ start
@@ -21,7 +22,7 @@ pub record Sharing (cells : List ℕ) (m n : ℕ) (costs₀ supplies₀ costs su
   pub costs-same : length costs ≡ length costs₀
   pub supplies-same : length supplies ≡ length supplies₀
 
-pub sharing-start : (cells : List ℕ) (m n : ℕ) (costs supplies : List ℕ) → Sharing cells m n costs supplies costs supplies 0 0 0
+pub sharing-start : (cells : List ℤ) (m n : ℕ) (costs : List ℤ) (supplies : List ℕ) → Sharing cells m n costs supplies costs supplies 0 0 0
 sharing-start cells m n costs supplies = record {
   upto = omega arith;
   from = sym (zero-mul (n + 1));
@@ -32,7 +33,7 @@ sharing-start cells m n costs supplies = record {
   supplies-same = refl;
 }
 
-module _ (cells : List ℕ) (m n : ℕ) (costs₀ supplies₀ costs supplies : List ℕ) (start at i : ℕ) (enough : m * (n + 1) ≤ length cells)
+module _ (cells : List ℤ) (m n : ℕ) (costs₀ : List ℤ) (supplies₀ : List ℕ) (costs : List ℤ) (supplies : List ℕ) (start at i : ℕ) (enough : m * (n + 1) ≤ length cells)
     (s : Sharing cells m n costs₀ supplies₀ costs supplies start at i) where
   -- this source's record lies within the cells
   pub source-within : i < m → start + (n + 1) ≤ length cells
@@ -41,13 +42,13 @@ module _ (cells : List ℕ) (m n : ℕ) (costs₀ supplies₀ costs supplies : L
       omega (arith, s .from, suc-mul i (n + 1), p)
 
   pub sharing-next :
-      (costs′ supplies′ : List ℕ) → i < m → costs′ ≡ sets costs at (take n (drop start cells)) → supplies′ ≡ set supplies i (getD cells (start + n) 0) →
+      (costs′ : List ℤ) (supplies′ : List ℕ) (y : ℕ) → i < m → costs′ ≡ sets costs at (take n (drop start cells)) → supplies′ ≡ set supplies i y → y ≡ natAbs (getD cells (start + n) (pos 0)) →
       Sharing cells m n costs₀ supplies₀ costs′ supplies′ (start + n + 1) (at + n) (i + 1)
   unfolding costRows supplyRows
-  sharing-next costs′ supplies′ h ec es =
+  sharing-next costs′ supplies′ y h ec es ey =
       let k : m - i ≡ suc (m - (i + 1)) = omega arith in
       let w = source-within h in
-      let here : List ℕ = drop start cells in
+      let here : List ℤ = drop start cells in
       let d : drop (start + n + 1) cells ≡ drop (n + 1) here =
       (let e : start + n + 1 ≡ start + (n + 1) = omega arith in rw e (sym (drop-drop (n + 1) start cells))) in
       let c : length (take n here) ≡ n = part-length cells start n (omega (arith, w)) in
@@ -55,8 +56,8 @@ module _ (cells : List ℕ) (m n : ℕ) (costs₀ supplies₀ costs supplies : L
       ≡ sets (sets costs at (take n here)) (at + length (take n here)) (costRows (m - (i + 1)) n (drop (n + 1) here))
       = rw (ec, d, c) refl in
       let step-supplies : sets supplies′ (i + 1) (supplyRows (m - (i + 1)) n (drop (start + n + 1) cells))
-      ≡ sets (set supplies i (getD here n 0)) (suc i) (supplyRows (m - (i + 1)) n (drop (n + 1) here))
-      = rw (es, d, add-one i, getD-drop start cells n 0) refl in
+      ≡ sets (set supplies i (natAbs (getD here n (pos 0)))) (suc i) (supplyRows (m - (i + 1)) n (drop (n + 1) here))
+      = rw (es, ey, d, add-one i, getD-drop start cells n (pos 0)) refl in
       record {
         upto = omega arith;
         from = omega (arith, s .from, suc-mul i (n + 1), ap (λ (x : ℕ). x * (n + 1)) (add-one i));
@@ -66,7 +67,7 @@ module _ (cells : List ℕ) (m n : ℕ) (costs₀ supplies₀ costs supplies : L
             ∙ ap (λ (x : ℕ). sets costs at (costRows x n here)) (sym k) ∙ s .costs-rest;
         supplies-rest = step-supplies ∙ ap (λ (x : ℕ). sets supplies i (supplyRows x n here)) (sym k) ∙ s .supplies-rest;
         costs-same = ap length ec ∙ length-sets costs at (take n (drop start cells)) ∙ s .costs-same;
-        supplies-same = ap length es ∙ length-set supplies i (getD cells (start + n) 0) ∙ s .supplies-same;
+        supplies-same = ap length es ∙ length-set supplies i y ∙ s .supplies-same;
       }
 
   pub sharing-end : m ≤ i → (costs ≡ sets costs₀ 0 (costRows m n cells)) × (supplies ≡ sets supplies₀ 0 (supplyRows m n cells))

@@ -1,10 +1,11 @@
 -- The loop over the fields of a file. Assumes nothing.
 use mathlib.Core.Path.{_≡_, refl, ap, sym, _∙_, subst}
-use mathlib.Core.Bool.{Bool, true, false}
+use mathlib.Core.Bool.{Bool, true, false, _||_}
 use mathlib.Core.List.{List, [], _∷_, _++_, append-assoc, append-nil}
-use Prim.Native.Nat.{ℕ, zero, suc, _+_, _≤_, _<_}
+use Prim.Native.Nat.{ℕ, zero, suc, _+_, _≤_, _<_, _^_}
 use native.Mathlib.Omega.{arith}
 use borrow.Author.Tests.{lt-ltb, le-ltb}
+use lib.IntN.{ℤ, pos}
 use lib.ListN.{length, set, drop, length-append}
 use lib.Seq.{sets, length-sets}
 use Rattle.casefile.specs.declared.Kind.{Kind}
@@ -15,12 +16,12 @@ use Rattle.casefile.specs.declared.after.After.the-variants as after-ans
 use Rattle.casefile.specs.declared.table.Table.{Table}
 use Rattle.casefile.specs.declared.table.Table.the-variants.{Refused}
 use Rattle.casefile.specs.declared.table.Tally.{Tally}
-use Rattle.casefile.specs.Form.{field, closed}
-use Rattle.casefile.specs.Records.{reading, run, rowWith, rowsWith, Form, whole, broken, formOf}
+use Rattle.casefile.specs.Form.{field}
+use Rattle.casefile.specs.Records.{reading, run, signed, rowWith, rowsWith, Form, whole, broken, formOf}
 use Rattle.casefile.specs.Files.{tableOf, judge, judged, inOrder, pickTable}
-use Rattle.casefile.specs.Reader.{FieldRead, AfterRead, atField, Counted}
-use Rattle.casefile.specs.Tallies.{startTally, fieldTally, recordTally, Countable, handedOn, TableRead}
-use Rattle.casefile.proofs.Tallies.{Tallied, tally-start, tally-field, tally-record, inOrder-snoc, judged-whole}
+use Rattle.casefile.specs.Reader.{closedAs, FieldRead, AfterRead, atField, Known}
+use Rattle.casefile.specs.Tallies.{startTally, fieldTally, recordTally, sourceTally, Countable, handedOn, TableRead}
+use Rattle.casefile.proofs.Tallies.{Tallied, tally-start, tally-field, tally-record, tally-source, inOrder-snoc, judged-whole}
 use Rattle.csvtext.proofs.Stores.{sets-snoc}
 
 -- the counts do not outgrow the offset
@@ -32,32 +33,35 @@ pub record Few (t : Tally) (at : ℕ) : Type 0 where
 pub countable : (t : Tally) (at : ℕ) → Few t at → at ≤ 65537 → Countable t
 countable t at few h = record { records = omega (arith, few); fields = omega (arith, few); values = omega (arith, few) }
 
-pub few-field : (t t′ : Tally) (at : ℕ) → t′ ≡ fieldTally t → Few t at → Few t′ (at + 1)
-few-field t t′ at e few = subst (λ (a : Tally). Few a (at + 1)) (sym e) (record { values = omega (arith, few); parts = omega (arith, few) })
+pub few-field : (t t′ : Tally) (m : Bool) (at : ℕ) → t′ ≡ fieldTally m t → Few t at → Few t′ (at + 1)
+few-field t t′ m at e few = subst (λ (a : Tally). Few a (at + 1)) (sym e) (record { values = omega (arith, few); parts = omega (arith, few) })
 
 -- where a field begins
-pub record Along (kind : Kind) (s cells₀ cells : List ℕ) (t : Tally) (at : ℕ) : Type 0 where
-  pub row : List ℕ
-  pub rows : List (List ℕ)
-  pub so-far : formOf kind s ≡ run kind at (reading field 0 row rows) (drop at s)
-  pub tally : Tallied kind rows row t
+pub record Along (kind : Kind) (s : List ℕ) (cells₀ cells : List ℤ) (t : Tally) (at : ℕ) : Type 0 where
+  pub rebate : Bool
+  pub row : List ℤ
+  pub rows : List (List ℤ)
+  pub so-far : formOf kind s ≡ run kind at (reading field 0 false rebate row rows) (drop at s)
+  pub tally : Tallied kind rebate rows row t
   pub stored : cells ≡ sets cells₀ 0 (inOrder rows ++ row)
   pub upto : at ≤ length s
   pub few : Few t at
 
--- where a field of the value v has ended
-pub record Valued (kind : Kind) (s cells₀ cells : List ℕ) (t : Tally) (v next : ℕ) : Type 0 where
-  pub row : List ℕ
-  pub rows : List (List ℕ)
-  pub so-far : formOf kind s ≡ run kind next (reading closed v row rows) (drop next s)
-  pub tally : Tallied kind rows (rowWith v row) t
-  pub stored : cells ≡ sets cells₀ 0 (inOrder rows ++ rowWith v row)
+-- where a field of the value v, with a minus or not, has ended
+pub record Valued (kind : Kind) (s : List ℕ) (cells₀ cells : List ℤ) (t : Tally) (m : Bool) (v next : ℕ) : Type 0 where
+  pub rebate : Bool
+  pub row : List ℤ
+  pub rows : List (List ℤ)
+  pub so-far : formOf kind s ≡ run kind next (reading (closedAs m) v m rebate row rows) (drop next s)
+  pub tally : Tallied kind rebate rows (rowWith (signed m v) row) t
+  pub stored : cells ≡ sets cells₀ 0 (inOrder rows ++ rowWith (signed m v) row)
   pub upto : next ≤ length s
   pub few : Few t next
 
-pub along-start : (kind : Kind) (s cells : List ℕ) → Along kind s cells cells (startTally kind) 0
+pub along-start : (kind : Kind) (s : List ℕ) (cells : List ℤ) → Along kind s cells cells (startTally kind) 0
 unfolding formOf inOrder
 along-start kind s cells = record {
+  rebate = false;
   row = [];
   rows = [];
   so-far = refl;
@@ -67,15 +71,15 @@ along-start kind s cells = record {
   few = record { values = omega arith; parts = omega arith };
 }
 
-pub along-length : {kind : Kind} {s cells₀ cells : List ℕ} {t : Tally} {at : ℕ} → Along kind s cells₀ cells t at → length cells ≡ length cells₀
+pub along-length : {kind : Kind} {s : List ℕ} {cells₀ cells : List ℤ} {t : Tally} {at : ℕ} → Along kind s cells₀ cells t at → length cells ≡ length cells₀
 along-length {cells₀ = cells₀} along = ap length (along .stored) ∙ length-sets cells₀ 0 (inOrder (along .rows) ++ along .row)
 
-pub valued-length : {kind : Kind} {s cells₀ cells : List ℕ} {t : Tally} {v next : ℕ} → Valued kind s cells₀ cells t v next → length cells ≡ length cells₀
-valued-length {cells₀ = cells₀} {v = v} valued = ap length (valued .stored) ∙ length-sets cells₀ 0 (inOrder (valued .rows) ++ rowWith v (valued .row))
+pub valued-length : {kind : Kind} {s : List ℕ} {cells₀ cells : List ℤ} {t : Tally} {m : Bool} {v next : ℕ} → Valued kind s cells₀ cells t m v next → length cells ≡ length cells₀
+valued-length {cells₀ = cells₀} {m = m} {v = v} valued = ap length (valued .stored) ∙ length-sets cells₀ 0 (inOrder (valued .rows) ++ rowWith (signed m v) (valued .row))
 
 -- a file of the wrong form
 broken-table :
-    (kind : Kind) (s cells cells′ : List ℕ) (place : ℕ) → length s ≤ 65536 → formOf kind s ≡ broken place → TableRead kind s cells cells′ (Refused 21 place)
+    (kind : Kind) (s : List ℕ) (cells cells′ : List ℤ) (place : ℕ) → length s ≤ 65536 → formOf kind s ≡ broken place → TableRead kind s cells cells′ (Refused 21 place)
 unfolding tableOf judge
 broken-table kind s cells cells′ place short e = record {
   answered = rw (le-ltb 65536 (length s) short, e) refl;
@@ -85,18 +89,18 @@ broken-table kind s cells cells′ place short e = record {
 
 -- a file of the right form
 whole-table :
-    (kind : Kind) (s cells cells′ : List ℕ) (rs : List (List ℕ)) (t : Tally) → length s ≤ 65536 → formOf kind s ≡ whole rs →
-    0 < length rs → Tallied kind rs [] t → cells′ ≡ sets cells 0 (inOrder rs) → TableRead kind s cells cells′ (judged (t .odd) (t .records) (t .width))
+    (kind : Kind) (s : List ℕ) (cells cells′ : List ℤ) (rs : List (List ℤ)) (t : Tally) → length s ≤ 65536 → formOf kind s ≡ whole rs →
+    0 < length rs → Tallied kind false rs [] t → cells′ ≡ sets cells 0 (inOrder rs) → TableRead kind s cells cells′ (judged (t .odd) (t .records) (t .width))
 unfolding tableOf judge
 whole-table kind s cells cells′ rs t short e h k c = record {
   answered = rw (le-ltb 65536 (length s) short, e, k .odd, k .records, k .width) refl;
   some = λ records fields w.
       let p = judged-whole (t .odd) (t .records) (t .width) records fields w in
       (omega (arith, p, k .records), omega (arith, p, k .width, k .some h));
-  stored = λ rs′ _ w. c ∙ ap (λ (l : List (List ℕ)). sets cells 0 (inOrder l)) (let z : rs ≡ rs′ = cc in z);
+  stored = λ rs′ _ w. c ∙ ap (λ (l : List (List ℤ)). sets cells 0 (inOrder l)) (let z : rs ≡ rs′ = cc in z);
 }
 
-pub long-table : (kind : Kind) (s cells : List ℕ) → 65536 < length s → TableRead kind s cells cells (Refused 20 0)
+pub long-table : (kind : Kind) (s : List ℕ) (cells : List ℤ) → 65536 < length s → TableRead kind s cells cells (Refused 20 0)
 unfolding tableOf
 long-table kind s cells h = record {
   answered = rw (lt-ltb 65536 (length s) h) refl;
@@ -104,38 +108,50 @@ long-table kind s cells h = record {
   stored = λ rs short w. absurd (omega arith);
 }
 
-module _ (kind : Kind) (s cells₀ : List ℕ) where
-  module _ (cells : List ℕ) (t : Tally) (at : ℕ) (along : Along kind s cells₀ cells t at) (f : Field) (read : FieldRead field s at f) where
-    pub field-refused : (place : ℕ) (cells′ : List ℕ) → length s ≤ 65536 → f ≡ field-answers.Refused place → TableRead kind s cells₀ cells′ (handedOn f)
-    field-refused place cells′ short e =
-        let known : FieldRead field s at (field-answers.Refused place) = subst (λ (a : Field). FieldRead field s at a) e read in
-        rw e (broken-table kind s cells₀ cells′ place short (along .so-far ∙ known .meaning kind (along .row) (along .rows)))
+module _ (kind : Kind) (s : List ℕ) (cells₀ : List ℤ) where
+  module _ (cells : List ℤ) (t : Tally) (at : ℕ) (along : Along kind s cells₀ cells t at) (f : Field) (read : FieldRead kind field s at f) where
+    same : (a : Field) → f ≡ a → FieldRead kind field s at a
+    same a e = subst (λ (x : Field). FieldRead kind field s at x) e read
 
-    pub field-ahead : (v next : ℕ) → f ≡ field-answers.Value v next → at < next
-    field-ahead v next e = let known : FieldRead field s at (field-answers.Value v next) = subst (λ (a : Field). FieldRead field s at a) e read in known .ends .0
+    pub field-refused : (place : ℕ) (cells′ : List ℤ) → length s ≤ 65536 → f ≡ field-answers.Refused place → TableRead kind s cells₀ cells′ (handedOn f)
+    field-refused place cells′ short e =
+        rw e (broken-table kind s cells₀ cells′ place short (along .so-far ∙ same (field-answers.Refused place) e .meaning (along .rebate) (along .row) (along .rows)))
+
+    pub field-ahead : (v : ℕ) (m : Bool) (next : ℕ) → f ≡ field-answers.Value v m next → at < next
+    field-ahead v m next e = same (field-answers.Value v m next) e .ends .0
+
+    pub field-small : (v : ℕ) (m : Bool) (next : ℕ) → f ≡ field-answers.Value v m next → v < 10 ^ 10
+    field-small v m next e = same (field-answers.Value v m next) e .ends .2
 
     pub field-valued :
-        (v next : ℕ) (t′ : Tally) (cells′ : List ℕ) → f ≡ field-answers.Value v next → t′ ≡ fieldTally t → cells′ ≡ set cells (t .values) v →
-        Valued kind s cells₀ cells′ t′ v next
-    field-valued v next t′ cells′ e et ec =
-        let known : FieldRead field s at (field-answers.Value v next) = subst (λ (a : Field). FieldRead field s at a) e read in
+        (v : ℕ) (m : Bool) (next : ℕ) (t′ : Tally) (cells′ : List ℤ) (y : ℤ) → f ≡ field-answers.Value v m next → t′ ≡ fieldTally m t →
+        cells′ ≡ set cells (t .values) y → y ≡ signed m v → Valued kind s cells₀ cells′ t′ m v next
+    field-valued v m next t′ cells′ y e et ec ey =
+        let known = same (field-answers.Value v m next) e in
+        let z = signed m v in
         let count : t .values ≡ 0 + length (inOrder (along .rows) ++ along .row) = omega (arith, along .tally .values, length-append (inOrder (along .rows)) (along .row)) in
         record {
+          rebate = m || along .rebate;
           row = along .row;
           rows = along .rows;
-          so-far = along .so-far ∙ known .meaning kind (along .row) (along .rows);
-          tally = subst (λ (a : Tally). Tallied kind (along .rows) (rowWith v (along .row)) a) (sym et) (tally-field kind (along .rows) (along .row) t v (along .tally));
+          so-far = along .so-far ∙ known .meaning (along .rebate) (along .row) (along .rows);
+          tally = subst (λ (a : Tally). Tallied kind (m || along .rebate) (along .rows) (rowWith z (along .row)) a) (sym et) (tally-field kind (along .rebate) (along .rows) (along .row) t m z (along .tally));
           stored =
-              ec ∙ rw (along .stored, count) (sym (sets-snoc cells₀ 0 (inOrder (along .rows) ++ along .row) v))
-              ∙ ap (λ (l : List ℕ). sets cells₀ 0 l) (append-assoc (inOrder (along .rows)) (along .row) (v ∷ []));
+              ec ∙ rw (ey, along .stored, count) (sym (sets-snoc cells₀ 0 (inOrder (along .rows) ++ along .row) z))
+              ∙ ap (λ (l : List ℤ). sets cells₀ 0 l) (append-assoc (inOrder (along .rows)) (along .row) (z ∷ []));
           upto = known .ends .1;
           few = subst (λ (a : Tally). Few a next) (sym et)
               (record { values = omega (arith, along .few, known .ends .0); parts = omega (arith, along .few) });
         }
 
-  module _ (cells : List ℕ) (t : Tally) (v next : ℕ) (valued : Valued kind s cells₀ cells t v next) (a : After) (read : AfterRead atField (Counted (t .records)) kind s next a) where
-    onward′ : (b : After) → a ≡ b → AfterRead atField (Counted (t .records)) kind s next b
-    onward′ b e = subst (λ (x : After). AfterRead atField (Counted (t .records)) kind s next x) e read
+  module _ (cells : List ℤ) (t : Tally) (m : Bool) (v next : ℕ) (valued : Valued kind s cells₀ cells t m v next) (source : Bool) (told : source ≡ sourceTally t) (a : After)
+      (read : AfterRead atField (Known m source) kind s next a) where
+    onward′ : (b : After) → a ≡ b → AfterRead atField (Known m source) kind s next b
+    onward′ b e = subst (λ (x : After). AfterRead atField (Known m source) kind s next x) e read
+
+    -- what is known of this field and this record
+    held : Known m source m (valued .rebate) (valued .rows)
+    held = (refl, tally-source (valued .tally) ∙ sym told)
 
     pub field-next : (start : ℕ) → a ≡ after-answers.Field start → (next ≤ start) × (start ≤ length s)
     field-next start e = onward′ (after-answers.Field start) e .ends
@@ -144,16 +160,17 @@ module _ (kind : Kind) (s cells₀ : List ℕ) where
     record-next start e = onward′ (after-answers.Record start) e .ends
 
     -- a record has at least this field
-    row-some : 0 < length (rowWith v (valued .row))
-    row-some = omega (arith, length-append (valued .row) (v ∷ []))
+    row-some : 0 < length (rowWith (signed m v) (valued .row))
+    row-some = omega (arith, length-append (valued .row) (signed m v ∷ []))
 
     pub on-field : (start : ℕ) → a ≡ after-answers.Field start → Along kind s cells₀ cells t start
     on-field start e =
         let known = onward′ (after-answers.Field start) e in
         record {
-          row = rowWith v (valued .row);
+          rebate = valued .rebate;
+          row = rowWith (signed m v) (valued .row);
           rows = valued .rows;
-          so-far = valued .so-far ∙ known .meaning v (valued .row) (valued .rows) (sym (valued .tally .records));
+          so-far = valued .so-far ∙ known .meaning m v (valued .rebate) (valued .row) (valued .rows) held;
           tally = valued .tally;
           stored = valued .stored;
           upto = known .ends .1;
@@ -161,19 +178,25 @@ module _ (kind : Kind) (s cells₀ : List ℕ) where
         }
 
     -- all values of the records with this one
-    all-values : inOrder (valued .rows) ++ rowWith v (valued .row) ≡ inOrder (rowsWith v (valued .row) (valued .rows)) ++ []
-    all-values = sym (append-nil (inOrder (rowsWith v (valued .row) (valued .rows))) ∙ inOrder-snoc (valued .rows) (rowWith v (valued .row)))
+    all-values : inOrder (valued .rows) ++ rowWith (signed m v) (valued .row) ≡ inOrder (rowsWith (signed m v) (valued .row) (valued .rows)) ++ []
+    all-values = sym (append-nil (inOrder (rowsWith (signed m v) (valued .row) (valued .rows))) ∙ inOrder-snoc (valued .rows) (rowWith (signed m v) (valued .row)))
+
+    -- the counts with this record
+    counted : (t′ : Tally) → t′ ≡ recordTally t → Tallied kind false (rowsWith (signed m v) (valued .row) (valued .rows)) [] t′
+    counted t′ et =
+        subst (λ (x : Tally). Tallied kind false (rowsWith (signed m v) (valued .row) (valued .rows)) [] x) (sym et)
+        (tally-record kind (valued .rebate) (valued .rows) (rowWith (signed m v) (valued .row)) t row-some (valued .tally))
 
     pub on-record : (start : ℕ) (t′ : Tally) → a ≡ after-answers.Record start → t′ ≡ recordTally t → Along kind s cells₀ cells t′ start
     on-record start t′ e et =
         let known = onward′ (after-answers.Record start) e in
         record {
+          rebate = false;
           row = [];
-          rows = rowsWith v (valued .row) (valued .rows);
-          so-far = valued .so-far ∙ known .meaning v (valued .row) (valued .rows) (sym (valued .tally .records));
-          tally = subst (λ (x : Tally). Tallied kind (rowsWith v (valued .row) (valued .rows)) [] x) (sym et)
-              (tally-record kind (valued .rows) (rowWith v (valued .row)) t row-some (valued .tally));
-          stored = valued .stored ∙ ap (λ (l : List ℕ). sets cells₀ 0 l) all-values;
+          rows = rowsWith (signed m v) (valued .row) (valued .rows);
+          so-far = valued .so-far ∙ known .meaning m v (valued .rebate) (valued .row) (valued .rows) held;
+          tally = counted t′ et;
+          stored = valued .stored ∙ ap (λ (l : List ℤ). sets cells₀ 0 l) all-values;
           upto = known .ends .1;
           few = subst (λ (x : Tally). Few x start) (sym et)
               (record { values = omega (arith, valued .few, known .ends .0); parts = omega (arith, valued .few, valued .tally .fields, row-some) });
@@ -182,31 +205,30 @@ module _ (kind : Kind) (s cells₀ : List ℕ) where
     pub on-end : (t′ : Tally) → length s ≤ 65536 → a ≡ after-answers.End → t′ ≡ recordTally t → TableRead kind s cells₀ cells (judged (t′ .odd) (t′ .records) (t′ .width))
     on-end t′ short e et =
         let known = onward′ after-answers.End e in
-        whole-table kind s cells₀ cells (rowsWith v (valued .row) (valued .rows)) t′ short
-        (valued .so-far ∙ known .meaning v (valued .row) (valued .rows) (sym (valued .tally .records)))
-        (omega (arith, length-append (valued .rows) (rowWith v (valued .row) ∷ [])))
-        (subst (λ (x : Tally). Tallied kind (rowsWith v (valued .row) (valued .rows)) [] x) (sym et)
-        (tally-record kind (valued .rows) (rowWith v (valued .row)) t row-some (valued .tally)))
-        (valued .stored ∙ ap (λ (l : List ℕ). sets cells₀ 0 l) (sym (inOrder-snoc (valued .rows) (rowWith v (valued .row)))))
+        whole-table kind s cells₀ cells (rowsWith (signed m v) (valued .row) (valued .rows)) t′ short
+        (valued .so-far ∙ known .meaning m v (valued .rebate) (valued .row) (valued .rows) held)
+        (omega (arith, length-append (valued .rows) (rowWith (signed m v) (valued .row) ∷ [])))
+        (counted t′ et)
+        (valued .stored ∙ ap (λ (l : List ℤ). sets cells₀ 0 l) (sym (inOrder-snoc (valued .rows) (rowWith (signed m v) (valued .row)))))
 
     pub on-empty :
-        (t′ : Tally) (cells′ : List ℕ) → length s ≤ 65536 → a ≡ after-answers.Empty → t′ ≡ recordTally (fieldTally t) → cells′ ≡ set cells (t .values) 0 →
+        (t′ : Tally) (cells′ : List ℤ) → length s ≤ 65536 → a ≡ after-answers.Empty → t′ ≡ recordTally (fieldTally false t) → cells′ ≡ set cells (t .values) (pos 0) →
         TableRead kind s cells₀ cells′ (judged (t′ .odd) (t′ .records) (t′ .width))
     on-empty t′ cells′ short e et ec =
         let known = onward′ after-answers.Empty e in
-        let full = rowWith v (valued .row) in
-        let count : t .values ≡ 0 + length (inOrder (valued .rows) ++ full) = omega (arith, valued .tally .values, length-append (inOrder (valued .rows)) full) in
-        whole-table kind s cells₀ cells′ (rowsWith 0 full (valued .rows)) t′ short
-        (valued .so-far ∙ known .meaning v (valued .row) (valued .rows) (sym (valued .tally .records)))
-        (omega (arith, length-append (valued .rows) (rowWith 0 full ∷ [])))
-        (subst (λ (x : Tally). Tallied kind (rowsWith 0 full (valued .rows)) [] x) (sym et)
-        (tally-record kind (valued .rows) (rowWith 0 full) (fieldTally t) (omega (arith, length-append full (0 ∷ [])))
-        (tally-field kind (valued .rows) full t 0 (valued .tally))))
-        (ec ∙ rw (valued .stored, count) (sym (sets-snoc cells₀ 0 (inOrder (valued .rows) ++ full) 0))
-        ∙ ap (λ (l : List ℕ). sets cells₀ 0 l) (append-assoc (inOrder (valued .rows)) full (0 ∷ []) ∙ sym (inOrder-snoc (valued .rows) (rowWith 0 full))))
+        let whole-row = rowWith (signed m v) (valued .row) in
+        let count : t .values ≡ 0 + length (inOrder (valued .rows) ++ whole-row) = omega (arith, valued .tally .values, length-append (inOrder (valued .rows)) whole-row) in
+        whole-table kind s cells₀ cells′ (rowsWith (pos 0) whole-row (valued .rows)) t′ short
+        (valued .so-far ∙ known .meaning m v (valued .rebate) (valued .row) (valued .rows) held)
+        (omega (arith, length-append (valued .rows) (rowWith (pos 0) whole-row ∷ [])))
+        (subst (λ (x : Tally). Tallied kind false (rowsWith (pos 0) whole-row (valued .rows)) [] x) (sym et)
+        (tally-record kind (false || valued .rebate) (valued .rows) (rowWith (pos 0) whole-row) (fieldTally false t) (omega (arith, length-append whole-row (pos 0 ∷ [])))
+        (tally-field kind (valued .rebate) (valued .rows) whole-row t false (pos 0) (valued .tally))))
+        (ec ∙ rw (valued .stored, count) (sym (sets-snoc cells₀ 0 (inOrder (valued .rows) ++ whole-row) (pos 0)))
+        ∙ ap (λ (l : List ℤ). sets cells₀ 0 l) (append-assoc (inOrder (valued .rows)) whole-row (pos 0 ∷ []) ∙ sym (inOrder-snoc (valued .rows) (rowWith (pos 0) whole-row))))
 
     pub on-refused : (place : ℕ) → length s ≤ 65536 → a ≡ after-answers.Refused place → TableRead kind s cells₀ cells (Refused 21 place)
     on-refused place short e =
         let known = onward′ (after-answers.Refused place) e in
         broken-table kind s cells₀ cells place short
-        (valued .so-far ∙ known .meaning v (valued .row) (valued .rows) (sym (valued .tally .records)))
+        (valued .so-far ∙ known .meaning m v (valued .rebate) (valued .row) (valued .rows) held)

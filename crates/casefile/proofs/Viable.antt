@@ -1,6 +1,7 @@
 -- Every state can still end well, so that refusal 21's place is the first byte that no file of the form could have there. Assumes nothing.
 use mathlib.Core.Path.{_≡_, refl, ap, sym, _∙_, subst}
-use mathlib.Core.Bool.{Bool, true, false}
+use mathlib.Core.Bool.{Bool, true, false, _||_}
+use lib.IntN.{ℤ}
 use mathlib.Core.Option.{Option, none, some}
 use mathlib.Core.List.{List, [], _∷_, _++_}
 use Prim.Native.Nat.{ℕ, zero, suc, _+_, _*_, _≤_, _<_}
@@ -18,6 +19,11 @@ use Rattle.casefile.specs.Form.{
   bare,
   quoted,
   closed,
+  minusBare,
+  minusQuoted,
+  bareCost,
+  quotedCost,
+  closedCost,
   lineEnd,
   lastLineEnd,
   done,
@@ -26,74 +32,95 @@ use Rattle.casefile.specs.Form.{
   isProduction,
   afterComma,
   afterLine,
+  inTariff,
 }
-use Rattle.casefile.specs.Records.{Reading, reading, run, absorb, recordsAtEnd, rowWith, rowsWith, isFirst, Form, whole, broken, formOf}
+use Rattle.casefile.specs.Records.{Reading, reading, run, absorb, recordsAtEnd, rowWith, rowsWith, isFirst, isSource, signed, Form, whole, broken, formOf}
 
 -- bytes with which a file of the form goes on from here, and its records then
 pub record EndsWell (kind : Kind) (at : ℕ) (r : Reading) : Type 0 where
   pub bytes : List ℕ
-  pub records : List (List ℕ)
+  pub records : List (List ℤ)
   pub ends : run kind at r bytes ≡ whole records
 
 by-byte : {kind : Kind} {at : ℕ} {r r′ : Reading} (b : ℕ) → ((l : List ℕ) → run kind at r (b ∷ l) ≡ run kind (suc at) r′ l) → EndsWell kind (suc at) r′ → EndsWell kind at r
 by-byte b on w = record { bytes = b ∷ w .bytes; records = w .records; ends = on (w .bytes) ∙ w .ends }
 
-not-first : (r : List ℕ) (rs : List (List ℕ)) → isFirst (rs ++ (r ∷ [])) ≡ false
+not-first : (r : List ℤ) (rs : List (List ℤ)) → isFirst (rs ++ (r ∷ [])) ≡ false
 not-first r [] = refl
 not-first r (x ∷ rs) = refl
 
-module _ (kind : Kind) (at v : ℕ) (r : List ℕ) (rs : List (List ℕ)) where
-  empty-ends : EndsWell kind at (reading fieldOrEmpty v r rs)
+module _ (kind : Kind) (at v : ℕ) (n b : Bool) (r : List ℤ) (rs : List (List ℤ)) where
+  empty-ends : EndsWell kind at (reading fieldOrEmpty v n b r rs)
   unfolding run mayEnd
   empty-ends = record { bytes = []; records = _; ends = refl }
 
-  record-ends : EndsWell kind at (reading recordOrEnd v r rs)
+  record-ends : EndsWell kind at (reading recordOrEnd v n b r rs)
   unfolding run mayEnd
   record-ends = record { bytes = []; records = _; ends = refl }
 
-  done-ends : EndsWell kind at (reading done v r rs)
+  done-ends : EndsWell kind at (reading done v n b r rs)
   unfolding run mayEnd
   done-ends = record { bytes = []; records = _; ends = refl }
 
 -- the demands 0 after a source's record
-demands-end : (at v : ℕ) (r : List ℕ) (rs : List (List ℕ)) → EndsWell Tariff at (reading lineEnd 0 [] (rowsWith v r rs))
+demands-end : (at : ℕ) (q : List ℤ) (rs : List (List ℤ)) → EndsWell Tariff at (reading lineEnd 0 false false [] (rs ++ (q ∷ [])))
 unfolding run step mark absorb afterLine afterComma
-demands-end at v r rs =
-    by-byte {r′ = reading field 0 [] (rowsWith v r rs)} 10 (λ l. refl)
-    (by-byte {r′ = reading (bare 9) 0 [] (rowsWith v r rs)} 48 (λ l. refl)
-    (by-byte {r′ = reading fieldOrEmpty 0 (0 ∷ []) (rowsWith v r rs)} 44 (λ l. rw (not-first (rowWith v r) rs) refl)
-    (empty-ends Tariff (suc (suc (suc at))) 0 (0 ∷ []) (rowsWith v r rs))))
+demands-end at q rs =
+    by-byte {r′ = reading field 0 false false [] (rs ++ (q ∷ []))} 10 (λ l. refl)
+    (by-byte {r′ = reading (bare 9) 0 false false [] (rs ++ (q ∷ []))} 48 (λ l. refl)
+    (by-byte {r′ = reading fieldOrEmpty 0 false false (signed false 0 ∷ []) (rs ++ (q ∷ []))} 44 (λ l. rw (not-first q rs) refl)
+    (empty-ends Tariff (suc (suc (suc at))) 0 false false (signed false 0 ∷ []) (rs ++ (q ∷ [])))))
 
--- after a whole field, bare or quoted
-closed-ends : (kind : Kind) (at v : ℕ) (r : List ℕ) (rs : List (List ℕ)) → EndsWell kind at (reading closed v r rs)
-unfolding run step mark absorb mayEnd isProduction
-closed-ends Production at v r rs = record { bytes = []; records = _; ends = refl }
-closed-ends Tariff at v r rs = by-byte {r′ = reading lineEnd 0 [] (rowsWith v r rs)} 13 (λ l. refl) (demands-end (suc at) v r rs)
+module _ (v : ℕ) (n b : Bool) (r : List ℤ) (rs : List (List ℤ)) where
+  -- after a whole field, bare or quoted
+  closed-ends : (kind : Kind) (at : ℕ) → EndsWell kind at (reading closed v n b r rs)
+  unfolding run step mark absorb mayEnd isProduction
+  closed-ends Production at = record { bytes = []; records = _; ends = refl }
+  closed-ends Tariff at = by-byte {r′ = reading lineEnd 0 false false [] (rs ++ (rowWith (signed n v) r ∷ []))} 13 (λ l. refl) (demands-end (suc at) _ rs)
 
-bare-ends : (kind : Kind) (left at v : ℕ) (r : List ℕ) (rs : List (List ℕ)) → EndsWell kind at (reading (bare left) v r rs)
-unfolding run step mark absorb mayEnd isProduction
-bare-ends Production left at v r rs = record { bytes = []; records = _; ends = refl }
-bare-ends Tariff left at v r rs = by-byte {r′ = reading lineEnd 0 [] (rowsWith v r rs)} 13 (λ l. refl) (demands-end (suc at) v r rs)
+  bare-ends : (kind : Kind) (left at : ℕ) → EndsWell kind at (reading (bare left) v n b r rs)
+  unfolding run step mark absorb mayEnd isProduction
+  bare-ends Production left at = record { bytes = []; records = _; ends = refl }
+  bare-ends Tariff left at = by-byte {r′ = reading lineEnd 0 false false [] (rs ++ (rowWith (signed n v) r ∷ []))} 13 (λ l. refl) (demands-end (suc at) _ rs)
 
-quoted-ends : (kind : Kind) (left at v : ℕ) (r : List ℕ) (rs : List (List ℕ)) → EndsWell kind at (reading (quoted left) v r rs)
+  quoted-ends : (kind : Kind) (left at : ℕ) → EndsWell kind at (reading (quoted left) v n b r rs)
+  unfolding run step mark absorb
+  quoted-ends kind left at = by-byte {r′ = reading closed v n b r rs} 34 (λ l. refl) (closed-ends kind (suc at))
+
+field-ends : (kind : Kind) (at v : ℕ) (n b : Bool) (r : List ℤ) (rs : List (List ℤ)) → EndsWell kind at (reading field v n b r rs)
 unfolding run step mark absorb
-quoted-ends kind left at v r rs = by-byte {r′ = reading closed v r rs} 34 (λ l. refl) (closed-ends kind (suc at) v r rs)
+field-ends kind at v n b r rs = by-byte {r′ = reading (bare 9) (v * 10 + 0) n b r rs} 48 (λ l. refl) (bare-ends (v * 10 + 0) n b r rs kind 9 (suc at))
 
-field-ends : (kind : Kind) (at v : ℕ) (r : List ℕ) (rs : List (List ℕ)) → EndsWell kind at (reading field v r rs)
-unfolding run step mark absorb
-field-ends kind at v r rs = by-byte {r′ = reading (bare 9) (v * 10 + 0) r rs} 48 (λ l. refl) (bare-ends kind 9 (suc at) (v * 10 + 0) r rs)
+-- after a cost with a minus comes a comma and a further field
+module _ (kind : Kind) (v : ℕ) (n b : Bool) (r : List ℤ) (rs : List (List ℤ)) where
+  cost-closed : (at : ℕ) → EndsWell kind at (reading closedCost v n b r rs)
+  unfolding run step mark absorb
+  cost-closed at = by-byte {r′ = reading field 0 false b (rowWith (signed n v) r) rs} 44 (λ l. refl) (field-ends kind (suc at) 0 false b _ rs)
+
+  cost-bare : (left at : ℕ) → EndsWell kind at (reading (bareCost left) v n b r rs)
+  unfolding run step mark absorb
+  cost-bare left at = by-byte {r′ = reading field 0 false b (rowWith (signed n v) r) rs} 44 (λ l. refl) (field-ends kind (suc at) 0 false b _ rs)
+
+  cost-quoted : (left at : ℕ) → EndsWell kind at (reading (quotedCost left) v n b r rs)
+  unfolding run step mark absorb
+  cost-quoted left at = by-byte {r′ = reading closedCost v n b r rs} 34 (λ l. refl) (cost-closed (suc at))
 
 -- from each state there is a continuation that ends well
-pub viable : (kind : Kind) (at : ℕ) (s : State) (v : ℕ) (r : List ℕ) (rs : List (List ℕ)) → EndsWell kind at (reading s v r rs)
+pub viable : (kind : Kind) (at : ℕ) (s : State) (v : ℕ) (n b : Bool) (r : List ℤ) (rs : List (List ℤ)) → EndsWell kind at (reading s v n b r rs)
 unfolding run step mark absorb afterLine
-viable kind at field v r rs = field-ends kind at v r rs
-viable kind at fieldOrEmpty v r rs = empty-ends kind at v r rs
-viable kind at recordOrEnd v r rs = record-ends kind at v r rs
-viable kind at opened v r rs = by-byte {r′ = reading (quoted 9) (v * 10 + 0) r rs} 48 (λ l. refl) (quoted-ends kind 9 (suc at) (v * 10 + 0) r rs)
-viable kind at (bare left) v r rs = bare-ends kind left at v r rs
-viable kind at (quoted left) v r rs = quoted-ends kind left at v r rs
-viable kind at closed v r rs = closed-ends kind at v r rs
-viable Production at lineEnd v r rs = by-byte {r′ = reading recordOrEnd v r rs} 10 (λ l. refl) (record-ends Production (suc at) v r rs)
-viable Tariff at lineEnd v r rs = by-byte {r′ = reading field v r rs} 10 (λ l. refl) (field-ends Tariff (suc at) v r rs)
-viable kind at lastLineEnd v r rs = by-byte {r′ = reading done v r rs} 10 (λ l. refl) (done-ends kind (suc at) v r rs)
-viable kind at done v r rs = done-ends kind at v r rs
+viable kind at field v n b r rs = field-ends kind at v n b r rs
+viable kind at fieldOrEmpty v n b r rs = empty-ends kind at v n b r rs
+viable kind at recordOrEnd v n b r rs = record-ends kind at v n b r rs
+viable kind at opened v n b r rs = by-byte {r′ = reading (quoted 9) (v * 10 + 0) n b r rs} 48 (λ l. refl) (quoted-ends (v * 10 + 0) n b r rs kind 9 (suc at))
+viable kind at (bare left) v n b r rs = bare-ends v n b r rs kind left at
+viable kind at (quoted left) v n b r rs = quoted-ends v n b r rs kind left at
+viable kind at closed v n b r rs = closed-ends v n b r rs kind at
+viable kind at minusBare v n b r rs = by-byte {r′ = reading (bareCost 9) (v * 10 + 0) n b r rs} 48 (λ l. refl) (cost-bare kind (v * 10 + 0) n b r rs 9 (suc at))
+viable kind at minusQuoted v n b r rs = by-byte {r′ = reading (quotedCost 9) (v * 10 + 0) n b r rs} 48 (λ l. refl) (cost-quoted kind (v * 10 + 0) n b r rs 9 (suc at))
+viable kind at (bareCost left) v n b r rs = cost-bare kind v n b r rs left at
+viable kind at (quotedCost left) v n b r rs = cost-quoted kind v n b r rs left at
+viable kind at closedCost v n b r rs = cost-closed kind v n b r rs at
+viable Production at lineEnd v n b r rs = by-byte {r′ = reading recordOrEnd v n b r rs} 10 (λ l. refl) (record-ends Production (suc at) v n b r rs)
+viable Tariff at lineEnd v n b r rs = by-byte {r′ = reading field v n b r rs} 10 (λ l. refl) (field-ends Tariff (suc at) v n b r rs)
+viable kind at lastLineEnd v n b r rs = by-byte {r′ = reading done v n b r rs} 10 (λ l. refl) (done-ends kind (suc at) v n b r rs)
+viable kind at done v n b r rs = done-ends kind at v n b r rs

@@ -2,17 +2,18 @@
 use mathlib.Core.Path.{_≡_}
 use mathlib.Core.List.{List}
 use Prim.Native.Nat.{ℕ, min, _*_}
+use lib.IntN.{ℤ}
 use lib.ListN.{length, take}
 use Rattle.planner.specs.Case.{Case}
 use Rattle.planner.specs.Verdict.{lent}
 
 -- the first cells of each array: as many as the case has, and no more than are stored
-abbrev pub cutCase : ℕ → ℕ → ℕ → List ℕ → List ℕ → List ℕ → List ℕ → Case
+abbrev pub cutCase : ℕ → ℕ → ℕ → List ℤ → List ℕ → List ℕ → List ℕ → Case
 cutCase m n entries costs supplies demands table =
     lent m n (take (min m 32 * min n 64) costs) (take (min m 32) supplies) (take (min n 64) demands) (take (min entries 4002) table) 2048 4001 4001
 
 -- cells for 32 sources, 64 terminals, and one entry more than the longest table has
-pub record Stored (costs supplies demands table : List ℕ) : Type 0 where
+pub record Stored (costs : List ℤ) (supplies demands table : List ℕ) : Type 0 where
   pub lanes : length costs ≡ 2048
   pub sources : length supplies ≡ 32
   pub terminals : length demands ≡ 64

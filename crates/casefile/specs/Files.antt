@@ -3,6 +3,7 @@ use mathlib.Core.Bool.{Bool, true, false}
 use mathlib.Core.List.{List, [], _∷_, _++_}
 use Prim.Native.Nat.{ℕ, zero, suc}
 use lib.Dec.{eqb, ltb}
+use lib.IntN.{ℤ}
 use lib.ListN.{length}
 use Rattle.casefile.specs.declared.Kind.{Kind}
 use Rattle.casefile.specs.declared.Kind.the-variants.{Tariff, Production}
@@ -15,13 +16,13 @@ pick true a b = a
 pick false a b = b
 
 -- how many fields each record is to have: one in the production file, in the tariff as many as the first record has
-unfoldable pub wanted : Kind → List (List ℕ) → ℕ
+unfoldable pub wanted : Kind → List (List ℤ) → ℕ
 wanted Production rs = 1
 wanted Tariff [] = 0
 wanted Tariff (r ∷ rs) = length r
 
 -- the number of the first record with another field count than w, where the first record here has the number i; 0 where there is none
-unfoldable pub oddFrom : ℕ → ℕ → List (List ℕ) → ℕ
+unfoldable pub oddFrom : ℕ → ℕ → List (List ℤ) → ℕ
 oddFrom w i [] = 0
 oddFrom w i (r ∷ rs) = pick (eqb (length r) w) (oddFrom w (suc i) rs) i
 
@@ -44,6 +45,6 @@ unfoldable pub tableOf : Kind → List ℕ → Table
 tableOf kind l = pickTable (ltb 65536 (length l)) (Refused 20 0) (judge kind (formOf kind l))
 
 -- all fields in file order
-unfoldable pub inOrder : List (List ℕ) → List ℕ
+unfoldable pub inOrder : List (List ℤ) → List ℤ
 inOrder [] = []
 inOrder (r ∷ rs) = r ++ inOrder rs

@@ -10,7 +10,7 @@ use Rattle.casefile.specs.declared.Kind.the-variants.{Tariff, Production
 -- what a byte is to the form
 pub data Mark : Type 0 where
   digit : ℕ → Mark
-  quote comma cr lf other : Mark
+  minus quote comma cr lf other : Mark
 
 abbrev pub pickMark : Bool → Mark → Mark → Mark
 pickMark true a b = a
@@ -19,7 +19,7 @@ pickMark false a b = b
 unfoldable pub mark : ℕ → Mark
 mark b =
     pickMark (leb 48 b && leb b 57) (digit (b - 48))
-    (pickMark (eqb b 34) quote (pickMark (eqb b 44) comma (pickMark (eqb b 13) cr (pickMark (eqb b 10) lf other))))
+    (pickMark (eqb b 45) minus (pickMark (eqb b 34) quote (pickMark (eqb b 44) comma (pickMark (eqb b 13) cr (pickMark (eqb b 10) lf other)))))
 
 -- where in a file one may stand
 pub data State : Type 0 where
@@ -36,6 +36,12 @@ pub data State : Type 0 where
   quoted : ℕ → State
   -- after the quote that closes a field
   closed : State
+  -- after a minus, bare or behind the quote that opens a field
+  minusBare minusQuoted : State
+  -- in a cost with a minus, bare or quoted, and after the quote that closes it: a field comes after it in the record
+  bareCost : ℕ → State
+  quotedCost : ℕ → State
+  closedCost : State
   -- after the CR of a record, after the CR of the demands
   lineEnd : State
   lastLineEnd : State
@@ -47,7 +53,7 @@ unfoldable pub more : (ℕ → State) → ℕ → Option State
 more within zero = none
 more within (suc left) = some (within left)
 
--- the last record of a tariff is the demands', and the first is a source's
+-- the last record of a tariff is the demands'; the first is a source's, and so is one with a minus
 unfoldable pub afterComma : Kind → Bool → State
 afterComma Production first = field
 afterComma Tariff true = field
@@ -57,28 +63,39 @@ unfoldable pub afterLine : Kind → State
 afterLine Production = recordOrEnd
 afterLine Tariff = field
 
--- a line of the table below: the next state for each mark; no file has any other byte
-abbrev pub row : Option State → Option State → Option State → Option State → Option State → Mark → Option State
-row d q c r l (digit k) = d
-row d q c r l quote = q
-row d q c r l comma = c
-row d q c r l cr = r
-row d q c r l lf = l
-row d q c r l other = none
+-- a tariff alone has minus signs
+unfoldable pub inTariff : Kind → State → Option State
+inTariff Tariff s = some s
+inTariff Production s = none
 
--- the automaton; `first` says that no record stands before this one
---                              a digit              a quote       a comma                        CR                  LF
+-- a line of the table below: the next state for each mark; no file has any other byte
+abbrev pub row : Option State → Option State → Option State → Option State → Option State → Option State → Mark → Option State
+row d m q c r l (digit k) = d
+row d m q c r l minus = m
+row d m q c r l quote = q
+row d m q c r l comma = c
+row d m q c r l cr = r
+row d m q c r l lf = l
+row d m q c r l other = none
+
+-- the automaton; `source` says that this record is known to be a source's: no record stands before it, or it has a minus
+--                               a digit                     a minus                     a quote          a comma                         CR                  LF
 unfoldable pub step : Kind → Bool → State → Mark → Option State
-step kind first field = row (some (bare 9)) (some opened) none none none
-step kind first fieldOrEmpty = row (some (bare 9)) (some opened) none (some lastLineEnd) none
-step kind first recordOrEnd = row (some (bare 9)) (some opened) none none none
-step kind first opened = row (some (quoted 9)) none none none none
-step kind first (bare left) = row (more bare left) none (some (afterComma kind first)) (some lineEnd) none
-step kind first (quoted left) = row (more quoted left) (some closed) none none none
-step kind first closed = row none none (some (afterComma kind first)) (some lineEnd) none
-step kind first lineEnd = row none none none none (some (afterLine kind))
-step kind first lastLineEnd = row none none none none (some done)
-step kind first done = row none none none none none
+step kind source field = row (some (bare 9)) (inTariff kind minusBare) (some opened) none none none
+step kind source fieldOrEmpty = row (some (bare 9)) (inTariff kind minusBare) (some opened) none (some lastLineEnd) none
+step kind source recordOrEnd = row (some (bare 9)) none (some opened) none none none
+step kind source opened = row (some (quoted 9)) (inTariff kind minusQuoted) none none none none
+step kind source (bare left) = row (more bare left) none none (some (afterComma kind source)) (some lineEnd) none
+step kind source (quoted left) = row (more quoted left) none (some closed) none none none
+step kind source closed = row none none none (some (afterComma kind source)) (some lineEnd) none
+step kind source minusBare = row (some (bareCost 9)) none none none none none
+step kind source minusQuoted = row (some (quotedCost 9)) none none none none none
+step kind source (bareCost left) = row (more bareCost left) none none (some field) none none
+step kind source (quotedCost left) = row (more quotedCost left) none (some closedCost) none none none
+step kind source closedCost = row none none none (some field) none none
+step kind source lineEnd = row none none none none none (some (afterLine kind))
+step kind source lastLineEnd = row none none none none none (some done)
+step kind source done = row none none none none none none
 
 unfoldable pub isProduction : Kind → Bool
 isProduction Production = true
@@ -93,6 +110,11 @@ mayEnd kind opened = false
 mayEnd kind (bare left) = isProduction kind
 mayEnd kind (quoted left) = false
 mayEnd kind closed = isProduction kind
+mayEnd kind minusBare = false
+mayEnd kind minusQuoted = false
+mayEnd kind (bareCost left) = false
+mayEnd kind (quotedCost left) = false
+mayEnd kind closedCost = false
 mayEnd kind lineEnd = false
 mayEnd kind lastLineEnd = false
 mayEnd kind done = true

@@ -3,6 +3,7 @@ use mathlib.Core.Path.{_≡_}
 use mathlib.Core.Bool.{Bool, true, false}
 use mathlib.Core.List.{List, []}
 use Prim.Native.Nat.{ℕ}
+use lib.IntN.{ℤ}
 use lib.ListN.{length}
 use lib.Seq.{sets}
 use Rattle.csvtext.specs.Text.{planText, refusalText}
@@ -18,17 +19,16 @@ use Rattle.casefile.specs.declared.case.CaseAnswer.{CaseAnswer}
 use Rattle.casefile.specs.declared.case.CaseAnswer.the-variants.{Case, Refused}
 use Rattle.casefile.specs.declared.planned.Printed.{Printed}
 use Rattle.casefile.specs.Records.{Form, whole, broken, formOf}
-use Rattle.casefile.specs.Files.{inOrder}
-use Rattle.casefile.specs.CaseFiles.{sourcesIn, terminalsIn, costsIn, suppliesIn, demandsIn, caseAnswer}
+use Rattle.casefile.specs.CaseFiles.{sourcesIn, terminalsIn, costsIn, suppliesIn, demandsIn, entriesIn, caseAnswer}
 
 -- the records of a file, none where it has not the form
-abbrev pub recordsOf : Form → List (List ℕ)
+abbrev pub recordsOf : Form → List (List ℤ)
 recordsOf (whole rs) = rs
 recordsOf (broken place) = []
 
 -- the case of a tariff's and a production file's records, with room for 2,048 lanes and 4,001 stops
-unfoldable pub caseOf : List (List ℕ) → List (List ℕ) → planner-case.Case
-caseOf rs qs = lent (sourcesIn rs) (terminalsIn rs) (costsIn rs) (suppliesIn rs) (demandsIn rs) (inOrder qs) 2048 4001 4001
+unfoldable pub caseOf : List (List ℤ) → List (List ℤ) → planner-case.Case
+caseOf rs qs = lent (sourcesIn rs) (terminalsIn rs) (costsIn rs) (suppliesIn rs) (demandsIn rs) (entriesIn qs) 2048 4001 4001
 
 unfoldable pub fileCase : List ℕ → List ℕ → planner-case.Case
 fileCase t p = caseOf (recordsOf (formOf Tariff t)) (recordsOf (formOf Production p))
@@ -60,7 +60,7 @@ pub record Told (number place sources terminals : ℕ) (text out out′ : List �
   pub terminals-told : answer .terminals ≡ terminals
 
 -- a plan is printed: the lane amounts are left to the program, so they are named, with what holds of them
-pub record PlanPrinted (c : planner-case.Case) (split total : ℕ) (out out′ : List ℕ) (answer : Printed) : Type 0 where
+pub record PlanPrinted (c : planner-case.Case) (split : ℕ) (total : ℤ) (out out′ : List ℕ) (answer : Printed) : Type 0 where
   pub amounts : List ℕ
   pub plan : PlanAt c split amounts
   pub freight : freightOf c amounts ≡ leastFreightAt c split
@@ -70,7 +70,7 @@ pub record PlanPrinted (c : planner-case.Case) (split total : ℕ) (out out′ :
 -- what is printed of a case with the outcome o: the refusal's two numbers, or the plan
 pub record OutcomePrinted (c : planner-case.Case) (o : Outcome) (sources terminals : ℕ) (out out′ : List ℕ) (answer : Printed) : Type 0 where
   pub refusal : (number place : ℕ) → o ≡ refused number place → Told number place sources terminals (refusalText number place) out out′ answer
-  pub plan : (split total freight stops : ℕ) → o ≡ planned split total freight stops → PlanPrinted c split total out out′ answer
+  pub plan : (split : ℕ) (total freight : ℤ) (stops : ℕ) → o ≡ planned split total freight stops → PlanPrinted c split total out out′ answer
 
 -- what is printed of two files
 abbrev pub FilesPrinted : List ℕ → List ℕ → List ℕ → List ℕ → Printed → Type 0

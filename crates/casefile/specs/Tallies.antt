@@ -1,9 +1,10 @@
 -- What is counted on the way through a file: contracts of private functions. Assumes nothing.
 use mathlib.Core.Path.{_≡_}
-use mathlib.Core.Bool.{Bool, true, false}
+use mathlib.Core.Bool.{Bool, true, false, _||_}
 use mathlib.Core.List.{List, []}
 use Prim.Native.Nat.{ℕ, _+_, _≤_, _<_, _^_}
 use lib.Dec.{eqb}
+use lib.IntN.{ℤ}
 use lib.ListN.{length}
 use lib.Seq.{sets}
 use Rattle.casefile.specs.declared.Kind.{Kind}
@@ -17,10 +18,14 @@ use Rattle.casefile.specs.Records.{Form, whole, formOf}
 use Rattle.casefile.specs.Files.{pick, wanted, oddFrom, tableOf, inOrder}
 
 abbrev pub startTally : Kind → Tally
-startTally kind = record { records = 0; fields = 0; width = wanted kind []; odd = 0; values = 0 }
+startTally kind = record { records = 0; fields = 0; width = wanted kind []; odd = 0; values = 0; rebate = false }
 
-abbrev pub fieldTally : Tally → Tally
-fieldTally t = record { records = t .records; fields = t .fields + 1; width = t .width; odd = t .odd; values = t .values + 1 }
+abbrev pub fieldTally : Bool → Tally → Tally
+fieldTally m t = record { records = t .records; fields = t .fields + 1; width = t .width; odd = t .odd; values = t .values + 1; rebate = m || t .rebate }
+
+-- this record is known to be a source's
+abbrev pub sourceTally : Tally → Bool
+sourceTally t = t .rebate || eqb (t .records) 0
 
 abbrev pub widthOr : ℕ → ℕ → ℕ
 widthOr width fields = pick (eqb width 0) fields width
@@ -35,6 +40,7 @@ recordTally t = record {
   width = widthOr (t .width) (t .fields);
   odd = oddOr (t .odd) (widthOr (t .width) (t .fields)) (t .fields) (t .records + 1);
   values = t .values;
+  rebate = false;
 }
 
 -- counts that one can be added to
@@ -44,11 +50,11 @@ pub record Countable (t : Tally) : Type 0 where
   pub values : t .values + 1 < 2 ^ 64
 
 abbrev pub handedOn : Field → Table
-handedOn (answers.Value value next) = Refused 21 next
+handedOn (answers.Value value m next) = Refused 21 next
 handedOn (answers.Refused place) = Refused 21 place
 
 -- a file is read: the answer, and the fields in file order in the cells, where the file has the form
-pub record TableRead (kind : Kind) (s cells cells′ : List ℕ) (answer : Table) : Type 0 where
+pub record TableRead (kind : Kind) (s : List ℕ) (cells cells′ : List ℤ) (answer : Table) : Type 0 where
   pub answered : answer ≡ tableOf kind s
   pub some : (records fields : ℕ) → answer ≡ Whole records fields → (0 < records) × (0 < fields)
-  pub stored : (rs : List (List ℕ)) → length s ≤ 65536 → formOf kind s ≡ whole rs → cells′ ≡ sets cells 0 (inOrder rs)
+  pub stored : (rs : List (List ℤ)) → length s ≤ 65536 → formOf kind s ≡ whole rs → cells′ ≡ sets cells 0 (inOrder rs)

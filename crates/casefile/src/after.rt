@@ -4,7 +4,7 @@ ghost use mathlib.Core.Path.{_≡_};
 ghost use Prim.Native.Nat.{_≤_};
 ghost use lib.ListN.{length};
 ghost use Rattle.casefile.specs.declared.Kind.the-variants as kinds;
-ghost use Rattle.casefile.specs.Reader.{AfterRead, atField, atComma, atDemand, atCr, atLastCr, atLast, Any, Counted};
+ghost use Rattle.casefile.specs.Reader.{AfterRead, atField, atCost, atComma, atDemand, atCr, atLastCr, atLast, Any, Source, Known};
 
 pub enum After {
     // A further field of the record begins at next.
@@ -36,7 +36,7 @@ fn after_demands(s: &[u8], at: usize) -> After
     After::Empty
 }
 
-// After a comma in any record of the tariff but the first: a field, or the empty last field of the demands.
+// After a comma in a record of the tariff that may be the demands': a field, or the empty last field of the demands.
 fn after_demand(s: &[u8], at: usize) -> After
     requires { ⌜ at ≤ length (now s) ⌝ }
     ensures { λ r. ⌜ AfterRead atDemand Any kinds.Tariff (now (s .entry)) at r ⌝ }
@@ -50,15 +50,15 @@ fn after_demand(s: &[u8], at: usize) -> After
     After::Field { next: at }
 }
 
-// After a comma.
-fn after_comma(kind: Kind, records: usize, s: &[u8], at: usize) -> After
+// After a comma, in a record that is known to be a source's or not.
+fn after_comma(kind: Kind, source: bool, s: &[u8], at: usize) -> After
     requires { ⌜ at ≤ length (now s) ⌝ }
-    ensures { λ r. ⌜ AfterRead atComma (Counted records) kind (now (s .entry)) at r ⌝ }
+    ensures { λ r. ⌜ AfterRead atComma (Source source) kind (now (s .entry)) at r ⌝ }
 {
     match kind {
         Kind::Production => After::Field { next: at },
         Kind::Tariff => {
-            if records == 0 {
+            if source {
                 After::Field { next: at }
             } else {
                 after_demand(s, at)
@@ -101,18 +101,35 @@ fn after_all(kind: Kind, at: usize) -> After
     }
 }
 
-// What stands after a field that ends at an offset, where so many records stand before.
-pub fn read_after(kind: Kind, records: usize, s: &[u8], at: usize) -> After
+// After a cost with a minus: a comma, and a further field.
+fn after_cost(kind: Kind, s: &[u8], at: usize) -> After
     requires { ⌜ at ≤ length (now s) ⌝ }
-    ensures { λ r. ⌜ AfterRead atField (Counted records) kind (now (s .entry)) at r ⌝ }
+    ensures { λ r. ⌜ AfterRead atCost Any kind (now (s .entry)) at r ⌝ }
 {
+    if s.len() <= at {
+        return After::Refused { place: at };
+    }
+    if s[at] != 44 {
+        return After::Refused { place: at };
+    }
+    After::Field { next: at + 1 }
+}
+
+// What stands after a field, with a minus or not, that ends at an offset, in a record that is known to be a source's or not.
+pub fn read_after(kind: Kind, minus: bool, source: bool, s: &[u8], at: usize) -> After
+    requires { ⌜ at ≤ length (now s) ⌝ }
+    ensures { λ r. ⌜ AfterRead atField (Known minus source) kind (now (s .entry)) at r ⌝ }
+{
+    if minus {
+        return after_cost(kind, s, at);
+    }
     if s.len() <= at {
         return after_all(kind, at);
     }
     let b = s[at];
     let next = at + 1;
     if b == 44 {
-        return after_comma(kind, records, s, next);
+        return after_comma(kind, source, s, next);
     }
     if b == 13 {
         return after_record(kind, s, next);

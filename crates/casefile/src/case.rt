@@ -1,12 +1,17 @@
 // A planning case from its two files.
 use crate::Kind;
-use crate::store::copy;
+use crate::store::copy_signed;
+use crate::store::copy_sizes;
 use crate::store::put;
+use crate::store::smaller;
 use crate::table::Table;
 use crate::table::read_table;
+use csvtext::magnitude;
 ghost use mathlib.Core.Path.{_≡_};
-ghost use Prim.Native.Nat.{_+_, _-_, _*_, _≤_};
-ghost use lib.ListN.{length};
+ghost use mathlib.Core.List.{map};
+ghost use Prim.Native.Nat.{min, _+_, _-_, _*_, _≤_};
+ghost use lib.IntN.{natAbs};
+ghost use lib.ListN.{length, take};
 ghost use lib.Seq.{sets};
 ghost use Rattle.casefile.specs.CaseFiles.{costRows, supplyRows, Shared, onRefused, CaseStored};
 
@@ -17,12 +22,17 @@ pub enum CaseAnswer {
 }
 
 // Cells for the fields of a tariff of 32 sources and 64 terminals: 33 records of 65 fields.
-fn blank() -> [u64; 2145] {
+fn blank() -> [i64; 2145] {
     [0; 2145]
 }
 
+// Cells for the entries of the longest table, and one more.
+fn entry_blank() -> [i64; 4002] {
+    [0; 4002]
+}
+
 // Shares out the source records: n unit costs, then the supply.
-fn share_sources(cells: &[u64], m: usize, n: usize, costs: &mut [u64], supplies: &mut [u64])
+fn share_sources(cells: &[i64], m: usize, n: usize, costs: &mut [i64], supplies: &mut [u64])
     requires { ⌜ m * (n + 1) ≤ length (now cells) ⌝ }
     requires { ⌜ n ≤ 64 ⌝ }
     ensures { λ _. ⌜ now (costs .exit) ≡ sets (now (costs .entry)) 0 (costRows m n (now (cells .entry))) ⌝ }
@@ -31,8 +41,8 @@ fn share_sources(cells: &[u64], m: usize, n: usize, costs: &mut [u64], supplies:
     let mut start: usize = 0;
     let mut at: usize = 0;
     for i in 0..m {
-        copy(cells, start, n, costs, at);
-        put(supplies, i, cells[start + n]);
+        copy_signed(cells, start, n, costs, at);
+        put(supplies, i, magnitude(cells[start + n]));
         start = start + n + 1;
         at = at + n;
     }
@@ -40,10 +50,10 @@ fn share_sources(cells: &[u64], m: usize, n: usize, costs: &mut [u64], supplies:
 
 // Shares out the records of a tariff of at most 32 sources and 64 terminals.
 fn share(
-    cells: &[u64],
+    cells: &[i64],
     m: usize,
     n: usize,
-    costs: &mut [u64],
+    costs: &mut [i64],
     supplies: &mut [u64],
     demands: &mut [u64],
 )
@@ -57,7 +67,16 @@ fn share(
         return;
     }
     share_sources(cells, m, n, costs, supplies);
-    copy(cells, m * (n + 1), n, demands, 0);
+    copy_sizes(cells, m * (n + 1), n, demands, 0);
+}
+
+// Shares out the entries of the production file, 4,002 at most.
+fn share_entries(cells: &[i64], entries: usize, table: &mut [u64])
+    requires { ⌜ length (now cells) ≡ 4002 ⌝ }
+    ensures { λ _. ⌜ now (table .exit) ≡ sets (now (table .entry)) 0 (map natAbs (take (min entries 4002) (now (cells .entry)))) ⌝ }
+{
+    let count = smaller(entries, 4002);
+    copy_sizes(cells, 0, count, table, 0);
 }
 
 fn handed_on(t: Table) -> CaseAnswer
@@ -75,12 +94,12 @@ fn handed_on(t: Table) -> CaseAnswer
     }
 }
 
-// Reads both files. Stores unit costs, supplies, demands and production entries, as far as there are cells, where there are at most 32
-// sources and 64 terminals.
+// Reads both files. Stores unit costs, supplies and demands, where there are at most 32 sources and 64 terminals, and at most 4,002
+// production entries, as far as there are cells.
 pub fn read_case(
     tariff: &[u8],
     production: &[u8],
-    costs: &mut [u64],
+    costs: &mut [i64],
     supplies: &mut [u64],
     demands: &mut [u64],
     table: &mut [u64],
@@ -92,7 +111,8 @@ pub fn read_case(
     let Table::Whole { records, fields } = t else {
         return handed_on(t);
     };
-    let p = read_table(Kind::Production, production, table);
+    let mut held = entry_blank();
+    let p = read_table(Kind::Production, production, &mut held);
     let Table::Whole {
         records: entries,
         fields: _,
@@ -103,5 +123,6 @@ pub fn read_case(
     let m = records - 1;
     let n = fields - 1;
     share(&cells, m, n, costs, supplies, demands);
+    share_entries(&held, entries, table);
     CaseAnswer::Case { m, n, entries }
 }

@@ -1,14 +1,21 @@
-// A field: 1 to 10 digits, bare or in double quotes.
+// A field: 1 to 10 digits, in the tariff with at most one minus before them, bare or in double quotes.
+use crate::Kind;
 ghost use mathlib.Core.Path.{_≡_};
 ghost use Prim.Native.Nat.{ℕ, _+_, _≤_, _<_};
 ghost use lib.ListN.{length, getD};
 ghost use Rattle.casefile.specs.Form.{mark, field, opened};
-ghost use Rattle.casefile.specs.Reader.{digitOr10, DigitsRead, FieldRead};
+ghost use Rattle.casefile.specs.Reader.{digitOr10, isMinus, DigitsRead, NumberRead, closeQuote, FieldRead};
 
 // What is read at a field: its value with the next offset, or a refusal with its place.
 pub enum Field {
-    Value { value: u64, next: usize },
-    Refused { place: usize },
+    Value {
+        value: u64,
+        minus: bool,
+        next: usize,
+    },
+    Refused {
+        place: usize,
+    },
 }
 
 pub struct Digits {
@@ -33,6 +40,21 @@ fn digit_at(s: &[u8], at: usize) -> u64
     (b - 48) as u64
 }
 
+// Is there a minus at an offset, where a number of the file may have one?
+fn minus_at(kind: Kind, s: &[u8], at: usize) -> bool
+    ensures { λ r. ⌜ r ≡ isMinus kind (mark (getD (now (s .entry)) at 0)) ⌝ }
+{
+    match kind {
+        Kind::Production => false,
+        Kind::Tariff => {
+            if s.len() <= at {
+                return false;
+            }
+            s[at] == 45
+        }
+    }
+}
+
 // The digits from an offset on, ten at most.
 fn read_digits(s: &[u8], at: usize) -> Digits
     requires { ⌜ at ≤ length (now s) ⌝ }
@@ -53,16 +75,29 @@ fn read_digits(s: &[u8], at: usize) -> Digits
     Digits { value, next }
 }
 
-// The rest of a field after the quote that opens it.
-fn read_quoted(s: &[u8], at: usize) -> Field
+// The number whose digits begin at an offset, after a minus or not.
+fn read_number(minus: bool, s: &[u8], at: usize) -> Field
     requires { ⌜ at ≤ length (now s) ⌝ }
-    ensures { λ r. ⌜ FieldRead opened (now (s .entry)) at r ⌝ }
+    ensures { λ r. ⌜ NumberRead minus (now (s .entry)) at r ⌝ }
 {
     if 9 < digit_at(s, at) {
         return Field::Refused { place: at };
     }
     let d = read_digits(s, at);
-    let next = d.next;
+    Field::Value {
+        value: d.value,
+        minus,
+        next: d.next,
+    }
+}
+
+// A number, and the quote that closes it.
+fn close_quote(s: &[u8], f: Field) -> Field
+    ensures { λ r. ⌜ r ≡ closeQuote (now (s .entry)) f ⌝ }
+{
+    let Field::Value { value, minus, next } = f else {
+        return f;
+    };
     if s.len() <= next {
         return Field::Refused { place: next };
     }
@@ -70,28 +105,38 @@ fn read_quoted(s: &[u8], at: usize) -> Field
         return Field::Refused { place: next };
     }
     Field::Value {
-        value: d.value,
+        value,
+        minus,
         next: next + 1,
     }
 }
 
-// The field at an offset.
-pub fn read_field(s: &[u8], at: usize) -> Field
+// The rest of a field after the quote that opens it.
+fn read_quoted(kind: Kind, s: &[u8], at: usize) -> Field
     requires { ⌜ at ≤ length (now s) ⌝ }
-    ensures { λ r. ⌜ FieldRead field (now (s .entry)) at r ⌝ }
+    ensures { λ r. ⌜ FieldRead kind opened (now (s .entry)) at r ⌝ }
+{
+    if minus_at(kind, s, at) {
+        let f = read_number(true, s, at + 1);
+        return close_quote(s, f);
+    }
+    let f = read_number(false, s, at);
+    close_quote(s, f)
+}
+
+// The field at an offset.
+pub fn read_field(kind: Kind, s: &[u8], at: usize) -> Field
+    requires { ⌜ at ≤ length (now s) ⌝ }
+    ensures { λ r. ⌜ FieldRead kind field (now (s .entry)) at r ⌝ }
 {
     if s.len() <= at {
         return Field::Refused { place: at };
     }
     if s[at] == 34 {
-        return read_quoted(s, at + 1);
+        return read_quoted(kind, s, at + 1);
     }
-    if 9 < digit_at(s, at) {
-        return Field::Refused { place: at };
+    if minus_at(kind, s, at) {
+        return read_number(true, s, at + 1);
     }
-    let d = read_digits(s, at);
-    Field::Value {
-        value: d.value,
-        next: d.next,
-    }
+    read_number(false, s, at)
 }

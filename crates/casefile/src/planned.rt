@@ -2,13 +2,14 @@
 use crate::Kind;
 use crate::case::CaseAnswer;
 use crate::case::read_case;
+use crate::store::smaller;
 use crate::table::Table;
 use crate::table::read_table;
 use csvtext::put_plan;
 use csvtext::put_refusal;
 use planner::Answer;
 ghost use mathlib.Core.Path.{_≡_};
-ghost use Prim.Native.Nat.{min, _*_, _≤_};
+ghost use Prim.Native.Nat.{_*_, _≤_};
 ghost use lib.ListN.{length, take};
 ghost use Rattle.csvtext.specs.Text.{planText, refusalText};
 ghost use Rattle.csvtext.specs.Writing.{Fits};
@@ -32,6 +33,10 @@ fn lane_cells() -> [u64; 2048] {
     [0; 2048]
 }
 
+fn cost_cells() -> [i64; 2048] {
+    [0; 2048]
+}
+
 // One cell more than the longest table has entries.
 fn entry_cells() -> [u64; 4002] {
     [0; 4002]
@@ -41,10 +46,8 @@ fn stop_cells() -> [u64; 4001] {
     [0; 4001]
 }
 
-fn smaller(a: usize, b: usize) -> usize
-    ensures { λ r. ⌜ r ≡ min a b ⌝ }
-{
-    if a < b { a } else { b }
+fn freight_cells() -> [i64; 4001] {
+    [0; 4001]
 }
 
 fn print_refusal(out: &mut [u8], number: u64, place: u64, m: usize, n: usize) -> Printed
@@ -65,7 +68,7 @@ fn print_plan(
     out: &mut [u8],
     m: usize,
     n: usize,
-    costs: &[u64],
+    costs: &[i64],
     plan: &[u64],
     split: u64,
     entry: u64,
@@ -90,7 +93,7 @@ fn print_plan(
 fn print_case(
     m: usize,
     n: usize,
-    costs: &[u64],
+    costs: &[i64],
     supplies: &[u64],
     demands: &[u64],
     table: &[u64],
@@ -100,7 +103,7 @@ fn print_case(
 {
     let mut plan = lane_cells();
     let mut splits = stop_cells();
-    let mut freights = stop_cells();
+    let mut freights = freight_cells();
     let answer = planner::plan(
         m,
         n,
@@ -132,7 +135,7 @@ fn print_stored(
     m: usize,
     n: usize,
     entries: usize,
-    costs: &[u64],
+    costs: &[i64],
     supplies: &[u64],
     demands: &[u64],
     table: &[u64],
@@ -160,7 +163,7 @@ fn print_stored(
 pub fn plan_files(tariff: &[u8], production: &[u8], out: &mut [u8]) -> Printed
     ensures { λ r. ⌜ FilesPrinted (now (tariff .entry)) (now (production .entry)) (now (out .entry)) (now (out .exit)) r ⌝ }
 {
-    let mut costs = lane_cells();
+    let mut costs = cost_cells();
     let mut supplies = [0u64; 32];
     let mut demands = [0u64; 64];
     let mut table = entry_cells();
@@ -184,7 +187,7 @@ pub fn plan_files(tariff: &[u8], production: &[u8], out: &mut [u8]) -> Printed
 pub fn tariff_stands(tariff: &[u8]) -> bool
     ensures { λ r. ⌜ r ≡ stands (tableOf kinds.Tariff (now (tariff .entry))) ⌝ }
 {
-    let mut cells = [0u64; 1];
+    let mut cells = [0i64; 1];
     let t = read_table(Kind::Tariff, tariff, &mut cells);
     match t {
         Table::Whole {

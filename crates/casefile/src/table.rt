@@ -4,10 +4,13 @@ use crate::after::After;
 use crate::after::read_after;
 use crate::field::Field;
 use crate::field::read_field;
-use crate::store::put;
+use crate::store::put_signed;
 ghost use mathlib.Core.Path.{_≡_};
+ghost use mathlib.Core.Bool.{_||_};
+ghost use Prim.Native.Nat.{_<_, _^_};
 ghost use Rattle.casefile.specs.Files.{judged};
-ghost use Rattle.casefile.specs.Tallies.{startTally, fieldTally, recordTally, widthOr, oddOr, Countable, handedOn, TableRead};
+ghost use Rattle.casefile.specs.Records.{signed};
+ghost use Rattle.casefile.specs.Tallies.{startTally, fieldTally, recordTally, sourceTally, widthOr, oddOr, Countable, handedOn, TableRead};
 
 // The whole file's count of records and of each record's fields, or a refusal.
 pub enum Table {
@@ -16,13 +19,14 @@ pub enum Table {
 }
 
 // What is counted on the way: the records before this one, the fields of this one, the fields that each is to have (0 where that is not known
-// yet), the first record with another count (0 where there is none), and all fields.
+// yet), the first record with another count (0 where there is none), and all fields; and whether this record has a minus.
 pub struct Tally {
     pub records: usize,
     pub fields: usize,
     pub width: usize,
     pub odd: usize,
     pub values: usize,
+    pub rebate: bool,
 }
 
 impl Tally {
@@ -39,20 +43,23 @@ impl Tally {
             width,
             odd: 0,
             values: 0,
+            rebate: false,
         }
     }
 
-    // One more field.
-    pub fn with_field(self) -> Self
+    // One more field, with a minus or not.
+    pub fn with_field(self, minus: bool) -> Self
         requires { ⌜ Countable self ⌝ }
-        ensures { λ r. ⌜ r ≡ fieldTally self ⌝ }
+        ensures { λ r. ⌜ r ≡ fieldTally minus self ⌝ }
     {
+        let rebate = either(minus, self.rebate);
         Self {
             records: self.records,
             fields: self.fields + 1,
             width: self.width,
             odd: self.odd,
             values: self.values + 1,
+            rebate,
         }
     }
 
@@ -70,7 +77,16 @@ impl Tally {
             width,
             odd,
             values: self.values,
+            rebate: false,
         }
+    }
+
+    // Is this record known to be a source's: the first, or one with a minus?
+    pub fn source(self) -> bool
+        ensures { λ r. ⌜ r ≡ sourceTally self ⌝ }
+    {
+        let records = self.records;
+        either(self.rebate, records == 0)
     }
 
     pub fn table(self) -> Table
@@ -89,6 +105,23 @@ impl Tally {
             }
         }
     }
+}
+
+fn either(a: bool, b: bool) -> bool
+    ensures { λ r. ⌜ r ≡ (a || b) ⌝ }
+{
+    if a { true } else { b }
+}
+
+// The integer of a number after a minus or not.
+fn with_sign(minus: bool, value: u64) -> i64
+    requires { ⌜ value < 10 ^ 10 ⌝ }
+    ensures { λ r. ⌜ r ≡ signed minus value ⌝ }
+{
+    if minus {
+        return 0 - value as i64;
+    }
+    value as i64
 }
 
 fn expected(width: usize, fields: usize) -> usize
@@ -110,7 +143,11 @@ fn handed_on(f: Field) -> Table
     ensures { λ r. ⌜ r ≡ handedOn f ⌝ }
 {
     match f {
-        Field::Value { value: _, next } => Table::Refused {
+        Field::Value {
+            value: _,
+            minus: _,
+            next,
+        } => Table::Refused {
             number: 21,
             place: next,
         },
@@ -119,7 +156,7 @@ fn handed_on(f: Field) -> Table
 }
 
 // Reads a file, and stores its fields in file order as far as there are cells.
-pub fn read_table(kind: Kind, s: &[u8], cells: &mut [u64]) -> Table
+pub fn read_table(kind: Kind, s: &[u8], cells: &mut [i64]) -> Table
     ensures { λ r. ⌜ TableRead kind (now (s .entry)) (now (cells .entry)) (now (cells .exit)) r ⌝ }
 {
     if 65_536 < s.len() {
@@ -131,15 +168,15 @@ pub fn read_table(kind: Kind, s: &[u8], cells: &mut [u64]) -> Table
     let mut t = Tally::start(kind);
     let mut at: usize = 0;
     loop {
-        let f = read_field(s, at);
-        let Field::Value { value, next } = f else {
+        let f = read_field(kind, s, at);
+        let Field::Value { value, minus, next } = f else {
             return handed_on(f);
         };
         let k = t.values;
-        put(cells, k, value);
-        t = t.with_field();
-        let records = t.records;
-        let a = read_after(kind, records, s, next);
+        put_signed(cells, k, with_sign(minus, value));
+        t = t.with_field(minus);
+        let source = t.source();
+        let a = read_after(kind, minus, source, s, next);
         match a {
             After::Field { next: start } => {
                 at = start;
@@ -152,8 +189,8 @@ pub fn read_table(kind: Kind, s: &[u8], cells: &mut [u64]) -> Table
                 return t.with_record().table();
             }
             After::Empty => {
-                put(cells, k + 1, 0);
-                return t.with_field().with_record().table();
+                put_signed(cells, k + 1, 0);
+                return t.with_field(false).with_record().table();
             }
             After::Refused { place } => {
                 return Table::Refused { number: 21, place };

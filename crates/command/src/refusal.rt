@@ -37,11 +37,11 @@ fn explain_lane(place: u64, n: u64) {
                 b" to terminal ",
             );
             say_number(next((place - 1) % n));
-            say(b" in the tariff file is above 1,000,000.\n");
+            say(b" in the tariff file is below -1,000,000 or above 1,000,000.\n");
             return;
         }
     }
-    say(b"a unit cost in the tariff file is above 1,000,000.\n");
+    say(b"a unit cost in the tariff file is below -1,000,000 or above 1,000,000.\n");
 }
 
 // Refusals 9 and 10: a split, whose entry is one record further in the production file.
@@ -80,8 +80,7 @@ fn explain_case(number: u64, place: u64, m: u64, n: u64) {
             b"the terminals take more than the plants and depots can give, so no plan exists.\n",
         ),
         9 | 10 => explain_split(number, place),
-        11 => say(b"there is no room for the plan or for its stops.\n"),
-        _ => say(b"the total is above 200,000,000,000.\n"),
+        _ => say(b"there is no room for the plan or for its stops.\n"),
     }
 }
 

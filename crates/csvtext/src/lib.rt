@@ -1,9 +1,11 @@
 // Prints as CSV into a lent slice, as far as there is room.
 ghost use mathlib.Core.List.{[], _∷_};
 ghost use Prim.Native.Nat.{_+_, _*_, _≤_, _<_, _^_};
+ghost use mathlib.Core.Path.{_≡_};
+ghost use lib.IntN.{pos, natAbs};
 ghost use lib.ListN.{length};
-ghost use Rattle.csvtext.specs.Text.{decimal, fieldText, recordText, rowText, lanesText, planText, refusalText};
-ghost use Rattle.csvtext.specs.Writing.{Written, Printable, Narrow, Fits, Says, PlanWritten};
+ghost use Rattle.csvtext.specs.Text.{decimal, signedText, fieldText, recordText, rowText, lanesText, planText, refusalText};
+ghost use Rattle.csvtext.specs.Writing.{Written, Printable, Narrow, NarrowCosts, Fits, Says, PlanWritten};
 
 // Writes a byte, and gives the next offset.
 fn put_byte(out: &mut [u8], at: usize, b: u8) -> usize
@@ -29,19 +31,51 @@ fn put_number(out: &mut [u8], at: usize, n: u64) -> usize
     put_byte(out, next, 48 + (n % 10) as u8)
 }
 
+// An integer without its sign.
+pub fn magnitude(v: i64) -> u64
+    ensures { λ r. ⌜ r ≡ natAbs v ⌝ }
+{
+    if v < 0 {
+        return (-1 - v) as u64 + 1;
+    }
+    v as u64
+}
+
+// Writes an integer in decimal, with a minus where it is negative.
+fn put_signed(out: &mut [u8], at: usize, v: i64) -> usize
+    requires { ⌜ at < 2 ^ 61 ⌝ }
+    ensures { λ r. ⌜ Written (now (out .entry)) (now (out .exit)) at r (signedText v) 20 ⌝ }
+{
+    let size = magnitude(v);
+    if v < 0 {
+        let next = put_byte(out, at, 45);
+        return put_number(out, next, size);
+    }
+    put_number(out, at, size)
+}
+
 // Writes a number and the byte after it.
 fn put_field(out: &mut [u8], at: usize, n: u64, b: u8) -> usize
     requires { ⌜ at < 2 ^ 62 ⌝ }
-    ensures { λ r. ⌜ Written (now (out .entry)) (now (out .exit)) at r (fieldText n b) 21 ⌝ }
+    ensures { λ r. ⌜ Written (now (out .entry)) (now (out .exit)) at r (fieldText (pos n) b) 21 ⌝ }
 {
     let next = put_number(out, at, n);
+    put_byte(out, next, b)
+}
+
+// Writes an integer and the byte after it.
+fn put_signed_field(out: &mut [u8], at: usize, v: i64, b: u8) -> usize
+    requires { ⌜ at < 2 ^ 61 ⌝ }
+    ensures { λ r. ⌜ Written (now (out .entry)) (now (out .exit)) at r (fieldText v b) 21 ⌝ }
+{
+    let next = put_signed(out, at, v);
     put_byte(out, next, b)
 }
 
 // Writes a record of two numbers.
 fn put_pair(out: &mut [u8], at: usize, a: u64, b: u64) -> usize
     requires { ⌜ at < 2 ^ 61 ⌝ }
-    ensures { λ r. ⌜ Written (now (out .entry)) (now (out .exit)) at r (recordText (a ∷ b ∷ [])) 43 ⌝ }
+    ensures { λ r. ⌜ Written (now (out .entry)) (now (out .exit)) at r (recordText (pos a ∷ pos b ∷ [])) 43 ⌝ }
 {
     let second = put_field(out, at, a, 44);
     let end = put_field(out, second, b, 13);
@@ -51,11 +85,23 @@ fn put_pair(out: &mut [u8], at: usize, a: u64, b: u64) -> usize
 // Writes a record of four numbers.
 fn put_record(out: &mut [u8], at: usize, a: u64, b: u64, c: u64, d: u64) -> usize
     requires { ⌜ at < 2 ^ 60 ⌝ }
-    ensures { λ r. ⌜ Written (now (out .entry)) (now (out .exit)) at r (recordText (a ∷ b ∷ c ∷ d ∷ [])) 85 ⌝ }
+    ensures { λ r. ⌜ Written (now (out .entry)) (now (out .exit)) at r (recordText (pos a ∷ pos b ∷ pos c ∷ pos d ∷ [])) 85 ⌝ }
 {
     let second = put_field(out, at, a, 44);
     let third = put_field(out, second, b, 44);
     put_pair(out, third, c, d)
+}
+
+// Writes a lane: three numbers and an integer.
+fn put_lane(out: &mut [u8], at: usize, a: u64, b: u64, c: u64, d: i64) -> usize
+    requires { ⌜ at < 2 ^ 60 ⌝ }
+    ensures { λ r. ⌜ Written (now (out .entry)) (now (out .exit)) at r (recordText (pos a ∷ pos b ∷ pos c ∷ d ∷ [])) 85 ⌝ }
+{
+    let second = put_field(out, at, a, 44);
+    let third = put_field(out, second, b, 44);
+    let fourth = put_field(out, third, c, 44);
+    let end = put_signed_field(out, fourth, d, 13);
+    put_byte(out, end, 10)
 }
 
 // Writes bytes as they are.
@@ -77,7 +123,7 @@ fn put_row(
     i: usize,
     start: usize,
     n: usize,
-    costs: &[u64],
+    costs: &[i64],
     plan: &[u64],
 ) -> usize
     requires { ⌜ (at < 2 ^ 50) × (i < 32) × (n ≤ 64) ⌝ }
@@ -88,14 +134,14 @@ fn put_row(
     for j in 0..n {
         let k = start + j;
         let amount = plan[k];
-        let cost = amount * costs[k];
-        next = put_record(out, next, i as u64 + 1, j as u64 + 1, amount, cost);
+        let cost = amount as i64 * costs[k];
+        next = put_lane(out, next, i as u64 + 1, j as u64 + 1, amount, cost);
     }
     next
 }
 
 // Writes all lanes in row order.
-fn put_lanes(out: &mut [u8], at: usize, m: usize, n: usize, costs: &[u64], plan: &[u64]) -> usize
+fn put_lanes(out: &mut [u8], at: usize, m: usize, n: usize, costs: &[i64], plan: &[u64]) -> usize
     requires { ⌜ (at < 2 ^ 40) × (m ≤ 32) × (n ≤ 64) ⌝ }
     requires { ⌜ Printable (now costs) (now plan) 0 (m * n) ⌝ }
     ensures { λ r. ⌜ Written (now (out .entry)) (now (out .exit)) at r (lanesText (now (costs .entry)) (now (plan .entry)) m n) (5440 * m) ⌝ }
@@ -124,8 +170,23 @@ fn narrow(s: &[u64], count: usize) -> bool
     true
 }
 
+// Are there count integers, each of less than 2^31 either way?
+fn narrow_costs(s: &[i64], count: usize) -> bool
+    ensures { λ r. ⌜ Says (NarrowCosts count (now (s .entry))) r ⌝ }
+{
+    if s.len() < count {
+        return false;
+    }
+    for k in 0..count {
+        if 2_147_483_647 < magnitude(s[k]) {
+            return false;
+        }
+    }
+    true
+}
+
 // Can the plan be printed?
-fn fits(m: usize, n: usize, costs: &[u64], plan: &[u64]) -> bool
+fn fits(m: usize, n: usize, costs: &[i64], plan: &[u64]) -> bool
     ensures { λ r. ⌜ Says (Fits m n (now (costs .entry)) (now (plan .entry))) r ⌝ }
 {
     if 32 < m {
@@ -134,7 +195,7 @@ fn fits(m: usize, n: usize, costs: &[u64], plan: &[u64]) -> bool
     if 64 < n {
         return false;
     }
-    if narrow(costs, m * n) {
+    if narrow_costs(costs, m * n) {
         return narrow(plan, m * n);
     }
     false
@@ -145,7 +206,7 @@ fn put_fitting(
     out: &mut [u8],
     m: usize,
     n: usize,
-    costs: &[u64],
+    costs: &[i64],
     plan: &[u64],
     split: u64,
     entry: u64,
@@ -161,12 +222,12 @@ fn put_fitting(
 }
 
 // Writes a plan: the header, the production record and all lanes. Gives the length of the text; 0, and nothing is written, where there are
-// more than 32 sources or 64 terminals, lanes are missing, or a number of a lane is 2^32 or more.
+// more than 32 sources or 64 terminals, lanes are missing, a lane has 2^32 drums or more, or a unit cost is 2^31 or more either way.
 pub fn put_plan(
     out: &mut [u8],
     m: usize,
     n: usize,
-    costs: &[u64],
+    costs: &[i64],
     plan: &[u64],
     split: u64,
     entry: u64,

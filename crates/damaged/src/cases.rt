@@ -15,6 +15,10 @@ fn run_tariffs(tally: &mut [u64; 32]) {
     tariff(tally, 9, 1, b"1000001", 5, 4);
     tariff(tally, 16, 1, b"9999999999", 5, 6);
     tariff(tally, 0, 1, b"1000000", 0, 0);
+    tariff(tally, 0, 1, b"-1000001", 5, 1);
+    tariff(tally, 9, 1, b"\"-1000001\"", 5, 4);
+    tariff(tally, 16, 1, b"-9999999999", 5, 6);
+    tariff(tally, 0, 1, b"-1000000", 0, 0);
     tariff(tally, 4, 1, b"4", 6, 0);
     tariff(tally, 18, 1, b"6", 7, 0);
     tariff(tally, 18, 1, b"5", 0, 0);

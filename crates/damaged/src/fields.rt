@@ -7,7 +7,12 @@ fn run_bare(tally: &mut [u64; 32]) {
     tariff(tally, 2, 1, b"0000000006", 0, 0);
     tariff(tally, 2, 1, b"00000000006", 21, 12);
     tariff(tally, 2, 1, b"12345678901", 21, 12);
-    tariff(tally, 2, 1, b"-6", 21, 2);
+    tariff(tally, 2, 1, b"-6", 0, 0);
+    tariff(tally, 2, 1, b"--6", 21, 3);
+    tariff(tally, 2, 1, b"-", 21, 3);
+    tariff(tally, 2, 1, b"-\"6\"", 21, 3);
+    tariff(tally, 2, 1, b"-6.0", 21, 4);
+    tariff(tally, 2, 1, b"-12345678901", 21, 13);
     tariff(tally, 2, 1, b"+6", 21, 2);
     tariff(tally, 2, 1, b"6.0", 21, 3);
     tariff(tally, 2, 1, b"6e3", 21, 3);
@@ -27,7 +32,9 @@ fn run_bare(tally: &mut [u64; 32]) {
     tariff(tally, 2, 1, b"6\xff", 21, 3);
     tariff(tally, 0, 0, b" ", 21, 0);
     tariff(tally, 23, 1, b"2.5", 21, 24);
-    tariff(tally, 18, 1, b"-1", 21, 18);
+    tariff(tally, 18, 1, b"-1", 21, 20);
+    tariff(tally, 21, 1, b"-3", 21, 26);
+    tariff(tally, 23, 1, b"-2", 21, 26);
 }
 
 // Quoted fields.
@@ -45,7 +52,10 @@ fn run_quoted(tally: &mut [u64; 32]) {
     tariff(tally, 2, 1, b" \"6\"", 21, 2);
     tariff(tally, 2, 1, b"\" 6\"", 21, 3);
     tariff(tally, 2, 1, b"\"6 \"", 21, 4);
-    tariff(tally, 2, 1, b"\"-6\"", 21, 3);
+    tariff(tally, 2, 1, b"\"-6\"", 0, 0);
+    tariff(tally, 2, 1, b"\"--6\"", 21, 4);
+    tariff(tally, 2, 1, b"\"-\"", 21, 4);
+    tariff(tally, 4, 1, b"\"-3\"", 21, 8);
     tariff(tally, 2, 1, b"\"6,3\"", 21, 4);
     tariff(tally, 2, 1, b"\"6\r\n\"", 21, 4);
     tariff(tally, 2, 1, b"'6'", 21, 2);

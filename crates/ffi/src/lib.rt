@@ -5,13 +5,13 @@ ghost use lib.ListN.{length};
 ghost use Rattle.transport.specs.Curve.{written};
 ghost use Rattle.planner.specs.Verdict.{lent};
 ghost use Rattle.planner.specs.Answer.{outcome, slices};
-ghost use Rattle.ffi.specs.Report.{numberOf, reportOf, Exported};
+ghost use Rattle.ffi.specs.Report.{numberOf, reportOf, worthOf, Exported};
 use planner::Answer;
 
-// Writes the report of an answer; its number.
-fn tell(answer: Answer, report: &mut [u64]) -> u64
-    requires { ⌜ 4 ≤ length (now report) ⌝ }
-    ensures { λ r. ⌜ (r ≡ numberOf (outcome answer)) × (now (report .exit) ≡ written (reportOf (outcome answer)) (now (report .entry))) ⌝ }
+// Writes the report and the worth of an answer; its number.
+fn tell(answer: Answer, report: &mut [u64], worth: &mut [i64]) -> u64
+    requires { ⌜ (2 ≤ length (now report)) × (2 ≤ length (now worth)) ⌝ }
+    ensures { λ r. ⌜ (r ≡ numberOf (outcome answer)) × (now (report .exit) ≡ written (reportOf (outcome answer)) (now (report .entry))) × (now (worth .exit) ≡ written (worthOf (outcome answer)) (now (worth .entry))) ⌝ }
 {
     match answer {
         Answer::Planned {
@@ -21,9 +21,9 @@ fn tell(answer: Answer, report: &mut [u64]) -> u64
             stops,
         } => {
             report[0] = split;
-            report[1] = total;
-            report[2] = freight;
-            report[3] = stops as u64;
+            report[1] = stops as u64;
+            worth[0] = total;
+            worth[1] = freight;
             0
         }
         Answer::Refused { number, place } => {
@@ -33,36 +33,46 @@ fn tell(answer: Answer, report: &mut [u64]) -> u64
     }
 }
 
-// Plans a lent case: 0 where there is a plan, else the number of the refusal. The report's first cells get split, total,
-// freight and count of stops, or the refusal's place. A report of fewer than four cells is answered by 34.
+// Plans a lent case: 0 where there is a plan, else the number of the refusal. The report's first cells get split and count of stops, or the
+// refusal's place, those of the worth total and freight. Where either has fewer than two cells the answer is 34.
 #[no_mangle]
 pub extern "C" fn yadvorkhul_plan(
     m: usize,
     n: usize,
-    costs: &[u64],
+    run1: u64,
+    run2: u64,
+    costs: &[i64],
     supplies: &[u64],
     demands: &[u64],
+    ceilings: &[u64],
     table: &[u64],
     plan: &mut [u64],
     splits: &mut [u64],
-    freights: &mut [u64],
+    freights: &mut [i64],
     report: &mut [u64],
+    worth: &mut [i64],
 ) -> u64
-    ensures { λ r. ⌜ Exported (lent m n (now (costs .entry)) (now (supplies .entry)) (now (demands .entry)) (now (table .entry)) (length (now (plan .entry))) (length (now (splits .entry))) (length (now (freights .entry)))) (slices (now (plan .entry)) (now (splits .entry)) (now (freights .entry))) (slices (now (plan .exit)) (now (splits .exit)) (now (freights .exit))) (now (report .entry)) (now (report .exit)) r ⌝ }
+    ensures { λ r. ⌜ Exported (lent m n run1 run2 (now (costs .entry)) (now (supplies .entry)) (now (demands .entry)) (now (ceilings .entry)) (now (table .entry)) (length (now (plan .entry))) (length (now (splits .entry))) (length (now (freights .entry)))) (slices (now (plan .entry)) (now (splits .entry)) (now (freights .entry))) (slices (now (plan .exit)) (now (splits .exit)) (now (freights .exit))) (now (report .entry)) (now (report .exit)) (now (worth .entry)) (now (worth .exit)) r ⌝ }
 {
-    if report.len() < 4 {
+    if report.len() < 2 {
+        return 34;
+    }
+    if worth.len() < 2 {
         return 34;
     }
     let answer = planner::plan(
         m,
         n,
+        run1,
+        run2,
         costs,
         supplies,
         demands,
+        ceilings,
         table,
         plan,
         splits,
         freights,
     );
-    tell(answer, report)
+    tell(answer, report, worth)
 }

@@ -3,11 +3,11 @@ use mathlib.Core.Path.{_≡_, refl, sym, ap, _∙_}
 use mathlib.Core.List.{List}
 use Prim.Native.Nat.{ℕ, suc, _+_, _-_, _*_, _≤_, _<_}
 use native.Mathlib.Nat.{suc-mul, mul-le-mul-right}
-use native.Mathlib.Decide.{ℕ-discrete, decLt}
+use native.Mathlib.Decide.{ℕ-discrete}
 use native.Mathlib.Omega.{arith}
 use lib.ListN.{length, getD, set, length-set, take, drop, length-take, length-drop}
 use lib.Seq.{getD-set-same, getD-set-other, getD-take, getD-drop}
-use Rattle.planner.specs.Copy.{Narrow, Copied, RowsMoved, FirstAmounts}
+use Rattle.planner.specs.Copy.{Narrow, Copied, RowsMoved, Supplied}
 use Rattle.planner.proofs.Rows.{row-at}
 
 -- the first k cells are copied
@@ -87,12 +87,6 @@ row-start k p f e = omega (arith, suc-mul k p, ap (λ (v : ℕ). v * p) (let y :
 pub move-end : {m n p q k : ℕ} {s d e : List ℕ} → Moving n p q k s d e → m ≤ k → RowsMoved m n p q s e
 move-end {m} q h = record { cells = λ i j a b. q .rows i j (omega arith) b }
 
--- the first two of the amounts are stored over the supplies
-pub two-set : (s d e : List ℕ) (a b : ℕ) → length d ≡ 32 → Copied s 0 d e → FirstAmounts s a b (set (set e 0 a) 1 b)
-two-set s d e a b n q = record {
-  plant1 = getD-set-other (set e 0 a) 1 0 b 0 (omega arith) ∙ getD-set-same e 0 a 0 (omega (arith, q .long));
-  plant2 = getD-set-same (set e 0 a) 1 b 0 (omega (arith, length-set e 0 a, q .long));
-  depots = λ i h l.
-      getD-set-other (set e 0 a) 1 i b 0 (omega arith) ∙ getD-set-other e 0 i a 0 (omega arith)
-      ∙ ap (λ (v : ℕ). getD e v 0) (let z : i ≡ 0 + i = omega arith in z) ∙ q .here i l;
-}
+-- a copy from index 0 on
+pub copied-first : {s d e : List ℕ} → Copied s 0 d e → Supplied s e
+copied-first {s} {d} {e} q = record { sources = λ i h. ap (λ (v : ℕ). getD e v 0) (let z : i ≡ 0 + i = omega arith in z) ∙ q .here i h }

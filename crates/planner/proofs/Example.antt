@@ -1,5 +1,5 @@
 -- An example: a case with what the definitions must give it. One test that computes, and what it shows. Assumes nothing.
-use mathlib.Core.Path.{_≡_, refl, sym, subst}
+use mathlib.Core.Path.{_≡_, refl, sym, ap, subst}
 use mathlib.Core.Logic.{_⊎_, inl, inr}
 use mathlib.Core.Bool.{Bool, true, false, _&&_}
 use mathlib.Core.Option.{none, some}
@@ -7,6 +7,8 @@ use mathlib.Core.List.{List, [], _∷_, List·Memᴰ, List·Memᴰ·not-nil, Lis
 use Prim.Native.Nat.{ℕ}
 use native.Mathlib.Omega.{arith}
 use lib.Dec.{eqb}
+use lib.IntN.{ℤ, pos, negsuc}
+use Rattle.planner.specs.Integer.{eqZ}
 use borrow.Author.Tests.{eqb-true}
 use Rattle.planner.specs.Case.{Case}
 use Rattle.planner.specs.Plans.{stops, stopFreights}
@@ -17,10 +19,10 @@ pub record Example : Type 0 where
   pub given : Case
   pub outcome : Outcome
   pub splits : List ℕ
-  pub freights : List ℕ
+  pub freights : List ℤ
 
 -- a list of the case where it is accepted, nothing where it is refused
-unfoldable pub whereAccepted : (Case → List ℕ) → Case → List ℕ
+unfoldable pub whereAccepted : {A : Type 0} → (Case → List A) → Case → List A
 whereAccepted g c = elim (refusalOf c) [ some r ↦ [] | none ↦ g c ]
 
 -- the definitions give the example what it says
@@ -37,8 +39,14 @@ sameList [] (b ∷ k) = false
 sameList (a ∷ l) [] = false
 sameList (a ∷ l) (b ∷ k) = eqb a b && sameList l k
 
+unfoldable pub sameIntegers : List ℤ → List ℤ → Bool
+sameIntegers [] [] = true
+sameIntegers [] (b ∷ k) = false
+sameIntegers (a ∷ l) [] = false
+sameIntegers (a ∷ l) (b ∷ k) = eqZ a b && sameIntegers l k
+
 unfoldable pub sameOutcome : Outcome → Outcome → Bool
-sameOutcome (planned s t f k) (planned s' t' f' k') = eqb s s' && (eqb t t' && (eqb f f' && eqb k k'))
+sameOutcome (planned s t f k) (planned s' t' f' k') = eqb s s' && (eqZ t t' && (eqZ f f' && eqb k k'))
 sameOutcome (planned s t f k) (refused n p) = false
 sameOutcome (refused n p) (planned s t f k) = false
 sameOutcome (refused n p) (refused n' p') = eqb n n' && eqb p p'
@@ -46,7 +54,7 @@ sameOutcome (refused n p) (refused n' p') = eqb n n' && eqb p p'
 unfoldable pub right : Example → Bool
 right e =
     sameOutcome (outcomeOf (e .given)) (e .outcome)
-    && (sameList (whereAccepted stops (e .given)) (e .splits) && sameList (whereAccepted stopFreights (e .given)) (e .freights))
+    && (sameList (whereAccepted stops (e .given)) (e .splits) && sameIntegers (whereAccepted stopFreights (e .given)) (e .freights))
 
 -- each example of the table passes
 unfoldable pub allRight : List Example → Bool
@@ -73,15 +81,32 @@ sameList-is (a ∷ l) (b ∷ k) e =
     let t = sameList-is l k (both-right (eqb a b) (sameList l k) e) in
     cc
 
+eqZ-true : (a b : ℤ) → eqZ a b ≡ true → a ≡ b
+unfolding eqZ
+eqZ-true (pos a) (pos b) e = ap pos (eqb-true a b e)
+eqZ-true (pos a) (negsuc b) e = let z : _≡_ {A = ℕ} 0 1 = cc in absurd (omega arith)
+eqZ-true (negsuc a) (pos b) e = let z : _≡_ {A = ℕ} 0 1 = cc in absurd (omega arith)
+eqZ-true (negsuc a) (negsuc b) e = ap negsuc (eqb-true a b e)
+
+sameIntegers-is : (l k : List ℤ) → sameIntegers l k ≡ true → l ≡ k
+unfolding sameIntegers
+sameIntegers-is [] [] e = refl
+sameIntegers-is [] (b ∷ k) e = let z : _≡_ {A = ℕ} 0 1 = cc in absurd (omega arith)
+sameIntegers-is (a ∷ l) [] e = let z : _≡_ {A = ℕ} 0 1 = cc in absurd (omega arith)
+sameIntegers-is (a ∷ l) (b ∷ k) e =
+    let h = eqZ-true a b (both-left (eqZ a b) (sameIntegers l k) e) in
+    let t = sameIntegers-is l k (both-right (eqZ a b) (sameIntegers l k) e) in
+    cc
+
 sameOutcome-is : (o o' : Outcome) → sameOutcome o o' ≡ true → o ≡ o'
 unfolding sameOutcome
 sameOutcome-is (planned s t f k) (planned s' t' f' k') e =
     let e1 = both-right (eqb s s') _ e in
-    let e2 = both-right (eqb t t') _ e1 in
+    let e2 = both-right (eqZ t t') _ e1 in
     let h1 = eqb-true s s' (both-left (eqb s s') _ e) in
-    let h2 = eqb-true t t' (both-left (eqb t t') _ e1) in
-    let h3 = eqb-true f f' (both-left (eqb f f') _ e2) in
-    let h4 = eqb-true k k' (both-right (eqb f f') _ e2) in
+    let h2 = eqZ-true t t' (both-left (eqZ t t') _ e1) in
+    let h3 = eqZ-true f f' (both-left (eqZ f f') _ e2) in
+    let h4 = eqb-true k k' (both-right (eqZ f f') _ e2) in
     cc
 sameOutcome-is (planned s t f k) (refused n p) e = let z : _≡_ {A = ℕ} 0 1 = cc in absurd (omega arith)
 sameOutcome-is (refused n p) (planned s t f k) e = let z : _≡_ {A = ℕ} 0 1 = cc in absurd (omega arith)
@@ -97,7 +122,7 @@ right-is e t =
     record {
       outcome-is = sameOutcome-is (outcomeOf (e .given)) (e .outcome) (both-left (sameOutcome (outcomeOf (e .given)) (e .outcome)) _ t);
       splits-are = sameList-is (whereAccepted stops (e .given)) (e .splits) (both-left (sameList (whereAccepted stops (e .given)) (e .splits)) _ t');
-      freights-are = sameList-is (whereAccepted stopFreights (e .given)) (e .freights) (both-right (sameList (whereAccepted stops (e .given)) (e .splits)) _ t');
+      freights-are = sameIntegers-is (whereAccepted stopFreights (e .given)) (e .freights) (both-right (sameList (whereAccepted stops (e .given)) (e .splits)) _ t');
     }
 
 -- the test of a whole table, at each example of it

@@ -12,7 +12,9 @@ use borrow.Author.Tests.{lt-ltb, le-ltb}
 use mathlib.Core.List.{List}
 use lib.ListN.{length, getD}
 use Rattle.planner.specs.Outcome.{firstFrom}
-use Rattle.planner.specs.Verdict.{AtMost, firstAbove, firstSagging}
+use Rattle.planner.specs.Verdict.{AtMost, firstAbove, firstOutside}
+use lib.IntN.{ℤ, pos}
+use Rattle.planner.specs.Range.{outside}
 
 step-false : (p : ℕ → Bool) (i k : ℕ) → p i ≡ false → firstFrom p i (suc k) ≡ firstFrom p (suc i) k
 unfolding firstFrom
@@ -50,37 +52,14 @@ unfolding firstAbove
 above-some limit l k b h t =
     first-some _ 0 (length l) k (omega arith) (omega arith) (λ j a s. le-ltb limit (getD l j 0) (h j s)) (lt-ltb limit (getD l k 0) t)
 
--- the neighbours' sum at k is at most twice what stands at k
-abbrev pub Level : List ℕ → ℕ → Type 0
-Level l k = getD l (k - 1) 0 + getD l (k + 1) 0 ≤ 2 * getD l k 0
+pub outside-none : (l : List ℤ) → ((k : ℕ) → k < length l → outside (getD l k (pos 0)) ≡ false) → firstOutside l ≡ none
+unfolding firstOutside
+outside-none l h = first-none _ 0 (length l) (λ j a b. h j (omega arith))
 
-pub sagging-none : (l : List ℕ) → ((k : ℕ) → 1 ≤ k → k + 1 < length l → Level l k) → firstSagging l ≡ none
-unfolding firstSagging
-sagging-none l h = first-none _ 1 (length l - 2) (λ j a b. le-ltb _ _ (h j a (omega arith)))
-
-pub sagging-some : (l : List ℕ) (k : ℕ) → 1 ≤ k → k + 1 < length l → ((j : ℕ) → 1 ≤ j → j < k → Level l j)
-    → 2 * getD l k 0 < getD l (k - 1) 0 + getD l (k + 1) 0 → firstSagging l ≡ some k
-unfolding firstSagging
-sagging-some l k a b h t = first-some _ 1 (length l - 2) k a (omega arith) (λ j c s. le-ltb _ _ (h j c s)) (lt-ltb _ _ t)
-
--- one entry more, as a loop counts: k is two past the entry before it
-pub level-more : (l : List ℕ) (k : ℕ) → 2 ≤ k → ((j : ℕ) → 1 ≤ j → j + 1 < k → Level l j) → getD l (k - 2) 0 + getD l k 0 ≤ 2 * getD l (k - 1) 0
-    → (j : ℕ) → 1 ≤ j → j + 1 < k + 1 → Level l j
-level-more l k h all here j a b = elim (ℕ-discrete j (k - 1)) [
-  | yes e ↦
-      let e1 : getD l (j - 1) 0 ≡ getD l (k - 2) 0 = ap (λ (i : ℕ). getD l i 0) (omega arith) in
-      let e2 : getD l (j + 1) 0 ≡ getD l k 0 = ap (λ (i : ℕ). getD l i 0) (omega arith) in
-      let e3 : getD l j 0 ≡ getD l (k - 1) 0 = ap (λ (i : ℕ). getD l i 0) e in
-      omega arith
-  | no d ↦ all j a (omega arith)
-]
-
-pub sagging-at : (l : List ℕ) (k : ℕ) → 2 ≤ k → k < length l → ((j : ℕ) → 1 ≤ j → j + 1 < k → Level l j)
-    → 2 * getD l (k - 1) 0 < getD l (k - 2) 0 + getD l k 0 → firstSagging l ≡ some (k - 1)
-sagging-at l k h b all t =
-    let e1 : getD l (k - 1 - 1) 0 ≡ getD l (k - 2) 0 = ap (λ (i : ℕ). getD l i 0) (omega arith) in
-    let e2 : getD l (k - 1 + 1) 0 ≡ getD l k 0 = ap (λ (i : ℕ). getD l i 0) (omega arith) in
-    sagging-some l (k - 1) (omega arith) (omega arith) (λ j a s. all j a (omega arith)) (omega arith)
+pub outside-some : (l : List ℤ) (k : ℕ) → k < length l → ((j : ℕ) → j < k → outside (getD l j (pos 0)) ≡ false) → outside (getD l k (pos 0)) ≡ true
+    → firstOutside l ≡ some k
+unfolding firstOutside
+outside-some l k b h t = first-some _ 0 (length l) k (omega arith) (omega arith) (λ j a s. h j s) t
 
 -- ---- what an answer says
 

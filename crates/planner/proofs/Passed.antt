@@ -1,18 +1,20 @@
 -- What a test that refuses nothing says of the case, and in which order the tests decide. Assumes nothing.
 use mathlib.Core.Path.{_≡_, refl, sym, ap, _∙_}
 use mathlib.Core.Logic.{_⊎_, inl, inr}
-use mathlib.Core.Bool.{Bool, true, false, not, _||_}
+use mathlib.Core.Bool.{Bool, true, false, not, cond, _||_}
 use mathlib.Core.Option.{Option, none, some}
 use mathlib.Core.List.{List, _++_}
 use Prim.Native.Nat.{ℕ, _+_, _-_, _*_, _≤_, _<_}
 use native.Mathlib.Omega.{arith}
 use lib.Dec.{eqb, ltb}
+use lib.IntN.{ℤ, pos}
 use lib.ListN.{length, getD, List·getD-append}
+use Rattle.planner.specs.Range.{outside}
 use lib.Seq.{getD-append-add}
 use borrow.Author.Tests.{eqb-true, ltb-false, le-ltb, not-false}
-use Rattle.planner.specs.Case.{Case, supply, demand, entry, allDemand, depotStock, made, leastSplit, steps}
-use Rattle.planner.specs.Outcome.{Outcome, refused, refuseIf, refuseAt, firstFrom, _orElse_, formRefusal, refusalOf}
-use Rattle.planner.specs.Outcome.{test1, test2, test3, test4, test5, test6, test7, test8, test9, test10, test11, test12}
+use Rattle.planner.specs.Case.{Case, supply, demand, entry, allDemand, depotStock, made, hasSplit, leastSplit, steps}
+use Rattle.planner.specs.Outcome.{Outcome, refused, refuseIf, refuseAt, firstFrom, firstOver, _orElse_, formRefusal, refusalOf}
+use Rattle.planner.specs.Outcome.{test1, test2, test3, test4, test23, test5, test26, test6, test7, test8, test27, test9, test11}
 use Rattle.planner.proofs.First.{none-passes}
 
 pub some≢none : (r : Outcome) → _≡_ {A = Option Outcome} (some r) none → ⊥
@@ -75,7 +77,7 @@ pub either-second : (a b : Bool) → (a || b) ≡ false → b ≡ false
 either-second true b e = let z : _≡_ {A = ℕ} 0 1 = cc in absurd (omega arith)
 either-second false b e = e
 
--- ---- tests 1 to 6
+-- ---- the tests before the balance
 
 -- no number of a list is above the limit, places counted from 1
 under : (limit : ℕ) (l : List ℕ) (k : ℕ) → firstFrom (λ p. ltb limit (getD l (p - 1) 0)) 1 k ≡ none → (i : ℕ) → i < k → getD l i 0 ≤ limit
@@ -86,7 +88,24 @@ under limit l k e i h =
     same : (i : ℕ) → i + 1 - 1 ≡ i
     same i = omega arith
 
--- what tests 1 to 6 leave
+-- no unit cost is out of range
+within : (l : List ℤ) (k : ℕ) → firstFrom (λ p. outside (getD l (p - 1) (pos 0))) 1 k ≡ none → (i : ℕ) → i < k → outside (getD l i (pos 0)) ≡ false
+within l k e i h =
+    ap (λ (p : ℕ). outside (getD l p (pos 0))) (let z : i ≡ i + 1 - 1 = omega arith in z)
+    ∙ none-passes (λ p. outside (getD l (p - 1) (pos 0))) 1 k e (i + 1) (omega arith) (omega arith)
+
+-- no run is above its supply
+pub over-none : (r1 r2 a1 a2 : ℕ) → firstOver r1 r2 a1 a2 ≡ none → (r1 ≤ a1) × (r2 ≤ a2)
+unfolding firstOver
+over-none r1 r2 a1 a2 e = go (ltb a1 r1) refl (ltb a2 r2) refl e
+  where
+    go : (a : Bool) → ltb a1 r1 ≡ a → (b : Bool) → ltb a2 r2 ≡ b → (let o : Option ℕ = cond a (some 1) (cond b (some 2) none) in o) ≡ none
+        → (r1 ≤ a1) × (r2 ≤ a2)
+    go true p b q e = let z : _≡_ {A = ℕ} 0 1 = cc in absurd (omega arith)
+    go false p true q e = let z : _≡_ {A = ℕ} 0 1 = cc in absurd (omega arith)
+    go false p false q e = (ltb-false a1 r1 p, ltb-false a2 r2 q)
+
+-- what the tests before the balance leave
 pub record Formed (c : Case) : Type 0 where
   pub two-sources : 2 ≤ c .m
   pub few-sources : c .m ≤ 32
@@ -97,7 +116,11 @@ pub record Formed (c : Case) : Type 0 where
   pub demands-long : length (c .demands) ≡ c .n
   pub small-supply : (i : ℕ) → i < c .m → supply c i ≤ 4000
   pub small-demand : (j : ℕ) → j < c .n → demand c j ≤ 4000
-  pub small-cost : (k : ℕ) → k < c .m * c .n → getD (c .costs) k 0 ≤ 1000000
+  pub first-run : c .run1 ≤ supply c 0
+  pub second-run : c .run2 ≤ supply c 1
+  pub cost-inside : (k : ℕ) → k < c .m * c .n → outside (getD (c .costs) k (pos 0)) ≡ false
+  pub ceilings-long : length (c .ceilings) ≡ c .m * c .n
+  pub ceiling-most : (k : ℕ) → k < c .m * c .n → getD (c .ceilings) k 0 ≤ 4000
   pub table-long : length (c .table) ≡ supply c 0 + 1
 
 record Passes6 (c : Case) : Type 0 where
@@ -105,7 +128,9 @@ record Passes6 (c : Case) : Type 0 where
   t2 : test2 c ≡ none
   t3 : test3 c ≡ none
   t4 : test4 c ≡ none
+  t23 : test23 c ≡ none
   t5 : test5 c ≡ none
+  t26 : test26 c ≡ none
   t6 : test6 c ≡ none
 
 passes6 : (c : Case) → formRefusal c ≡ none → Passes6 c
@@ -114,18 +139,22 @@ passes6 c e =
     let e2 = second-passes (test1 c) _ e in
     let e3 = second-passes (test2 c) _ e2 in
     let e4 = second-passes (test3 c) _ e3 in
-    let e5 = second-passes (test4 c) _ e4 in
+    let e23 = second-passes (test4 c) _ e4 in
+    let e5 = second-passes (test23 c) _ e23 in
+    let e26 = second-passes (test5 c) _ e5 in
     record {
       t1 = first-passes (test1 c) _ e;
       t2 = first-passes (test2 c) _ e2;
       t3 = first-passes (test3 c) _ e3;
       t4 = first-passes (test4 c) _ e4;
+      t23 = first-passes (test23 c) _ e23;
       t5 = first-passes (test5 c) _ e5;
-      t6 = second-passes (test5 c) _ e5;
+      t26 = first-passes (test26 c) _ e26;
+      t6 = second-passes (test26 c) _ e26;
     }
 
 pub formed : (c : Case) → formRefusal c ≡ none → Formed c
-unfolding test1 test2 test3 test4 test5 test6
+unfolding test1 test2 test3 test4 test23 test5 test26 test6
 formed c e =
     let t = passes6 c e in
     let b1 = refuseIf-none 1 (ltb (c .m) 2 || ltb 32 (c .m)) (t .t1) in
@@ -135,6 +164,8 @@ formed c e =
     let nd = not (eqb (length (c .demands)) (c .n)) in
     let b3 = refuseIf-none 3 (nc || (ns || nd)) (t .t3) in
     let b4 = under 4000 (c .supplies ++ c .demands) (c .m + c .n) (refuseAt-none 4 _ (t .t4)) in
+    let b23 = over-none (c .run1) (c .run2) (supply c 0) (supply c 1) (refuseAt-none 23 _ (t .t23)) in
+    let b26 = refuseIf-none 26 (not (eqb (length (c .ceilings)) (c .m * c .n))) (first-passes _ _ (t .t26)) in
     let ls = eqb-true (length (c .supplies)) (c .m) (not-false _ (either-first ns nd (either-second nc (ns || nd) b3))) in
     record {
       two-sources = ltb-false (c .m) 2 (either-first (ltb (c .m) 2) (ltb 32 (c .m)) b1);
@@ -152,44 +183,55 @@ formed c e =
             getD-append-add (c .supplies) (c .demands) j 0,
             ap (λ (a : ℕ). getD (c .supplies ++ c .demands) (a + j) 0) ls,
           );
-      small-cost = under 1000000 (c .costs) (c .m * c .n) (refuseAt-none 5 _ (t .t5));
+      first-run = b23 .0;
+      second-run = b23 .1;
+      cost-inside = within (c .costs) (c .m * c .n) (refuseAt-none 5 _ (t .t5));
+      ceilings-long = eqb-true (length (c .ceilings)) (c .m * c .n) (not-false _ b26);
+      ceiling-most = under 4000 (c .ceilings) (c .m * c .n) (refuseAt-none 26 _ (second-passes _ _ (t .t26)));
       table-long = eqb-true (length (c .table)) (supply c 0 + 1) (not-false _ (refuseIf-none 6 (not (eqb (length (c .table)) (supply c 0 + 1))) (t .t6)));
     }
 
 -- ---- tests 7 to 11
 
--- what tests 7 and 8 leave
+-- what tests 23, 7 and 8 leave
 pub record Balanced (c : Case) : Type 0 where
-  pub stock : depotStock c ≤ allDemand c
+  pub first-run : c .run1 ≤ supply c 0
+  pub second-run : c .run2 ≤ supply c 1
+  pub stock : depotStock c + c .run1 + c .run2 ≤ allDemand c
   pub reach : made c ≤ supply c 0 + supply c 1
 
-pub balanced : (c : Case) → test7 c ≡ none → test8 c ≡ none → Balanced c
+pub balanced : (c : Case) → Formed c → test7 c ≡ none → test8 c ≡ none → Balanced c
 unfolding test7 test8
-balanced c e e' = record {
-  stock = ltb-false (allDemand c) (depotStock c) (refuseIf-none 7 (ltb (allDemand c) (depotStock c)) e);
+balanced c f e e' = record {
+  first-run = f .first-run;
+  second-run = f .second-run;
+  stock =
+      ltb-false (allDemand c) (depotStock c + c .run1 + c .run2)
+      (refuseIf-none 7 (ltb (allDemand c) (depotStock c + c .run1 + c .run2)) e);
   reach = ltb-false (supply c 0 + supply c 1) (made c) (refuseIf-none 8 (ltb (supply c 0 + supply c 1) (made c)) e');
 }
 
 pub balanced-passes : (c : Case) → Balanced c → (test7 c ≡ none) × (test8 c ≡ none)
 unfolding test7 test8 refuseIf
 balanced-passes c b = (
-  ap (λ (t : Bool). refuseIf 7 t) (le-ltb (allDemand c) (depotStock c) (b .stock)),
+  ap (λ (t : Bool). refuseIf 7 t) (le-ltb (allDemand c) (depotStock c + c .run1 + c .run2) (b .stock)),
   ap (λ (t : Bool). refuseIf 8 t) (le-ltb (supply c 0 + supply c 1) (made c) (b .reach)),
 )
+
+-- what test 27 leaves: there is a split
+pub has-split : (c : Case) → test27 c ≡ none → hasSplit c ≡ true
+unfolding test27
+has-split c e = not-false _ (refuseIf-none 27 (not (hasSplit c)) e)
+
+pub split-passes : (c : Case) → hasSplit c ≡ true → test27 c ≡ none
+unfolding test27 refuseIf
+split-passes c e = ap (λ (t : Bool). refuseIf 27 (not t)) e
 
 -- what test 9 leaves: no entry at a split is above 1,000,000,000
 pub small-entry : (c : Case) → test9 c ≡ none → (y : ℕ) → leastSplit c ≤ y → y ≤ leastSplit c + steps c → entry c y ≤ 1000000000
 unfolding test9
 small-entry c e y a b =
     ltb-false 1000000000 (entry c y) (none-passes (λ y. ltb 1000000000 (entry c y)) (leastSplit c) (steps c + 1) (refuseAt-none 9 _ e) y a (omega arith))
-
--- what test 10 leaves: the table is concave from ℓ to u
-pub concave : (c : Case) → test10 c ≡ none → (y : ℕ) → leastSplit c < y → y < leastSplit c + steps c
-    → entry c (y - 1) + entry c (y + 1) ≤ 2 * entry c y
-unfolding test10
-concave c e y a b =
-    ltb-false (2 * entry c y) (entry c (y - 1) + entry c (y + 1))
-    (none-passes (λ y. ltb (2 * entry c y) (entry c (y - 1) + entry c (y + 1))) (leastSplit c + 1) (steps c - 1) (refuseAt-none 10 _ e) y (omega arith) (omega arith))
 
 -- what test 11 leaves: room in the three slices to be written
 pub record Roomy (c : Case) : Type 0 where
@@ -216,25 +258,22 @@ pub record Accepted (c : Case) : Type 0 where
   pub form : formRefusal c ≡ none
   pub t7 : test7 c ≡ none
   pub t8 : test8 c ≡ none
+  pub t27 : test27 c ≡ none
   pub t9 : test9 c ≡ none
-  pub t10 : test10 c ≡ none
   pub t11 : test11 c ≡ none
-  pub t12 : test12 c ≡ none
 
 pub accepted : (c : Case) → refusalOf c ≡ none → Accepted c
 unfolding refusalOf
 accepted c e =
     let e7 = second-passes (formRefusal c) _ e in
     let e8 = second-passes (test7 c) _ e7 in
-    let e9 = second-passes (test8 c) _ e8 in
-    let e10 = second-passes (test9 c) _ e9 in
-    let e11 = second-passes (test10 c) _ e10 in
+    let e27 = second-passes (test8 c) _ e8 in
+    let e9 = second-passes (test27 c) _ e27 in
     record {
       form = first-passes (formRefusal c) _ e;
       t7 = first-passes (test7 c) _ e7;
       t8 = first-passes (test8 c) _ e8;
+      t27 = first-passes (test27 c) _ e27;
       t9 = first-passes (test9 c) _ e9;
-      t10 = first-passes (test10 c) _ e10;
-      t11 = first-passes (test11 c) _ e11;
-      t12 = second-passes (test11 c) _ e11;
+      t11 = second-passes (test9 c) _ e9;
     }

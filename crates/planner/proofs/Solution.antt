@@ -1,35 +1,45 @@
 -- From the engine's answer on the working arrays to the promise of the lent case. Assumes nothing.
-use mathlib.Core.Path.{_≡_, refl, sym, ap, ap₂, _∙_, subst, fun-ext}
-use mathlib.Core.Option.{Option, none, some}
-use mathlib.Core.List.{List, _++_, map}
-use Prim.Native.Nat.{ℕ, zero, suc, min, _+_, _-_, _*_, _≤_, _<_}
-use native.Mathlib.Nat.{suc-mul, mul-le-mul-right}
+use mathlib.Core.Path.{_≡_, refl, sym, ap, ap₂, _∙_, subst, subst₂, fun-ext}
+use mathlib.Core.Bool.{Bool, true, false, not}
+use mathlib.Core.Option.{none, some}
+use mathlib.Core.List.{List, [], _∷_, _++_, map, List·Memᴰ, List·Memᴰ·head, List·Memᴰ·tail}
+use Prim.Native.Nat.{ℕ, zero, suc, max, min, _+_, _-_, _*_, _≤_, _<_}
+use native.Mathlib.Nat.{mul-le-mul-right}
 use native.Mathlib.Omega.{arith}
-use lib.ListN.{length, getD, take, drop, length-take, length-drop, take-append-drop}
-use lib.Seq.{ext-getD, getD-take, getD-drop}
+use lib.IntN.{ℤ, subℕ}
+use lib.ListN.{length, getD, take, drop, length-map, length-take, length-drop, take-append-drop}
+use lib.Seq.{ext-getD, getD-take, getD-drop, take-at}
+use Rattle.transport.proofs.Stops.{stops-few, stops-out}
 use Rattle.transport.specs.Sum.{sum}
-use Rattle.transport.specs.Plan.{Table, byRow, row, col, freight, total, Plan}
-use Rattle.transport.specs.Curve.{amountsAt, leastAt, bestFrom, stopsOf, written}
-use Rattle.transport.specs.Sweep.{SweepReady, Swept, curveOf, amountIn, demandIn}
-use Rattle.transport.proofs.Sums.{sum-ext, sum-mono, sum-scale, sum-none}
+use Rattle.transport.specs.Plan.{byRow, row, col, freight, total}
+use Rattle.transport.specs.Listing.{upFrom, select, least, greatest}
+use Rattle.transport.specs.Listing.{some as any}
+use Rattle.transport.specs.Curve.{amountsAt, leastIn, hasPlan, splitsIn, bestFrom, stopsOf, written}
+use Rattle.transport.specs.Sweep.{BeginReady, Ranged, splitsOf, SweepReady, Swept, amountIn, demandIn}
+use Rattle.transport.proofs.Sums.{sum-ext}
 use Rattle.transport.proofs.Certificate.{total-ext}
-use Rattle.transport.proofs.Tables.{leastFreight-ext}
-use Rattle.planner.specs.Case.{Case, supply, demand, entry, allDemand, depotStock, made, leastSplit, greatestSplit, steps}
-use Rattle.planner.specs.Plans.{PlanAt, rowSum, columnSum, freightOf, leastFreightAt, totalAt, bestSplit, stops, stopFreights}
-use Rattle.planner.specs.Outcome.{Outcome, planned, refused, refusalOf, planOf, outcomeOf, formRefusal, test12}
-use Rattle.planner.specs.Promise.{Cheapest, BalanceRule}
+use Rattle.transport.proofs.Within.{some-ext, leastFreightIn-ext}
+use Rattle.transport.proofs.Splits.{at-has, member-splits}
+use Rattle.planner.specs.Case.{Case, supply, demand, ceiling, allDemand, made, lowestSplit, highestSplit, splits, hasSplit, leastSplit, greatestSplit, steps}
+use Rattle.planner.specs.Plans.{PlanAt, freightOf, leastFreightAt, totalAt, bestSplit, stops}
+use Rattle.planner.specs.Outcome.{Outcome, planned, refused, refusalOf, planOf, outcomeOf, test27, test9, test11}
+use Rattle.planner.specs.Promise.{BalanceRule}
 use Rattle.planner.specs.Answer.{Slices, slices, Written, Answered}
-use Rattle.planner.specs.Copy.{Narrow, RowsMoved, FirstAmounts, Wanted}
-use Rattle.planner.specs.Ready.{OnSplits, Accepts}
-use Rattle.planner.proofs.Passed.{Formed, formed, Balanced, balanced, small-entry, Roomy, roomy, second-decides}
-use Rattle.planner.proofs.Splits.{first-two, last-split}
-use Rattle.planner.proofs.Promise.{from9, refused-outcome, balance-rule, cheapest}
-use Rattle.planner.proofs.Never.{never12}
+use Rattle.planner.specs.Copy.{Narrow, RowsMoved, Supplied, Wanted}
+use Rattle.planner.specs.Ready.{OnBalance}
+use Rattle.planner.proofs.Passed.{Formed, formed, Balanced, balanced, has-split, split-passes, small-entry, roomy, first-decides, second-decides}
+use Rattle.planner.proofs.TestLaws.{met, sum-under}
+use Rattle.planner.proofs.Splits.{Fitting, fitting, fits-split, sent-all, in-order, last-split, ends-within, most-made}
+use Rattle.planner.proofs.Promise.{from27, from9, refused-outcome, balance-rule, cheapest}
+use Rattle.planner.specs.Range.{AllInside, lower, Moderate}
+use Rattle.planner.proofs.Raised.{lane-in, raisedCosts, raisedFreight, raisedAt, raisedTotal, added, cost-most, freight-above, least-above, total-above, best-is, best-in, stops-are, stop-freights-are}
+use Rattle.planner.proofs.Bounds.{few-drums, raised-most, total-bounded}
 
-sum-same : (k v : ℕ) → sum k (λ j. v) ≡ v * k
-unfolding sum
-sum-same zero v = omega arith
-sum-same (suc k) v = omega (arith, sum-same k v)
+-- a list of values up to a limit
+each-most : (limit : ℕ) (g : ℕ → ℕ) (l : List ℕ) → ((y : ℕ) → List·Memᴰ y l → g y ≤ limit) → (i : ℕ) → getD (map g l) i 0 ≤ limit
+each-most limit g [] h i = omega arith
+each-most limit g (y ∷ l) h zero = h y (List·Memᴰ·head refl)
+each-most limit g (y ∷ l) h (suc i) = each-most limit g l (λ z q. h z (List·Memᴰ·tail q)) i
 
 -- the amounts at a split depend on the depots' stock alone
 amounts-same : (d d' : ℕ) (a a' : ℕ → ℕ) (m : ℕ) → d ≡ d' → ((i : ℕ) → 2 ≤ i → i < m → a i ≡ a' i) → (y i : ℕ) → i < m → amountsAt d a y i ≡ amountsAt d' a' y i
@@ -39,44 +49,76 @@ amounts-same d d' a a' m e h y (suc zero) l = ap (λ (v : ℕ). v - y) e
 amounts-same d d' a a' m e h y (suc (suc i)) l = h (suc (suc i)) (omega arith) l
 
 -- the working arrays of a case
-pub record Prepared (c : Case) (lo all : ℕ) (cost cap amounts wants : List ℕ) : Type 0 where
-  pub costs : RowsMoved (c .m) (c .n) (c .n) 64 (c .costs) cost
-  pub ceilings : (k : ℕ) → k < 2048 → getD cap k 0 ≡ 4000
-  pub first : getD amounts 0 0 ≡ lo
-  pub second : getD amounts 1 0 ≡ all - lo
-  pub others : (i : ℕ) → 2 ≤ i → i < c .m → getD amounts i 0 ≡ supply c i
+pub record Prepared (c : Case) (cost cap amounts wants : List ℕ) : Type 0 where
+  pub costs : RowsMoved (c .m) (c .n) (c .n) 64 (raisedCosts c) cost
+  pub ceilings : RowsMoved (c .m) (c .n) (c .n) 64 (c .ceilings) cap
+  pub sources : (i : ℕ) → i < c .m → getD amounts i 0 ≡ supply c i
   pub long : length wants ≡ 96
   pub quiet : (v : ℕ) → v < 32 → getD wants v 0 ≡ 0
   pub demands : (j : ℕ) → j < c .n → getD wants (32 + j) 0 ≡ demand c j
 
+-- past test 27: lo and hi are ℓ and u
+pub record OnSplits (c : Case) (lo hi all : ℕ) : Type 0 where
+  pub on : OnBalance c all
+  pub t27 : test27 c ≡ none
+  pub low : lo ≡ leastSplit c
+  pub high : hi ≡ greatestSplit c
+
+-- past test 11
+pub record Accepts (c : Case) (lo hi all : ℕ) : Type 0 where
+  pub on : OnSplits c lo hi all
+  pub t9 : test9 c ≡ none
+  pub t11 : test11 c ≡ none
+
+pub form-of : {c : Case} {all : ℕ} → OnBalance c all → Formed c
+form-of {c} s = formed c (s .form)
+
+pub even-of : {c : Case} {all : ℕ} → OnBalance c all → Balanced c
+even-of {c} s = balanced c (form-of s) (s .t7) (s .t8)
+
+pub whole-most : {c : Case} {all : ℕ} → OnBalance c all → all ≤ 8000
+whole-most s =
+    let f = form-of s in
+    omega (arith, s .whole, even-of s .reach, f .small-supply 0 (omega (arith, f .two-sources)), f .small-supply 1 (omega (arith, f .two-sources)))
+
+-- the runs are small too
+pub runs-most : {c : Case} {all : ℕ} → OnBalance c all → (c .run1 ≤ 4000) × (c .run2 ≤ 4000)
+runs-most s =
+    let f = form-of s in (
+      omega (arith, f .first-run, f .small-supply 0 (omega (arith, f .two-sources))),
+      omega (arith, f .second-run, f .small-supply 1 (omega (arith, f .two-sources))),
+    )
+
+pub fitting-of : {c : Case} {lo hi all : ℕ} → OnSplits c lo hi all → Fitting c
+fitting-of {c} s = fitting c (even-of (s .on)) (has-split c (s .t27))
+
 module _ {c : Case} {lo hi all : ℕ} (s : OnSplits c lo hi all) where
-  form : Formed c
-  form = formed c (s .form)
-
-  even : Balanced c
-  even = balanced c (s .t7) (s .t8)
-
-  pub in-order : lo ≤ hi
-  in-order = omega (arith, s .low, s .high, last-split c even)
+  pub order : lo ≤ hi
+  order = omega (arith, s .low, s .high, in-order (form-of (s .on)) (fitting-of s))
 
   pub most : (hi ≤ all) × (hi ≤ supply c 0) × (supply c 0 ≤ 4000)
-  unfolding greatestSplit
-  most = (omega (arith, s .high, s .whole), omega (arith, s .high), form .small-supply 0 (omega (arith, form .two-sources)))
-
-  pub whole-most : all ≤ 8000
-  whole-most =
-      omega (arith, s .whole, even .reach, form .small-supply 0 (omega (arith, form .two-sources)), form .small-supply 1 (omega (arith, form .two-sources)))
+  unfolding highestSplit
+  most =
+      let f = form-of (s .on) in
+      let t = fitting-of s in (
+        omega (arith, s .high, s .on .whole, most-made f t),
+        omega (arith, s .high, ends-within f t),
+        f .small-supply 0 (omega (arith, f .two-sources)),
+      )
 
   pub gap : hi - lo ≡ steps c
   unfolding steps
   gap = omega (arith, s .low, s .high)
 
   pub inside : hi < length (c .table)
-  inside = omega (arith, form .table-long, most)
+  inside = omega (arith, form-of (s .on) .table-long, most)
 
 -- what the slices hold fits the working arrays
-pub narrow-costs : {c : Case} → Formed c → Narrow (c .costs)
-narrow-costs f k h = omega (arith, f .small-cost k (omega (arith, f .costs-long)))
+pub costs-inside : {c : Case} → Formed c → AllInside (c .costs)
+costs-inside f k h = f .cost-inside k (omega (arith, f .costs-long))
+
+pub narrow-ceilings : {c : Case} → Formed c → Narrow (c .ceilings)
+narrow-ceilings f k h = omega (arith, f .ceiling-most k (omega (arith, f .ceilings-long)))
 
 pub narrow-supplies : {c : Case} → Formed c → Narrow (c .supplies)
 narrow-supplies f k h = omega (arith, f .small-supply k (omega (arith, f .supplies-long)))
@@ -84,115 +126,217 @@ narrow-supplies f k h = omega (arith, f .small-supply k (omega (arith, f .suppli
 pub narrow-demands : {c : Case} → Formed c → Narrow (c .demands)
 narrow-demands f k h = omega (arith, f .small-demand k (omega (arith, f .demands-long)))
 
+-- the demands' sum
+pub demand-sum : {c : Case} → Formed c → sum (length (c .demands)) (λ j. getD (c .demands) j 0) ≡ allDemand c
+unfolding allDemand
+demand-sum {c} f = ap (λ (n : ℕ). sum n (λ j. demand c j)) (f .demands-long)
+
+-- 64 terminals of 4,000 drums
+pub drums-most : {c : Case} → Formed c → allDemand c ≤ 256000
+unfolding allDemand
+drums-most {c} f = omega (arith, sum-under (c .n) 4000 (λ j. demand c j) (f .small-demand), f .few-terminals, mul-le-mul-right 4000 (f .few-terminals))
+
 -- from what the working arrays' functions say
-pub prepare : {c : Case} {lo hi all : ℕ} {cost cap amounts wants : List ℕ} → Accepts c lo hi all → RowsMoved (c .m) (c .n) (c .n) 64 (c .costs) cost
-    → ((k : ℕ) → k < 2048 → getD cap k 0 ≡ 4000) → FirstAmounts (c .supplies) lo (all - lo) amounts → Wanted (c .demands) wants
-    → Prepared c lo all cost cap amounts wants
+pub prepare : {c : Case} {all : ℕ} {cost cap amounts wants : List ℕ} → OnBalance c all → RowsMoved (c .m) (c .n) (c .n) 64 (raisedCosts c) cost
+    → RowsMoved (c .m) (c .n) (c .n) 64 (c .ceilings) cap → Supplied (c .supplies) amounts → Wanted (c .demands) wants → Prepared c cost cap amounts wants
 prepare {c} a r l f w =
-    let q = formed c (a .on .form) in
+    let q = form-of a in
     record {
       costs = r;
       ceilings = l;
-      first = f .plant1;
-      second = f .plant2;
-      others = λ i h k. f .depots i h (omega (arith, q .supplies-long));
+      sources = λ i h. f .sources i (omega (arith, q .supplies-long));
       long = w .long;
       quiet = w .quiet;
       demands = λ j h. w .terminals j (omega (arith, q .demands-long));
     }
 
--- ---- what the engine asks
+-- ---- what the engine asks, and the first and the last split
 
-module _ {c : Case} {lo hi all : ℕ} (a : Accepts c lo hi all) {cost cap amounts wants : List ℕ} (p : Prepared c lo all cost cap amounts wants) where
-  f : Formed c
-  f = formed c (a .on .form)
+module _ {c : Case} {all : ℕ} (s : OnBalance c all) {cost cap amounts wants : List ℕ} (p : Prepared c cost cap amounts wants) where
+  lane-cap : (i j : ℕ) → i < c .m → j < c .n → getD cap (i * 64 + j) 0 ≤ 4000
+  lane-cap i j h l = omega (arith, p .ceilings .cells i j h l, form-of s .ceiling-most (i * c .n + j) (lane-in (c .m) (c .n) i j h l))
 
-  bal : Balanced c
-  bal = balanced c (a .on .t7) (a .on .t8)
+  sends : (y i : ℕ) → i < c .m → amountsAt all (amountIn amounts) y i ≡ amountsAt (made c) (λ i. supply c i) y i
+  sends y i h = amounts-same all (made c) (amountIn amounts) (λ i. supply c i) (c .m) (s .whole) (λ i a l. p .sources i l) y i h
 
-  cell : (i j : ℕ) → i < c .m → j < c .n → i * c .n + j < c .m * c .n
-  cell i j h l = omega (arith, suc-mul i (c .n), mul-le-mul-right (c .n) (let z : suc i ≤ c .m = h in z))
-
-  sent : sum (c .m) (amountIn amounts) ≡ allDemand c
-  unfolding depotStock made
+  sent : sum (c .m) (amountsAt all (amountIn amounts) 0) ≡ allDemand c
   sent =
-      first-two (c .m) (amountIn amounts) (f .two-sources)
-      ∙ ap (λ (v : ℕ). getD amounts 0 0 + (getD amounts 1 0 + v)) (sum-ext (c .m - 2) (λ k. getD amounts (2 + k) 0) (λ k. supply c (2 + k)) (λ k h. p .others (2 + k) (omega arith) (omega arith)))
-      ∙ omega (arith, p .first, p .second, most (a .on), in-order (a .on), a .on .whole, bal .stock)
+      sum-ext (c .m) (amountsAt all (amountIn amounts) 0) (amountsAt (made c) (λ i. supply c i) 0) (sends 0)
+      ∙ sent-all c 0 (form-of s .two-sources) (omega (arith, even-of s .stock)) (omega arith)
 
   got : sum (c .n) (demandIn wants) ≡ allDemand c
   unfolding allDemand
   got = sum-ext (c .n) (demandIn wants) (λ j. demand c j) (p .demands)
 
-  few : allDemand c ≤ 256000
-  unfolding allDemand
-  few = omega (arith, sum-mono (c .n) (λ j. demand c j) (λ j. 4000) (f .small-demand), sum-same (c .n) 4000, f .few-terminals)
-
-  pub ready : (splits freights : List ℕ) → length splits ≡ c .splitCells → length freights ≡ c .freightCells
-      → SweepReady (c .m) (c .n) cost cap amounts wants lo hi (c .table) splits freights
-  ready splits freights es ef =
-      let r = roomy c (a .t11) in
+  pub ready : BeginReady (c .m) (c .n) cost cap amounts wants (c .run1) (c .run2) all
+  unfolding made
+  ready =
+      let f = form-of s in
+      let b = even-of s in
+      let a0 = p .sources 0 (omega (arith, f .two-sources)) in
+      let a1 = p .sources 1 (omega (arith, f .two-sources)) in
       record {
         plants = f .two-sources;
         sources = f .few-sources;
         terminals = f .few-terminals;
         long-demand = p .long;
         quiet = p .quiet;
-        costs = λ i j h l. omega (arith, p .costs .cells i j h l, f .small-cost (i * c .n + j) (cell i j h l));
-        wide = λ i j h l. omega (arith, p .ceilings (i * 64 + j) (omega (arith, f .few-sources, f .few-terminals)), p .demands j l, f .small-demand j l);
-        ceilings = λ i j h l. omega (arith, p .ceilings (i * 64 + j) (omega (arith, f .few-sources, f .few-terminals)));
+        costs = λ i j h l. omega (arith, p .costs .cells i j h l, cost-most f i j h l);
+        ceilings = λ i j h l. omega (arith, lane-cap i j h l);
         balance = sent ∙ sym got;
-        few = omega (arith, sent, few);
-        first = p .first;
-        order = in-order (a .on);
-        within = omega (arith, p .second, most (a .on));
+        few = omega (arith, got, drums-most f);
+        first-run = omega (arith, f .first-run, a0);
+        second-run = omega (arith, f .second-run, a1);
+        low = omega (arith, s .whole, b .stock);
+        high = omega (arith, s .whole, b .reach, a0, a1);
+      }
+
+  -- the engine's splits are those of the case
+  same-has : (y : ℕ) → hasPlan (c .m) (c .n) (byRow 64 cap) all (amountIn amounts) (demandIn wants) y
+      ≡ hasPlan (c .m) (c .n) (ceiling c) (made c) (λ i. supply c i) (λ j. demand c j) y
+  unfolding hasPlan
+  same-has y =
+      some-ext (c .m) (c .n) (byRow 64 cap) (ceiling c) _ _ (demandIn wants) (λ j. demand c j) (p .ceilings .cells) (sends y) (p .demands)
+
+  pub splits-same : splitsOf (c .m) (c .n) (byRow 64 cap) (amountIn amounts) (demandIn wants) (c .run1) (c .run2) all ≡ splits c
+  unfolding splits splitsIn lowestSplit highestSplit
+  splits-same =
+      ap (λ (g : ℕ → Bool). select g (upFrom (max (c .run1) (all - getD amounts 1 0)) (suc (min (getD amounts 0 0) (all - c .run2)) - max (c .run1) (all - getD amounts 1 0))))
+      (fun-ext same-has)
+      ∙ ap₂ (λ (x z : ℕ). select (hasPlan (c .m) (c .n) (ceiling c) (made c) (λ i. supply c i) (λ j. demand c j)) (upFrom x (suc z - x)))
+      (ap₂ (λ (d v : ℕ). max (c .run1) (d - v)) (s .whole) (p .sources 1 (omega (arith, form-of s .two-sources))))
+      (ap₂ (λ (v d : ℕ). min v (d - c .run2)) (p .sources 0 (omega (arith, form-of s .two-sources))) (s .whole))
+
+  module _ {x serves pot : List ℕ} {found : Bool} {lo hi : ℕ} (r : Ranged (c .m) (c .n) cost cap amounts wants (c .run1) (c .run2) all x serves pot found lo hi) where
+    -- there is none: 27
+    pub refused-27 : found ≡ false → refusalOf c ≡ some (refused 27 0)
+    unfolding test27 hasSplit any
+    refused-27 e =
+        from27 c (s .form) (s .t7) (s .t8)
+        ∙ first-decides _ _ _ (met 27 _ (ap (λ (l : List ℕ). not (any l)) (sym splits-same ∙ r .none e)))
+
+    -- there is one
+    has-one : found ≡ true → List·Memᴰ hi (splits c)
+    has-one e =
+        let g = r .begun e in
+        let w = r .within e in
+        subst (λ (l : List ℕ). List·Memᴰ hi l) splits-same
+        (member-splits (c .m) (c .n) (byRow 64 cap) all (amountIn amounts) (demandIn wants) _ _ hi (omega (arith, w)) (omega (arith, w))
+        (at-has (c .m) (c .n) (byRow 64 cap) all (amountIn amounts) (demandIn wants) (form-of s .two-sources) hi (all - hi) (g .end .plan) (omega (arith, g .within))
+        (g .end .at) (g .end .under)))
+
+    pub on-splits : found ≡ true → OnSplits c lo hi all
+    unfolding leastSplit greatestSplit
+    on-splits e = record {
+      on = s;
+      t27 = split-passes c (fits-split c hi (has-one e));
+      low = r .low e ∙ ap least splits-same;
+      high = r .high e ∙ ap greatest splits-same;
+    }
+
+-- ---- the sweep
+
+module _ {c : Case} {lo hi all : ℕ} (a : Accepts c lo hi all) {cost cap amounts wants : List ℕ} (p : Prepared c cost cap amounts wants) where
+  f : Formed c
+  f = form-of (a .on .on)
+
+  fit : Fitting c
+  fit = fitting-of (a .on)
+
+  cell : (i j : ℕ) → i < c .m → j < c .n → i * c .n + j < c .m * c .n
+  cell i j h l = lane-in (c .m) (c .n) i j h l
+
+  pub sweep-ready : (splits freights : List ℕ) → length splits ≡ c .splitCells → length freights ≡ 4001
+      → SweepReady (c .m) (c .n) wants lo hi (c .table) splits freights
+  sweep-ready splits freights es ef =
+      let r = roomy c (a .t11) in
+      record {
+        few = omega (arith, got (a .on .on) p, few-drums f fit);
         short = omega (arith, most (a .on));
         entries = inside (a .on);
-        small = λ y h l. small-entry c (a .t9) y (omega (arith, a .on .low)) (omega (arith, last-split c bal, a .on .high));
+        small = λ y h l. small-entry c (a .t9) y (omega (arith, a .on .low)) (omega (arith, last-split f fit, a .on .high));
         splits-room = omega (arith, gap (a .on), r .split-room);
-        freights-room = omega (arith, gap (a .on), r .freight-room);
+        freights-room = omega (arith, most (a .on));
       }
 
   -- ---- the curves are one
 
-  both : getD amounts 0 0 + getD amounts 1 0 ≡ made c
-  both = omega (arith, p .first, p .second, most (a .on), in-order (a .on), a .on .whole)
-
-  pub curve : curveOf (c .m) (c .n) (byRow 64 cost) (amountIn amounts) (demandIn wants) ≡ leastFreightAt c
-  unfolding leastFreightAt leastAt
+  pub curve : leastIn (c .m) (c .n) (byRow 64 cost) (byRow 64 cap) all (amountIn amounts) (demandIn wants) ≡ raisedAt c
+  unfolding raisedAt leastIn
   curve =
       fun-ext (λ y.
-      leastFreight-ext (c .m) (c .n) (byRow 64 cost) (byRow (c .n) (c .costs)) _ _ (demandIn wants) (λ j. demand c j) (p .costs .cells)
-      (amounts-same _ _ (amountIn amounts) (λ i. supply c i) (c .m) both (p .others) y) (p .demands))
+      leastFreightIn-ext (c .m) (c .n) (byRow 64 cost) (byRow (c .n) (raisedCosts c)) (byRow 64 cap) (ceiling c) _ _ (demandIn wants) (λ j. demand c j)
+      (p .costs .cells) (p .ceilings .cells) (sends (a .on .on) p y) (p .demands))
 
   accepted-all : refusalOf c ≡ none
   accepted-all =
-      from9 c (a .on .form) (a .on .t7) (a .on .t8)
-      ∙ second-decides _ _ (a .t9) ∙ second-decides _ _ (a .t10) ∙ second-decides _ _ (a .t11)
-      ∙ never12 c (a .on .form) (a .on .t7) (a .on .t8) (a .t9)
+      from9 c (a .on .on .form) (a .on .on .t7) (a .on .on .t8) (a .on .t27) ∙ second-decides _ _ (a .t9) ∙ a .t11
 
   -- ---- the answer
 
-  module _ {splits freights splits' freights' kept : List ℕ} {y t v k : ℕ}
-      (w : Swept (c .m) (c .n) (byRow 64 cost) (amountIn amounts) (demandIn wants) lo hi (c .table) splits freights splits' freights' kept y t v k) where
+  module _ {splits found splits' found' kept : List ℕ} {y t v k : ℕ}
+      (w : Swept (c .m) (c .n) (byRow 64 cost) (byRow 64 cap) all (amountIn amounts) (demandIn wants) lo hi (c .table) splits found splits' found' kept y t v k) where
+    here : (leastSplit c ≤ bestSplit c) × (bestSplit c ≤ greatestSplit c)
+    here = best-in f fit
+
     is-split : y ≡ bestSplit c
-    unfolding bestSplit totalAt
+    unfolding raisedTotal
     is-split =
         w .split
         ∙ ap (λ (g : ℕ → ℕ). bestFrom (λ z. g z + getD (c .table) z 0) lo (hi - lo)) curve
-        ∙ ap₂ (λ (x z : ℕ). bestFrom (totalAt c) x z) (a .on .low) (gap (a .on))
+        ∙ ap₂ (λ (x z : ℕ). bestFrom (raisedTotal c) x z) (a .on .low) (gap (a .on)) ∙ sym (best-is f fit)
 
-    is-freight : v ≡ leastFreightAt c (bestSplit c)
-    is-freight = w .least ∙ ap₂ (λ (g : ℕ → ℕ) (z : ℕ). g z) curve is-split
+    raised-freight : v ≡ raisedAt c (bestSplit c)
+    raised-freight = w .least ∙ ap₂ (λ (g : ℕ → ℕ) (z : ℕ). g z) curve is-split
 
-    is-total : t ≡ totalAt c (bestSplit c)
-    unfolding totalAt
-    is-total = w .total ∙ ap₂ (λ (x z : ℕ). x + getD (c .table) z 0) is-freight is-split
+    raised-total : t ≡ raisedTotal c (bestSplit c)
+    unfolding raisedTotal
+    raised-total = w .total ∙ ap₂ (λ (x z : ℕ). x + getD (c .table) z 0) raised-freight is-split
 
-    is-stops : stopsOf (curveOf (c .m) (c .n) (byRow 64 cost) (amountIn amounts) (demandIn wants)) lo hi ≡ stops c
-    unfolding stops
-    is-stops =
-        ap (λ (g : ℕ → ℕ). stopsOf g lo hi) curve ∙ ap₂ (λ (x z : ℕ). stopsOf (leastFreightAt c) x z) (a .on .low) (a .on .high)
+    is-freight : subℕ v (added c) ≡ leastFreightAt c (bestSplit c)
+    is-freight = ap (λ (x : ℕ). subℕ x (added c)) raised-freight ∙ sym (least-above f fit (bestSplit c) (here .0) (here .1) .is)
+
+    is-total : subℕ t (added c) ≡ totalAt c (bestSplit c)
+    is-total = ap (λ (x : ℕ). subℕ x (added c)) raised-total ∙ sym (total-above f fit (bestSplit c) (here .0) (here .1) .is)
+
+    -- the stops of the raised curve
+    raised-stops : stopsOf (leastIn (c .m) (c .n) (byRow 64 cost) (byRow 64 cap) all (amountIn amounts) (demandIn wants)) lo hi ≡ stopsOf (raisedAt c) (leastSplit c) (greatestSplit c)
+    raised-stops =
+        ap (λ (g : ℕ → ℕ). stopsOf g lo hi) curve ∙ ap₂ (λ (x z : ℕ). stopsOf (raisedAt c) x z) (a .on .low) (a .on .high)
+
+    is-stops : stopsOf (leastIn (c .m) (c .n) (byRow 64 cost) (byRow 64 cap) all (amountIn amounts) (demandIn wants)) lo hi ≡ stops c
+    is-stops = raised-stops ∙ sym (stops-are f fit)
+
+    -- the freights found, without the cells after them
+    found-are : take k found' ≡ map (raisedAt c) (stopsOf (raisedAt c) (leastSplit c) (greatestSplit c))
+    found-are =
+        let e = ap₂ (λ (g : ℕ → ℕ) (l : List ℕ). map g l) curve raised-stops in
+        ap (take k) (w .freights-written)
+        ∙ take-at (map (leastIn (c .m) (c .n) (byRow 64 cost) (byRow 64 cap) all (amountIn amounts) (demandIn wants)) (stopsOf (leastIn (c .m) (c .n) (byRow 64 cost) (byRow 64 cap) all (amountIn amounts) (demandIn wants)) lo hi)) _ k
+        (length-map (stopsOf (leastIn (c .m) (c .n) (byRow 64 cost) (byRow 64 cap) all (amountIn amounts) (demandIn wants)) lo hi) _ ∙ sym (w .count)) ∙ e
+
+    -- what is to be lowered is small enough
+    pub few-stops : (k ≤ 4001) × (k ≤ hi - lo + 1)
+    few-stops = let h = stops-few (leastIn (c .m) (c .n) (byRow 64 cost) (byRow 64 cap) all (amountIn amounts) (demandIn wants)) lo hi in (omega (arith, w .count, most (a .on)), omega (arith, w .count))
+
+    pub freight-moderate : v ≤ 1000000000000
+    freight-moderate = omega (arith, raised-freight, raised-most f fit (bestSplit c) (here .0) (here .1), few-drums f fit)
+
+    pub total-moderate : t ≤ 1000000000000
+    unfolding raisedTotal
+    total-moderate =
+        omega (arith, raised-total, raised-most f fit (bestSplit c) (here .0) (here .1), few-drums f fit, small-entry c (a .t9) (bestSplit c) (here .0) (omega (arith, last-split f fit, here .1)))
+
+    pub found-moderate : Moderate k found'
+    found-moderate i h =
+        subst (λ (x : ℕ). x ≤ 1000000000000) (sym (sym (getD-take k found' i 0 h) ∙ ap (λ (l : List ℕ). getD l i 0) found-are))
+        (each-most 1000000000000 (raisedAt c) (stopsOf (raisedAt c) (leastSplit c) (greatestSplit c))
+        (λ z q.
+        omega (
+          arith,
+          let o = stops-out (raisedAt c) (leastSplit c) (greatestSplit c) z (in-order f fit) q in raised-most f fit z (o .0) (o .1),
+          few-drums f fit,
+        )) i)
 
     -- the plan slice after the rows were copied out
     module _ (before after : List ℕ) (cells : RowsMoved (c .m) (c .n) 64 (c .n) kept after) (long : length after ≡ length before)
@@ -221,45 +365,60 @@ module _ {c : Case} {lo hi all : ℕ} (a : Accepts c lo hi all) {cost cap amount
       is-plan : PlanAt c (bestSplit c) (take (c .m * c .n) after)
       unfolding row col
       is-plan = record {
-        cells = lanes-long;
-        rows = λ i h.
-            sum-ext (c .n) _ _ (λ j l. lane i j h l) ∙ w .plan .rows i h
-            ∙ amounts-same _ _ (amountIn amounts) (λ i. supply c i) (c .m) both (p .others) y i h ∙ ap (λ (z : ℕ). amountsAt (made c) (λ i. supply c i) z i) is-split;
-        columns = λ j l. sum-ext (c .m) _ _ (λ i h. lane i j h l) ∙ w .plan .columns j l ∙ p .demands j l;
+        plan = record {
+          cells = lanes-long;
+          rows = λ i h.
+              sum-ext (c .n) _ _ (λ j l. lane i j h l) ∙ w .plan .rows i h
+              ∙ sends (a .on .on) p y i h ∙ ap (λ (z : ℕ). amountsAt (made c) (λ i. supply c i) z i) is-split;
+          columns = λ j l. sum-ext (c .m) _ _ (λ i h. lane i j h l) ∙ w .plan .columns j l ∙ p .demands j l;
+        };
+        under = λ i j h l. omega (arith, lane i j h l, w .plan .under i j h l, p .ceilings .cells i j h l);
       }
 
       is-worth : freightOf c (take (c .m * c .n) after) ≡ leastFreightAt c (bestSplit c)
-      unfolding freightOf freight
+      unfolding raisedFreight freight
       is-worth =
-          total-ext (c .m) (c .n) _ _ (λ i j h l. ap₂ (λ (x z : ℕ). x * z) (sym (p .costs .cells i j h l)) (lane i j h l)) ∙ w .plan .worth ∙ is-freight
+          freight-above f (bestSplit c) (take (c .m * c .n) after) is-plan .is ∙ ap (λ (x : ℕ). subℕ x (added c)) raised-worth
+          ∙ sym (least-above f fit (bestSplit c) (here .0) (here .1) .is)
+        where
+          raised-worth : raisedFreight c (take (c .m * c .n) after) ≡ raisedAt c (bestSplit c)
+          raised-worth =
+              total-ext (c .m) (c .n) _ _ (λ i j h l. ap₂ (λ (x z : ℕ). x * z) (sym (p .costs .cells i j h l)) (lane i j h l)) ∙ w .plan .worth ∙ raised-freight
 
-      pub given : Written c (bestSplit c) (totalAt c (bestSplit c)) (slices before splits freights) (slices after splits' freights')
-      unfolding stopFreights
-      given = record {
-        amounts = take (c .m * c .n) after;
-        cells = wrote;
-        plan = is-plan;
-        freight = is-worth;
-        cheapest = cheapest c (take (c .m * c .n) after) accepted-all is-plan is-worth;
-        splits = w .stops-written ∙ ap (λ (l : List ℕ). written l splits) is-stops;
-        freights = w .freights-written ∙ ap₂ (λ (g : ℕ → ℕ) (l : List ℕ). written (map g l) freights) curve is-stops;
-      }
+      module _ {freights freights' : List ℤ} (lows : freights' ≡ written (map (lower (added c)) (take k found')) freights) where
+        pub given : Written c (bestSplit c) (totalAt c (bestSplit c)) (slices before splits freights) (slices after splits' freights')
+        given = record {
+          amounts = take (c .m * c .n) after;
+          cells = wrote;
+          plan = is-plan;
+          freight = is-worth;
+          cheapest = cheapest c (take (c .m * c .n) after) accepted-all is-plan is-worth;
+          bounded = total-bounded f fit (a .t9);
+          splits = w .stops-written ∙ ap (λ (l : List ℕ). written l splits) is-stops;
+          freights = lows ∙ ap (λ (l : List ℤ). written l freights) (ap (map (lower (added c))) found-are ∙ sym (stop-freights-are f fit));
+        }
 
-      pub answered : Answered c (planned y t v k) (slices before splits freights) (slices after splits' freights')
-      unfolding outcomeOf planOf
-      answered =
-          let e : planned y t v k ≡ outcomeOf c =
-          ap₂ (λ (x z : ℕ). planned x z v k) is-split is-total
-          ∙ ap₂ (λ (x z : ℕ). planned (bestSplit c) (totalAt c (bestSplit c)) x z) is-freight (w .count ∙ ap length is-stops)
-          ∙ sym (rw (accepted-all, outcomeOf) refl) in
-          record {
-            answer = e;
-            written = λ s' t' f' k' q. let es : s' ≡ bestSplit c = let z : y ≡ s' = cc in omega (arith, is-split) in
-                let et : t' ≡ totalAt c (bestSplit c) = let z : t ≡ t' = cc in omega (arith, is-total) in
-                rw (es, et) given;
-            kept = λ k' p' q. let z : _≡_ {A = ℕ} 0 1 = cc in absurd (omega arith);
-            balance = subst (λ (o : Outcome). BalanceRule c o) (sym e) (balance-rule c);
-          }
+        pub answered : Answered c (planned y (subℕ t (added c)) (subℕ v (added c)) k) (slices before splits freights) (slices after splits' freights')
+        unfolding outcomeOf planOf
+        answered =
+            let e : planned y (subℕ t (added c)) (subℕ v (added c)) k ≡ outcomeOf c =
+            ap₂ (λ (x : ℕ) (z : ℤ). planned x z (subℕ v (added c)) k) is-split is-total
+            ∙ ap₂ (λ (x : ℤ) (z : ℕ). planned (bestSplit c) (totalAt c (bestSplit c)) x z) is-freight (w .count ∙ ap length is-stops)
+            ∙ sym (rw (accepted-all, outcomeOf) refl) in
+            record {
+              answer = e;
+              written = λ s' t' f' k' q. let es : s' ≡ bestSplit c = let z : y ≡ s' = cc in omega (arith, is-split) in
+                  let et : t' ≡ totalAt c (bestSplit c) = let z : subℕ t (added c) ≡ t' = cc in sym z ∙ is-total in
+                  rw (es, et) given;
+              kept = λ k' p' q. let z : _≡_ {A = ℕ} 0 1 = cc in absurd (omega arith);
+              balance = subst (λ (o : Outcome). BalanceRule c o) (sym e) (balance-rule c);
+            }
+
+-- the same answer with total and freight told otherwise
+pub told : {c : Case} {y k : ℕ} {t v t' v' : ℤ} {before after : Slices} → t' ≡ t → v' ≡ v → Answered c (planned y t v k) before after
+    → Answered c (planned y t' v' k) before after
+told {c} {y} {k} {before = before} {after} et ev a =
+    subst₂ (λ (t v : ℤ). Answered c (planned y t v k) before after) (sym et) (sym ev) a
 
 -- ---- a refusal
 

@@ -1,21 +1,23 @@
--- The splits in use: a plan that meets (TP) is a plan at its own split, which lies from ℓ to u, and each split from ℓ to u has a plan. Assumes nothing.
-use mathlib.Core.Path.{_≡_, refl, sym, ap, _∙_, subst}
-use mathlib.Core.Logic.{_≢_}
-use mathlib.Core.List.{List, []}
-use mathlib.Core.List.{List·Memᴰ·not-nil, List·Memᴰ}
+-- The splits in use: a plan that meets (TP) is a plan at its own split, which is one of the splits, and each split from ℓ to u has a plan.
+-- Assumes nothing.
+use mathlib.Core.Path.{_≡_, refl, sym, ap, _∙_}
+use mathlib.Core.Bool.{true, false, false≢true}
+use mathlib.Core.List.{List, [], _∷_, List·Memᴰ, List·Memᴰ·head, List·Memᴰ·not-nil}
 use Prim.Native.Nat.{ℕ, zero, suc, _+_, _-_, _≤_, _<_}
 use native.Mathlib.Omega.{arith}
 use Rattle.transport.specs.Sum.{sum}
-use Rattle.transport.specs.Plan.{byRow, Plan}
-use Rattle.transport.specs.Listing.{listing}
-use Rattle.transport.specs.Curve.{amountsAt, leastAt}
+use Rattle.transport.specs.Plan.{Plan}
+use Rattle.transport.specs.Listing.{least, greatest, some}
+use Rattle.transport.specs.Curve.{amountsAt, hasPlan}
 use Rattle.transport.proofs.Sums.{sum-ext, sum-front}
-use Rattle.transport.proofs.Listing.{complete, least-freight-low, least-freight-met}
+use Rattle.transport.proofs.Members.{least-in}
+use Rattle.transport.proofs.Within.{some-fits, fits-some}
+use Rattle.transport.proofs.Splits.{greatest-in, splits-member, member-splits}
+use Rattle.transport.proofs.Interval.{split-between, between-split}
 use Rattle.transport.proofs.Exists as exists
-use Rattle.transport.proofs.Best.{Best, bestFrom-best}
-use Rattle.planner.specs.Case.{Case, supply, demand, allDemand, depotStock, made, leastSplit, greatestSplit, steps}
-use Rattle.planner.specs.Plans.{rowSum, columnSum, freightOf, MeetsTP, PlanAt, leastFreightAt, totalAt, bestSplit}
-use Rattle.planner.proofs.Passed.{Balanced}
+use Rattle.planner.specs.Case.{Case, supply, demand, ceiling, allDemand, depotStock, made, lowestSplit, highestSplit, splits, hasSplit, leastSplit, greatestSplit, steps}
+use Rattle.planner.specs.Plans.{rowSum, columnSum, MeetsTP, PlanAt}
+use Rattle.planner.proofs.Passed.{Formed, Balanced}
 
 -- the first two, and the rest
 pub first-two : (m : ℕ) (g : ℕ → ℕ) → 2 ≤ m → sum m g ≡ g 0 + (g 1 + sum (m - 2) (λ k. g (2 + k)))
@@ -23,12 +25,6 @@ first-two m g l =
     ap (λ (k : ℕ). sum k g) (omega arith) ∙ sum-front (suc (m - 2)) g
     ∙ ap (λ (a : ℕ). g 0 + a) (sum-front (m - 2) (λ i. g (suc i))
     ∙ ap (λ (a : ℕ). g 1 + a) (sum-ext (m - 2) (λ i. g (suc (suc i))) (λ i. g (2 + i)) (λ i h. ap g (omega arith))))
-
--- ---- ℓ and u
-
-pub last-split : (c : Case) → Balanced c → leastSplit c + steps c ≡ greatestSplit c
-unfolding leastSplit greatestSplit steps
-last-split c b = omega arith
 
 -- ---- a plan that meets (TP)
 
@@ -44,21 +40,24 @@ balance c x l p =
 -- its split is one of the splits, and it is a plan there
 pub record SplitOf (c : Case) (x : List ℕ) : Type 0 where
   pub balanced : Balanced c
-  pub low : leastSplit c ≤ rowSum c x 0
-  pub high : rowSum c x 0 ≤ greatestSplit c
   pub planAt : PlanAt c (rowSum c x 0) x
+  pub one : List·Memᴰ (rowSum c x 0) (splits c)
 
 pub split-of : (c : Case) (x : List ℕ) → 2 ≤ c .m → MeetsTP c x → SplitOf c x
-unfolding made leastSplit greatestSplit rowSum columnSum amountsAt
+unfolding made lowestSplit highestSplit splits rowSum columnSum amountsAt hasPlan
 split-of c x l p =
     let e = balance c x l p in
     let h1 = p .plant1 in
     let h2 = p .plant2 in
+    let h3 = p .runs1 in
+    let h4 = p .runs2 in
+    let f : PlanAt c (rowSum c x 0) x = record { plan = record { cells = p .cells; rows = sent (omega arith); columns = p .terminals }; under = p .lanes } in
     record {
-      balanced = record { stock = omega arith; reach = omega arith };
-      low = omega arith;
-      high = omega arith;
-      planAt = record { cells = p .cells; rows = sent (omega arith); columns = p .terminals };
+      balanced = record { first-run = omega arith; second-run = omega arith; stock = omega arith; reach = omega arith };
+      planAt = f;
+      one =
+          member-splits (c .m) (c .n) (ceiling c) (made c) (λ i. supply c i) (λ j. demand c j) (lowestSplit c) (highestSplit c) (rowSum c x 0) (omega arith)
+          (omega arith) (fits-some (c .m) (c .n) (ceiling c) (amountsAt (made c) (λ i. supply c i) (rowSum c x 0)) (λ j. demand c j) x f);
     }
   where
     sent : rowSum c x 1 ≡ made c - rowSum c x 0 → (i : ℕ) → i < c .m → rowSum c x i ≡ amountsAt (made c) (λ i. supply c i) (rowSum c x 0) i
@@ -68,31 +67,43 @@ split-of c x l p =
 
 -- ---- a plan at a split
 
--- a plan at a split from ℓ to u meets (TP), and that is its split
+-- a split lies within the supplies and the least runs
+pub split-within : (c : Case) (y : ℕ) → List·Memᴰ y (splits c) → (lowestSplit c ≤ y) × (y ≤ highestSplit c)
+unfolding splits
+split-within c y k =
+    let t = splits-member (c .m) (c .n) (ceiling c) (made c) (λ i. supply c i) (λ j. demand c j) (lowestSplit c) (highestSplit c) y k in (t .0, t .1)
+
+-- a plan at a split within the supplies and the least runs meets (TP), and that is its split
 pub record Met (c : Case) (y : ℕ) (x : List ℕ) : Type 0 where
   pub plan : MeetsTP c x
   pub split : rowSum c x 0 ≡ y
 
-pub meets : (c : Case) (y : ℕ) (x : List ℕ) → 2 ≤ c .m → leastSplit c ≤ y → y ≤ greatestSplit c → PlanAt c y x → Met c y x
-unfolding made leastSplit greatestSplit rowSum columnSum amountsAt
-meets c y x l low high p = record {
-  plan = record {
-    cells = p .cells;
-    plant1 = omega (arith, p .rows 0 (omega arith));
-    plant2 = omega (arith, p .rows 1 (omega arith));
-    depots = depot;
-    terminals = p .columns;
-  };
-  split = p .rows 0 (omega arith);
-}
+pub meets : (c : Case) (y : ℕ) (x : List ℕ) → 2 ≤ c .m → Balanced c → lowestSplit c ≤ y → y ≤ highestSplit c → PlanAt c y x → Met c y x
+unfolding made lowestSplit highestSplit rowSum columnSum amountsAt
+meets c y x l b low high f =
+    let p = f .plan in
+    let h = b .stock in
+    record {
+      plan = record {
+        cells = p .cells;
+        plant1 = omega (arith, p .rows 0 (omega arith));
+        plant2 = omega (arith, p .rows 1 (omega arith));
+        runs1 = omega (arith, p .rows 0 (omega arith));
+        runs2 = omega (arith, p .rows 1 (omega arith));
+        depots = depot (p .rows);
+        terminals = p .columns;
+        lanes = f .under;
+      };
+      split = p .rows 0 (omega arith);
+    }
   where
-    depot : (i : ℕ) → 2 ≤ i → i < c .m → rowSum c x i ≡ supply c i
-    depot zero a h = absurd (omega arith)
-    depot (suc zero) a h = absurd (omega arith)
-    depot (suc (suc i)) a h = p .rows (suc (suc i)) h
+    depot : ((i : ℕ) → i < c .m → rowSum c x i ≡ amountsAt (made c) (λ i. supply c i) y i) → (i : ℕ) → 2 ≤ i → i < c .m → rowSum c x i ≡ supply c i
+    depot r zero a h = absurd (omega arith)
+    depot r (suc zero) a h = absurd (omega arith)
+    depot r (suc (suc i)) a h = r (suc (suc i)) h
 
 -- what the sources send at a split is what the terminals get
-sent-all : (c : Case) (y : ℕ) → 2 ≤ c .m → depotStock c ≤ allDemand c → y ≤ made c
+pub sent-all : (c : Case) (y : ℕ) → 2 ≤ c .m → depotStock c ≤ allDemand c → y ≤ made c
     → sum (c .m) (amountsAt (made c) (λ i. supply c i) y) ≡ allDemand c
 unfolding depotStock made amountsAt
 sent-all c y l h g =
@@ -106,35 +117,85 @@ sent-all c y l h g =
     depot (suc zero) a = absurd (omega arith)
     depot (suc (suc i)) a = refl
 
-pub plan-exists : (c : Case) (y : ℕ) → 2 ≤ c .m → Balanced c → y ≤ greatestSplit c → (x : List ℕ) × PlanAt c y x
-unfolding allDemand greatestSplit
-plan-exists c y l b g =
-    exists.plan-exists (c .n) (c .m) (amountsAt (made c) (λ i. supply c i) y) (λ j. demand c j) (sent-all c y l (b .stock) (omega arith))
+-- ---- a case that has splits
 
--- ---- f
+-- what tests 23, 7, 8 and 27 leave
+pub record Fitting (c : Case) : Type 0 where
+  pub balanced : Balanced c
+  pub one : ℕ
+  pub member : List·Memᴰ one (splits c)
 
--- no plan at the split has a lower freight than f
-pub freight-low : (c : Case) (y : ℕ) (x : List ℕ) → PlanAt c y x → leastFreightAt c y ≤ freightOf c x
-unfolding leastFreightAt leastAt freightOf
-freight-low c y x p = least-freight-low (c .m) (c .n) (byRow (c .n) (c .costs)) (amountsAt (made c) (λ i. supply c i) y) (λ j. demand c j) x p
+pub fitting : (c : Case) → Balanced c → hasSplit c ≡ true → Fitting c
+unfolding hasSplit some
+fitting c b e = let q = step (splits c) e in record { balanced = b; one = q .0; member = q .1 }
+  where
+    step : (l : List ℕ) → some l ≡ true → (y : ℕ) × List·Memᴰ y l
+    step [] e = absurd (false≢true e)
+    step (y ∷ l) e = (y, List·Memᴰ·head refl)
 
--- each split up to u has a plan with freight f
-pub freight-met : (c : Case) (y : ℕ) → 2 ≤ c .m → Balanced c → y ≤ greatestSplit c
-    → (x : List ℕ) × PlanAt c y x × (freightOf c x ≡ leastFreightAt c y)
-unfolding leastFreightAt leastAt freightOf
-freight-met c y l b g =
-    let p = plan-exists c y l b g in
-    least-freight-met (c .m) (c .n) (byRow (c .n) (c .costs)) (amountsAt (made c) (λ i. supply c i) y) (λ j. demand c j) (p .0) (p .1)
+pub fits-split : (c : Case) (y : ℕ) → List·Memᴰ y (splits c) → hasSplit c ≡ true
+unfolding hasSplit some
+fits-split c y k = step (splits c) k
+  where
+    step : (l : List ℕ) → List·Memᴰ y l → some l ≡ true
+    step [] k = absurd (List·Memᴰ·not-nil k)
+    step (z ∷ l) k = refl
 
--- so f there is never the 0 of an empty listing
-pub some-listed : (c : Case) (y : ℕ) → 2 ≤ c .m → Balanced c → y ≤ greatestSplit c
-    → listing (c .m) (c .n) (amountsAt (made c) (λ i. supply c i) y) (λ j. demand c j) ≢ []
-some-listed c y l b g e =
-    let p = plan-exists c y l b g in
-    List·Memᴰ·not-nil (subst (λ (s : List (List ℕ)). List·Memᴰ (p .0) s) e (complete (c .m) (c .n) (amountsAt (made c) (λ i. supply c i) y) (λ j. demand c j) (p .0) (p .1)))
+highest-most : (c : Case) → highestSplit c ≤ made c
+unfolding highestSplit
+highest-most c = omega arith
 
--- ---- the best split
+least-member : (l : List ℕ) (z : ℕ) → List·Memᴰ z l → List·Memᴰ (least l) l
+least-member [] z k = absurd (List·Memᴰ·not-nil k)
+least-member (a ∷ l) z k = least-in a l
 
-pub best-split : (c : Case) → Best (totalAt c) (leastSplit c) (steps c) (bestSplit c)
-unfolding bestSplit
-best-split c = bestFrom-best (totalAt c) (leastSplit c) (steps c)
+greatest-member : (l : List ℕ) (z : ℕ) → List·Memᴰ z l → List·Memᴰ (greatest l) l
+greatest-member [] z k = absurd (List·Memᴰ·not-nil k)
+greatest-member (a ∷ l) z k = greatest-in a l
+
+-- u is at most a_1, also where there is no split
+pub greatest-most : (c : Case) → greatestSplit c ≤ supply c 0
+unfolding greatestSplit highestSplit greatest
+greatest-most c = step (splits c) (λ y k. split-within c y k .1)
+  where
+    step : (l : List ℕ) → ((y : ℕ) → List·Memᴰ y l → y ≤ highestSplit c) → greatest l ≤ supply c 0
+    step [] h = omega arith
+    step (a ∷ l) h = omega (arith, h _ (greatest-in a l))
+
+-- a split is from ℓ to u
+pub split-range : {c : Case} → Formed c → (y : ℕ) → List·Memᴰ y (splits c) → (leastSplit c ≤ y) × (y ≤ greatestSplit c)
+unfolding splits leastSplit greatestSplit
+split-range {c} f y k =
+    split-between (c .m) (c .n) (f .few-sources) (f .two-sources) (ceiling c) (made c) (λ i. supply c i) (λ j. demand c j) (lowestSplit c) (highestSplit c)
+    (highest-most c) y k
+
+module _ {c : Case} (f : Formed c) (t : Fitting c) where
+  pub in-order : leastSplit c ≤ greatestSplit c
+  in-order = let r = split-range f (t .one) (t .member) in omega (arith, r)
+
+  pub last-split : leastSplit c + steps c ≡ greatestSplit c
+  unfolding steps
+  last-split = omega (arith, in-order)
+
+  -- ℓ and u lie within the supplies and the least runs
+  pub ends-within : (lowestSplit c ≤ leastSplit c) × (greatestSplit c ≤ highestSplit c)
+  unfolding leastSplit greatestSplit
+  ends-within = (
+    split-within c (leastSplit c) (least-member (splits c) (t .one) (t .member)) .0,
+    split-within c (greatestSplit c) (greatest-member (splits c) (t .one) (t .member)) .1,
+  )
+
+  pub most-made : greatestSplit c ≤ made c
+  most-made = omega (arith, ends-within, highest-most c)
+
+  -- each split from ℓ to u has a plan
+  pub plan-exists : (y : ℕ) → leastSplit c ≤ y → y ≤ greatestSplit c → (x : List ℕ) × PlanAt c y x
+  unfolding splits leastSplit greatestSplit hasPlan
+  plan-exists y h l =
+      some-fits (c .m) (c .n) (ceiling c) (amountsAt (made c) (λ i. supply c i) y) (λ j. demand c j)
+      (between-split (c .m) (c .n) (f .few-sources) (f .two-sources) (ceiling c) (made c) (λ i. supply c i) (λ j. demand c j) (lowestSplit c) (highestSplit c)
+      (highest-most c) (t .one) (t .member) y h l)
+
+  -- and each plan there meets (TP)
+  pub meets-between : (y : ℕ) (x : List ℕ) → leastSplit c ≤ y → y ≤ greatestSplit c → PlanAt c y x → Met c y x
+  meets-between y x h l p = let w = ends-within in meets c y x (f .two-sources) (t .balanced) (omega (arith, w)) (omega (arith, w)) p

@@ -1,25 +1,29 @@
 -- What the tests' parts say of the tests. Assumes nothing.
-use mathlib.Core.Path.{_≡_, refl, sym, ap, ap₂, _∙_, subst}
-use mathlib.Core.Bool.{Bool, true, false, not, _||_, cond}
+use mathlib.Core.Path.{_≡_, refl, sym, ap, _∙_}
+use mathlib.Core.Bool.{Bool, true, false, _||_}
 use mathlib.Core.Option.{Option, none, some}
 use mathlib.Core.List.{List, _++_}
-use Prim.Native.Nat.{ℕ, suc, min, _+_, _-_, _*_, _≤_, _<_}
-use native.Mathlib.Nat.{mul-le-mul}
+use Prim.Native.Nat.{ℕ, zero, suc, _+_, _-_, _*_, _≤_, _<_}
+use native.Mathlib.Nat.{suc-mul}
 use native.Mathlib.Omega.{arith}
-use lib.Dec.{ltb, eqb}
-use lib.ListN.{length, getD, take, drop, length-append, List·getD-append, length-take, length-drop}
+use lib.Dec.{ltb}
+use lib.IntN.{ℤ}
+use lib.ListN.{length, getD, take, drop, List·getD-append, length-take, length-drop}
 use lib.Seq.{getD-append-add, getD-take, getD-drop}
-use borrow.Author.Tests.{lt-ltb, le-ltb, eq-eqb, ne-eqb, ltb-false, eqb-true, not-false}
-use Rattle.planner.specs.Case.{Case, supply}
-use Rattle.planner.specs.Outcome.{Outcome, refused, firstFrom, refuseIf, refuseAt, _orElse_, formRefusal, test1, test2, test3, test4, test5, test6}
-use Rattle.planner.specs.Verdict.{firstAbove, firstSagging, amountsRefusal, entriesRefusal, splitsOf, AtMost}
-use Rattle.planner.specs.declared.tests.Splits.the-variants.{Between, Unbalanced}
+use borrow.Author.Tests.{lt-ltb, le-ltb, eq-eqb, ne-eqb, ltb-false}
+use Rattle.planner.specs.Outcome.{Outcome, refused, firstFrom, firstOver, refuseIf, refuseAt}
+use Rattle.planner.specs.Verdict.{firstAbove, firstOutside, amountsRefusal, runsRefusal, ceilingsRefusal, entriesRefusal, splitsRefusal, madeOf, AtMost}
+use Rattle.planner.specs.declared.tests.Made.the-variants.{Drums, Unbalanced}
 use Rattle.transport.specs.Sum.{sum}
-use Rattle.transport.proofs.Sums.{sum-ext}
+use Rattle.transport.proofs.Sums.{sum-zero, sum-suc, sum-ext}
 use Rattle.planner.proofs.Passed.{first-decides, second-decides}
 use Rattle.planner.proofs.First.{moved, first-moved, first-then, first-within, none-passes, some-first}
 
 -- ---- a condition, a place
+
+pub or-true : (a : Bool) → (a || true) ≡ true
+or-true true = refl
+or-true false = refl
 
 pub met : (k : ℕ) (t : Bool) → t ≡ true → refuseIf k t ≡ some (refused k 0)
 unfolding refuseIf
@@ -82,7 +86,47 @@ module _ (s d : List ℕ) where
       no-place 4 _
       (first-then big 1 (length s) (length d) (of-supplies ∙ moved-none 1 0 _ n) ∙ of-demands ∙ moved-none (1 + length s) 0 _ e)
 
--- ---- tests 9 and 10
+-- ---- test 23
+
+module _ (r1 r2 : ℕ) (s : List ℕ) where
+  pub runs-first : getD s 0 0 < r1 → runsRefusal r1 r2 s ≡ some (refused 23 1)
+  unfolding runsRefusal firstOver refuseAt
+  runs-first h = rw (lt-ltb (getD s 0 0) r1 h) refl
+
+  pub runs-second : r1 ≤ getD s 0 0 → getD s 1 0 < r2 → runsRefusal r1 r2 s ≡ some (refused 23 2)
+  unfolding runsRefusal firstOver refuseAt
+  runs-second h l = rw (le-ltb (getD s 0 0) r1 h, lt-ltb (getD s 1 0) r2 l) refl
+
+  pub runs-pass : r1 ≤ getD s 0 0 → r2 ≤ getD s 1 0 → runsRefusal r1 r2 s ≡ none
+  unfolding runsRefusal firstOver refuseAt
+  runs-pass h l = rw (le-ltb (getD s 0 0) r1 h, le-ltb (getD s 1 0) r2 l) refl
+
+-- ---- test 26
+
+module _ (lanes : ℕ) (l : List ℕ) where
+  pub ceilings-length : (length l ≡ lanes → ⊥) → ceilingsRefusal lanes l ≡ some (refused 26 0)
+  unfolding ceilingsRefusal
+  ceilings-length h = first-decides _ _ _ (met 26 _ (simp (ne-eqb (length l) lanes h)))
+
+  module _ (e : length l ≡ lanes) where
+    by-index : firstFrom (λ p. ltb 4000 (getD l (p - 1) 0)) 1 lanes ≡ moved 1 0 (firstAbove 4000 l)
+    unfolding firstAbove
+    by-index =
+        first-moved (λ p. ltb 4000 (getD l (p - 1) 0)) (λ k. ltb 4000 (getD l k 0)) 1 0 lanes
+        (λ t h. ap (λ (k : ℕ). ltb 4000 (getD l k 0)) (let z : 1 + t - 1 ≡ 0 + t = omega arith in z))
+        ∙ ap (λ (n : ℕ). moved 1 0 (firstFrom (λ k. ltb 4000 (getD l k 0)) 0 n)) (sym e)
+
+    pub ceilings-high : (k : ℕ) → firstAbove 4000 l ≡ some k → ceilingsRefusal lanes l ≡ some (refused 26 (k + 1))
+    unfolding ceilingsRefusal
+    ceilings-high k h =
+        second-decides _ _ (unmet 26 _ (simp (eq-eqb (length l) lanes e)))
+        ∙ at-place 26 (k + 1) _ (by-index ∙ moved-some 1 0 k (k + 1) _ h (omega arith))
+
+    pub ceilings-pass : firstAbove 4000 l ≡ none → ceilingsRefusal lanes l ≡ none
+    unfolding ceilingsRefusal
+    ceilings-pass h = second-decides _ _ (unmet 26 _ (simp (eq-eqb (length l) lanes e))) ∙ no-place 26 _ (by-index ∙ moved-none 1 0 _ h)
+
+-- ---- test 9
 
 module _ (t : List ℕ) (lo hi : ℕ) (order : lo ≤ hi) (long : hi < length t) where
   part : List ℕ
@@ -104,31 +148,40 @@ module _ (t : List ℕ) (lo hi : ℕ) (order : lo ≤ hi) (long : hi < length t)
       (λ k h. ap (λ (v : ℕ). ltb 1000000000 v) (cell (0 + k) (lo + k) (omega arith) (omega arith)))
       ∙ ap (λ (n : ℕ). moved lo 0 (firstFrom (λ k. ltb 1000000000 (getD (take (hi + 1 - lo) (drop lo t)) k 0)) 0 n)) (sym part-length)
 
-  sags : List ℕ → ℕ → Bool
-  sags l y = ltb (2 * getD l y 0) (getD l (y - 1) 0 + getD l (y + 1) 0)
-
-  low : firstFrom (sags t) (lo + 1) (hi - lo - 1) ≡ moved (lo + 1) 1 (firstSagging (take (hi + 1 - lo) (drop lo t)))
-  unfolding firstSagging sags
-  low =
-      first-moved (sags t) (sags (take (hi + 1 - lo) (drop lo t))) (lo + 1) 1 (hi - lo - 1)
-      (λ k h. ap₂ (λ (a b : ℕ). ltb a b) (ap (λ (v : ℕ). 2 * v) (cell (1 + k) (lo + 1 + k) (omega arith) (omega arith)))
-      (ap₂ (λ (a b : ℕ). a + b) (cell (1 + k - 1) (lo + 1 + k - 1) (omega arith) (omega arith)) (cell (1 + k + 1) (lo + 1 + k + 1) (omega arith) (omega arith))))
-      ∙ ap (λ (n : ℕ). moved (lo + 1) 1 (firstFrom (sags (take (hi + 1 - lo) (drop lo t))) 1 n)) (let z : hi - lo - 1 ≡ length (take (hi + 1 - lo) (drop lo t)) - 2 = omega (arith, part-length) in z)
-
   pub entries-high : (k : ℕ) → firstAbove 1000000000 (take (hi + 1 - lo) (drop lo t)) ≡ some k → entriesRefusal t lo hi ≡ some (refused 9 (lo + k))
   unfolding entriesRefusal
-  entries-high k e = first-decides _ _ _ (at-place 9 (lo + k) _ (high ∙ moved-some lo 0 k (lo + k) _ e (omega arith)))
+  entries-high k e = at-place 9 (lo + k) _ (high ∙ moved-some lo 0 k (lo + k) _ e (omega arith))
 
-  pub entries-low : (k : ℕ) → 1 ≤ k → firstAbove 1000000000 (take (hi + 1 - lo) (drop lo t)) ≡ none → firstSagging (take (hi + 1 - lo) (drop lo t)) ≡ some k
-      → entriesRefusal t lo hi ≡ some (refused 10 (lo + k))
-  unfolding entriesRefusal sags
-  entries-low k h n e =
-      second-decides _ _ (no-place 9 _ (high ∙ moved-none lo 0 _ n)) ∙ at-place 10 (lo + k) _ (low ∙ moved-some (lo + 1) 1 k (lo + k) _ e (omega arith))
+  pub entries-pass : firstAbove 1000000000 (take (hi + 1 - lo) (drop lo t)) ≡ none → entriesRefusal t lo hi ≡ none
+  unfolding entriesRefusal
+  entries-pass n = no-place 9 _ (high ∙ moved-none lo 0 _ n)
 
-  pub entries-pass : firstAbove 1000000000 (take (hi + 1 - lo) (drop lo t)) ≡ none → firstSagging (take (hi + 1 - lo) (drop lo t)) ≡ none
-      → entriesRefusal t lo hi ≡ none
-  unfolding entriesRefusal sags
-  entries-pass n e = second-decides _ _ (no-place 9 _ (high ∙ moved-none lo 0 _ n)) ∙ no-place 10 _ (low ∙ moved-none (lo + 1) 1 _ e)
+-- ---- tests 9 and 11
+
+module _ (t : List ℕ) (lo hi lanes plan splits freights : ℕ) where
+  pub splits-entry : (r : Outcome) → entriesRefusal t lo hi ≡ some r → splitsRefusal t lo hi lanes plan splits freights ≡ some r
+  unfolding splitsRefusal
+  splits-entry r e = first-decides _ _ r e
+
+  module _ (e : entriesRefusal t lo hi ≡ none) where
+    no-room : (ltb plan lanes || (ltb splits (hi - lo + 1) || ltb freights (hi - lo + 1))) ≡ true
+        → splitsRefusal t lo hi lanes plan splits freights ≡ some (refused 11 0)
+    unfolding splitsRefusal
+    no-room h = second-decides _ _ e ∙ met 11 _ h
+
+    pub splits-plan : plan < lanes → splitsRefusal t lo hi lanes plan splits freights ≡ some (refused 11 0)
+    splits-plan h = no-room (simp (lt-ltb plan lanes h))
+
+    pub splits-split : splits < hi - lo + 1 → splitsRefusal t lo hi lanes plan splits freights ≡ some (refused 11 0)
+    splits-split h = no-room (simp (lt-ltb splits (hi - lo + 1) h, or-true))
+
+    pub splits-freight : freights < hi - lo + 1 → splitsRefusal t lo hi lanes plan splits freights ≡ some (refused 11 0)
+    splits-freight h = no-room (simp (lt-ltb freights (hi - lo + 1) h, or-true))
+
+    pub splits-pass : lanes ≤ plan → hi - lo + 1 ≤ splits → hi - lo + 1 ≤ freights → splitsRefusal t lo hi lanes plan splits freights ≡ none
+    unfolding splitsRefusal
+    splits-pass p q r =
+        second-decides _ _ e ∙ unmet 11 _ (simp (le-ltb plan lanes p, le-ltb splits (hi - lo + 1) q, le-ltb freights (hi - lo + 1) r))
 
 -- ---- what an answer of the search for a number above a limit says
 
@@ -140,18 +193,24 @@ pub above-within : (limit : ℕ) (l : List ℕ) (k : ℕ) → firstAbove limit l
 unfolding firstAbove
 above-within limit l k e = let f = some-first _ 0 (length l) k e in omega (arith, f .high)
 
-pub sagging-within : (l : List ℕ) (k : ℕ) → firstSagging l ≡ some k → (1 ≤ k) × (k + 1 < length l)
-unfolding firstSagging
-sagging-within l k e = let f = some-first _ 1 (length l - 2) k e in (f .low, omega (arith, f .low, f .high))
+pub outside-within : (l : List ℤ) (k : ℕ) → firstOutside l ≡ some k → k < length l
+unfolding firstOutside
+outside-within l k e = let f = some-first _ 0 (length l) k e in omega (arith, f .high)
 
 module _ (t : List ℕ) (lo hi : ℕ) (order : lo ≤ hi) (long : hi < length t) where
   pub high-within : (k : ℕ) → firstAbove 1000000000 (take (hi + 1 - lo) (drop lo t)) ≡ some k → lo + k ≤ hi
   high-within k e = omega (arith, above-within 1000000000 (take (hi + 1 - lo) (drop lo t)) k e, part-length t lo hi order long)
 
-  pub low-within : (k : ℕ) → firstSagging (take (hi + 1 - lo) (drop lo t)) ≡ some k → lo + k ≤ hi
-  low-within k e = omega (arith, sagging-within (take (hi + 1 - lo) (drop lo t)) k e, part-length t lo hi order long)
-
 -- ---- tests 7 and 8
+
+-- k numbers up to a limit
+pub sum-under : (k limit : ℕ) (g : ℕ → ℕ) → ((i : ℕ) → i < k → g i ≤ limit) → sum k g ≤ k * limit
+sum-under zero limit g h = omega (arith, sum-zero g)
+sum-under (suc k) limit g h = omega (arith, sum-suc k g, sum-under k limit g (λ i l. h i (omega arith)), h k (omega arith), suc-mul k limit)
+
+-- numbers up to 4,000, summed
+pub sum-most : (l : List ℕ) → AtMost 4000 l → sum (length l) (λ j. getD l j 0) ≤ 4000 * length l
+sum-most l h = omega (arith, sum-under (length l) 4000 (λ j. getD l j 0) h)
 
 module _ (s : List ℕ) (two : 2 ≤ length s) where
   depots : List ℕ
@@ -170,19 +229,18 @@ module _ (s : List ℕ) (two : 2 ≤ length s) where
   depots-sum =
       ap (λ (n : ℕ). sum n (λ j. getD (take (length s - 2) (drop 2 s)) j 0)) depots-length ∙ sum-ext (length s - 2) _ _ (λ k h. depot-at k h)
 
-module _ (s d : List ℕ) (all stock : ℕ) (ea : all ≡ sum (length d) (λ j. getD d j 0)) (es : stock ≡ sum (length s - 2) (λ k. getD s (2 + k) 0)) where
-  pub splits-below : all < stock → splitsOf s d ≡ Unbalanced 7
-  unfolding splitsOf
-  splits-below h = rw (← ea, ← es, lt-ltb all stock h) refl
+module _ (r1 r2 : ℕ) (s d : List ℕ) (all stock : ℕ) (ea : all ≡ sum (length d) (λ j. getD d j 0)) (es : stock ≡ sum (length s - 2) (λ k. getD s (2 + k) 0)) where
+  pub made-below : all < stock + r1 + r2 → madeOf r1 r2 s d ≡ Unbalanced 7
+  unfolding madeOf
+  made-below h = rw (← ea, ← es, lt-ltb all (stock + r1 + r2) h) refl
 
-  pub splits-above : stock ≤ all → getD s 0 0 + getD s 1 0 < all - stock → splitsOf s d ≡ Unbalanced 8
-  unfolding splitsOf
-  splits-above h l = rw (← ea, ← es, le-ltb all stock h, lt-ltb (getD s 0 0 + getD s 1 0) (all - stock) l) refl
+  pub made-above : stock + r1 + r2 ≤ all → getD s 0 0 + getD s 1 0 < all - stock → madeOf r1 r2 s d ≡ Unbalanced 8
+  unfolding madeOf
+  made-above h l = rw (← ea, ← es, le-ltb all (stock + r1 + r2) h, lt-ltb (getD s 0 0 + getD s 1 0) (all - stock) l) refl
 
-  pub splits-between : stock ≤ all → all - stock ≤ getD s 0 0 + getD s 1 0
-      → splitsOf s d ≡ Between (all - stock - getD s 1 0) (min (getD s 0 0) (all - stock)) (all - stock)
-  unfolding splitsOf
-  splits-between h l = rw (← ea, ← es, le-ltb all stock h, le-ltb (getD s 0 0 + getD s 1 0) (all - stock) l) refl
+  pub made-drums : stock + r1 + r2 ≤ all → all - stock ≤ getD s 0 0 + getD s 1 0 → madeOf r1 r2 s d ≡ Drums (all - stock)
+  unfolding madeOf
+  made-drums h l = rw (← ea, ← es, le-ltb all (stock + r1 + r2) h, le-ltb (getD s 0 0 + getD s 1 0) (all - stock) l) refl
 
 -- what the pass of test 4 says
 pub amounts-none : (s d : List ℕ) → amountsRefusal s d ≡ none → AtMost 4000 s × AtMost 4000 d

@@ -2,11 +2,12 @@
 use mathlib.Core.Path.{_≡_}
 use mathlib.Core.List.{List}
 use Prim.Native.Nat.{ℕ}
+use lib.IntN.{ℤ}
 use Rattle.transport.specs.Curve.{written}
 use Rattle.planner.specs.Case.{Case}
 use Rattle.planner.specs.Plans.{PlanAt, freightOf, leastFreightAt, stops, stopFreights}
 use Rattle.planner.specs.Outcome.{Outcome, planned, refused, outcomeOf}
-use Rattle.planner.specs.Promise.{Cheapest, BalanceRule}
+use Rattle.planner.specs.Promise.{Cheapest, Bounded, BalanceRule}
 use Rattle.planner.specs.declared.Answer.{Answer}
 use Rattle.planner.specs.declared.Answer.the-variants.{Planned, Refused}
 
@@ -19,24 +20,25 @@ outcome (Refused number place) = refused number place
 pub record Slices : Type 0 where
   pub plan : List ℕ
   pub splits : List ℕ
-  pub freights : List ℕ
+  pub freights : List ℤ
 
-abbrev pub slices : List ℕ → List ℕ → List ℕ → Slices
+abbrev pub slices : List ℕ → List ℕ → List ℤ → Slices
 slices p s f = record { plan = p; splits = s; freights = f }
 
 -- a plan was written: the lane amounts are left to the program, so they are named, with what holds of them
-pub record Written (c : Case) (split total : ℕ) (before after : Slices) : Type 0 where
+pub record Written (c : Case) (split : ℕ) (total : ℤ) (before after : Slices) : Type 0 where
   pub amounts : List ℕ
   pub cells : after .plan ≡ written amounts (before .plan)
   pub plan : PlanAt c split amounts
   pub freight : freightOf c amounts ≡ leastFreightAt c split
   pub cheapest : Cheapest c amounts split total
+  pub bounded : Bounded total
   pub splits : after .splits ≡ written (stops c) (before .splits)
   pub freights : after .freights ≡ written (stopFreights c) (before .freights)
 
 -- the promise: the answer is the definition's; a plan is written as said; a refusal changes no cell; the balance rule
 pub record Answered (c : Case) (r : Outcome) (before after : Slices) : Type 0 where
   pub answer : r ≡ outcomeOf c
-  pub written : (s t f k : ℕ) → r ≡ planned s t f k → Written c s t before after
+  pub written : (s : ℕ) (t f : ℤ) (k : ℕ) → r ≡ planned s t f k → Written c s t before after
   pub kept : (k p : ℕ) → r ≡ refused k p → after ≡ before
   pub balance : BalanceRule c r

@@ -1,17 +1,25 @@
 -- The lent case, and d, ℓ and u of (2.4). Sources and terminals are counted from 0 here and from 1 in the report: sources 0 and 1 are the plants,
 -- the others the depots. Assumes nothing.
 use mathlib.Core.List.{List}
-use Prim.Native.Nat.{ℕ, _+_, _-_, min}
+use Prim.Native.Nat.{ℕ, _+_, _-_, max, min}
+use lib.IntN.{ℤ}
 use lib.ListN.{getD}
+use mathlib.Core.Bool.{Bool}
 use Rattle.transport.specs.Sum.{sum}
+use Rattle.transport.specs.Plan.{Table, byRow}
+use Rattle.transport.specs.Listing.{least, greatest, some}
+use Rattle.transport.specs.Curve.{splitsIn}
 
--- what is lent: m and n, the four slices that are read, and how many cells the three slices to be written have
+-- what is lent: m and n, the least runs of the two plants, the five slices that are read, and how many cells the three slices to be written have
 pub record Case : Type 0 where
   pub m : ℕ
   pub n : ℕ
-  pub costs : List ℕ
+  pub run1 : ℕ
+  pub run2 : ℕ
+  pub costs : List ℤ
   pub supplies : List ℕ
   pub demands : List ℕ
+  pub ceilings : List ℕ
   pub table : List ℕ
   pub planCells : ℕ
   pub splitCells : ℕ
@@ -39,13 +47,31 @@ depotStock c = sum (c .m - 2) (λ k. supply c (2 + k))
 unfoldable pub made : Case → ℕ
 made c = allDemand c - depotStock c
 
--- ℓ of (2.4), the larger of 0 and d - a_2
-unfoldable pub leastSplit : Case → ℕ
-leastSplit c = made c - supply c 1
+-- the ceiling of lane (i, j): no plan sends more along it
+abbrev pub ceiling : Case → Table
+ceiling c = byRow (c .n) (c .ceilings)
 
--- u of (2.4), the smaller of a_1 and d
+-- within the supplies and the least runs: from the larger of r_1 and d - a_2 to the smaller of a_1 and d - r_2
+unfoldable pub lowestSplit : Case → ℕ
+lowestSplit c = max (c .run1) (made c - supply c 1)
+
+unfoldable pub highestSplit : Case → ℕ
+highestSplit c = min (supply c 0) (made c - c .run2)
+
+-- the splits: those at which there is a plan within the ceilings
+unfoldable pub splits : Case → List ℕ
+splits c = splitsIn (c .m) (c .n) (ceiling c) (made c) (λ i. supply c i) (λ j. demand c j) (lowestSplit c) (highestSplit c)
+
+-- is there one?
+unfoldable pub hasSplit : Case → Bool
+hasSplit c = some (splits c)
+
+-- ℓ and u, the least and the greatest of them
+unfoldable pub leastSplit : Case → ℕ
+leastSplit c = least (splits c)
+
 unfoldable pub greatestSplit : Case → ℕ
-greatestSplit c = min (supply c 0) (made c)
+greatestSplit c = greatest (splits c)
 
 -- how many steps lead from ℓ to u: there is one split more
 unfoldable pub steps : Case → ℕ

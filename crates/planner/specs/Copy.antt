@@ -19,11 +19,9 @@ pub record Copied (source : List ℕ) (at : ℕ) (before after : List ℕ) : Typ
 pub record RowsMoved (m n p q : ℕ) (source after : List ℕ) : Type 0 where
   pub cells : (i j : ℕ) → i < m → j < n → getD after (i * q + j) 0 ≡ getD source (i * p + j) 0
 
--- the amounts at the first split
-pub record FirstAmounts (supplies : List ℕ) (first second : ℕ) (amounts : List ℕ) : Type 0 where
-  pub plant1 : getD amounts 0 0 ≡ first
-  pub plant2 : getD amounts 1 0 ≡ second
-  pub depots : (i : ℕ) → 2 ≤ i → i < length supplies → getD amounts i 0 ≡ getD supplies i 0
+-- the supplies, one after the other
+pub record Supplied (supplies amounts : List ℕ) : Type 0 where
+  pub sources : (i : ℕ) → i < length supplies → getD amounts i 0 ≡ getD supplies i 0
 
 -- the demands at the terminals' nodes
 pub record Wanted (demands wants : List ℕ) : Type 0 where

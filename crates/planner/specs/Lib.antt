@@ -1,3 +1,6 @@
+pub mod Integer
+pub mod Freight
+pub mod Range
 pub mod Case
 pub mod Plans
 pub mod Outcome

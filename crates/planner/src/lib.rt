@@ -2,11 +2,11 @@
 ghost use lib.ListN.{length};
 ghost use Rattle.planner.specs.Verdict.{lent};
 ghost use Rattle.planner.specs.Answer.{outcome, slices, Answered};
-use crate::solve::plan_between;
-use crate::tests::Splits;
+use crate::solve::solve;
+use crate::tests::Made;
 use crate::tests::Verdict;
 use crate::tests::form_test;
-use crate::tests::splits_of;
+use crate::tests::made_of;
 
 pub mod limits;
 mod solve;
@@ -17,8 +17,8 @@ mod work;
 pub enum Answer {
     Planned {
         split: u64,
-        total: u64,
-        freight: u64,
+        total: i64,
+        freight: i64,
         stops: usize,
     },
     Refused {
@@ -31,31 +31,45 @@ pub enum Answer {
 pub fn plan(
     m: usize,
     n: usize,
-    costs: &[u64],
+    run1: u64,
+    run2: u64,
+    costs: &[i64],
     supplies: &[u64],
     demands: &[u64],
+    ceilings: &[u64],
     table: &[u64],
     plan: &mut [u64],
     splits: &mut [u64],
-    freights: &mut [u64],
+    freights: &mut [i64],
 ) -> Answer
-    ensures { λ r. ⌜ Answered (lent m n (now (costs .entry)) (now (supplies .entry)) (now (demands .entry)) (now (table .entry)) (length (now (plan .entry))) (length (now (splits .entry))) (length (now (freights .entry)))) (outcome r) (slices (now (plan .entry)) (now (splits .entry)) (now (freights .entry))) (slices (now (plan .exit)) (now (splits .exit)) (now (freights .exit))) ⌝ }
+    ensures { λ r. ⌜ Answered (lent m n run1 run2 (now (costs .entry)) (now (supplies .entry)) (now (demands .entry)) (now (ceilings .entry)) (now (table .entry)) (length (now (plan .entry))) (length (now (splits .entry))) (length (now (freights .entry)))) (outcome r) (slices (now (plan .entry)) (now (splits .entry)) (now (freights .entry))) (slices (now (plan .exit)) (now (splits .exit)) (now (freights .exit))) ⌝ }
 {
-    if let Verdict::Refused(number, place) = form_test(m, n, costs, supplies, demands, table) {
+    if let Verdict::Refused(number, place) = form_test(
+        m,
+        n,
+        run1,
+        run2,
+        costs,
+        supplies,
+        demands,
+        ceilings,
+        table,
+    ) {
         return Answer::Refused { number, place };
     }
-    match splits_of(supplies, demands) {
-        Splits::Unbalanced(number) => Answer::Refused { number, place: 0 },
-        Splits::Between(lo, hi, all) => plan_between(
+    match made_of(run1, run2, supplies, demands) {
+        Made::Unbalanced(number) => Answer::Refused { number, place: 0 },
+        Made::Drums(made) => solve(
             m,
             n,
+            run1,
+            run2,
             costs,
             supplies,
             demands,
+            ceilings,
             table,
-            lo,
-            hi,
-            all,
+            made,
             plan,
             splits,
             freights,

@@ -1,42 +1,86 @@
-// From a case that passed the tests so far to its plan.
-ghost use Prim.Native.Nat.{ℕ};
+// From a case in balance to its plan.
 ghost use lib.ListN.{length};
 ghost use Rattle.planner.specs.Verdict.{lent};
-ghost use Rattle.planner.specs.Ready.{OnSplits, Accepts};
+ghost use Rattle.planner.specs.Ready.{OnBalance};
 ghost use Rattle.planner.specs.Answer.{outcome, slices, Answered};
 use crate::Answer;
 use crate::tests::Verdict;
-use crate::tests::entries_test;
-use crate::work::ceilings;
-use crate::work::cost_rows;
-use crate::work::first_amounts;
+use crate::tests::splits_test;
+use crate::tests::sum_of;
+use crate::work::ceiling_rows;
 use crate::work::gather_rows;
+use crate::work::lower_into;
+use crate::work::lowered;
+use crate::work::raised_rows;
+use crate::work::supplied;
 use crate::work::wanted;
+use transport::begin::begin;
 use transport::curve::sweep;
 
-// Prepares the working arrays, has the engine sweep the splits, and copies the plan out.
-fn solve(
+// Prepares the working arrays with raised costs, has the engine find the first and the last split, tests 27, 9 and 11, has the engine sweep
+// the splits, copies the plan out and lowers freights and total.
+pub fn solve(
     m: usize,
     n: usize,
-    costs: &[u64],
+    run1: u64,
+    run2: u64,
+    costs: &[i64],
     supplies: &[u64],
     demands: &[u64],
+    ceilings: &[u64],
     table: &[u64],
-    lo: u64,
-    hi: u64,
-    all: u64,
+    made: u64,
     plan: &mut [u64],
     splits: &mut [u64],
-    freights: &mut [u64],
+    freights: &mut [i64],
 ) -> Answer
-    requires { ⌜ Accepts (lent m n (now costs) (now supplies) (now demands) (now table) (length (now plan)) (length (now splits)) (length (now freights))) lo hi all ⌝ }
-    ensures { λ r. ⌜ Answered (lent m n (now (costs .entry)) (now (supplies .entry)) (now (demands .entry)) (now (table .entry)) (length (now (plan .entry))) (length (now (splits .entry))) (length (now (freights .entry)))) (outcome r) (slices (now (plan .entry)) (now (splits .entry)) (now (freights .entry))) (slices (now (plan .exit)) (now (splits .exit)) (now (freights .exit))) ⌝ }
+    requires { ⌜ OnBalance (lent m n run1 run2 (now costs) (now supplies) (now demands) (now ceilings) (now table) (length (now plan)) (length (now splits)) (length (now freights))) made ⌝ }
+    ensures { λ r. ⌜ Answered (lent m n run1 run2 (now (costs .entry)) (now (supplies .entry)) (now (demands .entry)) (now (ceilings .entry)) (now (table .entry)) (length (now (plan .entry))) (length (now (splits .entry))) (length (now (freights .entry)))) (outcome r) (slices (now (plan .entry)) (now (splits .entry)) (now (freights .entry))) (slices (now (plan .exit)) (now (splits .exit)) (now (freights .exit))) ⌝ }
 {
-    let cost = cost_rows(m, n, costs);
-    let cap = ceilings();
-    let amounts = first_amounts(supplies, lo, all - lo);
+    let cost = raised_rows(m, n, costs);
+    let cap = ceiling_rows(m, n, ceilings);
+    let amounts = supplied(supplies);
     let wants = wanted(demands);
+    let added = 1_000_000 * sum_of(demands);
+    let all = made as u32;
+    let mut x = [0u32; 2048];
+    let mut serves = [0u32; 64];
+    let mut pot = [0u32; 96];
+    let range = begin(
+        m,
+        n,
+        &cost,
+        &cap,
+        &amounts,
+        &wants,
+        run1 as u32,
+        run2 as u32,
+        all,
+        &mut x,
+        &mut serves,
+        &mut pot,
+    );
+    if !range.found {
+        return Answer::Refused {
+            number: 27,
+            place: 0,
+        };
+    }
+    let lo = range.lo;
+    let hi = range.hi;
+    if let Verdict::Refused(number, place) = splits_test(
+        table,
+        lo,
+        hi,
+        m * n,
+        plan.len(),
+        splits.len(),
+        freights.len(),
+    ) {
+        return Answer::Refused { number, place };
+    }
     let mut kept = [0u32; 2048];
+    let mut raised = [0u64; 4001];
     let best = sweep(
         m,
         n,
@@ -44,74 +88,26 @@ fn solve(
         &cap,
         &amounts,
         &wants,
+        all,
         lo,
         hi,
         table,
         splits,
-        freights,
+        &mut raised,
+        &mut x,
+        &mut serves,
+        &mut pot,
         &mut kept,
     );
     gather_rows(m, n, &kept, plan);
+    let stops = best.stops;
+    lower_into(&raised, stops, added, freights);
+    let total = lowered(best.total, added);
+    let freight = lowered(best.freight, added);
     Answer::Planned {
         split: best.split,
-        total: best.total,
-        freight: best.freight,
-        stops: best.stops,
+        total,
+        freight,
+        stops,
     }
-}
-
-// Tests 9 to 11, and the plan.
-pub fn plan_between(
-    m: usize,
-    n: usize,
-    costs: &[u64],
-    supplies: &[u64],
-    demands: &[u64],
-    table: &[u64],
-    lo: u64,
-    hi: u64,
-    all: u64,
-    plan: &mut [u64],
-    splits: &mut [u64],
-    freights: &mut [u64],
-) -> Answer
-    requires { ⌜ OnSplits (lent m n (now costs) (now supplies) (now demands) (now table) (length (now plan)) (length (now splits)) (length (now freights))) lo hi all ⌝ }
-    ensures { λ r. ⌜ Answered (lent m n (now (costs .entry)) (now (supplies .entry)) (now (demands .entry)) (now (table .entry)) (length (now (plan .entry))) (length (now (splits .entry))) (length (now (freights .entry)))) (outcome r) (slices (now (plan .entry)) (now (splits .entry)) (now (freights .entry))) (slices (now (plan .exit)) (now (splits .exit)) (now (freights .exit))) ⌝ }
-{
-    if let Verdict::Refused(number, place) = entries_test(table, lo, hi) {
-        return Answer::Refused { number, place };
-    }
-    let count = (hi - lo) as usize + 1;
-    if plan.len() < m * n {
-        return Answer::Refused {
-            number: 11,
-            place: 0,
-        };
-    }
-    if splits.len() < count {
-        return Answer::Refused {
-            number: 11,
-            place: 0,
-        };
-    }
-    if freights.len() < count {
-        return Answer::Refused {
-            number: 11,
-            place: 0,
-        };
-    }
-    solve(
-        m,
-        n,
-        costs,
-        supplies,
-        demands,
-        table,
-        lo,
-        hi,
-        all,
-        plan,
-        splits,
-        freights,
-    )
 }

@@ -1,8 +1,13 @@
 // Copies between the lent slices, whose rows have n cells of 64 bits, and the working arrays, whose rows have 64 cells of 32 bits.
 ghost use mathlib.Core.Path.{_≡_};
 ghost use Prim.Native.Nat.{ℕ, _+_, _*_, _≤_, _<_};
-ghost use lib.ListN.{length, getD};
-ghost use Rattle.planner.specs.Copy.{Narrow, Copied, RowsMoved, FirstAmounts, Wanted};
+ghost use mathlib.Core.Bool.{false};
+ghost use mathlib.Core.List.{map};
+ghost use lib.IntN.{subℕ};
+ghost use lib.ListN.{length, getD, take};
+ghost use Rattle.transport.specs.Curve.{written};
+ghost use Rattle.planner.specs.Range.{outside, raisedOf, AllInside, lower, Moderate};
+ghost use Rattle.planner.specs.Copy.{Narrow, Copied, RowsMoved, Supplied, Wanted};
 
 // Copies a slice whose numbers fit 32 bits into working cells from index `at` on.
 pub fn copy_into(source: &[u64], at: usize, to: &mut [u32])
@@ -28,16 +33,64 @@ pub fn copy_out(cells: &[u32], at: usize, to: &mut [u64])
     }
 }
 
-// Copies the m rows of n unit costs into rows of 64.
-pub fn spread_rows(m: usize, n: usize, costs: &[u64], to: &mut [u32; 2048])
-    requires { ⌜ (m ≤ 32) × (n ≤ 64) × (length (now costs) ≡ m * n) × (length (now to) ≡ 2048) × Narrow (now costs) ⌝ }
-    ensures { λ _. ⌜ RowsMoved m n n 64 (now (costs .entry)) (now (to .exit)) × (length (now (to .exit)) ≡ 2048) ⌝ }
+// A unit cost raised by 1,000,000.
+pub fn raised(cost: i64) -> u32
+    requires { ⌜ outside cost ≡ false ⌝ }
+    ensures { λ r. ⌜ r ≡ raisedOf cost ⌝ }
+{
+    (cost + 1_000_000) as u32
+}
+
+// A freight with what was added to it taken off again.
+pub fn lowered(freight: u64, added: u64) -> i64
+    requires { ⌜ (freight ≤ 1000000000000) × (added ≤ 1000000000000) ⌝ }
+    ensures { λ r. ⌜ r ≡ subℕ freight added ⌝ }
+{
+    freight as i64 - added as i64
+}
+
+// Writes raised costs into working cells from index `at` on.
+pub fn raise_into(source: &[i64], at: usize, to: &mut [u32])
+    requires { ⌜ (at + length (now source) ≤ length (now to)) × AllInside (now source) ⌝ }
+    ensures { λ _. ⌜ Copied (map raisedOf (now (source .entry))) at (now (to .entry)) (now (to .exit)) ⌝ }
+{
+    let mut k: usize = 0;
+    while k < source.len() {
+        to[at + k] = raised(source[k]);
+        k += 1;
+    }
+}
+
+// Writes the m rows of n unit costs, raised, into rows of 64.
+pub fn raise_rows(m: usize, n: usize, costs: &[i64], to: &mut [u32; 2048])
+    requires { ⌜ (m ≤ 32) × (n ≤ 64) × (length (now costs) ≡ m * n) × (length (now to) ≡ 2048) × AllInside (now costs) ⌝ }
+    ensures { λ _. ⌜ RowsMoved m n n 64 (map raisedOf (now (costs .entry))) (now (to .exit)) × (length (now (to .exit)) ≡ 2048) ⌝ }
 {
     let mut start: usize = 0;
     for i in 0..m {
         let end = start + n;
-        copy_into(&costs[start..end], i * 64, to);
+        raise_into(&costs[start..end], i * 64, to);
         start = end;
+    }
+}
+
+// The unit costs, raised, in rows of 64.
+pub fn raised_rows(m: usize, n: usize, costs: &[i64]) -> [u32; 2048]
+    requires { ⌜ (m ≤ 32) × (n ≤ 64) × (length (now costs) ≡ m * n) × AllInside (now costs) ⌝ }
+    ensures { λ r. ⌜ RowsMoved m n n 64 (map raisedOf (now (costs .entry))) r ⌝ }
+{
+    let mut cost = [0u32; 2048];
+    raise_rows(m, n, costs, &mut cost);
+    cost
+}
+
+// Writes the first `count` working freights, lowered, into a slice; later cells are left as they are.
+pub fn lower_into(work: &[u64], count: usize, added: u64, to: &mut [i64])
+    requires { ⌜ (count ≤ length (now work)) × (count ≤ length (now to)) × (added ≤ 1000000000000) × Moderate count (now work) ⌝ }
+    ensures { λ _. ⌜ now (to .exit) ≡ written (map (lower added) (take count (now (work .entry)))) (now (to .entry)) ⌝ }
+{
+    for k in 0..count {
+        to[k] = lowered(work[k], added);
     }
 }
 
@@ -56,32 +109,36 @@ pub fn gather_rows(m: usize, n: usize, cells: &[u32; 2048], to: &mut [u64])
     }
 }
 
-// The unit costs in rows of 64.
-pub fn cost_rows(m: usize, n: usize, costs: &[u64]) -> [u32; 2048]
-    requires { ⌜ (m ≤ 32) × (n ≤ 64) × (length (now costs) ≡ m * n) × Narrow (now costs) ⌝ }
-    ensures { λ r. ⌜ RowsMoved m n n 64 (now (costs .entry)) r ⌝ }
+// Copies the m rows of n ceilings into rows of 64.
+pub fn copy_rows(m: usize, n: usize, ceilings: &[u64], to: &mut [u32; 2048])
+    requires { ⌜ (m ≤ 32) × (n ≤ 64) × (length (now ceilings) ≡ m * n) × (length (now to) ≡ 2048) × Narrow (now ceilings) ⌝ }
+    ensures { λ _. ⌜ RowsMoved m n n 64 (now (ceilings .entry)) (now (to .exit)) × (length (now (to .exit)) ≡ 2048) ⌝ }
 {
-    let mut cost = [0u32; 2048];
-    spread_rows(m, n, costs, &mut cost);
-    cost
+    let mut start: usize = 0;
+    for i in 0..m {
+        let end = start + n;
+        copy_into(&ceilings[start..end], i * 64, to);
+        start = end;
+    }
 }
 
-// A ceiling on each lane that no amount reaches.
-pub fn ceilings() -> [u32; 2048]
-    ensures { λ r. ⌜ ((k : ℕ) → k < 2048 → getD r k 0 ≡ 4000) ⌝ }
+// The ceilings in rows of 64.
+pub fn ceiling_rows(m: usize, n: usize, ceilings: &[u64]) -> [u32; 2048]
+    requires { ⌜ (m ≤ 32) × (n ≤ 64) × (length (now ceilings) ≡ m * n) × Narrow (now ceilings) ⌝ }
+    ensures { λ r. ⌜ RowsMoved m n n 64 (now (ceilings .entry)) r ⌝ }
 {
-    [4_000u32; 2048]
+    let mut cap = [0u32; 2048];
+    copy_rows(m, n, ceilings, &mut cap);
+    cap
 }
 
-// What each source sends at the first split: plant 1 first, plant 2 second, the depots their stock.
-pub fn first_amounts(supplies: &[u64], first: u64, second: u64) -> [u32; 32]
-    requires { ⌜ (length (now supplies) ≤ 32) × Narrow (now supplies) × (first < 4294967296) × (second < 4294967296) ⌝ }
-    ensures { λ r. ⌜ FirstAmounts (now (supplies .entry)) first second r ⌝ }
+// The supplies at the sources' nodes.
+pub fn supplied(supplies: &[u64]) -> [u32; 32]
+    requires { ⌜ (length (now supplies) ≤ 32) × Narrow (now supplies) ⌝ }
+    ensures { λ r. ⌜ Supplied (now (supplies .entry)) r ⌝ }
 {
     let mut amounts = [0u32; 32];
     copy_into(supplies, 0, &mut amounts);
-    amounts[0] = first as u32;
-    amounts[1] = second as u32;
     amounts
 }
 

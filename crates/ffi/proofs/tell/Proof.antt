@@ -1,25 +1,18 @@
 -- `ffi::tell` meets its contract: the cells written one after another are those of the report. Assumes nothing.
-use borrow.Author.Needs.{needs}
-use mathlib.Core.Path.{_≡_, sym, ap, _∙_}
-use mathlib.Core.List.{List}
-use Prim.Native.Nat.{ℕ, _≤_}
-use native.Mathlib.Omega.{arith}
-use lib.ListN.{length, set, length-set}
+use mathlib.Core.Path.{_≡_, refl, sym, ap, ap₂, _∙_}
+use Prim.Native.Nat.{ℕ}
+use lib.IntN.{ℤ}
+use lib.ListN.{set}
 use denote.Ref.{now}
 use Rattle.transport.specs.Curve.{written}
 use Rattle.planner.specs.Answer.{outcome}
-use Rattle.ffi.specs.Report.{numberOf, reportOf}
-use Rattle.ffi.proofs.Reports.{four-written, one-written}
+use Rattle.ffi.specs.Report.{numberOf, reportOf, worthOf}
+use Rattle.ffi.proofs.Reports.{two-written, one-written, read-back}
+use borrow.Author.Needs.{needs}
 use Rattle.ffi.proofs.tell.Statement.{statement}
 use Rattle.ffi.proofs.tell.Tie as tie
 use Rattle.ffi.proofs.tell.Reads as reads
 use Rattle.ffi.proofs.tell.Lts as lts
-
-abbrev cells : tie.After-known-told → List ℕ
-cells c = now (c .before .before .before .args .report)
-
-long : (c : tie.After-known-told) → 4 ≤ length (cells c)
-long c = c .before .before .before .pre
 
 enum-known-answer : tie.Need-enum-known-answer
 enum-known-answer c = search needs
@@ -28,38 +21,48 @@ slice-write-report : tie.Need-slice-write-report
 slice-write-report c = search needs
 
 slice-write-report-2 : tie.Need-slice-write-report-2
-slice-write-report-2 c = omega (arith, long c, length-set (cells c) 0 (c .before .answer .given .0 .0))
+slice-write-report-2 c = search needs
 
-slice-write-report-3 : tie.Need-slice-write-report-3
-slice-write-report-3 c =
-    let one = set (cells c) 0 (c .before .answer .given .0 .0) in
-    omega (arith, long c, length-set (cells c) 0 (c .before .answer .given .0 .0), length-set one 1 (c .before .answer .given .0 .1 .0))
+slice-set-from-total : tie.Need-slice-set-from-total
+slice-set-from-total c = search needs
 
-slice-write-report-4 : tie.Need-slice-write-report-4
-slice-write-report-4 c = search needs
+slice-set-from-freight : tie.Need-slice-set-from-freight
+slice-set-from-freight c = search needs
 
 enum-known-answer-2 : tie.Need-enum-known-answer-2
 enum-known-answer-2 c = search needs
 
-slice-write-report-5 : tie.Need-slice-write-report-5
-slice-write-report-5 c = search needs
+slice-write-report-3 : tie.Need-slice-write-report-3
+slice-write-report-3 c = search needs
 
 same-length : tie.Need-same-length
 same-length c = search needs
 
-returns : tie.Need-returns
-returns c =
-    let e : c .before .before .before .args .answer ≡ _ = c .before .answer .given .1 in
-    (sym (ap (λ a. numberOf (outcome a)) e), four-written (cells c) _ _ _ _ (long c) ∙ sym (ap (λ a. written (reportOf (outcome a)) (cells c)) e))
-
 same-length-2 : tie.Need-same-length-2
 same-length-2 c = search needs
 
+returns : tie.Need-returns
+returns c =
+    let s = c .before .before .before in
+    let e : s .args .answer ≡ _ = c .before .answer .given .1 in (
+      sym (ap (λ a. numberOf (outcome a)) e),
+      two-written (now (s .args .report)) _ _ (s .pre .0) ∙ sym (ap (λ a. written (reportOf (outcome a)) (now (s .args .report))) e),
+      ap₂ (λ (x y : ℤ). set (set (now (s .args .worth)) 0 x) 1 y) (read-back (c .before .answer .given .0 .1 .0) (c .known-told .given .1 .0 .1))
+          (read-back (c .before .answer .given .0 .1 .1 .0) (c .known-told .given .1 .1 .0 .1))
+          ∙ two-written (now (s .args .worth)) _ _ (s .pre .1) ∙ sym (ap (λ a. written (worthOf (outcome a)) (now (s .args .worth))) e),
+    )
+
+same-length-3 : tie.Need-same-length-3
+same-length-3 c = search needs
+
 returns-2 : tie.Need-returns-2
 returns-2 c =
-    let l = now (c .before .before .before .args .report) in
-    let e : c .before .before .before .args .answer ≡ _ = c .before .answer2 .given .1 in
-    (sym (ap (λ a. numberOf (outcome a)) e), one-written l _ (c .before .before .before .pre) ∙ sym (ap (λ a. written (reportOf (outcome a)) l) e))
+    let s = c .before .before .before in
+    let e : s .args .answer ≡ _ = c .before .answer2 .given .1 in (
+      sym (ap (λ a. numberOf (outcome a)) e),
+      one-written (now (s .args .report)) _ (s .pre .0) ∙ sym (ap (λ a. written (reportOf (outcome a)) (now (s .args .report))) e),
+      sym (ap (λ a. written (worthOf (outcome a)) (now (s .args .worth))) e),
+    )
 
 pub tell-spec : {M : Type 1} → statement M
 tell-spec =
@@ -68,11 +71,12 @@ tell-spec =
     enum-known-answer
     slice-write-report
     slice-write-report-2
-    slice-write-report-3
-    slice-write-report-4
+    slice-set-from-total
+    slice-set-from-freight
     enum-known-answer-2
-    slice-write-report-5
+    slice-write-report-3
     same-length
-    returns
     same-length-2
+    returns
+    same-length-3
     returns-2)

@@ -1,23 +1,30 @@
-use borrow.Author.Needs.{needs}
 -- `planner::plan` meets its contract. Assumes nothing.
+use borrow.Author.Needs.{needs}
 use mathlib.Core.Path.{_≡_, sym, ap, _∙_}
 use mathlib.Core.Option.{none}
 use lib.ListN.{length}
 use denote.Ref.{now}
 use Rattle.planner.specs.Outcome.{formRefusal}
+use Rattle.planner.specs.Case.{Case}
 use Rattle.planner.specs.Verdict.{lent, verdict}
 use Rattle.planner.proofs.Solution.{refuses}
-use Rattle.planner.proofs.Decide.{form-decides, amounts, unbalanced, on-splits}
+use Rattle.planner.proofs.Decide.{form-decides, amounts, unbalanced, on-balance}
 use Rattle.planner.proofs.plan.Statement.{statement}
 use Rattle.planner.proofs.plan.Tie as tie
 use Rattle.planner.proofs.plan.Reads as reads
 use Rattle.planner.proofs.plan.Lts as lts
-use Rattle.planner.proofs.solve.plan_between.Reads as plan-between-reads
+use Rattle.planner.proofs.solve.solve.Reads as solve-reads
 use Rattle.planner.proofs.tests.form_test.Reads as form-test-reads
-use Rattle.planner.proofs.tests.splits_of.Reads as splits-of-reads
+use Rattle.planner.proofs.tests.made_of.Reads as made-of-reads
 
--- past tests 1 to 6
-passed : (c : tie.After-enum-told) → formRefusal (lent (c .before .before .before .before .before .before .before .before .before .before .args .m) (c .before .before .before .before .before .before .before .before .before .before .args .n) (now (c .before .before .before .before .before .before .before .before .before .before .args .costs)) (now (c .before .before .before .before .before .before .before .before .before .before .args .supplies)) (now (c .before .before .before .before .before .before .before .before .before .before .args .demands)) (now (c .before .before .before .before .before .before .before .before .before .before .args .table)) (length (now (c .before .before .before .before .before .before .before .before .before .before .args .plan))) (length (now (c .before .before .before .before .before .before .before .before .before .before .args .splits))) (length (now (c .before .before .before .before .before .before .before .before .before .before .args .freights)))) ≡ none
+-- the lent case
+abbrev the : tie.Start → Case
+the s =
+    lent (s .args .m) (s .args .n) (s .args .run1) (s .args .run2) (now (s .args .costs)) (now (s .args .supplies)) (now (s .args .demands))
+    (now (s .args .ceilings)) (now (s .args .table)) (length (now (s .args .plan))) (length (now (s .args .splits))) (length (now (s .args .freights)))
+
+-- past the tests before the balance
+passed : (c : tie.After-enum-told) → formRefusal (the (c .before .before .before .before .before .before .before .before .before)) ≡ none
 passed c = sym (c .before .before .form-test .ensures _ _ _) ∙ ap verdict (c .enum-told .given .1)
 
 form-test-requires : tie.Need-form-test-requires
@@ -32,20 +39,20 @@ returns c = refuses _ _ _ _ (form-decides _ _ (sym (c .before .before .before .f
 enum-told : tie.Need-enum-told
 enum-told c = search needs
 
-splits-of-requires : tie.Need-splits-of-requires
-splits-of-requires c κs = amounts (lent (c .before .before .before .before .before .before .before .before .before .before .args .m) (c .before .before .before .before .before .before .before .before .before .before .args .n) (now (c .before .before .before .before .before .before .before .before .before .before .args .costs)) (now (c .before .before .before .before .before .before .before .before .before .before .args .supplies)) (now (c .before .before .before .before .before .before .before .before .before .before .args .demands)) (now (c .before .before .before .before .before .before .before .before .before .before .args .table)) (length (now (c .before .before .before .before .before .before .before .before .before .before .args .plan))) (length (now (c .before .before .before .before .before .before .before .before .before .before .args .splits))) (length (now (c .before .before .before .before .before .before .before .before .before .before .args .freights)))) (passed c)
+made-of-requires : tie.Need-made-of-requires
+made-of-requires c κs = amounts (the (c .before .before .before .before .before .before .before .before .before)) (passed c)
 
 enum-known-number-2 : tie.Need-enum-known-number-2
 enum-known-number-2 c = search needs
 
-enum-known-lo : tie.Need-enum-known-lo
-enum-known-lo c = search needs
+enum-known-made : tie.Need-enum-known-made
+enum-known-made c = search needs
 
-plan-between-requires : tie.Need-plan-between-requires
-plan-between-requires c κs = on-splits (lent (c .before .before .before .before .before .before .before .before .before .before .before .before .before .before .before .before .before .args .m) (c .before .before .before .before .before .before .before .before .before .before .before .before .before .before .before .before .before .args .n) (now (c .before .before .before .before .before .before .before .before .before .before .before .before .before .before .before .before .before .args .costs)) (now (c .before .before .before .before .before .before .before .before .before .before .before .before .before .before .before .before .before .args .supplies)) (now (c .before .before .before .before .before .before .before .before .before .before .before .before .before .before .before .before .before .args .demands)) (now (c .before .before .before .before .before .before .before .before .before .before .before .before .before .before .before .before .before .args .table)) (length (now (c .before .before .before .before .before .before .before .before .before .before .before .before .before .before .before .before .before .args .plan))) (length (now (c .before .before .before .before .before .before .before .before .before .before .before .before .before .before .before .before .before .args .splits))) (length (now (c .before .before .before .before .before .before .before .before .before .before .before .before .before .before .before .before .before .args .freights)))) (passed (c .before .before .before .before .before .before .before)) _ _ _ (sym (c .before .before .before .before .before .before .splits-of .ensures) ∙ c .before .before .before .before .lo .given .1)
+solve-requires : tie.Need-solve-requires
+solve-requires c κs = on-balance (the (c .before .before .before .before .before .before .before .before .before .before .before .before .before .before .before .before)) (passed (c .before .before .before .before .before .before .before)) _ (sym (c .before .before .before .before .before .before .made-of .ensures) ∙ c .before .before .before .before .made .given .1)
 
 returns-2 : tie.Need-returns-2
-returns-2 c = refuses _ _ _ _ (unbalanced (lent (c .before .before .before .before .before .before .before .before .before .before .before .before .before .before .args .m) (c .before .before .before .before .before .before .before .before .before .before .before .before .before .before .args .n) (now (c .before .before .before .before .before .before .before .before .before .before .before .before .before .before .args .costs)) (now (c .before .before .before .before .before .before .before .before .before .before .before .before .before .before .args .supplies)) (now (c .before .before .before .before .before .before .before .before .before .before .before .before .before .before .args .demands)) (now (c .before .before .before .before .before .before .before .before .before .before .before .before .before .before .args .table)) (length (now (c .before .before .before .before .before .before .before .before .before .before .before .before .before .before .args .plan))) (length (now (c .before .before .before .before .before .before .before .before .before .before .before .before .before .before .args .splits))) (length (now (c .before .before .before .before .before .before .before .before .before .before .before .before .before .before .args .freights)))) (passed (c .before .before .before .before)) _ (sym (c .before .before .before .splits-of .ensures) ∙ c .before .number2 .given .1))
+returns-2 c = refuses _ _ _ _ (unbalanced (the (c .before .before .before .before .before .before .before .before .before .before .before .before .before)) (passed (c .before .before .before .before)) _ (sym (c .before .before .before .made-of .ensures) ∙ c .before .number2 .given .1))
 
 same-length : tie.Need-same-length
 same-length c = search needs
@@ -67,10 +74,10 @@ plan-spec =
     enum-known-number
     returns
     enum-told
-    splits-of-requires
+    made-of-requires
     enum-known-number-2
-    enum-known-lo
-    plan-between-requires
+    enum-known-made
+    solve-requires
     returns-2
     same-length
     same-length-2

@@ -1,7 +1,6 @@
 -- `casefile::after::after_comma` meets its contract. Assumes nothing.
-use native.Mathlib.Omega.{arith}
 use denote.Ref.{now}
-use Rattle.casefile.proofs.Afters.{comma-production, comma-first, comma-later}
+use Rattle.casefile.proofs.Afters.{comma-production, comma-source, comma-later}
 use borrow.Author.Needs.{needs}
 use Rattle.casefile.proofs.after.after_comma.Statement.{statement}
 use Rattle.casefile.proofs.after.after_comma.Tie as tie
@@ -19,13 +18,13 @@ after-demand-requires : tie.Need-after-demand-requires
 after-demand-requires c κs = search needs
 
 returns : tie.Need-returns
-returns c = let a = c .before .before .before .args in rw (c .enum-told .given .1) (comma-production (now (a .s)) (a .at) (a .records) (c .before .before .before .pre))
+returns c = let a = c .before .before .before .args in rw (c .enum-told .given .1) (comma-production (now (a .s)) (a .at) (a .source) (c .before .before .before .pre))
 
 returns-2 : tie.Need-returns-2
-returns-2 c = let a = c .before .before .before .before .args in rw (c .before .enum-told2 .given .1) (comma-first (now (a .s)) (a .at) (a .records) (c .before .before .before .before .pre) (c .if1 .taken))
+returns-2 c = let a = c .before .before .before .before .args in rw (c .before .enum-told2 .given .1) (comma-source (now (a .s)) (a .at) (a .source) (c .before .before .before .before .pre) (c .if1 .taken))
 
 returns-3 : tie.Need-returns-3
-returns-3 c = let a = c .before .before .before .before .before .args in rw (c .before .before .enum-told2 .given .1) (comma-later (now (a .s)) (a .at) (a .records) _ (c .before .if1 .left) (c .after-demand .ensures))
+returns-3 c = let a = c .before .before .before .before .before .args in rw (c .before .before .enum-told2 .given .1) (comma-later (now (a .s)) (a .at) (a .source) _ (c .before .if1 .left) (c .after-demand .ensures))
 
 pub after-comma-spec : {M : Type 1} → statement M
 after-comma-spec =

@@ -1,7 +1,6 @@
 -- `casefile::case::share` meets its contract. Assumes nothing.
 use Prim.Native.Nat.{_≤_}
 use native.Mathlib.Omega.{arith}
-use denote.Ref.{now}
 use Rattle.casefile.proofs.CaseFiles.{share-room, too-large}
 use borrow.Author.Needs.{needs}
 use Rattle.casefile.proofs.case.share.Statement.{statement}
@@ -9,7 +8,7 @@ use Rattle.casefile.proofs.case.share.Tie as tie
 use Rattle.casefile.proofs.case.share.Reads as reads
 use Rattle.casefile.proofs.case.share.Lts as lts
 use Rattle.casefile.proofs.case.share_sources.Reads as share-sources-reads
-use Rattle.casefile.proofs.store.copy.Reads as copy-reads
+use Rattle.casefile.proofs.store.copy_sizes.Reads as copy-sizes-reads
 
 returns : tie.Need-returns
 returns c = too-large _ _ _ _ _ _ _ _ _ (λ few narrow. omega (arith, c .if1 .taken))
@@ -18,16 +17,16 @@ returns-2 : tie.Need-returns-2
 returns-2 c = too-large _ _ _ _ _ _ _ _ _ (λ few narrow. omega (arith, c .if2 .taken))
 
 share-sources-requires : tie.Need-share-sources-requires
-share-sources-requires c κs = let e = c .before .before in let a = e .before .before .before .before .before .before .args in (omega (arith, e .before .before .before .before .before .before .pre, share-room (a .m) (a .n) (e .before .if1 .left) (e .if2 .left)), e .if2 .left)
+share-sources-requires c κs = let a = c .before .before .before .before .before .before .args in (omega (arith, c .before .before .before .before .before .before .pre, share-room (a .m) (a .n) (c .before .before .before .if1 .left) (c .before .before .if2 .left)), c .before .before .if2 .left)
 
-add-copy : tie.Need-add-copy
-add-copy c = search needs
+add-copy-sizes : tie.Need-add-copy-sizes
+add-copy-sizes c = search needs
 
-mul-copy : tie.Need-mul-copy
-mul-copy c = let e = c .before .before .before .before .before .before .before in let a = e .before .before .before .before .before .before .args in omega (arith, share-room (a .m) (a .n) (e .before .if1 .left) (e .if2 .left))
+mul-copy-sizes : tie.Need-mul-copy-sizes
+mul-copy-sizes c = let a = c .before .before .before .before .before .before .before .before .before .before .args in record { fits = omega (arith, share-room (a .m) (a .n) (c .before .before .before .before .before .before .before .if1 .left) (c .before .before .before .before .before .before .if2 .left)) }
 
-copy-requires : tie.Need-copy-requires
-copy-requires c κs = let e = c .before .before .before .before .before .before .before .before in let a = e .before .before .before .before .before .before .args in (omega (arith, e .before .before .before .before .before .before .pre, e .if2 .left, share-room (a .m) (a .n) (e .before .if1 .left) (e .if2 .left)), omega (arith, e .if2 .left))
+copy-sizes-requires : tie.Need-copy-sizes-requires
+copy-sizes-requires c κs = let a = c .before .before .before .before .before .before .before .before .before .before .before .args in (omega (arith, c .before .before .before .before .before .before .before .before .before .before .before .pre, c .before .before .before .before .before .before .before .if2 .left, share-room (a .m) (a .n) (c .before .before .before .before .before .before .before .before .if1 .left) (c .before .before .before .before .before .before .before .if2 .left)), omega (arith, c .before .before .before .before .before .before .before .if2 .left))
 
 same-length : tie.Need-same-length
 same-length c = search needs
@@ -48,9 +47,9 @@ share-spec =
     returns
     returns-2
     share-sources-requires
-    add-copy
-    mul-copy
-    copy-requires
+    add-copy-sizes
+    mul-copy-sizes
+    copy-sizes-requires
     same-length
     same-length-2
     same-length-3

@@ -1,55 +1,51 @@
 -- `casefile::field::read_quoted` meets its contract. Assumes nothing.
-use native.Mathlib.Omega.{arith}
-use borrow.Author.Needs.{needs}
+use mathlib.Core.Path.{sym, _∙_}
+use Rattle.casefile.proofs.Fields.{opened-minus, opened-plain}
 use denote.Ref.{now}
-use Rattle.casefile.proofs.Marks.{past}
-use Rattle.casefile.proofs.Fields.{quoted-empty, quoted-open, quoted-closed}
+use native.Mathlib.Omega.{arith}
+use Rattle.casefile.proofs.Marks.{minus-inside}
+use borrow.Author.Needs.{needs}
 use Rattle.casefile.proofs.field.read_quoted.Statement.{statement}
 use Rattle.casefile.proofs.field.read_quoted.Tie as tie
 use Rattle.casefile.proofs.field.read_quoted.Reads as reads
 use Rattle.casefile.proofs.field.read_quoted.Lts as lts
-use Rattle.casefile.proofs.field.digit_at.Reads as digit-at-reads
-use Rattle.casefile.proofs.field.read_digits.Reads as read-digits-reads
+use Rattle.casefile.proofs.field.close_quote.Reads as close-quote-reads
+use Rattle.casefile.proofs.field.minus_at.Reads as minus-at-reads
+use Rattle.casefile.proofs.field.read_number.Reads as read-number-reads
 
-digit-at-requires : tie.Need-digit-at-requires
-digit-at-requires c κs = search needs
+minus-at-requires : tie.Need-minus-at-requires
+minus-at-requires c κs = search needs
+
+add-read-number : tie.Need-add-read-number
+add-read-number c = search needs
+
+read-number-requires : tie.Need-read-number-requires
+read-number-requires c κs = let a = c .before .before .before .args in omega (arith, minus-inside (a .kind) (now (a .s)) (a .at) (sym (c .before .minus-at .ensures) ∙ c .if1 .taken))
+
+close-quote-requires : tie.Need-close-quote-requires
+close-quote-requires c κs = search needs
 
 returns : tie.Need-returns
-returns c = let a = c .before .before .before .args in quoted-empty (now (a .s)) (a .at) (omega arith)
+returns c = let a = c .before .before .before .before .before .args in rw (c .close-quote .ensures) (opened-minus (a .kind) (now (a .s)) (a .at) (c .before .read-number .result) (sym (c .before .before .before .minus-at .ensures) ∙ c .before .before .if1 .taken) (c .before .read-number .ensures))
 
-read-digits-requires : tie.Need-read-digits-requires
-read-digits-requires c κs = search needs
+read-number-requires-2 : tie.Need-read-number-requires-2
+read-number-requires-2 c κs = search needs
+
+close-quote-requires-2 : tie.Need-close-quote-requires-2
+close-quote-requires-2 c κs = search needs
 
 returns-2 : tie.Need-returns-2
-returns-2 c =
-    let a = c .before .before .before .before .before .args in
-    quoted-open (now (a .s)) (a .at) _ _ (omega arith) (c .before .read-digits .ensures) (past (now (a .s)) _ 33 (c .if2 .taken))
-
-shared-slice-read-if3 : tie.Need-shared-slice-read-if3
-shared-slice-read-if3 c = search needs
-
-returns-3 : tie.Need-returns-3
-returns-3 c =
-    let a = c .before .before .before .before .before .before .before .args in
-    quoted-open (now (a .s)) (a .at) _ _ (omega arith) (c .before .before .before .read-digits .ensures) (c .if3 .taken)
-
-add-t7 : tie.Need-add-t7
-add-t7 c = search needs
-
-returns-4 : tie.Need-returns-4
-returns-4 c =
-    let a = c .before .before .before .before .before .before .before .args in
-    quoted-closed (now (a .s)) (a .at) _ _ (omega arith) (c .before .before .before .read-digits .ensures) (c .before .before .if2 .left) (c .if3 .left)
+returns-2 c = let a = c .before .before .before .before .before .args in rw (c .close-quote2 .ensures) (opened-plain (a .kind) (now (a .s)) (a .at) (c .before .read-number2 .result) (sym (c .before .before .before .minus-at .ensures) ∙ c .before .before .if1 .left) (c .before .read-number2 .ensures))
 
 pub read-quoted-spec : {M : Type 1} → statement M
 read-quoted-spec =
     tie.close
     (tie.spec
-    digit-at-requires
+    minus-at-requires
+    add-read-number
+    read-number-requires
+    close-quote-requires
     returns
-    read-digits-requires
-    returns-2
-    shared-slice-read-if3
-    returns-3
-    add-t7
-    returns-4)
+    read-number-requires-2
+    close-quote-requires-2
+    returns-2)

@@ -6,13 +6,20 @@ use Rattle.casefile.proofs.Cuts.{refused-files, case-files}
 use borrow.Author.Needs.{needs}
 use Rattle.casefile.proofs.planned.plan_files.Statement.{statement}
 use Rattle.casefile.proofs.planned.plan_files.Tie as tie
+use Rattle.casefile.proofs.planned.plan_files.Reads as reads
+use Rattle.casefile.proofs.planned.plan_files.Lts as lts
+use Rattle.casefile.proofs.case.read_case.Reads as read-case-reads
+use Rattle.casefile.proofs.planned.cost_cells.Reads as cost-cells-reads
+use Rattle.casefile.proofs.planned.entry_cells.Reads as entry-cells-reads
+use Rattle.casefile.proofs.planned.print_refusal.Reads as print-refusal-reads
+use Rattle.casefile.proofs.planned.print_stored.Reads as print-stored-reads
 
 -- how many cells are lent
-stored : (c : tie.After-entry-cells) → Stored (c .before .lane-cells .result) (replicate 32 0) (replicate 64 0) (c .entry-cells .result)
-stored c = record { lanes = search (needs, c .before .lane-cells .ok); sources = refl; terminals = refl; entries = search (needs, c .entry-cells .ok) }
+stored : (c : tie.After-entry-cells) → Stored (c .before .cost-cells .result) (replicate 32 0) (replicate 64 0) (c .entry-cells .result)
+stored c = record { lanes = search (needs, c .before .cost-cells .ok); sources = refl; terminals = refl; entries = search (needs, c .entry-cells .ok) }
 
-lane-cells-requires : tie.Need-lane-cells-requires
-lane-cells-requires c κs = search needs
+cost-cells-requires : tie.Need-cost-cells-requires
+cost-cells-requires c κs = search needs
 
 entry-cells-requires : tie.Need-entry-cells-requires
 entry-cells-requires c κs = search needs
@@ -66,13 +73,13 @@ same-length-2 : tie.Need-same-length-2
 same-length-2 c = search needs
 
 returns-2 : tie.Need-returns-2
-returns-2 c = case-files _ _ _ _ _ _ _ _ _ _ (stored (c .before .before .before .before .before .before .before .before .before .before .before .before .before .before .before .before .before .before .before .before)) _ _ _ (c .before .before .before .before .before .before .before .before .before .answer2 .given .1) (c .before .before .before .before .before .before .before .before .before .before .before .before .before .before .before .read-case .ensures) (c .before .before .print-stored .ensures)
+returns-2 c = case-files _ _ _ _ _ _ _ _ _ _ (stored ((c .before .before .before .before .before .before .before .before .before .before .before .before .before .before .before .before .before .before .before .before))) _ _ _ (c .before .before .before .before .before .before .before .before .before .answer2 .given .1) (c .before .before .before .before .before .before .before .before .before .before .before .before .before .before .before .read-case .ensures) (c .before .before .print-stored .ensures)
 
 pub plan-files-spec : {M : Type 1} → statement M
 plan-files-spec =
     tie.close
     (tie.spec
-    lane-cells-requires
+    cost-cells-requires
     entry-cells-requires
     slice-aggregate-read-case
     slice-aggregate-read-case-2

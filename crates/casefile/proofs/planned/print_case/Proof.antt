@@ -1,4 +1,4 @@
--- `casefile::planned::print_case` meets its contract, by the planner's promise. Assumes nothing.
+-- `casefile::planned::print_case` meets its contract. Assumes nothing.
 use mathlib.Core.Path.{_≡_, ap}
 use lib.ListN.{length}
 use native.Mathlib.Omega.{arith}
@@ -7,16 +7,24 @@ use Rattle.casefile.proofs.Printing.{small-split, within, ready, by-pla
 use borrow.Author.Needs.{needs}
 use Rattle.casefile.proofs.planned.print_case.Statement.{statement}
 use Rattle.casefile.proofs.planned.print_case.Tie as tie
+use Rattle.casefile.proofs.planned.print_case.Reads as reads
+use Rattle.casefile.proofs.planned.print_case.Lts as lts
+use Rattle.casefile.proofs.planned.freight_cells.Reads as freight-cells-reads
+use Rattle.casefile.proofs.planned.lane_cells.Reads as lane-cells-reads
+use Rattle.casefile.proofs.planned.print_plan.Reads as print-plan-reads
+use Rattle.casefile.proofs.planned.print_refusal.Reads as print-refusal-reads
+use Rattle.casefile.proofs.planned.stop_cells.Reads as stop-cells-reads
+use Rattle.planner.proofs.plan.Reads as plan-reads
 
 -- how many cells are lent
-lanes : (c : tie.After-stop-cells2) → length (c .before .before .lane-cells .result) ≡ 2048
+lanes : (c : tie.After-freight-cells) → length (c .before .before .lane-cells .result) ≡ 2048
 lanes c = search (needs, c .before .before .lane-cells .ok)
 
-splits : (c : tie.After-stop-cells2) → length (c .before .stop-cells .result) ≡ 4001
+splits : (c : tie.After-freight-cells) → length (c .before .stop-cells .result) ≡ 4001
 splits c = search (needs, c .before .stop-cells .ok)
 
-freights : (c : tie.After-stop-cells2) → length (c .stop-cells2 .result) ≡ 4001
-freights c = search (needs, c .stop-cells2 .ok)
+freights : (c : tie.After-freight-cells) → length (c .freight-cells .result) ≡ 4001
+freights c = search (needs, c .freight-cells .ok)
 
 lane-cells-requires : tie.Need-lane-cells-requires
 lane-cells-requires c κs = search needs
@@ -24,8 +32,8 @@ lane-cells-requires c κs = search needs
 stop-cells-requires : tie.Need-stop-cells-requires
 stop-cells-requires c κs = search needs
 
-stop-cells-requires-2 : tie.Need-stop-cells-requires-2
-stop-cells-requires-2 c κs = search needs
+freight-cells-requires : tie.Need-freight-cells-requires
+freight-cells-requires c κs = search needs
 
 slice-aggregate-plan : tie.Need-slice-aggregate-plan
 slice-aggregate-plan c = search needs
@@ -64,13 +72,13 @@ same-length : tie.Need-same-length
 same-length c = search needs
 
 returns : tie.Need-returns
-returns c = by-refusal (c .before .before .before .before .before .before .before .before .before .before .plan2 .ensures) (lanes (c .before .before .before .before .before .before .before .before .before .before .before .before .before .before)) (splits (c .before .before .before .before .before .before .before .before .before .before .before .before .before .before)) (freights (c .before .before .before .before .before .before .before .before .before .before .before .before .before .before)) (ap outcome (c .before .before .before .before .before .answer .given .1)) (c .before .before .print-refusal .ensures)
+returns c = by-refusal (c .before .before .before .before .before .before .before .before .before .before .plan2 .ensures) (lanes ((c .before .before .before .before .before .before .before .before .before .before .before .before .before .before))) (splits ((c .before .before .before .before .before .before .before .before .before .before .before .before .before .before))) (freights ((c .before .before .before .before .before .before .before .before .before .before .before .before .before .before))) (ap outcome (c .before .before .before .before .before .answer .given .1)) (c .before .before .print-refusal .ensures)
 
 same-length-2 : tie.Need-same-length-2
 same-length-2 c = search needs
 
 returns-2 : tie.Need-returns-2
-returns-2 c = by-plan (c .before .before .before .before .before .before .before .before .before .before .before .before .plan2 .ensures) (lanes (c .before .before .before .before .before .before .before .before .before .before .before .before .before .before .before .before)) (splits (c .before .before .before .before .before .before .before .before .before .before .before .before .before .before .before .before)) (freights (c .before .before .before .before .before .before .before .before .before .before .before .before .before .before .before .before)) (ap outcome (c .before .before .before .before .before .before .before .answer2 .given .1)) (c .before .before .print-plan .ensures)
+returns-2 c = by-plan (c .before .before .before .before .before .before .before .before .before .before .before .before .plan2 .ensures) (lanes ((c .before .before .before .before .before .before .before .before .before .before .before .before .before .before .before .before))) (splits ((c .before .before .before .before .before .before .before .before .before .before .before .before .before .before .before .before))) (freights ((c .before .before .before .before .before .before .before .before .before .before .before .before .before .before .before .before))) (ap outcome (c .before .before .before .before .before .before .before .answer2 .given .1)) (c .before .before .print-plan .ensures)
 
 pub print-case-spec : {M : Type 1} → statement M
 print-case-spec =
@@ -78,7 +86,7 @@ print-case-spec =
     (tie.spec
     lane-cells-requires
     stop-cells-requires
-    stop-cells-requires-2
+    freight-cells-requires
     slice-aggregate-plan
     slice-aggregate-plan-2
     slice-aggregate-plan-3

@@ -10,7 +10,7 @@ mul-lanes : tie.Need-mul-lanes
 mul-lanes c = search needs
 
 slice-aggregate-amounts : tie.Need-slice-aggregate-amounts
-slice-aggregate-amounts c = sym (length-take-le _ _ (c .before .before .before .before .pre .0))
+slice-aggregate-amounts c = sym (length-take-le _ _ (c .before .before .before .pre .0))
 
 put-plan-requires : tie.Need-put-plan-requires
 put-plan-requires c κs = search needs
@@ -20,7 +20,7 @@ same-length c = search needs
 
 returns : tie.Need-returns
 returns c =
-    let w = c .before .before .put-plan .ensures .text-written (c .before .before .before .before .before .before .before .before .pre .1) in
+    let w = c .before .before .put-plan .ensures .text-written (c .before .before .before .before .before .before .before .pre .1) in
     record { bytes = w .bytes; ends = omega (arith, w .ends); number-told = refl; place-told = refl; sources-told = refl; terminals-told = refl }
 
 pub print-plan-spec : {M : Type 1} → statement M

@@ -7,9 +7,13 @@ use Rattle.casefile.proofs.Cuts.{few-lanes, cut-printed}
 use borrow.Author.Needs.{needs}
 use Rattle.casefile.proofs.planned.print_stored.Statement.{statement}
 use Rattle.casefile.proofs.planned.print_stored.Tie as tie
+use Rattle.casefile.proofs.planned.print_stored.Reads as reads
+use Rattle.casefile.proofs.planned.print_stored.Lts as lts
+use Rattle.casefile.proofs.planned.print_case.Reads as print-case-reads
+use Rattle.casefile.proofs.store.smaller.Reads as smaller-reads
 
 -- the lanes that are kept
-product : (c : tie.After-smaller3) → c .before .before .smaller .result * c .before .smaller2 .result ≡ min (c .before .before .before .before .before .before .before .before .args .m) 32 * min (c .before .before .before .before .before .before .before .before .args .n) 64
+product : (c : tie.After-smaller3) → c .before .before .smaller .result * c .before .smaller2 .result ≡ min (c .before .before .before .before .before .before .before .args .m) 32 * min (c .before .before .before .before .before .before .before .args .n) 64
 product c = ap₂ (λ (x y : ℕ). x * y) (c .before .before .smaller .ensures) (c .before .smaller2 .ensures)
 
 smaller-requires : tie.Need-smaller-requires
@@ -22,19 +26,19 @@ smaller-requires-3 : tie.Need-smaller-requires-3
 smaller-requires-3 c κs = search needs
 
 mul-lanes : tie.Need-mul-lanes
-mul-lanes c = let a = c .before .before .before .before .before .before .before .before .args in record { fits = omega (arith, few-lanes (a .m) (a .n), product c) }
+mul-lanes c = let a = c .before .before .before .before .before .before .before .args in record { fits = omega (arith, few-lanes (a .m) (a .n), product c) }
 
 slice-aggregate-print-case : tie.Need-slice-aggregate-print-case
-slice-aggregate-print-case c = let s = c .before .before .before .before .before .before .before .before .before in sym (length-take-le _ _ (omega (arith, few-lanes (s .args .m) (s .args .n), product (c .before), s .pre .lanes)))
+slice-aggregate-print-case c = sym (length-take-le _ _ (omega (arith, few-lanes (c .before .before .before .before .before .before .before .before .args .m) (c .before .before .before .before .before .before .before .before .args .n), product ((c .before)), c .before .before .before .before .before .before .before .before .pre .lanes)))
 
 slice-aggregate-print-case-2 : tie.Need-slice-aggregate-print-case-2
-slice-aggregate-print-case-2 c = let s = c .before .before .before .before .before .before .before .before .before .before in sym (length-take-le _ _ (omega (arith, c .before .before .before .before .smaller .ensures, s .pre .sources)))
+slice-aggregate-print-case-2 c = sym (length-take-le _ _ (omega (arith, c .before .before .before .before .smaller .ensures, c .before .before .before .before .before .before .before .before .before .pre .sources)))
 
 slice-aggregate-print-case-3 : tie.Need-slice-aggregate-print-case-3
-slice-aggregate-print-case-3 c = let s = c .before .before .before .before .before .before .before .before .before .before .before in sym (length-take-le _ _ (omega (arith, c .before .before .before .before .smaller2 .ensures, s .pre .terminals)))
+slice-aggregate-print-case-3 c = sym (length-take-le _ _ (omega (arith, c .before .before .before .before .smaller2 .ensures, c .before .before .before .before .before .before .before .before .before .before .pre .terminals)))
 
 slice-aggregate-print-case-4 : tie.Need-slice-aggregate-print-case-4
-slice-aggregate-print-case-4 c = let s = c .before .before .before .before .before .before .before .before .before .before .before .before in sym (length-take-le _ _ (omega (arith, c .before .before .before .before .smaller3 .ensures, s .pre .entries)))
+slice-aggregate-print-case-4 c = sym (length-take-le _ _ (omega (arith, c .before .before .before .before .smaller3 .ensures, c .before .before .before .before .before .before .before .before .before .before .before .pre .entries)))
 
 print-case-requires : tie.Need-print-case-requires
 print-case-requires c κs = search needs
@@ -43,7 +47,7 @@ same-length : tie.Need-same-length
 same-length c = search needs
 
 returns : tie.Need-returns
-returns c = let d = c .before .before .before .before .before .before .before .before in cut-printed _ _ _ _ _ _ _ _ _ _ _ _ _ (d .before .before .smaller .ensures) (d .before .smaller2 .ensures) (d .smaller3 .ensures) (c .before .before .print-case .ensures)
+returns c = cut-printed _ _ _ _ _ _ _ _ _ _ _ _ _ (c .before .before .before .before .before .before .before .before .before .before .smaller .ensures) (c .before .before .before .before .before .before .before .before .before .smaller2 .ensures) (c .before .before .before .before .before .before .before .before .smaller3 .ensures) (c .before .before .print-case .ensures)
 
 pub print-stored-spec : {M : Type 1} → statement M
 print-stored-spec =

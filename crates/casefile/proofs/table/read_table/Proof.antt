@@ -1,24 +1,31 @@
+-- `casefile::table::read_table` meets its contract. Assumes nothing.
 use mathlib.Core.Path.{_≡_, refl, sym, ap, _∙_, subst}
+use mathlib.Core.Bool.{false}
 use Prim.Native.Nat.{_-_, _≤_, _<_}
 use native.Mathlib.Omega.{arith}
 use borrow.Author.Needs.{needs}
 use denote.Ref.{now}
 use lib.ListN.{length}
+use mir.Syntax.{w64}
+use mir.Val.{toZ, ofZ}
 use Rattle.casefile.specs.declared.table.Tally.{Tally}
 use Rattle.casefile.specs.Tallies.{recordTally}
-use Rattle.casefile.proofs.Tables.{few-field, field-ahead, field-next, record-next, along-length, valued-length, Along, Valued, along-start, countable, long-table, field-refused, field-valued, on-field, on-record, on-end, on-empty, on-refused}
+use Rattle.casefile.proofs.Tables.{few-field, field-ahead, field-small, field-next, record-next, along-length, valued-length, Along, Valued, along-start, countable, long-table, field-refused, field-valued, on-field, on-record, on-end, on-empty, on-refused}
+use Rattle.csvtext.proofs.Signs.{read-back}
 use Rattle.casefile.proofs.table.read_table.Statement.{statement}
 use Rattle.casefile.proofs.table.read_table.Tie as tie
 use Rattle.casefile.proofs.table.read_table.Reads as reads
 use Rattle.casefile.proofs.table.read_table.Lts as lts
 use Rattle.casefile.proofs.after.read_after.Reads as read-after-reads
 use Rattle.casefile.proofs.field.read_field.Reads as read-field-reads
+use Rattle.casefile.proofs.store.put_signed.Reads as put-signed-reads
+use Rattle.casefile.proofs.table.Tally.source.Reads as source-reads
 use Rattle.casefile.proofs.table.Tally.start.Reads as start-reads
 use Rattle.casefile.proofs.table.Tally.table.Reads as table-reads
 use Rattle.casefile.proofs.table.Tally.with_field.Reads as with-field-reads
 use Rattle.casefile.proofs.table.Tally.with_record.Reads as with-record-reads
 use Rattle.casefile.proofs.table.handed_on.Reads as handed-on-reads
-use Rattle.casefile.proofs.store.put.Reads as put-reads
+use Rattle.casefile.proofs.table.with_sign.Reads as with-sign-reads
 
 abbrev Inv-loop : tie.InvT-loop
 Inv-loop kind s cells₀ t₀ at₀ cells t at = Along kind s cells₀ cells t at
@@ -26,36 +33,31 @@ Inv-loop kind s cells₀ t₀ at₀ cells t at = Along kind s cells₀ cells t a
 abbrev μ-loop : tie.MeasureT-loop
 μ-loop kind s cells₀ t₀ at₀ cells t at = length s - at
 
--- the loop's head, and the start, from where the field is counted
-abbrev head : tie.After-with-field Inv-loop μ-loop → tie.At-loop Inv-loop μ-loop
-head c = c .before .before .before .before .before .before .before .before .before
-
-abbrev first : tie.After-with-field Inv-loop μ-loop → tie.Start Inv-loop μ-loop
-first c = c .before .before .before .before .before .before .before .before .before .before .before .before .before .before
-
-short : (c : tie.At-loop Inv-loop μ-loop) → length (now (c .before .before .before .before .before .args .s)) ≤ 65536
+-- the file is short enough
+short : (c : tie.At-loop Inv-loop μ-loop) → length (now (c .before .before .before .before .args .s)) ≤ 65536
 short c = c .before .before .if1 .left
 
 -- a field is read, stored and counted
 valued :
-    (c : tie.After-with-field Inv-loop μ-loop) →
-    Valued (first c .args .kind) (now (first c .args .s)) (now (first c .args .cells)) (c .before .before .before .put .last .0) (c .with-field .result)
-    (c .before .before .before .before .before .before .f .given .0 .0) (c .before .before .before .before .before .before .f .given .0 .1 .0)
+    (c : tie.After-source Inv-loop μ-loop) →
+    Valued (c .before .before .before .before .before .before .before .before .before .before .before .before .before .before .args .kind) (now (c .before .before .before .before .before .before .before .before .before .before .before .before .before .before .args .s)) (now (c .before .before .before .before .before .before .before .before .before .before .before .before .before .before .args .cells)) (c .before .before .before .put-signed .last .0) (c .before .with-field .result)
+    (c .before .before .before .before .before .before .before .f .given .0 .1 .0) (c .before .before .before .before .before .before .before .f .given .0 .0) (c .before .before .before .before .before .before .before .f .given .0 .1 .1 .0)
 valued c =
-    field-valued _ _ _ _ _ _ (head c .loop .inv) _ (c .before .before .before .before .before .before .before .before .read-field .ensures) _ _ _ _ (c .before .before .before .before .before .before .f .given .1) (c .with-field .ensures) (c .before .before .before .put .ensures)
+    field-valued _ _ _ _ _ _ (c .before .before .before .before .before .before .before .before .before .before .loop .inv) _ (c .before .before .before .before .before .before .before .before .before .read-field .ensures) _ _ _ _ _ (toZ w64 (ofZ w64 (c .before .before .before .before .with-sign .result))) (c .before .before .before .before .before .before .before .f .given .1) (c .before .with-field .ensures)
+    (c .before .before .before .put-signed .ensures) (read-back (c .before .before .before .before .with-sign .result) (c .before .before .before .before .with-sign .ok) ∙ c .before .before .before .before .with-sign .ensures)
 
 -- each field takes the offset on
-ahead : (c : tie.After-with-field Inv-loop μ-loop) → head c .loop .at < c .before .before .before .before .before .before .f .given .0 .1 .0
-ahead c = field-ahead _ _ _ _ _ _ (head c .loop .inv) _ (c .before .before .before .before .before .before .before .before .read-field .ensures) _ _ (c .before .before .before .before .before .before .f .given .1)
+ahead : (c : tie.After-source Inv-loop μ-loop) → c .before .before .before .before .before .before .before .before .before .before .loop .at < c .before .before .before .before .before .before .before .f .given .0 .1 .1 .0
+ahead c = field-ahead _ _ _ _ _ _ (c .before .before .before .before .before .before .before .before .before .before .loop .inv) _ (c .before .before .before .before .before .before .before .before .before .read-field .ensures) _ _ _ (c .before .before .before .before .before .before .before .f .given .1)
 
 returns : tie.Need-returns Inv-loop μ-loop
-returns c = let a = c .before .before .before .args in long-table (a .kind) (now (a .s)) (now (a .cells)) (c .if1 .taken)
+returns c = let a = c .before .before .args in long-table (a .kind) (now (a .s)) (now (a .cells)) (c .if1 .taken)
 
 start-requires : tie.Need-start-requires Inv-loop μ-loop
 start-requires c κs = search needs
 
 loop-holds : tie.Need-loop-holds Inv-loop μ-loop
-loop-holds c = let a = c .before .before .before .before .args in subst (λ (t : Tally). Along (a .kind) (now (a .s)) (now (a .cells)) (now (a .cells)) t 0) (sym (c .start .ensures)) (along-start (a .kind) (now (a .s)) (now (a .cells)))
+loop-holds c = let a = c .before .before .before .args in subst (λ (t : Tally). Along (a .kind) (now (a .s)) (now (a .cells)) (now (a .cells)) t 0) (sym (c .start .ensures)) (along-start (a .kind) (now (a .s)) (now (a .cells)))
 
 read-field-requires : tie.Need-read-field-requires Inv-loop μ-loop
 read-field-requires c κs = c .loop .inv .upto
@@ -73,13 +75,19 @@ same-length : tie.Need-same-length Inv-loop μ-loop
 same-length c = along-length (c .before .before .before .before .loop .inv)
 
 returns-2 : tie.Need-returns-2 Inv-loop μ-loop
-returns-2 c = rw (c .handed-on .ensures) (field-refused _ _ _ _ _ _ (c .before .before .before .before .loop .inv) _ (c .before .before .before .read-field .ensures) _ _ (short (c .before .before .before .before)) (c .before .enum-told .given .1))
+returns-2 c = rw (c .handed-on .ensures) (field-refused _ _ _ _ _ _ (c .before .before .before .before .loop .inv) _ (c .before .before .before .read-field .ensures) _ _ (short ((c .before .before .before .before))) (c .before .enum-told .given .1))
 
-put-requires : tie.Need-put-requires Inv-loop μ-loop
-put-requires c κs = search needs
+with-sign-requires : tie.Need-with-sign-requires Inv-loop μ-loop
+with-sign-requires c κs = field-small _ _ _ _ _ _ (c .before .before .before .before .before .loop .inv) _ (c .before .before .before .before .read-field .ensures) _ _ _ (c .before .before .f .given .1)
+
+put-signed-requires : tie.Need-put-signed-requires Inv-loop μ-loop
+put-signed-requires c κs = search needs
 
 with-field-requires : tie.Need-with-field-requires Inv-loop μ-loop
-with-field-requires c κs = let h = c .before .before .before .before .before .before .before .before in countable _ _ (h .loop .inv .few) (omega (arith, h .loop .inv .upto, short h))
+with-field-requires c κs = let h = (c .before .before .before .before .before .before .before .before) in countable _ _ (h .loop .inv .few) (omega (arith, h .loop .inv .upto, short h))
+
+source-requires : tie.Need-source-requires Inv-loop μ-loop
+source-requires c κs = search needs
 
 read-after-requires : tie.Need-read-after-requires Inv-loop μ-loop
 read-after-requires c κs = valued c .upto
@@ -88,70 +96,70 @@ enum-known-a : tie.Need-enum-known-a Inv-loop μ-loop
 enum-known-a c = search needs
 
 loop-less : tie.Need-loop-less Inv-loop μ-loop
-loop-less c = omega (arith, ahead (c .before .before .before .before), field-next _ _ _ _ _ _ _ (valued (c .before .before .before .before)) _ (c .before .before .before .read-after .ensures) _ (c .before .a .given .1))
+loop-less c = omega (arith, ahead ((c .before .before .before .before)), field-next _ _ _ _ _ _ _ _ (valued ((c .before .before .before .before))) _ (c .before .before .before .before .source .ensures) _ (c .before .before .before .read-after .ensures) _ (c .before .a .given .1))
 
 loop-again : tie.Need-loop-again Inv-loop μ-loop
-loop-again c = on-field _ _ _ _ _ _ _ (valued (c .before .before .before .before)) _ (c .before .before .before .read-after .ensures) _ (c .before .a .given .1)
+loop-again c = on-field _ _ _ _ _ _ _ _ (valued ((c .before .before .before .before))) _ (c .before .before .before .before .source .ensures) _ (c .before .before .before .read-after .ensures) _ (c .before .a .given .1)
 
 enum-known-a-2 : tie.Need-enum-known-a-2 Inv-loop μ-loop
 enum-known-a-2 c = search needs
 
 with-record-requires : tie.Need-with-record-requires Inv-loop μ-loop
-with-record-requires c κs = let h = c .before .before .before .before in countable _ _ (valued h .few) (omega (arith, valued h .upto, short (head h)))
+with-record-requires c κs = let h = (c .before .before .before .before) in countable _ _ (valued h .few) (omega (arith, valued h .upto, short ((c .before .before .before .before .before .before .before .before .before .before .before .before .before .before))))
 
 loop-less-2 : tie.Need-loop-less-2 Inv-loop μ-loop
-loop-less-2 c = omega (arith, ahead (c .before .before .before .before .before), record-next _ _ _ _ _ _ _ (valued (c .before .before .before .before .before)) _ (c .before .before .before .before .read-after .ensures) _ (c .before .before .a2 .given .1))
+loop-less-2 c = omega (arith, ahead ((c .before .before .before .before .before)), record-next _ _ _ _ _ _ _ _ (valued ((c .before .before .before .before .before))) _ (c .before .before .before .before .before .source .ensures) _ (c .before .before .before .before .read-after .ensures) _ (c .before .before .a2 .given .1))
 
 loop-again-2 : tie.Need-loop-again-2 Inv-loop μ-loop
-loop-again-2 c = on-record _ _ _ _ _ _ _ (valued (c .before .before .before .before .before)) _ (c .before .before .before .before .read-after .ensures) _ _ (c .before .before .a2 .given .1) (c .with-record .ensures)
+loop-again-2 c = on-record _ _ _ _ _ _ _ _ (valued ((c .before .before .before .before .before))) _ (c .before .before .before .before .before .source .ensures) _ (c .before .before .before .before .read-after .ensures) _ _ (c .before .before .a2 .given .1) (c .with-record .ensures)
 
 enum-told-2 : tie.Need-enum-told-2 Inv-loop μ-loop
 enum-told-2 c = search needs
 
 with-record-requires-2 : tie.Need-with-record-requires-2 Inv-loop μ-loop
-with-record-requires-2 c κs = let h = c .before .before .before in countable _ _ (valued h .few) (omega (arith, valued h .upto, short (head h)))
+with-record-requires-2 c κs = let h = (c .before .before .before) in countable _ _ (valued h .few) (omega (arith, valued h .upto, short ((c .before .before .before .before .before .before .before .before .before .before .before .before .before))))
 
 table-requires : tie.Need-table-requires Inv-loop μ-loop
 table-requires c κs = search needs
 
 same-length-2 : tie.Need-same-length-2 Inv-loop μ-loop
-same-length-2 c = valued-length (valued (c .before .before .before .before .before))
+same-length-2 c = valued-length (valued ((c .before .before .before .before .before)))
 
 returns-3 : tie.Need-returns-3 Inv-loop μ-loop
-returns-3 c = rw (c .table .ensures) (on-end _ _ _ _ _ _ _ (valued (c .before .before .before .before .before)) _ (c .before .before .before .before .read-after .ensures) _ (short (head (c .before .before .before .before .before))) (c .before .before .enum-told2 .given .1) (c .before .with-record2 .ensures))
+returns-3 c = rw (c .table .ensures) (on-end _ _ _ _ _ _ _ _ (valued ((c .before .before .before .before .before))) _ (c .before .before .before .before .before .source .ensures) _ (c .before .before .before .before .read-after .ensures) _ (short ((c .before .before .before .before .before .before .before .before .before .before .before .before .before .before .before))) (c .before .before .enum-told2 .given .1) (c .before .with-record2 .ensures))
 
 enum-told-3 : tie.Need-enum-told-3 Inv-loop μ-loop
 enum-told-3 c = search needs
 
-add-put : tie.Need-add-put Inv-loop μ-loop
-add-put c = search needs
+add-put-signed : tie.Need-add-put-signed Inv-loop μ-loop
+add-put-signed c = search needs
 
-put-requires-2 : tie.Need-put-requires-2 Inv-loop μ-loop
-put-requires-2 c κs = search needs
+put-signed-requires-2 : tie.Need-put-signed-requires-2 Inv-loop μ-loop
+put-signed-requires-2 c κs = search needs
 
 with-field-requires-2 : tie.Need-with-field-requires-2 Inv-loop μ-loop
-with-field-requires-2 c κs = let h = c .before .before .before .before .before .before .before in countable _ _ (valued h .few) (omega (arith, valued h .upto, short (head h)))
+with-field-requires-2 c κs = let h = (c .before .before .before .before .before .before) in countable _ _ (valued h .few) (omega (arith, valued h .upto, short ((c .before .before .before .before .before .before .before .before .before .before .before .before .before .before .before .before))))
 
 with-record-requires-3 : tie.Need-with-record-requires-3 Inv-loop μ-loop
-with-record-requires-3 c κs = let h = c .before .before .before .before .before .before .before .before in countable _ _ (few-field _ _ _ (c .with-field2 .ensures) (valued h .few)) (omega (arith, valued h .upto, short (head h)))
+with-record-requires-3 c κs = let h = (c .before .before .before .before .before .before .before) in countable _ _ (few-field _ _ false _ (c .with-field2 .ensures) (valued h .few)) (omega (arith, valued h .upto, short ((c .before .before .before .before .before .before .before .before .before .before .before .before .before .before .before .before .before))))
 
 table-requires-2 : tie.Need-table-requires-2 Inv-loop μ-loop
 table-requires-2 c κs = search needs
 
 same-length-3 : tie.Need-same-length-3 Inv-loop μ-loop
-same-length-3 c = c .before .before .before .before .before .put2 .kept .0 ∙ valued-length (valued (c .before .before .before .before .before .before .before .before .before .before))
+same-length-3 c = c .before .before .before .before .put-signed2 .kept .0 ∙ valued-length (valued ((c .before .before .before .before .before .before .before .before .before)))
 
 returns-4 : tie.Need-returns-4 Inv-loop μ-loop
-returns-4 c = rw (c .table2 .ensures) (on-empty _ _ _ _ _ _ _ (valued (c .before .before .before .before .before .before .before .before .before .before)) _ (c .before .before .before .before .before .before .before .before .before .read-after .ensures) _ _ (short (head (c .before .before .before .before .before .before .before .before .before .before))) (c .before .before .before .before .before .before .before .enum-told3 .given .1) (c .before .with-record3 .ensures ∙ ap recordTally (c .before .before .with-field2 .ensures)) (rw (c .before .before .before .before .before .before .before .before .before .before .with-field .ensures) (c .before .before .before .before .before .put2 .ensures)))
+returns-4 c = rw (c .table2 .ensures) (on-empty _ _ _ _ _ _ _ _ (valued ((c .before .before .before .before .before .before .before .before .before))) _ (c .before .before .before .before .before .before .before .before .before .source .ensures) _ (c .before .before .before .before .before .before .before .before .read-after .ensures) _ _ (short ((c .before .before .before .before .before .before .before .before .before .before .before .before .before .before .before .before .before .before .before))) (c .before .before .before .before .before .before .enum-told3 .given .1) (c .before .with-record3 .ensures ∙ ap recordTally (c .before .before .with-field2 .ensures)) (rw (c .before .before .before .before .before .before .before .before .before .before .with-field .ensures) (c .before .before .before .before .put-signed2 .ensures)))
 
 enum-known-a-3 : tie.Need-enum-known-a-3 Inv-loop μ-loop
 enum-known-a-3 c = search needs
 
 same-length-4 : tie.Need-same-length-4 Inv-loop μ-loop
-same-length-4 c = valued-length (valued (c .before .before .before .before))
+same-length-4 c = valued-length (valued ((c .before .before .before .before)))
 
 returns-5 : tie.Need-returns-5 Inv-loop μ-loop
-returns-5 c = on-refused _ _ _ _ _ _ _ (valued (c .before .before .before .before)) _ (c .before .before .before .read-after .ensures) _ (short (head (c .before .before .before .before))) (c .before .a3 .given .1)
+returns-5 c = on-refused _ _ _ _ _ _ _ _ (valued ((c .before .before .before .before))) _ (c .before .before .before .before .source .ensures) _ (c .before .before .before .read-after .ensures) _ (short ((c .before .before .before .before .before .before .before .before .before .before .before .before .before .before))) (c .before .a3 .given .1)
 
 pub read-table-spec : {M : Type 1} → statement M
 read-table-spec =
@@ -168,8 +176,10 @@ read-table-spec =
     handed-on-requires
     same-length
     returns-2
-    put-requires
+    with-sign-requires
+    put-signed-requires
     with-field-requires
+    source-requires
     read-after-requires
     enum-known-a
     loop-less
@@ -184,8 +194,8 @@ read-table-spec =
     same-length-2
     returns-3
     enum-told-3
-    add-put
-    put-requires-2
+    add-put-signed
+    put-signed-requires-2
     with-field-requires-2
     with-record-requires-3
     table-requires-2

@@ -1,51 +1,147 @@
-use borrow.Author.Needs.{needs}
 -- `planner::solve::solve` meets its contract. Assumes nothing.
-use mathlib.Core.Path.{_≡_, refl}
-use Prim.Native.Nat.{ℕ}
-use lib.ListN.{length}
-use denote.Ref.{now}
+use borrow.Author.Needs.{needs}
+use borrow.Author.Tests.{not-true, not-false}
+use mathlib.Core.Path.{_≡_, refl, sym, ap, _∙_}
+use Prim.Native.Nat.{ℕ, _*_, _≤_}
 use native.Mathlib.Omega.{arith}
-use Rattle.planner.specs.Verdict.{lent}
-use Rattle.planner.proofs.Passed.{Formed, formed, roomy}
-use Rattle.planner.proofs.Solution.{Prepared, prepare, ready, narrow-costs, narrow-supplies, narrow-demands, answered, in-order, most, whole-most}
+use native.Mathlib.Nat.{mul-le-mul}
+use mathlib.Core.List.{map}
+use lib.ListN.{length, take}
+use lib.IntN.{subℕ}
+use denote.Ref.{now}
+use Rattle.transport.specs.Curve.{written}
+use Rattle.planner.specs.Range.{lower}
+use Rattle.planner.specs.Case.{Case}
+use Rattle.planner.specs.Verdict.{lent, verdict}
+use Rattle.planner.proofs.Passed.{Formed, Roomy, roomy}
+use Rattle.planner.proofs.Raised.{added}
+use Rattle.planner.proofs.Machine.{read-back}
+use Rattle.planner.proofs.Solution.{Prepared, prepare, ready, OnSplits, Accepts, form-of, whole-most, runs-most, drums-most, costs-inside, narrow-ceilings, narrow-supplies, narrow-demands, demand-sum, refused-27, on-splits, sweep-ready, answered, refuses, told, gap, few-stops, found-moderate, freight-moderate, total-moderate}
+use Rattle.planner.proofs.Decide.{within, by-splits, accepts}
 use Rattle.planner.proofs.solve.solve.Statement.{statement}
 use Rattle.planner.proofs.solve.solve.Tie as tie
 use Rattle.planner.proofs.solve.solve.Reads as reads
 use Rattle.planner.proofs.solve.solve.Lts as lts
-use Rattle.planner.proofs.work.ceilings.Reads as ceilings-reads
-use Rattle.planner.proofs.work.cost_rows.Reads as cost-rows-reads
-use Rattle.planner.proofs.work.first_amounts.Reads as first-amounts-reads
+use Rattle.planner.proofs.tests.splits_test.Reads as splits-test-reads
+use Rattle.planner.proofs.tests.sum_of.Reads as sum-of-reads
+use Rattle.planner.proofs.work.ceiling_rows.Reads as ceiling-rows-reads
 use Rattle.planner.proofs.work.gather_rows.Reads as gather-rows-reads
+use Rattle.planner.proofs.work.lower_into.Reads as lower-into-reads
+use Rattle.planner.proofs.work.lowered.Reads as lowered-reads
+use Rattle.planner.proofs.work.raised_rows.Reads as raised-rows-reads
+use Rattle.planner.proofs.work.supplied.Reads as supplied-reads
 use Rattle.planner.proofs.work.wanted.Reads as wanted-reads
+use Rattle.transport.proofs.begin.begin.Reads as begin-reads
 use Rattle.transport.proofs.curve.sweep.Reads as sweep-reads
 
+-- the lent case, and what its tests left
+abbrev the : tie.Start → Case
+the s =
+    lent (s .args .m) (s .args .n) (s .args .run1) (s .args .run2) (now (s .args .costs)) (now (s .args .supplies)) (now (s .args .demands))
+    (now (s .args .ceilings)) (now (s .args .table)) (length (now (s .args .plan))) (length (now (s .args .splits))) (length (now (s .args .freights)))
+
+form : (s : tie.Start) → Formed (the s)
+form s = form-of (s .pre)
+
+-- what was added to each freight
+few : (s : tie.Start) → added (the s) ≤ 256000000000
+unfolding added
+few s = omega (arith, drums-most (form s))
+
+sum-is : (c : tie.After-sum-of) → 1000000 * c .sum-of .result ≡ added (the (c .before .before .before .before .before .before .before .before .before .before .before))
+unfolding added
+sum-is c = ap (λ (v : ℕ). 1000000 * v) (c .sum-of .ensures ∙ demand-sum (form (c .before .before .before .before .before .before .before .before .before .before .before)))
+
 -- the working arrays are those of the case
-prepared :
-    (c : tie.After-kept) → Prepared (lent (c .before .before .before .before .before .before .before .before .before .before .before .before .before .before .before .before .before .before .args .m) (c .before .before .before .before .before .before .before .before .before .before .before .before .before .before .before .before .before .before .args .n) (now (c .before .before .before .before .before .before .before .before .before .before .before .before .before .before .before .before .before .before .args .costs)) (now (c .before .before .before .before .before .before .before .before .before .before .before .before .before .before .before .before .before .before .args .supplies)) (now (c .before .before .before .before .before .before .before .before .before .before .before .before .before .before .before .before .before .before .args .demands)) (now (c .before .before .before .before .before .before .before .before .before .before .before .before .before .before .before .before .before .before .args .table)) (length (now (c .before .before .before .before .before .before .before .before .before .before .before .before .before .before .before .before .before .before .args .plan))) (length (now (c .before .before .before .before .before .before .before .before .before .before .before .before .before .before .before .before .before .before .args .splits))) (length (now (c .before .before .before .before .before .before .before .before .before .before .before .before .before .before .before .before .before .before .args .freights)))) (c .before .before .before .before .before .before .before .before .before .before .before .before .before .before .before .before .before .before .args .lo) (c .before .before .before .before .before .before .before .before .before .before .before .before .before .before .before .before .before .before .args .all) (c .before .before .before .before .before .before .before .before .before .before .cost-rows .result) (c .before .before .before .before .before .before .before .before .before .ceilings .result) (c .before .before .before .before .before .before .before .before .first-amounts .result) (c .before .before .before .before .before .before .before .wanted .result)
-prepared c = prepare (c .before .before .before .before .before .before .before .before .before .before .before .before .before .before .before .before .before .before .pre) (c .before .before .before .before .before .before .before .before .before .before .cost-rows .ensures) (c .before .before .before .before .before .before .before .before .before .ceilings .ensures) (c .before .before .before .before .before .before .before .before .first-amounts .ensures) (c .before .before .before .before .before .before .before .wanted .ensures)
+prepared : (c : tie.After-wanted) → Prepared (the (c .before .before .before .before .before .before .before .before .before .before)) (c .before .before .before .raised-rows .result) (c .before .before .ceiling-rows .result) (c .before .supplied .result) (c .wanted .result)
+prepared c = prepare (c .before .before .before .before .before .before .before .before .before .before .pre) (c .before .before .before .raised-rows .ensures) (c .before .before .ceiling-rows .ensures) (c .before .supplied .ensures) (c .wanted .ensures)
 
-cost-rows-requires : tie.Need-cost-rows-requires
-cost-rows-requires c κs = let f = formed (lent (c .before .before .before .before .before .before .before .args .m) (c .before .before .before .before .before .before .before .args .n) (now (c .before .before .before .before .before .before .before .args .costs)) (now (c .before .before .before .before .before .before .before .args .supplies)) (now (c .before .before .before .before .before .before .before .args .demands)) (now (c .before .before .before .before .before .before .before .args .table)) (length (now (c .before .before .before .before .before .before .before .args .plan))) (length (now (c .before .before .before .before .before .before .before .args .splits))) (length (now (c .before .before .before .before .before .before .before .args .freights)))) (c .before .before .before .before .before .before .before .pre .on .form) in (f .few-sources, f .few-terminals, f .costs-long, narrow-costs f)
+-- past test 27, and past 9 and 11
+on : (c : tie.Else1) → OnSplits (the (c .before .before .before .before .before .before .before .before .before .before .before .before .before .before .before .before .before .before .before .before .before)) (c .before .before .begin .result .lo) (c .before .before .begin .result .hi) (c .before .before .before .before .before .before .before .before .before .before .before .before .before .before .before .before .before .before .before .before .before .args .made)
+on c = on-splits (c .before .before .before .before .before .before .before .before .before .before .before .before .before .before .before .before .before .before .before .before .before .pre) (prepared (c .before .before .before .before .before .before .before .before .before .before .before)) (c .before .before .begin .ensures) (not-false _ (c .if1 .left))
 
-ceilings-requires : tie.Need-ceilings-requires
-ceilings-requires c κs = search needs
+passed : (c : tie.After-enum-told) → Accepts (the (c .before .before .before .before .before .before .before .before .before .before .before .before .before .before .before .before .before .before .before .before .before .before .before .before)) (c .before .before .before .before .before .begin .result .lo) (c .before .before .before .before .before .begin .result .hi) (c .before .before .before .before .before .before .before .before .before .before .before .before .before .before .before .before .before .before .before .before .before .before .before .before .args .made)
+passed c = accepts (on (c .before .before .before)) (sym (c .before .before .splits-test .ensures) ∙ ap verdict (c .enum-told .given .1))
 
-sub-first-amounts : tie.Need-sub-first-amounts
-sub-first-amounts c = let h = most (c .before .before .before .before .before .before .before .before .before .pre .on) in omega (arith, h, in-order (c .before .before .before .before .before .before .before .before .before .pre .on))
+room : (c : tie.After-enum-told) → Roomy (the (c .before .before .before .before .before .before .before .before .before .before .before .before .before .before .before .before .before .before .before .before .before .before .before .before))
+room c = roomy (the (c .before .before .before .before .before .before .before .before .before .before .before .before .before .before .before .before .before .before .before .before .before .before .before .before)) (passed c .t11)
 
-first-amounts-requires : tie.Need-first-amounts-requires
-first-amounts-requires c κs = let f = formed (lent (c .before .before .before .before .before .before .before .before .before .args .m) (c .before .before .before .before .before .before .before .before .before .args .n) (now (c .before .before .before .before .before .before .before .before .before .args .costs)) (now (c .before .before .before .before .before .before .before .before .before .args .supplies)) (now (c .before .before .before .before .before .before .before .before .before .args .demands)) (now (c .before .before .before .before .before .before .before .before .before .args .table)) (length (now (c .before .before .before .before .before .before .before .before .before .args .plan))) (length (now (c .before .before .before .before .before .before .before .before .before .args .splits))) (length (now (c .before .before .before .before .before .before .before .before .before .args .freights)))) (c .before .before .before .before .before .before .before .before .before .pre .on .form) in (omega (arith, f .supplies-long, f .few-sources), narrow-supplies f, omega (arith, in-order (c .before .before .before .before .before .before .before .before .before .pre .on), most (c .before .before .before .before .before .before .before .before .before .pre .on)), omega (arith, whole-most (c .before .before .before .before .before .before .before .before .before .pre .on)))
+raised-rows-requires : tie.Need-raised-rows-requires
+raised-rows-requires c κs = let f = form (c .before .before .before .before .before .before) in (f .few-sources, f .few-terminals, f .costs-long, costs-inside f)
+
+ceiling-rows-requires : tie.Need-ceiling-rows-requires
+ceiling-rows-requires c κs = let f = form (c .before .before .before .before .before .before .before) in (f .few-sources, f .few-terminals, f .ceilings-long, narrow-ceilings f)
+
+supplied-requires : tie.Need-supplied-requires
+supplied-requires c κs = let f = form (c .before .before .before .before .before .before .before .before) in (omega (arith, f .supplies-long, f .few-sources), narrow-supplies f)
 
 wanted-requires : tie.Need-wanted-requires
-wanted-requires c κs = let f = formed (lent (c .before .before .before .before .before .before .before .before .before .before .args .m) (c .before .before .before .before .before .before .before .before .before .before .args .n) (now (c .before .before .before .before .before .before .before .before .before .before .args .costs)) (now (c .before .before .before .before .before .before .before .before .before .before .args .supplies)) (now (c .before .before .before .before .before .before .before .before .before .before .args .demands)) (now (c .before .before .before .before .before .before .before .before .before .before .args .table)) (length (now (c .before .before .before .before .before .before .before .before .before .before .args .plan))) (length (now (c .before .before .before .before .before .before .before .before .before .before .args .splits))) (length (now (c .before .before .before .before .before .before .before .before .before .before .args .freights)))) (c .before .before .before .before .before .before .before .before .before .before .pre .on .form) in (omega (arith, f .demands-long, f .few-terminals), narrow-demands f)
+wanted-requires c κs = let f = form (c .before .before .before .before .before .before .before .before .before) in (omega (arith, f .demands-long, f .few-terminals), narrow-demands f)
+
+sum-of-requires : tie.Need-sum-of-requires
+sum-of-requires c κs = let f = form (c .before .before .before .before .before .before .before .before .before .before) in (omega (arith, f .demands-long, f .few-terminals), λ k h. f .small-demand k (omega (arith, f .demands-long)))
+
+mul-added : tie.Need-mul-added
+mul-added c = omega (arith, few (c .before .before .before .before .before .before .before .before .before .before .before), sum-is c)
+
+cast-all : tie.Need-cast-all
+cast-all c = omega (arith, whole-most (c .before .before .before .before .before .before .before .before .before .before .before .pre))
+
+cast-begin : tie.Need-cast-begin
+cast-begin c = omega (arith, runs-most (c .before .before .before .before .before .before .before .before .before .before .before .before .before .before .before .pre))
+
+cast-begin-2 : tie.Need-cast-begin-2
+cast-begin-2 c = omega (arith, runs-most (c .before .before .before .before .before .before .before .before .before .before .before .before .before .before .before .pre))
+
+begin-requires : tie.Need-begin-requires
+begin-requires c κs = ready (c .before .before .before .before .before .before .before .before .before .before .before .before .before .before .before .before .before .before .pre) (prepared (c .before .before .before .before .before .before .before .before))
+
+returns : tie.Need-returns
+returns c = refuses _ _ _ _ (refused-27 (c .before .before .before .before .before .before .before .before .before .before .before .before .before .before .before .before .before .before .before .before .before .pre) (prepared (c .before .before .before .before .before .before .before .before .before .before .before)) (c .before .before .begin .ensures) (not-true _ (c .if1 .taken)))
+
+mul-splits-test : tie.Need-mul-splits-test
+mul-splits-test c = let f = form (c .before .before .before .before .before .before .before .before .before .before .before .before .before .before .before .before .before .before .before .before .before) in omega (arith, mul-le-mul (f .few-sources) (f .few-terminals))
+
+splits-test-requires : tie.Need-splits-test-requires
+splits-test-requires c κs = within (on c)
+
+enum-known-number : tie.Need-enum-known-number
+enum-known-number c = search needs
+
+returns-2 : tie.Need-returns-2
+returns-2 c = refuses _ _ _ _ (by-splits (on (c .before .before .before .before)) _ (sym (c .before .before .before .splits-test .ensures) ∙ ap verdict (c .before .number .given .1)))
+
+enum-told : tie.Need-enum-told
+enum-told c = search needs
+
+slice-aggregate-sweep : tie.Need-slice-aggregate-sweep
+slice-aggregate-sweep c = search needs
 
 sweep-requires : tie.Need-sweep-requires
-sweep-requires c κs = ready (c .before .before .before .before .before .before .before .before .before .before .before .before .before .before .before .before .before .before .pre) (prepared c) _ _ refl refl
+sweep-requires c κs = (c .before .before .before .before .before .before .before .before .before .before .before .before .before .before .before .begin .ensures .begun (not-false _ (c .before .before .before .before .before .before .before .before .before .before .before .before .before .if1 .left)), sweep-ready (passed (c .before .before .before .before .before .before .before .before .before .before)) (prepared (c .before .before .before .before .before .before .before .before .before .before .before .before .before .before .before .before .before .before .before .before .before .before .before .before)) _ _ refl refl)
 
 gather-rows-requires : tie.Need-gather-rows-requires
-gather-rows-requires c κs =
-    let f = formed (lent (c .before .before .before .before .before .before .before .before .before .before .before .before .before .before .before .before .before .before .before .before .before .before .before .before .before .args .m) (c .before .before .before .before .before .before .before .before .before .before .before .before .before .before .before .before .before .before .before .before .before .before .before .before .before .args .n) (now (c .before .before .before .before .before .before .before .before .before .before .before .before .before .before .before .before .before .before .before .before .before .before .before .before .before .args .costs)) (now (c .before .before .before .before .before .before .before .before .before .before .before .before .before .before .before .before .before .before .before .before .before .before .before .before .before .args .supplies)) (now (c .before .before .before .before .before .before .before .before .before .before .before .before .before .before .before .before .before .before .before .before .before .before .before .before .before .args .demands)) (now (c .before .before .before .before .before .before .before .before .before .before .before .before .before .before .before .before .before .before .before .before .before .before .before .before .before .args .table)) (length (now (c .before .before .before .before .before .before .before .before .before .before .before .before .before .before .before .before .before .before .before .before .before .before .before .before .before .args .plan))) (length (now (c .before .before .before .before .before .before .before .before .before .before .before .before .before .before .before .before .before .before .before .before .before .before .before .before .before .args .splits))) (length (now (c .before .before .before .before .before .before .before .before .before .before .before .before .before .before .before .before .before .before .before .before .before .before .before .before .before .args .freights)))) (c .before .before .before .before .before .before .before .before .before .before .before .before .before .before .before .before .before .before .before .before .before .before .before .before .before .pre .on .form) in
-    (f .few-sources, f .few-terminals, roomy (lent (c .before .before .before .before .before .before .before .before .before .before .before .before .before .before .before .before .before .before .before .before .before .before .before .before .before .args .m) (c .before .before .before .before .before .before .before .before .before .before .before .before .before .before .before .before .before .before .before .before .before .before .before .before .before .args .n) (now (c .before .before .before .before .before .before .before .before .before .before .before .before .before .before .before .before .before .before .before .before .before .before .before .before .before .args .costs)) (now (c .before .before .before .before .before .before .before .before .before .before .before .before .before .before .before .before .before .before .before .before .before .before .before .before .before .args .supplies)) (now (c .before .before .before .before .before .before .before .before .before .before .before .before .before .before .before .before .before .before .before .before .before .before .before .before .before .args .demands)) (now (c .before .before .before .before .before .before .before .before .before .before .before .before .before .before .before .before .before .before .before .before .before .before .before .before .before .args .table)) (length (now (c .before .before .before .before .before .before .before .before .before .before .before .before .before .before .before .before .before .before .before .before .before .before .before .before .before .args .plan))) (length (now (c .before .before .before .before .before .before .before .before .before .before .before .before .before .before .before .before .before .before .before .before .before .before .before .before .before .args .splits))) (length (now (c .before .before .before .before .before .before .before .before .before .before .before .before .before .before .before .before .before .before .before .before .before .before .before .before .before .args .freights)))) (c .before .before .before .before .before .before .before .before .before .before .before .before .before .before .before .before .before .before .before .before .before .before .before .before .before .pre .t11) .plan-room, c .before .before .before .before .before .before .sweep .ensures .plan .long)
+gather-rows-requires c κs = let f = form (c .before .before .before .before .before .before .before .before .before .before .before .before .before .before .before .before .before .before .before .before .before .before .before .before .before .before .before .before .before .before .before .before .before .before .before .before .before .before .before .before) in (f .few-sources, f .few-terminals, room (c .before .before .before .before .before .before .before .before .before .before .before .before .before .before .before .before) .plan-room, c .before .before .before .before .before .sweep .ensures .plan .long)
+
+slice-aggregate-lower-into : tie.Need-slice-aggregate-lower-into
+slice-aggregate-lower-into c = search needs
+
+lower-into-requires : tie.Need-lower-into-requires
+lower-into-requires c κs =
+    let a = passed (c .before .before .before .before .before .before .before .before .before .before .before .before .before .before .before .before .before .before .before .before .before) in
+    let w = c .before .before .before .before .before .before .before .before .before .before .sweep in
+    let k = few-stops a (prepared (c .before .before .before .before .before .before .before .before .before .before .before .before .before .before .before .before .before .before .before .before .before .before .before .before .before .before .before .before .before .before .before .before .before .before .before)) (w .ensures) in (
+      omega (arith, k .0, w .kept .1 .1 .1 .1 .1 .1 .1 .1 .1 .1 .1 .0),
+      omega (arith, k .1, gap (a .on), room (c .before .before .before .before .before .before .before .before .before .before .before .before .before .before .before .before .before .before .before .before .before) .freight-room),
+      omega (arith, few (c .before .before .before .before .before .before .before .before .before .before .before .before .before .before .before .before .before .before .before .before .before .before .before .before .before .before .before .before .before .before .before .before .before .before .before .before .before .before .before .before .before .before .before .before .before), sum-is (c .before .before .before .before .before .before .before .before .before .before .before .before .before .before .before .before .before .before .before .before .before .before .before .before .before .before .before .before .before .before .before .before .before .before)),
+      found-moderate a (prepared (c .before .before .before .before .before .before .before .before .before .before .before .before .before .before .before .before .before .before .before .before .before .before .before .before .before .before .before .before .before .before .before .before .before .before .before)) (w .ensures),
+    )
+
+lowered-requires : tie.Need-lowered-requires
+lowered-requires c κs = (total-moderate (passed (c .before .before .before .before .before .before .before .before .before .before .before .before .before .before .before .before .before .before .before .before .before .before .before)) (prepared (c .before .before .before .before .before .before .before .before .before .before .before .before .before .before .before .before .before .before .before .before .before .before .before .before .before .before .before .before .before .before .before .before .before .before .before .before .before)) (c .before .before .before .before .before .before .before .before .before .before .before .before .sweep .ensures), omega (arith, few (c .before .before .before .before .before .before .before .before .before .before .before .before .before .before .before .before .before .before .before .before .before .before .before .before .before .before .before .before .before .before .before .before .before .before .before .before .before .before .before .before .before .before .before .before .before .before .before), sum-is (c .before .before .before .before .before .before .before .before .before .before .before .before .before .before .before .before .before .before .before .before .before .before .before .before .before .before .before .before .before .before .before .before .before .before .before .before)))
+
+lowered-requires-2 : tie.Need-lowered-requires-2
+lowered-requires-2 c κs = (freight-moderate (passed (c .before .before .before .before .before .before .before .before .before .before .before .before .before .before .before .before .before .before .before .before .before .before .before .before)) (prepared (c .before .before .before .before .before .before .before .before .before .before .before .before .before .before .before .before .before .before .before .before .before .before .before .before .before .before .before .before .before .before .before .before .before .before .before .before .before .before)) (c .before .before .before .before .before .before .before .before .before .before .before .before .before .sweep .ensures), omega (arith, few (c .before .before .before .before .before .before .before .before .before .before .before .before .before .before .before .before .before .before .before .before .before .before .before .before .before .before .before .before .before .before .before .before .before .before .before .before .before .before .before .before .before .before .before .before .before .before .before .before), sum-is (c .before .before .before .before .before .before .before .before .before .before .before .before .before .before .before .before .before .before .before .before .before .before .before .before .before .before .before .before .before .before .before .before .before .before .before .before .before)))
 
 same-length : tie.Need-same-length
 same-length c = search needs
@@ -56,23 +152,46 @@ same-length-2 c = search needs
 same-length-3 : tie.Need-same-length-3
 same-length-3 c = search needs
 
-returns : tie.Need-returns
-returns c =
-    let g = c .before .before .gather-rows .ensures in
-    answered (c .before .before .before .before .before .before .before .before .before .before .before .before .before .before .before .before .before .before .before .before .before .before .before .before .before .before .before .before .pre) (prepared (c .before .before .before .before .before .before .before .before .before .before)) (c .before .before .before .before .before .before .before .before .before .sweep .ensures) _ _ (g .0) (g .1) (g .2) refl
+returns-3 : tie.Need-returns-3
+returns-3 c =
+    let s = c .before .before .before .before .before .before .before .before .before .before .before .before .before .before .before .before .before .before .before .before .before .before .before .before .before .before .before .before .before .before .before .before .before .before .before .before .before .before .before .before .before .before .before .before .before .before .before .before .before in
+    let w = c .before .before .before .before .before .before .before .before .before .before .before .before .before .before .sweep in
+    let g = c .before .before .before .before .before .before .before .before .gather-rows .ensures in
+    let e = sum-is (c .before .before .before .before .before .before .before .before .before .before .before .before .before .before .before .before .before .before .before .before .before .before .before .before .before .before .before .before .before .before .before .before .before .before .before .before .before .before) in
+    told
+    (read-back (c .before .lowered .result) (c .before .lowered .ok) ∙ c .before .lowered .ensures ∙ ap (λ (v : ℕ). subℕ (w .result .total) v) e)
+    (read-back (c .lowered2 .result) (c .lowered2 .ok) ∙ c .lowered2 .ensures ∙ ap (λ (v : ℕ). subℕ (w .result .freight) v) e)
+    (answered (passed (c .before .before .before .before .before .before .before .before .before .before .before .before .before .before .before .before .before .before .before .before .before .before .before .before .before)) (prepared (c .before .before .before .before .before .before .before .before .before .before .before .before .before .before .before .before .before .before .before .before .before .before .before .before .before .before .before .before .before .before .before .before .before .before .before .before .before .before .before)) (w .ensures) _ _ (g .0) (g .1) (g .2) refl
+    (c .before .before .before .lower-into .ensures ∙ ap (λ (v : ℕ). written (map (lower v) (take (w .result .stops) (w .last .1 .1 .1 .1 .1 .1 .1 .1 .1 .1 .1 .0))) (now (s .args .freights))) e))
 
 pub solve-spec : {M : Type 1} → statement M
 solve-spec =
     tie.close
     (tie.spec
-    cost-rows-requires
-    ceilings-requires
-    sub-first-amounts
-    first-amounts-requires
+    raised-rows-requires
+    ceiling-rows-requires
+    supplied-requires
     wanted-requires
+    sum-of-requires
+    mul-added
+    cast-all
+    cast-begin
+    cast-begin-2
+    begin-requires
+    returns
+    mul-splits-test
+    splits-test-requires
+    enum-known-number
+    returns-2
+    enum-told
+    slice-aggregate-sweep
     sweep-requires
     gather-rows-requires
+    slice-aggregate-lower-into
+    lower-into-requires
+    lowered-requires
+    lowered-requires-2
     same-length
     same-length-2
     same-length-3
-    returns)
+    returns-3)

@@ -6,14 +6,13 @@ use Prim.Native.Nat.{ℕ, _+_, _-_}
 use native.Mathlib.Omega.{arith}
 use lib.ListN.{length, take, drop}
 use denote.Ref.{now}
-use Rattle.planner.specs.Verdict.{found, firstAbove, firstSagging}
-use Rattle.planner.proofs.TestLaws.{entries-high, entries-low, entries-pass, high-within, low-within, above-all, sagging-within}
+use Rattle.planner.specs.Verdict.{found, firstAbove}
+use Rattle.planner.proofs.TestLaws.{entries-high, entries-pass, high-within}
 use Rattle.planner.proofs.tests.entries_test.Statement.{statement}
 use Rattle.planner.proofs.tests.entries_test.Tie as tie
 use Rattle.planner.proofs.tests.entries_test.Reads as reads
 use Rattle.planner.proofs.tests.entries_test.Lts as lts
 use Rattle.planner.proofs.tests.first_above.Reads as first-above-reads
-use Rattle.planner.proofs.tests.first_sagging.Reads as first-sagging-reads
 
 add-end : tie.Need-add-end
 add-end c = search needs
@@ -36,8 +35,8 @@ first-above-requires c κs = search needs
 enum-known-k : tie.Need-enum-known-k
 enum-known-k c = search needs
 
-add-t15 : tie.Need-add-t15
-add-t15 c =
+add-t14 : tie.Need-add-t14
+add-t14 c =
     let h = high-within (now (c .before .before .before .before .before .before .args .table)) (c .before .before .before .before .before .before .args .lo) (c .before .before .before .before .before .before .args .hi) (c .before .before .before .before .before .before .pre .order) (c .before .before .before .before .before .before .pre .long) _ (sym (c .before .before .before .first-above .ensures) ∙ ap found (c .before .k .given .1)) in
     omega (arith, c .before .before .before .before .before .before .pre .long)
 
@@ -49,29 +48,9 @@ returns c =
 enum-told : tie.Need-enum-told
 enum-told c = search needs
 
-first-sagging-requires : tie.Need-first-sagging-requires
-first-sagging-requires c κs =
-    above-all 1000000000 _ (sym (c .before .before .first-above .ensures) ∙ ap found (c .enum-told .given .1))
-
-enum-known-k-2 : tie.Need-enum-known-k-2
-enum-known-k-2 c = search needs
-
-add-t18 : tie.Need-add-t18
-add-t18 c =
-    let h = low-within (now (c .before .before .before .before .before .before .before .before .before .args .table)) (c .before .before .before .before .before .before .before .before .before .args .lo) (c .before .before .before .before .before .before .before .before .before .args .hi) (c .before .before .before .before .before .before .before .before .before .pre .order) (c .before .before .before .before .before .before .before .before .before .pre .long) _ (sym (c .before .before .before .first-sagging .ensures) ∙ ap found (c .before .k2 .given .1)) in
-    omega (arith, c .before .before .before .before .before .before .before .before .before .pre .long)
-
 returns-2 : tie.Need-returns-2
 returns-2 c =
-    let at : firstSagging _ ≡ some (c .before .k2 .given .0 .0) = sym (c .before .before .before .first-sagging .ensures) ∙ ap found (c .before .k2 .given .1) in
-    sym (entries-low _ _ _ (c .before .before .before .before .before .before .before .before .before .pre .order) (c .before .before .before .before .before .before .before .before .before .pre .long) _ (sagging-within _ _ at .0) (sym (c .before .before .before .before .before .before .first-above .ensures) ∙ ap found (c .before .before .before .before .enum-told .given .1)) at)
-
-enum-told-2 : tie.Need-enum-told-2
-enum-told-2 c = search needs
-
-returns-3 : tie.Need-returns-3
-returns-3 c =
-    sym (entries-pass _ _ _ (c .before .before .before .before .before .before .before .before .pre .order) (c .before .before .before .before .before .before .before .before .pre .long) (sym (c .before .before .before .before .before .first-above .ensures) ∙ ap found (c .before .before .before .enum-told .given .1)) (sym (c .before .before .first-sagging .ensures) ∙ ap found (c .enum-told2 .given .1)))
+    sym (entries-pass _ _ _ (c .before .before .before .before .before .pre .order) (c .before .before .before .before .before .pre .long) (sym (c .before .before .first-above .ensures) ∙ ap found (c .enum-told .given .1)))
 
 pub entries-test-spec : {M : Type 1} → statement M
 entries-test-spec =
@@ -84,12 +63,7 @@ entries-test-spec =
     part-part-end
     first-above-requires
     enum-known-k
-    add-t15
+    add-t14
     returns
     enum-told
-    first-sagging-requires
-    enum-known-k-2
-    add-t18
-    returns-2
-    enum-told-2
-    returns-3)
+    returns-2)
