@@ -1,9 +1,10 @@
--- Which numbers a refusal has: of the tests after the balance 9 or 11, of no test 10. Assumes nothing.
+-- Which numbers a refusal has: of the tests after the balance 9 or 11, of no test 10; and no test answers a plan. Assumes nothing.
 use mathlib.Core.Path.{_≡_, sym, subst}
 use mathlib.Core.Bool.{Bool, true, false}
 use mathlib.Core.Option.{Option, none, some}
 use Prim.Native.Nat.{ℕ, _<_}
 use native.Mathlib.Omega.{arith}
+use lib.IntN.{ℤ}
 use Rattle.planner.specs.Case.{Case}
 use Rattle.planner.specs.Outcome.{Outcome, planned, refused, refuseIf, refuseAt, _orElse_, formRefusal, refusalOf}
 use Rattle.planner.specs.Outcome.{test1, test2, test3, test4, test23, test5, test26, test6, test7, test8, test27, test9, test11}
@@ -43,29 +44,38 @@ unfolding test9 test11 number
 later-tests c k p e =
     by-either Late (test9 c) _ (by-place Late 9 _ (omega arith, omega arith)) (by-if Late 11 _ (omega arith, omega arith)) (refused k p) e
 
--- ---- the refusal that was numbered 10
+-- ---- all tests
 
+-- a number, and not 10
 abbrev Other : ℕ → Type 0
-Other k = k ≡ 10 → ⊥
+Other k = (0 < k) × (k ≡ 10 → ⊥)
 
 form-other : (c : Case) → Numbered Other (formRefusal c)
 unfolding formRefusal test1 test2 test3 test4 test23 test5 test26 test6
 form-other c =
-    by-either Other (test1 c) _ (by-if Other 1 _ (λ e. omega arith))
-    (by-either Other (test2 c) _ (by-if Other 2 _ (λ e. omega arith))
-    (by-either Other (test3 c) _ (by-if Other 3 _ (λ e. omega arith))
-    (by-either Other (test4 c) _ (by-place Other 4 _ (λ e. omega arith))
-    (by-either Other (test23 c) _ (by-place Other 23 _ (λ e. omega arith))
-    (by-either Other (test5 c) _ (by-place Other 5 _ (λ e. omega arith))
+    by-either Other (test1 c) _ (by-if Other 1 _ (omega arith, λ e. omega arith))
+    (by-either Other (test2 c) _ (by-if Other 2 _ (omega arith, λ e. omega arith))
+    (by-either Other (test3 c) _ (by-if Other 3 _ (omega arith, λ e. omega arith))
+    (by-either Other (test4 c) _ (by-place Other 4 _ (omega arith, λ e. omega arith))
+    (by-either Other (test23 c) _ (by-place Other 23 _ (omega arith, λ e. omega arith))
+    (by-either Other (test5 c) _ (by-place Other 5 _ (omega arith, λ e. omega arith))
     (by-either Other (test26 c) _
-    (by-either Other (refuseIf 26 _) _ (by-if Other 26 _ (λ e. omega arith)) (by-place Other 26 _ (λ e. omega arith)))
-    (by-if Other 6 _ (λ e. omega arith))))))))
+    (by-either Other (refuseIf 26 _) _ (by-if Other 26 _ (omega arith, λ e. omega arith)) (by-place Other 26 _ (omega arith, λ e. omega arith)))
+    (by-if Other 6 _ (omega arith, λ e. omega arith))))))))
+
+all-other : (c : Case) → Numbered Other (refusalOf c)
+unfolding refusalOf test7 test8 test27 test9 test11
+all-other c =
+    by-either Other (formRefusal c) _ (form-other c)
+    (by-either Other (test7 c) _ (by-if Other 7 _ (omega arith, λ e. omega arith))
+    (by-either Other (test8 c) _ (by-if Other 8 _ (omega arith, λ e. omega arith))
+    (by-either Other (test27 c) _ (by-if Other 27 _ (omega arith, λ e. omega arith))
+    (by-either Other (test9 c) _ (by-place Other 9 _ (omega arith, λ e. omega arith)) (by-if Other 11 _ (omega arith, λ e. omega arith))))))
 
 pub never10 : (c : Case) (k p : ℕ) → refusalOf c ≡ some (refused k p) → k ≡ 10 → ⊥
-unfolding refusalOf test7 test8 test27 test9 test11 number
-never10 c k p e =
-    by-either Other (formRefusal c) _ (form-other c)
-    (by-either Other (test7 c) _ (by-if Other 7 _ (λ e. omega arith))
-    (by-either Other (test8 c) _ (by-if Other 8 _ (λ e. omega arith))
-    (by-either Other (test27 c) _ (by-if Other 27 _ (λ e. omega arith))
-    (by-either Other (test9 c) _ (by-place Other 9 _ (λ e. omega arith)) (by-if Other 11 _ (λ e. omega arith)))))) (refused k p) e
+unfolding number
+never10 c k p e = all-other c (refused k p) e .1
+
+pub never-planned : (c : Case) (s : ℕ) (t f : ℤ) (k : ℕ) → refusalOf c ≡ some (planned s t f k) → ⊥
+unfolding number
+never-planned c s t f k e = let h = all-other c (planned s t f k) e in omega (arith, h .0)

@@ -8,11 +8,11 @@ use Prim.Native.Nat.{ℕ, _-_}
 use native.Mathlib.Omega.{arith}
 use Rattle.planner.specs.Case.{Case, entry, leastSplit}
 use Rattle.planner.specs.Plans.{rowSum, freightOf, PlanAt, planTotal, leastFreightAt, totalAt, bestSplit}
-use Rattle.planner.specs.Outcome.{Outcome, refused, _orElse_, formRefusal, refusalOf, planOf, outcomeOf}
+use Rattle.planner.specs.Outcome.{Outcome, planned, refused, _orElse_, formRefusal, refusalOf, planOf, outcomeOf}
 use Rattle.planner.specs.Outcome.{test7, test8, test27, test9, test11}
 use Rattle.planner.specs.Promise.{Cheapest, NoPlan, Unbalanced, BalanceRule}
 use Rattle.planner.proofs.Passed.{first-decides, second-decides, Formed, formed, balanced, balanced-passes, refuseIf-cases, has-split, split-passes, accepted}
-use Rattle.planner.proofs.Numbers.{Late, later-tests, never10}
+use Rattle.planner.proofs.Numbers.{Late, later-tests, never10, never-planned}
 use Rattle.planner.proofs.Splits.{SplitOf, split-of, split-range, Fitting, fitting, fits-split, in-order, last-split, plan-exists, meets-between}
 use Rattle.planner.proofs.Integers.{above-pos, above-at-most, above-below}
 use Rattle.planner.proofs.Raised.{raisedTotal, low, freight-above, total-above, freight-met, best-split, best-in}
@@ -46,6 +46,19 @@ module _ (c : Case) where
       step : (o : Option Outcome) → (elim o [ some r ↦ r | none ↦ planOf c ]) ≡ refused k p → o ≡ some (refused k p)
       step none q = let z : _≡_ {A = ℕ} 0 1 = cc in absurd (omega arith)
       step (some r) q = ap some q
+
+  -- and a plan exactly where none does
+  pub planned-passes : (s : ℕ) (t f : ℤ) (k : ℕ) → outcomeOf c ≡ planned s t f k → refusalOf c ≡ none
+  unfolding outcomeOf
+  planned-passes s t f k e = step (refusalOf c) (never-planned c s t f k) e
+    where
+      step : (o : Option Outcome) → (o ≡ some (planned s t f k) → ⊥) → (elim o [ some r ↦ r | none ↦ planOf c ]) ≡ planned s t f k → o ≡ none
+      step none h q = refl
+      step (some r) h q = absurd (h (ap some q))
+
+  pub planned-outcome : refusalOf c ≡ none → outcomeOf c ≡ planOf c
+  unfolding outcomeOf
+  planned-outcome e = rw (e, outcomeOf) refl
 
 -- refused by 7, 8 or 27
 abbrev pub RefusedForBalance : Case → Type 0
