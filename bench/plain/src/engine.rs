@@ -1,4 +1,4 @@
-//! Search, send, step 1 and the climb, as in crates/transport.
+//! Search, send, step 1 and the climb, as in crates/{residual,paths,augment,range,stretch,sweep}.
 #![allow(clippy::too_many_arguments)]
 
 /// Above every label.

@@ -3,7 +3,7 @@ use mathlib.Core.Path.{_≡_, sym, ap₂, _∙_, subst₂}
 use mathlib.Core.Bool.{false}
 use borrow.Author.Tests.{le-ltb}
 use mathlib.Core.Option.{none}
-use Prim.Native.Nat.{ℕ, zero, suc, _+_, _-_, _*_, _≤_, _<_}
+use Prim.Native.Nat.{ℕ, zero, suc, _+_, _*_, _≤_, _<_}
 use native.Mathlib.Omega.{arith}
 use lib.IntN.{ℤ, pos}
 use lib.Signed.{ltZ, _≤ℤ_}

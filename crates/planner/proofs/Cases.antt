@@ -14,7 +14,7 @@ use Rattle.transport.specs.Listing.{upFrom, select, compositions, rowLists, ser
 use Rattle.transport.specs.Curve.{amountsAt, hasPlan, splitsIn}
 use Rattle.planner.specs.Case.{Case, allDemand, depotStock, made, lowestSplit, highestSplit, splits, hasSplit, leastSplit, greatestSplit, steps}
 use Rattle.planner.specs.Plans.{leastFreightAt, totalAt, bestSplit, stops, stopFreights}
-use Rattle.planner.specs.Outcome.{Outcome, planned, refused, refuseIf, refuseAt, firstFrom, firstOver, _orElse_, formRefusal, refusalOf, planOf, outcomeOf}
+use Rattle.planner.specs.Outcome.{Outcome, planned, refused, refuseIf, refuseAt, firstFrom, firstOver, formRefusal, refusalOf, planOf, outcomeOf}
 use Rattle.planner.specs.Outcome.{test1, test2, test3, test4, test23, test5, test26, test6, test7, test8, test27, test9, test11}
 use Rattle.planner.proofs.Example.{Example, whereAccepted, sameList, sameIntegers, sameOutcome, right, allRight, Right, each-right}
 

@@ -4,7 +4,7 @@ use lib.IntN.{ℤ, pos, _+ℤ_}
 use mathlib.Core.Logic.{_⊎_, inl, inr}
 use mathlib.Core.Option.{Option, none, some}
 use mathlib.Core.List.{List}
-use Prim.Native.Nat.{ℕ, _-_}
+use Prim.Native.Nat.{ℕ}
 use native.Mathlib.Omega.{arith}
 use Rattle.planner.specs.Case.{Case, entry, leastSplit}
 use Rattle.planner.specs.Plans.{rowSum, freightOf, PlanAt, planTotal, leastFreightAt, totalAt, bestSplit}

@@ -11,8 +11,8 @@ use lib.Signed.{_≤ℤ_}
 use lib.ListN.{getD}
 use Rattle.transport.specs.Plan.{byRow, freight}
 use Rattle.transport.specs.Curve.{amountsAt, leastIn, stopsOf, bestFrom}
-use Rattle.transport.proofs.Within.{least-in-low, least-in-met}
-use Rattle.transport.proofs.Best.{Best, bestFrom-best}
+use Rattle.transport.proofs.WithinCeilings.{least-in-low, least-in-met}
+use Rattle.transport.proofs.BestSplit.{Best, bestFrom-best}
 use Rattle.planner.specs.Integer.{Above}
 use Rattle.planner.specs.Freight.{ratesByRow, leastAtℤ}
 use Rattle.planner.specs.Range.{outside, raisedOf, lower}

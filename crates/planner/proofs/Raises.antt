@@ -1,6 +1,5 @@
 -- Lists of raised costs. Assumes nothing.
-use mathlib.Core.Path.{_≡_, refl, sym, ap, _∙_}
-use mathlib.Core.Bool.{false}
+use mathlib.Core.Path.{_≡_, refl, ap, _∙_}
 use mathlib.Core.List.{List, [], _∷_, map}
 use Prim.Native.Nat.{ℕ, zero, suc, _+_, _-_, _≤_, _<_}
 use native.Mathlib.Nat.{le-of-suc-le-suc, not-suc-le-zero}
@@ -8,7 +7,7 @@ use native.Mathlib.Omega.{arith}
 use lib.IntN.{ℤ, pos}
 use lib.ListN.{length, getD, take, drop, length-take, length-drop}
 use lib.Seq.{getD-take, getD-drop}
-use Rattle.planner.specs.Range.{outside, raisedOf, AllInside}
+use Rattle.planner.specs.Range.{outside, AllInside}
 
 pub map-at : (f : ℤ → ℕ) (l : List ℤ) (k : ℕ) → k < length l → getD (map f l) k 0 ≡ f (getD l k (pos 0))
 map-at f [] k h = absurd (not-suc-le-zero h)

@@ -1,26 +1,25 @@
 -- Freight at signed unit costs is freight at costs raised by k, less k for each drum; so every least, best and stop is that of the raised curve.
 -- Assumes nothing.
 use mathlib.Core.Path.{_≡_, refl, sym, ap, ap₂, _∙_, subst, subst₂}
-use mathlib.Core.Logic.{_⊎_, inl, inr}
 use mathlib.Core.Bool.{Bool, true, false, not, cond, _||_}
 use mathlib.Core.List.{List, [], _∷_, map, List·Memᴰ, List·Memᴰ·head, List·Memᴰ·tail, List·Memᴰ·not-nil}
 use Prim.Native.Nat.{ℕ, zero, suc, min, _+_, _-_, _*_, _≤_, _<_}
 use native.Mathlib.Omega.{arith}
-use native.Mathlib.Decide.{ℕ-discrete, decLt}
-use lib.Dec.{eqb, ltb, leb}
-use lib.IntN.{ℤ, pos, subℕ, _+ℤ_, _*ℤ_}
-use lib.Signed.{ltZ, leZ}
+use native.Mathlib.Decide.{decLt}
+use lib.Dec.{eqb}
+use lib.IntN.{ℤ}
+use lib.Signed.{ltZ}
 use borrow.Author.Tests.{eqb-false, lt-leb, le-leb}
 use Rattle.transport.specs.Sum.{sum}
-use Rattle.transport.specs.Plan.{Table, byRow, row, col, total, freight, Plan, Fits}
-use Rattle.transport.specs.Listing.{listingIn, least, leastFreightIn, upFrom, select}
+use Rattle.transport.specs.Plan.{Table, byRow, col, total, freight, Plan, Fits}
+use Rattle.transport.specs.Listing.{listingIn, least, leastFreightIn}
 use Rattle.transport.specs.Curve.{bends, isStop, stopsOf, bestFrom}
 use Rattle.transport.proofs.Sums.{sum-ext, sum-scale, sum-swap}
-use Rattle.transport.proofs.Members.{select-ext, upFrom-out}
-use Rattle.transport.proofs.Within.{sound-in, complete-in}
-use Rattle.transport.proofs.Best.{Best, bestFrom-best}
+use Rattle.transport.proofs.ListMembers.{select-ext, upFrom-out}
+use Rattle.transport.proofs.WithinCeilings.{sound-in, complete-in}
+use Rattle.transport.proofs.BestSplit.{bestFrom-best}
 use Rattle.transport.proofs.Stops.{Stop, stops-out}
-use Rattle.planner.specs.Integer.{eqZ, minℤ, sumℤ, leastℤ, Above}
+use Rattle.planner.specs.Integer.{minℤ, sumℤ, leastℤ, Above}
 use Rattle.planner.specs.Range.{lower}
 use Rattle.planner.specs.Freight.{Rates, freightℤ, leastFreightℤ, bendsℤ, isStopℤ, stopsOfℤ, bestFromℤ}
 use Rattle.planner.proofs.Integers.{above-lt, above-le, above-eq, above-add, above-zero, above-scale}

@@ -11,14 +11,13 @@ use lib.ListN.{length, getD, take, drop, length-map, length-take, length-drop, t
 use lib.Seq.{ext-getD, getD-take, getD-drop, take-at}
 use Rattle.transport.proofs.Stops.{stops-few, stops-out}
 use Rattle.transport.specs.Sum.{sum}
-use Rattle.transport.specs.Plan.{byRow, row, col, freight, total}
-use Rattle.transport.specs.Listing.{upFrom, select, least, greatest}
-use Rattle.transport.specs.Listing.{some as any}
-use Rattle.transport.specs.Curve.{amountsAt, leastIn, hasPlan, splitsIn, bestFrom, stopsOf, written}
-use Rattle.transport.specs.Sweep.{BeginReady, Ranged, splitsOf, SweepReady, Swept, amountIn, demandIn}
-use Rattle.transport.proofs.Sums.{sum-ext}
-use Rattle.transport.proofs.Certificate.{total-ext}
-use Rattle.transport.proofs.Within.{some-ext, leastFreightIn-ext}
+use Rattle.transport.specs.Plan.{byRow, row, col, freight}
+use Rattle.transport.specs.Listing.{upFrom, select, least, greatest, some as any}
+use Rattle.transport.specs.Curve.{amountsAt, leastIn, hasPlan, splitsIn, bestFrom, stopsOf, written, splitsOf}
+use Rattle.range.specs.Range.{BeginReady, Ranged, amountIn, demandIn}
+use Rattle.sweep.specs.Sweep.{SweepReady, Swept}
+use Rattle.transport.proofs.Sums.{sum-ext, total-ext}
+use Rattle.transport.proofs.WithinCeilings.{some-ext, leastFreightIn-ext}
 use Rattle.transport.proofs.Splits.{at-has, member-splits}
 use Rattle.planner.specs.Case.{Case, supply, demand, ceiling, allDemand, made, lowestSplit, highestSplit, splits, hasSplit, leastSplit, greatestSplit, steps}
 use Rattle.planner.specs.Plans.{PlanAt, freightOf, leastFreightAt, totalAt, bestSplit, stops}

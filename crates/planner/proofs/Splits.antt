@@ -1,7 +1,7 @@
 -- The splits in use: a plan that meets (TP) is a plan at its own split, which is one of the splits, and each split from ℓ to u has a plan.
 -- Assumes nothing.
 use mathlib.Core.Path.{_≡_, refl, sym, ap, _∙_}
-use mathlib.Core.Bool.{true, false, false≢true}
+use mathlib.Core.Bool.{true, false≢true}
 use mathlib.Core.List.{List, [], _∷_, List·Memᴰ, List·Memᴰ·head, List·Memᴰ·not-nil}
 use Prim.Native.Nat.{ℕ, zero, suc, _+_, _-_, _≤_, _<_}
 use native.Mathlib.Omega.{arith}
@@ -10,11 +10,11 @@ use Rattle.transport.specs.Plan.{Plan}
 use Rattle.transport.specs.Listing.{least, greatest, some}
 use Rattle.transport.specs.Curve.{amountsAt, hasPlan}
 use Rattle.transport.proofs.Sums.{sum-ext, sum-front}
-use Rattle.transport.proofs.Members.{least-in}
-use Rattle.transport.proofs.Within.{some-fits, fits-some}
+use Rattle.transport.proofs.ListMembers.{least-in}
+use Rattle.transport.proofs.WithinCeilings.{some-fits, fits-some}
 use Rattle.transport.proofs.Splits.{greatest-in, splits-member, member-splits}
-use Rattle.transport.proofs.Interval.{split-between, between-split}
-use Rattle.transport.proofs.Exists as exists
+use Rattle.transport.proofs.SplitInterval.{split-between, between-split}
+use Rattle.transport.proofs.Existence as exists
 use Rattle.planner.specs.Case.{Case, supply, demand, ceiling, allDemand, depotStock, made, lowestSplit, highestSplit, splits, hasSplit, leastSplit, greatestSplit, steps}
 use Rattle.planner.specs.Plans.{rowSum, columnSum, MeetsTP, PlanAt}
 use Rattle.planner.proofs.Passed.{Formed, Balanced}

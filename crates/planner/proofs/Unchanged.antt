@@ -11,9 +11,9 @@ use lib.ListN.{length, getD, replicate, length-replicate, getD-replicate}
 use Rattle.transport.specs.Sum.{sum}
 use Rattle.transport.specs.Plan.{byRow}
 use Rattle.transport.specs.Curve.{amountsAt}
-use Rattle.transport.proofs.Within.{wide-under, listing-same}
+use Rattle.transport.proofs.WithinCeilings.{wide-under, listing-same}
 use Rattle.transport.proofs.Splits.{wide-has, member-splits}
-use Rattle.transport.proofs.Capped.{wide-splits}
+use Rattle.transport.proofs.WideCeilings.{wide-splits}
 use Rattle.planner.specs.Integer.{leastℤ}
 use Rattle.planner.specs.Freight.{ratesByRow, freightℤ, leastFreightℤ, leastAtℤ, stopsOfℤ, bestFromℤ}
 use Rattle.planner.specs.Case.{Case, supply, demand, ceiling, entry, allDemand, made, lowestSplit, highestSplit, splits, leastSplit, greatestSplit, steps}

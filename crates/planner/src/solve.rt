@@ -14,8 +14,8 @@ use crate::work::lowered;
 use crate::work::raised_rows;
 use crate::work::supplied;
 use crate::work::wanted;
-use transport::begin::begin;
-use transport::curve::sweep;
+use range::begin::begin;
+use sweep::curve::sweep;
 
 // Prepares the working arrays with raised costs, has the engine find the first and the last split, tests 27, 9 and 11, has the engine sweep
 // the splits, copies the plan out and lowers freights and total.

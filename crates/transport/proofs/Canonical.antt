@@ -15,10 +15,10 @@ use borrow.Author.Tests.{eqb-true, eq-eqb}
 use Rattle.transport.specs.Plan.{Table, byRow, freight, Fits}
 use Rattle.transport.specs.Listing.{select, least, listing, fits, listingIn, leastFreightIn, some}
 use Rattle.transport.specs.Canonical.{Before, first, firstLeast, canonical}
-use Rattle.transport.proofs.Members.{select-in, select-out, least-in}
+use Rattle.transport.proofs.ListMembers.{select-in, select-out, least-in}
 use Rattle.transport.proofs.Tables.{Alike, Below, freight-ext}
-use Rattle.transport.proofs.Within.{sound-in, complete-in, some-fits, some-ext, fits-ext, leastFreightIn-ext, Wide, listing-same}
-use Rattle.transport.proofs.Rising.{Ordered, ordered-select, listing-rising}
+use Rattle.transport.proofs.WithinCeilings.{sound-in, complete-in, some-fits, some-ext, fits-ext, leastFreightIn-ext, Wide, listing-same}
+use Rattle.transport.proofs.ListingOrder.{Ordered, ordered-select, listing-rising}
 
 -- ---- the first member
 

@@ -1,6 +1,5 @@
 -- `ffi::tell` meets its contract: the cells written one after another are those of the report. Assumes nothing.
-use mathlib.Core.Path.{_≡_, refl, sym, ap, ap₂, _∙_}
-use Prim.Native.Nat.{ℕ}
+use mathlib.Core.Path.{_≡_, sym, ap, ap₂, _∙_}
 use lib.IntN.{ℤ}
 use lib.ListN.{set}
 use denote.Ref.{now}
@@ -11,8 +10,6 @@ use Rattle.ffi.proofs.Reports.{two-written, one-written, read-back}
 use borrow.Author.Needs.{needs}
 use Rattle.ffi.proofs.tell.Statement.{statement}
 use Rattle.ffi.proofs.tell.Tie as tie
-use Rattle.ffi.proofs.tell.Reads as reads
-use Rattle.ffi.proofs.tell.Lts as lts
 
 enum-known-answer : tie.Need-enum-known-answer
 enum-known-answer c = search needs

@@ -3,10 +3,6 @@ use Rattle.ffi.proofs.Reports.{by-short, by-worth, by-told}
 use borrow.Author.Needs.{needs}
 use Rattle.ffi.proofs.yadvorkhul_plan.Statement.{statement}
 use Rattle.ffi.proofs.yadvorkhul_plan.Tie as tie
-use Rattle.ffi.proofs.yadvorkhul_plan.Reads as reads
-use Rattle.ffi.proofs.yadvorkhul_plan.Lts as lts
-use Rattle.ffi.proofs.tell.Reads as tell-reads
-use Rattle.planner.proofs.plan.Reads as plan-reads
 
 returns : tie.Need-returns
 returns c = by-short _ _ _ _ (c .if1 .taken)

@@ -11,11 +11,6 @@ use Rattle.planner.proofs.Solution.{refuses}
 use Rattle.planner.proofs.Decide.{form-decides, amounts, unbalanced, on-balance}
 use Rattle.planner.proofs.plan.Statement.{statement}
 use Rattle.planner.proofs.plan.Tie as tie
-use Rattle.planner.proofs.plan.Reads as reads
-use Rattle.planner.proofs.plan.Lts as lts
-use Rattle.planner.proofs.solve.solve.Reads as solve-reads
-use Rattle.planner.proofs.tests.form_test.Reads as form-test-reads
-use Rattle.planner.proofs.tests.made_of.Reads as made-of-reads
 
 -- the lent case
 abbrev the : tie.Start → Case

@@ -20,19 +20,6 @@ use Rattle.planner.proofs.Solution.{Prepared, prepare, ready, OnSplits,
 use Rattle.planner.proofs.Decide.{within, by-splits, accepts}
 use Rattle.planner.proofs.solve.solve.Statement.{statement}
 use Rattle.planner.proofs.solve.solve.Tie as tie
-use Rattle.planner.proofs.solve.solve.Reads as reads
-use Rattle.planner.proofs.solve.solve.Lts as lts
-use Rattle.planner.proofs.tests.splits_test.Reads as splits-test-reads
-use Rattle.planner.proofs.tests.sum_of.Reads as sum-of-reads
-use Rattle.planner.proofs.work.ceiling_rows.Reads as ceiling-rows-reads
-use Rattle.planner.proofs.work.gather_rows.Reads as gather-rows-reads
-use Rattle.planner.proofs.work.lower_into.Reads as lower-into-reads
-use Rattle.planner.proofs.work.lowered.Reads as lowered-reads
-use Rattle.planner.proofs.work.raised_rows.Reads as raised-rows-reads
-use Rattle.planner.proofs.work.supplied.Reads as supplied-reads
-use Rattle.planner.proofs.work.wanted.Reads as wanted-reads
-use Rattle.transport.proofs.begin.begin.Reads as begin-reads
-use Rattle.transport.proofs.curve.sweep.Reads as sweep-reads
 
 -- the lent case, and what its tests left
 abbrev the : tie.Start → Case

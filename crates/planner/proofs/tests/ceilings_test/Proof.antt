@@ -8,9 +8,6 @@ use Rattle.planner.proofs.TestLaws.{ceilings-length, ceilings-high, cei
 use borrow.Author.Needs.{needs}
 use Rattle.planner.proofs.tests.ceilings_test.Statement.{statement}
 use Rattle.planner.proofs.tests.ceilings_test.Tie as tie
-use Rattle.planner.proofs.tests.ceilings_test.Reads as reads
-use Rattle.planner.proofs.tests.ceilings_test.Lts as lts
-use Rattle.planner.proofs.tests.first_above.Reads as first-above-reads
 
 returns : tie.Need-returns
 returns c = sym (ceilings-length _ _ (c .if1 .taken))

@@ -1,18 +1,13 @@
 use borrow.Author.Needs.{needs}
 -- `planner::tests::entries_test` meets its contract. Assumes nothing.
 use mathlib.Core.Path.{_≡_, sym, ap, _∙_}
-use mathlib.Core.Option.{some, none}
-use Prim.Native.Nat.{ℕ, _+_, _-_}
+use mathlib.Core.Option.{some}
 use native.Mathlib.Omega.{arith}
-use lib.ListN.{length, take, drop}
 use denote.Ref.{now}
 use Rattle.planner.specs.Verdict.{found, firstAbove}
 use Rattle.planner.proofs.TestLaws.{entries-high, entries-pass, high-within}
 use Rattle.planner.proofs.tests.entries_test.Statement.{statement}
 use Rattle.planner.proofs.tests.entries_test.Tie as tie
-use Rattle.planner.proofs.tests.entries_test.Reads as reads
-use Rattle.planner.proofs.tests.entries_test.Lts as lts
-use Rattle.planner.proofs.tests.first_above.Reads as first-above-reads
 
 add-end : tie.Need-add-end
 add-end c = search needs

@@ -9,9 +9,6 @@ use Rattle.transport.specs.Sum.{sum}
 use Rattle.planner.proofs.TestLaws.{depots-length, depots-most, depots-sum, sum-most, made-below, made-above, made-drums}
 use Rattle.planner.proofs.tests.made_of.Statement.{statement}
 use Rattle.planner.proofs.tests.made_of.Tie as tie
-use Rattle.planner.proofs.tests.made_of.Reads as reads
-use Rattle.planner.proofs.tests.made_of.Lts as lts
-use Rattle.planner.proofs.tests.sum_of.Reads as sum-of-reads
 
 -- the depots' stock
 stock-is : (c : tie.After-sum-of2) → c .sum-of2 .result ≡ sum (length (now (c .before .before .before .before .before .args .supplies)) - 2) (λ k. getD (now (c .before .before .before .before .before .args .supplies)) (2 + k) 0)

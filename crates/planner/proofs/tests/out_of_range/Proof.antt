@@ -1,5 +1,5 @@
 -- `planner::tests::out_of_range` meets its contract. Assumes nothing.
-use mathlib.Core.Path.{_≡_, refl, sym, ap, _∙_}
+use mathlib.Core.Path.{_≡_, sym, ap, _∙_}
 use mathlib.Core.Bool.{Bool, true, false, _||_}
 use lib.IntN.{ℤ, pos, negℤ}
 use lib.Signed.{ltZ}
@@ -8,8 +8,6 @@ use mir.ValLaws.{toZ-ofZ}
 use Rattle.planner.specs.Range.{outside}
 use Rattle.planner.proofs.tests.out_of_range.Statement.{statement}
 use Rattle.planner.proofs.tests.out_of_range.Tie as tie
-use Rattle.planner.proofs.tests.out_of_range.Reads as reads
-use Rattle.planner.proofs.tests.out_of_range.Lts as lts
 
 returns : tie.Need-returns
 unfolding outside

@@ -4,8 +4,6 @@ use borrow.Author.Needs.{needs}
 use Rattle.planner.proofs.TestLaws.{runs-first, runs-second, runs-pass}
 use Rattle.planner.proofs.tests.runs_test.Statement.{statement}
 use Rattle.planner.proofs.tests.runs_test.Tie as tie
-use Rattle.planner.proofs.tests.runs_test.Reads as reads
-use Rattle.planner.proofs.tests.runs_test.Lts as lts
 
 shared-slice-read-if1 : tie.Need-shared-slice-read-if1
 shared-slice-read-if1 c = search needs

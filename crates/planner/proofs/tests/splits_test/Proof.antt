@@ -7,9 +7,6 @@ use Rattle.planner.proofs.TestLaws.{splits-entry, splits-plan, splits-s
 use borrow.Author.Needs.{needs}
 use Rattle.planner.proofs.tests.splits_test.Statement.{statement}
 use Rattle.planner.proofs.tests.splits_test.Tie as tie
-use Rattle.planner.proofs.tests.splits_test.Reads as reads
-use Rattle.planner.proofs.tests.splits_test.Lts as lts
-use Rattle.planner.proofs.tests.entries_test.Reads as entries-test-reads
 
 -- past test 9
 passed : (c : tie.After-enum-told) → entriesRefusal (now (c .before .before .before .before .args .table)) (c .before .before .before .before .args .lo) (c .before .before .before .before .args .hi) ≡ none

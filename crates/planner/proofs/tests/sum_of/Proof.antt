@@ -1,6 +1,6 @@
 -- `planner::tests::sum_of` meets its contract. The invariant: the total is the sum of the numbers passed, and at most 4,000 for each. Assumes nothing.
-use mathlib.Core.Path.{_≡_, refl, sym, ap, _∙_}
-use Prim.Native.Nat.{ℕ, _≤_, _<_, _*_, _-_, _+_}
+use mathlib.Core.Path.{_≡_, sym, ap, _∙_}
+use Prim.Native.Nat.{ℕ, _≤_, _*_, _-_, _+_}
 use native.Mathlib.Omega.{arith}
 use native.Mathlib.Numerals.{add-one}
 use borrow.Author.Needs.{needs}
@@ -9,8 +9,6 @@ use Rattle.transport.specs.Sum.{sum}
 use Rattle.transport.proofs.Sums.{sum-zero, sum-suc}
 use Rattle.planner.proofs.tests.sum_of.Statement.{statement}
 use Rattle.planner.proofs.tests.sum_of.Tie as tie
-use Rattle.planner.proofs.tests.sum_of.Reads as reads
-use Rattle.planner.proofs.tests.sum_of.Lts as lts
 
 abbrev Inv-loop : tie.InvT-loop
 Inv-loop s total₀ i₀ total i = (i ≤ length s) × (total ≡ sum i (λ j. getD s j 0)) × (total ≤ 4000 * i)

@@ -1,14 +1,10 @@
 -- `planner::work::copy_into` meets its contract. The invariant: the first k cells are copied. Assumes nothing.
-use mathlib.Core.Path.{_≡_}
-use Prim.Native.Nat.{ℕ, _≤_, _<_, _-_}
+use Prim.Native.Nat.{_-_}
 use native.Mathlib.Omega.{arith}
-use borrow.Author.Needs.{needs}
-use lib.ListN.{length, length-set}
+use lib.ListN.{length}
 use Rattle.planner.proofs.Copies.{Copying, copy-start, copy-next, copy-end}
 use Rattle.planner.proofs.work.copy_into.Statement.{statement}
 use Rattle.planner.proofs.work.copy_into.Tie as tie
-use Rattle.planner.proofs.work.copy_into.Reads as reads
-use Rattle.planner.proofs.work.copy_into.Lts as lts
 
 abbrev Inv-loop : tie.InvT-loop
 Inv-loop source at to₀ k₀ to k = Copying source at k to₀ to

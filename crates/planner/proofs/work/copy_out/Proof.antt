@@ -1,14 +1,10 @@
 -- `planner::work::copy_out` meets its contract. The invariant: the first k cells are copied. Assumes nothing.
-use mathlib.Core.Path.{_≡_}
-use Prim.Native.Nat.{ℕ, _≤_, _<_, _-_}
+use Prim.Native.Nat.{_-_}
 use native.Mathlib.Omega.{arith}
-use borrow.Author.Needs.{needs}
-use lib.ListN.{length, length-set}
+use lib.ListN.{length}
 use Rattle.planner.proofs.Copies.{Copying, copy-start, copy-next, copy-end}
 use Rattle.planner.proofs.work.copy_out.Statement.{statement}
 use Rattle.planner.proofs.work.copy_out.Tie as tie
-use Rattle.planner.proofs.work.copy_out.Reads as reads
-use Rattle.planner.proofs.work.copy_out.Lts as lts
 
 abbrev Inv-loop : tie.InvT-loop
 Inv-loop cells at to₀ k₀ to k = Copying cells at k to₀ to

@@ -8,9 +8,6 @@ use lib.ListN.{length}
 use Rattle.planner.proofs.Copies.{Moving, move-start, move-next, move-end, part-size, narrow-part, row-within, row-start}
 use Rattle.planner.proofs.work.copy_rows.Statement.{statement}
 use Rattle.planner.proofs.work.copy_rows.Tie as tie
-use Rattle.planner.proofs.work.copy_rows.Reads as reads
-use Rattle.planner.proofs.work.copy_rows.Lts as lts
-use Rattle.planner.proofs.work.copy_into.Reads as copy-into-reads
 
 abbrev Inv-loop : tie.InvT-loop
 Inv-loop m n ceilings to₀ start₀ i₀ to start i = Moving n n 64 i ceilings to₀ to × (i ≤ m) × (start ≡ i * n)

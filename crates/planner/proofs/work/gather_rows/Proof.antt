@@ -1,17 +1,13 @@
 -- `planner::work::gather_rows` meets its contract. The invariant: the first i rows are copied. Assumes nothing.
-use mathlib.Core.Path.{_≡_, refl, sym, ap, _∙_}
-use Prim.Native.Nat.{ℕ, _≤_, _<_, _-_, _+_, _*_}
+use mathlib.Core.Path.{_≡_, refl, sym}
+use Prim.Native.Nat.{_≤_, _-_, _+_, _*_}
 use native.Mathlib.Nat.{zero-mul}
 use native.Mathlib.Omega.{arith}
-use borrow.Author.Needs.{needs}
 use denote.Ref.{now}
 use lib.ListN.{length}
 use Rattle.planner.proofs.Copies.{Moving, move-start, move-next, move-end, part-size, row-within, row-start}
 use Rattle.planner.proofs.work.gather_rows.Statement.{statement}
 use Rattle.planner.proofs.work.gather_rows.Tie as tie
-use Rattle.planner.proofs.work.gather_rows.Reads as reads
-use Rattle.planner.proofs.work.gather_rows.Lts as lts
-use Rattle.planner.proofs.work.copy_out.Reads as copy-out-reads
 
 abbrev Inv-loop : tie.InvT-loop
 Inv-loop m n cells to₀ all at₀ i₀ to at i = Moving n 64 n i cells to₀ to × (i ≤ m) × (at ≡ i * n)

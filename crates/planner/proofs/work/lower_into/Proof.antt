@@ -1,14 +1,11 @@
 -- `planner::work::lower_into` meets its contract. The invariant: the first k cells are written. Assumes nothing.
-use mathlib.Core.Path.{_≡_, sym, ap, _∙_}
-use Prim.Native.Nat.{ℕ, _+_, _≤_, _<_, _-_}
+use mathlib.Core.Path.{_∙_}
+use Prim.Native.Nat.{_≤_, _-_}
 use native.Mathlib.Omega.{arith}
 use Rattle.planner.proofs.Machine.{read-back}
 use Rattle.planner.proofs.Lowers.{Lowering, lower-start, lower-next, lower-long, lower-end}
 use Rattle.planner.proofs.work.lower_into.Statement.{statement}
 use Rattle.planner.proofs.work.lower_into.Tie as tie
-use Rattle.planner.proofs.work.lower_into.Reads as reads
-use Rattle.planner.proofs.work.lower_into.Lts as lts
-use Rattle.planner.proofs.work.lowered.Reads as lowered-reads
 
 abbrev Inv-loop : tie.InvT-loop
 Inv-loop work count added to₀ k₀ to k = Lowering added work k to₀ to × (k ≤ count)

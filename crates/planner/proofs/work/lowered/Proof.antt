@@ -1,6 +1,6 @@
 -- `planner::work::lowered` meets its contract. Assumes nothing.
-use mathlib.Core.Path.{_≡_, sym, ap, _∙_, subst}
-use lib.IntN.{ℤ, subℕ}
+use mathlib.Core.Path.{sym, ap, _∙_, subst}
+use lib.IntN.{ℤ}
 use borrow.Author.Needs.{needs}
 use mir.Syntax.{w64}
 use mir.Val.{SFits, toZ, ofZ}
@@ -8,8 +8,6 @@ use mir.ValLaws.{toZ-ofZ}
 use Rattle.planner.proofs.Machine.{lowered-is, sub-fits}
 use Rattle.planner.proofs.work.lowered.Statement.{statement}
 use Rattle.planner.proofs.work.lowered.Tie as tie
-use Rattle.planner.proofs.work.lowered.Reads as reads
-use Rattle.planner.proofs.work.lowered.Lts as lts
 
 cast-result : tie.Need-cast-result
 cast-result c = search needs

@@ -1,9 +1,8 @@
 -- `planner::work::raise_into` meets its contract. The invariant: the first k cells are written. Assumes nothing.
 use mathlib.Core.Path.{_≡_, sym, ap, _∙_}
 use mathlib.Core.List.{map}
-use Prim.Native.Nat.{ℕ, _+_, _≤_, _<_, _-_}
+use Prim.Native.Nat.{_≤_, _-_}
 use native.Mathlib.Omega.{arith}
-use borrow.Author.Needs.{needs}
 use denote.Ref.{now}
 use lib.ListN.{length, getD, length-map}
 use Rattle.planner.proofs.Machine.{read-back}
@@ -12,9 +11,6 @@ use Rattle.planner.proofs.Copies.{Copying, copy-start, copy-next, copy-
 use Rattle.planner.proofs.Raises.{map-at}
 use Rattle.planner.proofs.work.raise_into.Statement.{statement}
 use Rattle.planner.proofs.work.raise_into.Tie as tie
-use Rattle.planner.proofs.work.raise_into.Reads as reads
-use Rattle.planner.proofs.work.raise_into.Lts as lts
-use Rattle.planner.proofs.work.raised.Reads as raised-reads
 
 abbrev Inv-loop : tie.InvT-loop
 Inv-loop source at to₀ k₀ to k = Copying (map raisedOf source) at k to₀ to × (k ≤ length source)

@@ -1,9 +1,8 @@
 -- `planner::work::raise_rows` meets its contract. The invariant: the first i rows are copied. Assumes nothing.
-use mathlib.Core.Path.{_≡_, refl, sym, ap, _∙_}
-use Prim.Native.Nat.{ℕ, _≤_, _<_, _-_, _+_, _*_}
+use mathlib.Core.Path.{_≡_, refl, sym, _∙_}
+use Prim.Native.Nat.{_≤_, _-_, _+_, _*_}
 use native.Mathlib.Nat.{zero-mul}
 use native.Mathlib.Omega.{arith}
-use borrow.Author.Needs.{needs}
 use denote.Ref.{now}
 use mathlib.Core.List.{map}
 use lib.ListN.{length, length-map}
@@ -12,9 +11,6 @@ use Rattle.planner.proofs.Raises.{part-long, inside-part, map-part}
 use Rattle.planner.proofs.Copies.{Moving, move-start, move-next, move-end, row-within, row-start}
 use Rattle.planner.proofs.work.raise_rows.Statement.{statement}
 use Rattle.planner.proofs.work.raise_rows.Tie as tie
-use Rattle.planner.proofs.work.raise_rows.Reads as reads
-use Rattle.planner.proofs.work.raise_rows.Lts as lts
-use Rattle.planner.proofs.work.raise_into.Reads as raise-into-reads
 
 abbrev Inv-loop : tie.InvT-loop
 Inv-loop m n costs to₀ start₀ i₀ to start i = Moving n n 64 i (map raisedOf costs) to₀ to × (i ≤ m) × (start ≡ i * n)

@@ -1,17 +1,14 @@
 -- `planner::work::raised` meets its contract. Assumes nothing.
-use mathlib.Core.Path.{_≡_, sym, ap, subst}
+use mathlib.Core.Path.{sym, ap, subst}
 use native.Mathlib.Omega.{arith}
-use Prim.Native.Nat.{ℕ, _≤_}
-use lib.IntN.{ℤ, pos, natAbs, _+ℤ_}
+use lib.IntN.{ℤ, natAbs}
 use lib.Signed.{nonNeg}
 use lib.Dec.{T}
-use mir.Syntax.{w32, w64}
-use mir.Val.{Fits, toZ, ofZ}
+use mir.Syntax.{w32}
+use mir.Val.{Fits}
 use Rattle.planner.proofs.Machine.{raised-is, raised-sum, small-fits, stored}
 use Rattle.planner.proofs.work.raised.Statement.{statement}
 use Rattle.planner.proofs.work.raised.Tie as tie
-use Rattle.planner.proofs.work.raised.Reads as reads
-use Rattle.planner.proofs.work.raised.Lts as lts
 
 add-result : tie.Need-add-result
 add-result c = small-fits _ _ (raised-sum (c .args .cost) (c .fits .cost) (c .pre)) (raised-is (c .args .cost) (c .pre) .1)

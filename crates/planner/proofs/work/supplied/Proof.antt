@@ -3,9 +3,6 @@ use borrow.Author.Needs.{needs}
 use Rattle.planner.proofs.Copies.{copied-first}
 use Rattle.planner.proofs.work.supplied.Statement.{statement}
 use Rattle.planner.proofs.work.supplied.Tie as tie
-use Rattle.planner.proofs.work.supplied.Reads as reads
-use Rattle.planner.proofs.work.supplied.Lts as lts
-use Rattle.planner.proofs.work.copy_into.Reads as copy-into-reads
 
 slice-aggregate-copy-into : tie.Need-slice-aggregate-copy-into
 slice-aggregate-copy-into c = search needs

@@ -1,14 +1,11 @@
 use borrow.Author.Needs.{needs}
 -- `planner::work::wanted` meets its contract. Assumes nothing.
-use mathlib.Core.Path.{_≡_, _∙_}
+use mathlib.Core.Path.{_∙_}
 use Prim.Native.Nat.{ℕ}
-use lib.ListN.{length-replicate, getD-replicate}
+use lib.ListN.{getD-replicate}
 use native.Mathlib.Omega.{arith}
 use Rattle.planner.proofs.work.wanted.Statement.{statement}
 use Rattle.planner.proofs.work.wanted.Tie as tie
-use Rattle.planner.proofs.work.wanted.Reads as reads
-use Rattle.planner.proofs.work.wanted.Lts as lts
-use Rattle.planner.proofs.work.copy_into.Reads as copy-into-reads
 
 slice-aggregate-copy-into : tie.Need-slice-aggregate-copy-into
 slice-aggregate-copy-into c = search needs

@@ -1,0 +1,2 @@
+// What goes along a path: its arcs and its smallest ceiling, the drums, the potentials after it.
+pub mod send;

@@ -1,0 +1,33 @@
+-- `paths::search::search` meets its contract. Assumes nothing.
+use mathlib.Core.Path.{refl}
+use Prim.Native.Nat.{ℕ}
+use lib.ListN.{getD-replicate}
+use Rattle.residual.specs.Labels.{far}
+use Rattle.paths.proofs.NodeTags.{tag-other}
+use borrow.Author.Needs.{needs}
+use Rattle.paths.proofs.search.search.Statement.{statement}
+use Rattle.paths.proofs.search.search.Tie as tie
+
+tag-requires : tie.Need-tag-requires
+tag-requires c κs = search needs
+
+prefer-requires : tie.Need-prefer-requires
+prefer-requires c κs = search needs
+
+explore-requires : tie.Need-explore-requires
+explore-requires c κs = (
+  c .before .before .before .before .before .before .before .before .before .pre .0,
+  (
+    c .before .before .before .before .before .before .before .before .before .pre .1 .0,
+    (
+      tag-other (c .before .before .before .before .before .before .tag .ensures) (c .before .before .before .before .prefer .ensures),
+      (record { long-dist = refl; long-prev = refl; dists = λ v h. getD-replicate {A = ℕ} 96 v far 0 h }, c .before .before .before .before .before .before .before .before .before .pre .1 .1),
+    ),
+  ),
+)
+
+returns : tie.Need-returns
+returns c = search needs
+
+pub search-spec : {M : Type 1} → statement M
+search-spec = tie.close (tie.spec tag-requires prefer-requires explore-requires returns)

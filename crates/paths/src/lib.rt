@@ -1,0 +1,2 @@
+// Cheapest paths in the residual network, nearest node first.
+pub mod search;

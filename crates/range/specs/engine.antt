@@ -1,0 +1,4 @@
+pub mod Shipment
+pub mod FirstPlan
+pub mod PlantShift
+pub mod LastSplit

@@ -1,0 +1,64 @@
+// The first and the last split that have a plan within the ceilings.
+ghost use Rattle.range.specs.Range.{BeginReady, Ranged};
+use super::base::first_plan;
+use super::reach::last;
+use paths::search::smaller;
+
+// Whether there is a plan, and the first and the last split.
+pub struct Range {
+    pub found: bool,
+    pub lo: u64,
+    pub hi: u64,
+}
+
+// The first and the last split of a prepared case that have a plan within the ceilings; a cheapest plan at the first goes into x, with its
+// potentials and the lanes in use.
+pub fn begin(
+    m: usize,
+    n: usize,
+    cost: &[u32; 2048],
+    cap: &[u32; 2048],
+    supply: &[u32; 32],
+    demand: &[u32; 96],
+    run0: u32,
+    run1: u32,
+    made: u32,
+    x: &mut [u32; 2048],
+    serves: &mut [u32; 64],
+    pot: &mut [u32; 96],
+) -> Range
+    requires { ⌜ BeginReady m n (now cost) (now cap) (now supply) (now demand) run0 run1 made ⌝ }
+    ensures { λ r. ⌜ Ranged m n (now (cost .entry)) (now (cap .entry)) (now (supply .entry)) (now (demand .entry)) run0 run1 made (now (x .exit)) (now (serves .exit)) (now (pot .exit)) (r .found) (r .lo) (r .hi) ⌝ }
+{
+    *x = [0u32; 2048];
+    *serves = [0u32; 64];
+    let first = first_plan(
+        m,
+        n,
+        cost,
+        cap,
+        supply,
+        demand,
+        run0,
+        run1,
+        made,
+        x,
+        serves,
+        pot,
+    );
+    if first.found {
+        let split = first.split;
+        let top = smaller(supply[0], made - run1);
+        let gone = last(m, n, cap, top - split, demand, x, serves);
+        return Range {
+            found: true,
+            lo: split as u64,
+            hi: (split + gone) as u64,
+        };
+    }
+    Range {
+        found: false,
+        lo: 0,
+        hi: 0,
+    }
+}

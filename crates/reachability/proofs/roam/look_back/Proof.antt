@@ -1,0 +1,129 @@
+-- `reachability::roam::look_back` meets its contract. Assumes nothing.
+use Prim.Native.Nat.{_+_, _*_, _<_}
+use native.Mathlib.Omega.{arith}
+use lib.Count.{trailingZeros}
+use Rattle.residual.proofs.Bits.{power-fits}
+use Rattle.reachability.proofs.Reachability.{LookingBack, back-start, back-source, back-fresh, back-fewer, back-take, back-skip, back-end}
+use Rattle.reachability.proofs.MaskBits.{take-fits}
+use Rattle.reachability.proofs.roam.look_back.Statement.{statement}
+use Rattle.reachability.proofs.roam.look_back.Tie as tie
+
+abbrev Inv-loop : tie.InvT-loop
+Inv-loop m n start limit j free x serves front prev₀ sources₀ wait₀ rest₀ prev sources wait rest = LookingBack m n j free x serves start limit (front .terminals) (front .sources) (front .wait) prev sources wait rest
+
+abbrev μ-loop : tie.MeasureT-loop
+μ-loop m n start limit j free x serves front prev₀ sources₀ wait₀ rest₀ prev sources wait rest = rest
+
+-- ---- a turn of the loop
+
+source : (c : tie.In-loop Inv-loop μ-loop) → trailingZeros 32 (c .before .loop .rest) < 32
+source c =
+    let s = c .before .before .before .pre in
+    omega (arith, back-source (s .0) (s .1 .1 .0) (s .1 .0) (c .before .loop .inv) (c .loop-test .taken), s .0 .sources)
+
+-- its lane
+lane : (c : tie.In-loop Inv-loop μ-loop) → trailingZeros 32 (c .before .loop .rest) * 64 + c .before .before .before .args .j < 2048
+lane c = let s = c .before .before .before .pre .0 in omega (arith, source c, s .terminal, s .terminals)
+
+mul-rest : tie.Need-mul-rest Inv-loop μ-loop
+mul-rest c = omega (arith, c .pre .0 .terminal, c .pre .0 .terminals)
+
+element-copy-out-rest : tie.Need-element-copy-out-rest Inv-loop μ-loop
+element-copy-out-rest c = omega (arith, c .pre .0 .terminal, c .pre .0 .terminals)
+
+loop-holds : tie.Need-loop-holds Inv-loop μ-loop
+loop-holds c = let s = c .before .pre in back-start (s .0) (s .1 .1 .0) (s .1 .0) (s .1 .1 .1)
+
+cast-i : tie.Need-cast-i Inv-loop μ-loop
+cast-i c = omega (arith, source c)
+
+sub-rest : tie.Need-sub-rest Inv-loop μ-loop
+sub-rest c = omega (arith, c .loop-test .taken)
+
+mul-if1 : tie.Need-mul-if1 Inv-loop μ-loop
+mul-if1 c = omega (arith, lane c)
+
+add-if1 : tie.Need-add-if1 Inv-loop μ-loop
+add-if1 c = omega (arith, lane c)
+
+mul-if1-2 : tie.Need-mul-if1-2 Inv-loop μ-loop
+mul-if1-2 c = omega (arith, lane c)
+
+element-copy-out-if1 : tie.Need-element-copy-out-if1 Inv-loop μ-loop
+element-copy-out-if1 c = omega (arith, lane c)
+
+cast-sources : tie.Need-cast-sources Inv-loop μ-loop
+cast-sources c = omega (arith, source (c .before .before))
+
+shl-sources : tie.Need-shl-sources Inv-loop μ-loop
+shl-sources c = omega (arith, source (c .before .before))
+
+sub-sources : tie.Need-sub-sources Inv-loop μ-loop
+sub-sources c = let s = c .before .before .before .before .before .pre in
+    rw (power-fits (trailingZeros 32 (c .before .before .before .loop .rest)) (source (c .before .before)))
+    (take-fits _ _ (back-fresh (s .0) (s .1 .1 .0) (s .1 .0) (c .before .before .before .loop .inv) (c .before .before .loop-test .taken)))
+
+cast-wait : tie.Need-cast-wait Inv-loop μ-loop
+cast-wait c = omega (arith, source (c .before .before))
+
+shl-wait : tie.Need-shl-wait Inv-loop μ-loop
+shl-wait c = omega (arith, source (c .before .before))
+
+cast-prev : tie.Need-cast-prev Inv-loop μ-loop
+cast-prev c = let s = c .before .before .before .before .before .pre .0 in omega (arith, s .terminal, s .terminals)
+
+add-prev : tie.Need-add-prev Inv-loop μ-loop
+add-prev c = let s = c .before .before .before .before .before .pre .0 in omega (arith, s .terminal, s .terminals)
+
+mul-prev : tie.Need-mul-prev Inv-loop μ-loop
+mul-prev c = omega (arith, source (c .before .before))
+
+element-write-prev : tie.Need-element-write-prev Inv-loop μ-loop
+element-write-prev c = omega (arith, source (c .before .before))
+
+loop-less : tie.Need-loop-less Inv-loop μ-loop
+loop-less c = let s = c .before .before .before .before .before .pre in back-fewer (s .0) (s .1 .1 .0) (s .1 .0) (c .before .before .before .loop .inv) (c .before .before .loop-test .taken)
+
+loop-again : tie.Need-loop-again Inv-loop μ-loop
+loop-again c = let s = c .before .before .before .before .before .pre in
+    rw (power-fits (trailingZeros 32 (c .before .before .before .loop .rest)) (source (c .before .before)))
+    (back-take (s .0) (s .1 .1 .0) (s .1 .0) (c .before .before .before .loop .inv) (c .before .before .loop-test .taken) (c .if1 .taken))
+
+loop-less-2 : tie.Need-loop-less-2 Inv-loop μ-loop
+loop-less-2 c = let s = c .before .before .before .before .before .pre in back-fewer (s .0) (s .1 .1 .0) (s .1 .0) (c .before .before .before .loop .inv) (c .before .before .loop-test .taken)
+
+loop-again-2 : tie.Need-loop-again-2 Inv-loop μ-loop
+loop-again-2 c = let s = c .before .before .before .before .before .pre in back-skip (s .0) (s .1 .1 .0) (s .1 .0) (c .before .before .before .loop .inv) (c .before .before .loop-test .taken) (omega (arith, c .if1 .left))
+
+returns : tie.Need-returns Inv-loop μ-loop
+returns c = let s = c .before .before .before .pre in let q = c .before .loop .inv in (q .roaming, back-end (s .0) (s .1 .1 .0) (s .1 .0) q (omega (arith, c .loop-test .left)))
+
+pub look-back-spec : {M : Type 1} → statement M
+look-back-spec =
+    tie.close
+    (tie.spec
+    Inv-loop
+    μ-loop
+    mul-rest
+    element-copy-out-rest
+    loop-holds
+    cast-i
+    sub-rest
+    mul-if1
+    add-if1
+    mul-if1-2
+    element-copy-out-if1
+    cast-sources
+    shl-sources
+    sub-sources
+    cast-wait
+    shl-wait
+    cast-prev
+    add-prev
+    mul-prev
+    element-write-prev
+    loop-less
+    loop-again
+    loop-less-2
+    loop-again-2
+    returns)

@@ -1,0 +1,35 @@
+-- A pass over the sources that serve a terminal, by the bits of its word. Assumes nothing.
+use mathlib.Core.Path.{_≡_, ap}
+use mathlib.Core.List.{List}
+use Prim.Native.Nat.{ℕ, _+_, _^_, _≤_, _<_}
+use native.Mathlib.Omega.{arith}
+use lib.Pow.{pow-mono}
+use lib.Count.{trailingZeros}
+use Rattle.residual.specs.Network.{net, get, Arc}
+use Rattle.residual.specs.Network.Arc.{ahead, back}
+use Rattle.residual.specs.Labels.{Relabelling}
+use Rattle.residual.specs.Bits.{bit, Left}
+use Rattle.residual.specs.LanesInUse.{Covers}
+use Rattle.residual.proofs.Relaxation.{pass-skip}
+use Rattle.residual.proofs.Bits.{bit-place, left-set}
+
+pub word-fits : {m n : ℕ} {x s : List ℕ} (j : ℕ) → Covers m n x s → m ≤ 32 → j < n → get s j < 2 ^ 32
+word-fits {m} j c h l = omega (arith, c .within j l, pow-mono {i = m} {j = 32} h)
+
+-- no arc leads from a terminal to a source whose bit is not set
+unserved : {m n : ℕ} (cost cap : List ℕ) {x s : List ℕ} {v w b : ℕ} (j : ℕ) → Covers m n x s → m ≤ 32 → v ≡ 32 + j → bit (get s j) w ≡ 0
+    → (t k : ℕ) → Arc (net m n cost cap x) v w b t k → ⊥
+unserved cost cap j c h e z t k (ahead i a o f g p q) = omega arith
+unserved cost cap {s = s} {w = w} j c h e z t k (back i a o f g p q) =
+    let y : i ≡ j = omega arith in omega (arith, c .serving w i a o g, ap (λ j. bit (get s j) w) y)
+
+-- so the pass goes by it
+pub column-skip : {m n : ℕ} (cost cap : List ℕ) {x s : List ℕ} {v b lo hi : ℕ} {T P T' P' : List ℕ} (j : ℕ) → Covers m n x s → m ≤ 32 → v ≡ 32 + j
+    → Relabelling (net m n cost cap x) v b 0 lo T P T' P' → lo ≤ hi → ((i : ℕ) → lo ≤ i → i < hi → bit (get s j) i ≡ 0)
+    → Relabelling (net m n cost cap x) v b 0 hi T P T' P'
+column-skip cost cap j c h e p l f = pass-skip p l (λ w a o. unserved cost cap j c h e (f w a o))
+
+-- and what it comes to is a source
+pub next-source : {m n : ℕ} {x s : List ℕ} {r lo : ℕ} (j : ℕ) → Covers m n x s → j < n → Left (get s j) r lo → 0 < r → r < 2 ^ 32
+    → trailingZeros 32 r < m
+next-source {m} {s = s} {r} j c h q p b = bit-place m (get s j) (trailingZeros 32 r) (c .within j h) (left-set 32 q p b)

@@ -1,0 +1,5 @@
+pub mod ResidualArc
+pub mod Relaxation
+pub mod Bits
+pub mod LanesInUse
+pub mod Keys

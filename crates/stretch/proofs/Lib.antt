@@ -1,0 +1,3 @@
+pub mod IncumbentScan
+pub mod StretchLine
+pub mod ShiftPath

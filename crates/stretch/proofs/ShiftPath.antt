@@ -1,0 +1,73 @@
+-- The path of a stretch, from plant 0 to plant 1: it is found, and drums can go along it. Assumes nothing.
+use mathlib.Core.Path.{_≡_, refl, sym}
+use mathlib.Core.List.{List}
+use Prim.Native.Nat.{ℕ, _-_, _≤_, _<_}
+use native.Mathlib.Decide.{ℕ-discrete, decLt}
+use native.Mathlib.Omega.{arith}
+use Rattle.residual.specs.Cells.{cells}
+use Rattle.residual.specs.Network.{Net, get}
+use Rattle.residual.specs.Labels.{Book, far}
+use Rattle.paths.specs.Search.{Sound, Near, Label, Stuck, Searched}
+use Rattle.augment.specs.Send.{SendReady}
+use Rattle.stretch.specs.Stretch.{ShiftReady, PathDone}
+use Rattle.paths.proofs.SearchCut.{cut-greatest}
+use Rattle.augment.proofs.Delivery.{lower-ready, push-ready, mark-ready, pushed, delivered, after}
+use Rattle.range.proofs.PlantShift.{Only, swing-ready, swing-over}
+
+module _ {N : Net} {p room x : List ℕ} {limit : ℕ} {B : Book} {g : ℕ}
+    (k : ShiftReady N p x limit) (o : Only room limit) (q : Searched N p room 0 limit B g) where
+  ready : SendReady N p room 0 limit x
+  ready = swing-ready (k .swinging) o (k .some)
+
+  sound : Sound N p
+  sound = k .swinging .sound
+
+  two : 2 ≤ N .m
+  two = omega (arith, k .swinging .plants)
+
+  -- there is a plan with more from plant 0, so the search has a path
+  never : Stuck N room 0 (B .dist) → ⊥
+  never w =
+      let t = k .end in
+      omega (
+        arith,
+        cut-greatest w (t .plan) (t .under) (λ j b l. omega (arith, t .at .demands j (omega arith) b)) two (λ i a b. sym (t .at .depots i a b)) refl
+            (elim (decLt (get (B .dist) 1) far) [ yes l ↦ absurd (omega (arith, w .empty 1 (omega arith) l, o .one, k .some)) | no l ↦ omega arith ]),
+        t .at .plant0,
+        k .some,
+      )
+
+  found : g < 96
+  found = elim (ℕ-discrete g 96) [ yes z ↦ absurd (never (q .stuck z)) | no z ↦ omega (arith, q .bound) ]
+
+  goal : g ≡ 1
+  goal = elim (ℕ-discrete g 1) [ yes z ↦ z | no z ↦ absurd (omega (arith, o .off g found z, q .found found .has-room)) ]
+
+  pub reached : Searched N p room 0 limit B 1
+  reached = rw goal at q
+
+  pub path-low : get p 1 ≤ get (B .dist) 1
+  path-low = q .low 1 (omega arith)
+
+  pub path-done : N .x ≡ cells x → {D d h : ℕ} → D ≡ get (B .dist) 1 - get p 1 → h ≡ get (B .hops) 1 → d ≡ get (B .width) 1
+      → PathDone N p x limit (B .dist) (B .prev) h D d
+  path-done e {D} {d} {h} eD eh ed = record {
+    some = omega (arith, label .some);
+    ends = omega (arith, path-low);
+    starts = q .root-dist;
+    ready = lower-ready ready reached one eD;
+    able = λ t l. push-ready ready reached one e eh (omega arith);
+    trail = mark-ready ready reached one {d = d} e eh (omega arith);
+    part = λ p' lo t l z v.
+        let w = pushed ready reached one e eh (omega arith) v in
+        record { flow = w .flow; slack = after ready reached one eD lo w; under = w .under; long = w .long };
+    over = λ p' lo x' w.
+        swing-over (k .swinging) o one
+        (delivered ready reached one eD lo (omega (arith, o .one, label .most)) (pushed ready reached one e eh (omega arith) w));
+  }
+    where
+      one : 1 < 96
+      one = omega arith
+
+      label : Label N 0 (Near p (B .dist) 1) p 96 limit B 1
+      label = reached .found one .label 1 one (reached .found one .goal)

@@ -1,0 +1,200 @@
+-- What a stretch says of the least freights, of the incumbent and of the plan that is kept for it. Assumes nothing.
+use mathlib.Core.Path.{_≡_, refl, sym, ap, _∙_}
+use mathlib.Core.Bool.{Bool, true, false, cond}
+use mathlib.Core.List.{List}
+use Prim.Native.Nat.{ℕ, zero, suc, _+_, _-_, _*_, _≤_, _<_}
+use native.Mathlib.Decide.{decLt}
+use native.Mathlib.Omega.{arith}
+use lib.Dec.{ltb}
+use lib.ListN.{getD}
+use Rattle.transport.specs.Plan.{row, col, freight, Under}
+use Rattle.transport.specs.theory.Slackness.{Slack}
+use Rattle.transport.specs.theory.AtSplit.{At, Least}
+use Rattle.residual.specs.Cells.{cells}
+use Rattle.residual.specs.Network.{Net, get, again}
+use Rattle.augment.specs.Potentials.{Lowered}
+use Rattle.augment.specs.PathWalk.{Walkable, Walked}
+use Rattle.canonical.specs.Canonize.{CanonReady}
+use Rattle.range.specs.engine.PlantShift.{Over}
+use Rattle.stretch.specs.Scan.{along, better, scanned, ScanReady}
+use Rattle.stretch.specs.Stretch.{Part, PathDone, KeepDone, HoldDone, StretchReady, Kept, StretchDone}
+use Rattle.stretch.specs.declared.Incumbent.{Incumbent}
+use Rattle.transport.proofs.Optimality.{segment}
+use Rattle.transport.proofs.PathFlow.{Shifted, flow-shifted}
+use Rattle.transport.proofs.LeastFreight.{line}
+use Rattle.augment.proofs.Potentials.{lowers}
+use Rattle.augment.proofs.PathWalk.{walks}
+use Rattle.stretch.proofs.IncumbentScan.{along-is}
+
+-- ---- the incumbent
+
+-- after a look at the k splits beyond y: the incumbent before, or one of these splits with the freight there
+record Looked (y v gain loss : ℕ) (b : Incumbent) (k : ℕ) (r : Incumbent) : Type 0 where
+  old : r .split ≤ y → r ≡ b
+  new : y < r .split → (r .split ≤ y + k) × (r .freight ≡ along v gain loss (r .split - y))
+
+look-more : {y v gain loss : ℕ} {b : Incumbent} {k : ℕ} {r : Incumbent} (e : ℕ) → Looked y v gain loss b k r → (t : Bool)
+    → Looked y v gain loss b (suc k) (cond t (record { split = y + suc k; total = e; freight = along v gain loss (suc k) }) r)
+look-more {y} {v} {gain} {loss} {k = k} e q true = record {
+  old = λ l. absurd (omega arith);
+  new = λ l. let z : suc k ≡ (y + suc k) - y = omega arith in (omega arith, ap (along v gain loss) z);
+}
+look-more e q false = record { old = q .old; new = λ l. (omega (arith, q .new l .0), q .new l .1) }
+
+looked : (table : List ℕ) (y v gain loss : ℕ) (b : Incumbent) → b .split ≤ y → (k : ℕ) → Looked y v gain loss b k (scanned table y v gain loss b k)
+unfolding scanned better
+looked table y v gain loss b h zero = record { old = λ l. refl; new = λ l. absurd (omega arith) }
+looked table y v gain loss b h (suc k) =
+    look-more (along v gain loss (suc k) + getD table (y + suc k) 0) (looked table y v gain loss b h k)
+    (ltb (along v gain loss (suc k) + getD table (y + suc k) 0) (scanned table y v gain loss b k .total))
+
+-- ---- the plans on the way
+
+module _ {N : Net} (two : 2 ≤ N .m) {p' z : List ℕ} {t : ℕ} (w : Part N p' z t) where
+  moved : Shifted (N .m) (N .n) t (N .x) (cells z)
+  moved = flow-shifted two (w .flow)
+
+  part-at : (a b : ℕ → ℕ) (y q : ℕ) → At (N .m) (N .n) a b y q (N .x) → At (N .m) (N .n) a b (y + t) (q - t) (cells z)
+  part-at a b y q s = record {
+    plant0 = omega (arith, moved .plant0, s .plant0);
+    plant1 = omega (arith, moved .plant1, s .plant1);
+    depots = λ i h l. sym (moved .rows i h l) ∙ s .depots i h l;
+    demands = λ j h l. sym (moved .cols j h l) ∙ s .demands j h l;
+  }
+
+  part-value : Slack (N .m) (N .n) (N .c) (N .u) (N .x) (λ i. get p' i) (λ j. get p' (32 + j)) → Under (N .m) (N .n) (N .x) (N .u)
+      → freight (N .m) (N .n) (N .c) (cells z) ≡ along (freight (N .m) (N .n) (N .c) (N .x)) (get p' 1) (get p' 0) t
+  part-value s u =
+      along-is (freight (N .m) (N .n) (N .c) (N .x)) (get p' 1) (get p' 0) t (freight (N .m) (N .n) (N .c) (cells z))
+      (segment (N .m) (N .n) two (N .c) (N .u) (λ i. get p' i) (λ j. get p' (32 + j)) (N .x) (cells z) (moved .rows) (moved .cols) t (moved .plant0)
+      (moved .plant1) s u (w .slack) (w .under))
+
+-- ---- the stretch
+
+-- the plan itself has its row and column sums
+here : {N : Net} {p x table : List ℕ} {y v limit : ℕ} {best : Incumbent} → StretchReady N p x table y v limit best
+    → At (N .m) (N .n) (row (N .n) (N .x)) (col (N .m) (N .x)) y (row (N .n) (N .x) 1) (N .x)
+here r = record { plant0 = r .split; plant1 = refl; depots = λ i h l. refl; demands = λ j h l. refl }
+
+module _ {N : Net} {p x table : List ℕ} {y v limit : ℕ} {best : Incumbent} {dist prev : List ℕ} {count gap d : ℕ}
+    (r : StretchReady N p x table y v limit best) (s : PathDone N p x limit dist prev count gap d) where
+  two : 2 ≤ N .m
+  two = omega (arith, r .shift .swinging .plants)
+
+  -- what the drums leave, and the lowered potentials
+  module _ {p' : List ℕ} (x' : List ℕ) (lo : Lowered gap dist p 96 p') (w : Walked prev d count 1 x x') where
+    over : Over N (get p 1) limit p' x' d
+    over = s .over p' lo x' w
+
+    up : get p 1 ≡ get p' 1
+    up = omega (arith, lo .down 1 (omega arith), s .ends)
+
+    down : get p 0 - gap ≡ get p' 0
+    down = omega (arith, lo .down 0 (omega arith), s .starts)
+
+    whole : Part N p' x' d
+    whole = record {
+      flow = over .flow;
+      slack = over .new;
+      under = over .swinging .under;
+      long = over .swinging .long-x;
+    }
+
+    next : (a b : ℕ → ℕ) (z : ℕ) → At (N .m) (N .n) a b y z (N .x) → At (N .m) (N .n) a b (y + d) (z - d) (cells x')
+    next a b z t = part-at two whole a b y z t
+
+    value : (z : List ℕ) (t : ℕ) → Part N p' z t → freight (N .m) (N .n) (N .c) (cells z) ≡ along v (get p 1) (get p 0 - gap) t
+    value z t k = rw (up, down, ← (r .value)) (part-value two k (over .old) (r .shift .swinging .under))
+
+    -- what the plan for everybody asks
+    part-ready : (z : List ℕ) (t : ℕ) → Part N p' z t → CanonReady (again N z) p'
+    part-ready z t k = record {
+      sources = over .swinging .sound .sources;
+      terminals = over .swinging .sound .terminals;
+      costs = over .swinging .sound .costs;
+      high = over .swinging .sound .high;
+      slack = k .slack;
+      under = k .under;
+      ceilings = over .swinging .ceilings;
+    }
+
+    -- the least freight at each split on the way, as an equation
+    on-line : (a b : ℕ → ℕ) (z : ℕ) → At (N .m) (N .n) a b y z (N .x) → (t : ℕ) → t ≤ d
+        → (w : ℕ) × (Least (N .m) (N .n) (N .c) (N .u) a b (y + t) (z - t) w) × (w + (get p 0 - gap) * t ≡ freight (N .m) (N .n) (N .c) (N .x) + get p 1 * t)
+    on-line a b z q t h =
+        rw (up, down)
+        (line (N .m) (N .n) two (N .c) (N .u) a b (λ i. get p' i) (λ j. get p' (32 + j)) (N .x) (cells x') y z d t (s .some) h
+        (omega (arith, q .plant1, moved two whole .plant1)) (over .steps) q (next a b z q) (r .shift .swinging .under) (over .swinging .under) (over .old)
+        (over .new))
+
+    on-stretch : (a b : ℕ → ℕ) (z : ℕ) → At (N .m) (N .n) a b y z (N .x) → (t : ℕ) → t ≤ d
+        → Least (N .m) (N .n) (N .c) (N .u) a b (y + t) (z - t) (along v (get p 1) (get p 0 - gap) t)
+    on-stretch a b z q t h =
+        let l = on-line a b z q t h in
+        let e : l .0 ≡ along v (get p 1) (get p 0 - gap) t = along-is v (get p 1) (get p 0 - gap) t (l .0) (omega (arith, l .2, r .value)) in rw e at (l .1)
+
+    above : (t : ℕ) → t ≤ d → (get p 0 - gap) * t ≤ v + get p 1 * t
+    above t h =
+        let l = on-line (row (N .n) (N .x)) (col (N .m) (N .x)) (row (N .n) (N .x) 1) (here r) t h in omega (arith, l .2, r .value)
+
+  pub loss-ready : gap ≤ get p 0
+  loss-ready = omega (arith, s .ready .above 0 (omega arith), s .starts)
+
+  pub scan-ready : ScanReady table y d v (get p 1) (get p 0 - gap)
+  scan-ready = record {
+    entries = omega (arith, r .entries, most);
+    small = λ t h. r .small t (omega (arith, most));
+    start = r .start;
+    rise = omega (arith, r .shift .swinging .sound .high 1 (omega arith));
+    fall = omega (arith, r .shift .swinging .sound .high 0 (omega arith));
+    few = omega (arith, r .few, most);
+    above = above (left .0) (low .1) (left .1);
+  }
+    where
+      low : (p' : List ℕ) × Lowered gap dist p 96 p'
+      low = lowers gap dist p (s .ready .long)
+
+      left : (x' : List ℕ) × Walked prev d count 1 x x'
+      left = walks prev d count 1 x
+
+      most : d ≤ limit
+      most = over (left .0) (low .1) (left .1) .most
+
+  module _ {held : Incumbent} (look : held ≡ scanned table y v (get p 1) (get p 0 - gap) best d) where
+    seen : Looked y v (get p 1) (get p 0 - gap) best d held
+    seen = rw look (looked table y v (get p 1) (get p 0 - gap) best (r .behind) d)
+
+    within : held .split - y ≤ d
+    within = elim (decLt y (held .split)) [ yes h ↦ omega (arith, seen .new h .0) | no h ↦ omega arith ]
+
+    pub keep-near : held .split ≤ y + 4000
+    keep-near = omega (arith, within, scan-ready .few)
+
+    pub keep-ready : Walkable prev (held .split - y) count 1 x
+    keep-ready = s .able (held .split - y) within
+
+    pub stretch-done : {kept kept' p' x' pots pots' : List ℕ} → KeepDone prev count (held .split) y x kept kept' → Walked prev d count 1 x x' → Lowered gap dist p 96 p'
+        → HoldDone (held .split) y p' pots pots' → StretchDone N p table y v limit best kept pots p' x' kept' pots' d (get p 1) (get p 0 - gap) held
+    stretch-done {kept} {kept'} {p'} {x'} {pots} {pots'} k w lo o = record {
+      some = s .some;
+      over = over x' lo w;
+      up = up x' lo w;
+      down = down x' lo w;
+      line = on-stretch x' lo w;
+      next = next x' lo w;
+      value = value x' lo w x' d (whole x' lo w);
+      look = look;
+      same = λ h. (seen .old h, k .same h, o .same h);
+      new = λ h. (seen .new h .0, new h (s .part p' lo (held .split - y) within kept' (k .walked h)));
+    }
+      where
+        new : y < held .split → Part N p' kept' (held .split - y) → Kept N y held kept' pots'
+        new h t =
+            let e : y + (held .split - y) ≡ held .split = omega arith in
+            record {
+              long = t .long;
+              under = t .under;
+              at = λ a b z q. rw e at (part-at two t a b y z q);
+              value = value x' lo w kept' (held .split - y) t ∙ sym (seen .new h .1);
+              ready = rw (o .new h) (part-ready x' lo w kept' (held .split - y) t);
+            }

@@ -1,0 +1,71 @@
+-- `stretch::stretch::stretch` meets its contract. Assumes nothing.
+use native.Mathlib.Omega.{arith}
+use Rattle.stretch.proofs.StretchLine.{loss-ready, scan-ready, keep-ready, keep-near, stretch-done}
+use Rattle.augment.proofs.LaneMarks.{trail-wide, cover-walk}
+use borrow.Author.Needs.{needs}
+use Rattle.stretch.proofs.stretch.stretch.Statement.{statement}
+use Rattle.stretch.proofs.stretch.stretch.Tie as tie
+
+find-path-requires : tie.Need-find-path-requires
+find-path-requires c κs = search needs
+
+element-copy-out-gain : tie.Need-element-copy-out-gain
+element-copy-out-gain c = search needs
+
+cast-gain : tie.Need-cast-gain
+cast-gain c = omega (arith, scan-ready (c .before .before .before .before .before .before .before .before .pre .0) (c .before .before .before .find-path .ensures) .rise)
+
+element-copy-out-loss : tie.Need-element-copy-out-loss
+element-copy-out-loss c = search needs
+
+sub-loss : tie.Need-sub-loss
+sub-loss c = loss-ready (c .before .before .before .before .before .before .before .before .before .pre .0) (c .before .before .before .before .find-path .ensures)
+
+cast-loss : tie.Need-cast-loss
+cast-loss c = omega (arith, scan-ready (c .before .before .before .before .before .before .before .before .before .pre .0) (c .before .before .before .before .find-path .ensures) .fall)
+
+cast-drums : tie.Need-cast-drums
+cast-drums c = omega (arith, scan-ready (c .before .before .before .before .before .before .before .before .before .pre .0) (c .before .before .before .before .find-path .ensures) .few)
+
+scan-requires : tie.Need-scan-requires
+scan-requires c κs = scan-ready (c .before .before .before .before .before .before .before .before .before .pre .0) (c .before .before .before .before .find-path .ensures)
+
+keep-requires : tie.Need-keep-requires
+keep-requires c κs = (keep-ready (c .before .before .before .before .before .before .before .before .before .before .before .before .before .pre .0) (c .before .before .before .before .before .before .before .before .find-path .ensures) (c .before .before .before .scan .ensures), keep-near (c .before .before .before .before .before .before .before .before .before .before .before .before .before .pre .0) (c .before .before .before .before .before .before .before .before .find-path .ensures) (c .before .before .before .scan .ensures))
+
+push-requires : tie.Need-push-requires
+push-requires c κs = c .before .before .before .before .before .before .before .before .before .before .before .find-path .ensures .able _ (omega arith)
+
+mark-requires : tie.Need-mark-requires
+mark-requires c κs = trail-wide _ (c .before .before .before .before .before .before .before .before .before .before .before .before .before .before .before .before .before .before .before .pre .0 .shift .swinging .sound .sources) _ _ (c .before .before .before .before .before .before .before .before .before .before .before .before .before .before .find-path .ensures .trail)
+
+lower-requires : tie.Need-lower-requires
+lower-requires c κs = search needs
+
+hold-requires : tie.Need-hold-requires
+hold-requires c κs = search needs
+
+returns : tie.Need-returns
+returns c = (
+  stretch-done (c .before .before .before .before .before .before .before .before .before .before .before .before .before .before .before .before .before .before .before .before .before .before .before .before .before .before .pre .0) (c .before .before .before .before .before .before .before .before .before .before .before .before .before .before .before .before .before .before .before .before .before .find-path .ensures) (c .before .before .before .before .before .before .before .before .before .before .before .before .before .before .before .before .scan .ensures) (c .before .before .before .before .before .before .before .before .before .before .before .before .keep .ensures) (c .before .before .before .before .before .before .before .before .before .push .ensures) (c .before .before .before .lower .ensures) (c .hold .ensures),
+  cover-walk (c .before .before .before .before .before .before .before .before .before .before .before .before .before .before .before .before .before .before .before .before .before .before .before .before .before .before .pre .0 .shift .swinging .sound .terminals) _ _ _ _ _ _ (c .before .before .before .before .before .before .before .before .before .before .before .before .before .before .before .before .before .before .before .before .before .find-path .ensures .trail) (c .before .before .before .before .before .before .before .before .before .before .before .before .before .before .before .before .before .before .before .before .before .before .before .before .before .before .pre .1 .1) (c .before .before .before .before .before .before .before .before .before .push .ensures) (c .before .before .before .before .before .before .mark .ensures),
+)
+
+pub stretch-spec : {M : Type 1} → statement M
+stretch-spec =
+    tie.close
+    (tie.spec
+    find-path-requires
+    element-copy-out-gain
+    cast-gain
+    element-copy-out-loss
+    sub-loss
+    cast-loss
+    cast-drums
+    scan-requires
+    keep-requires
+    push-requires
+    mark-requires
+    lower-requires
+    hold-requires
+    returns)

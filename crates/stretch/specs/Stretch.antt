@@ -1,0 +1,93 @@
+-- What one stretch of the freight curve asks and does: the shift of the drums, the incumbent, the plan that is kept for it.
+-- Assumes nothing.
+use mathlib.Core.Path.{_≡_}
+use mathlib.Core.List.{List}
+use Prim.Native.Nat.{ℕ, _+_, _-_, _≤_, _<_}
+use lib.ListN.{length, getD}
+use Rattle.transport.specs.Plan.{row, col, freight, Under}
+use Rattle.transport.specs.theory.Slackness.{Slack}
+use Rattle.transport.specs.theory.AtSplit.{At, Least}
+use Rattle.transport.specs.theory.PathFlow.{Flow}
+use Rattle.residual.specs.Cells.{cells}
+use Rattle.residual.specs.Network.{Net, get, again}
+use Rattle.augment.specs.LaneMarks.{Trail}
+use Rattle.augment.specs.Potentials.{LowerReady, Lowered}
+use Rattle.augment.specs.PathWalk.{Walkable, Walked}
+use Rattle.canonical.specs.Canonize.{CanonReady}
+use Rattle.range.specs.engine.PlantShift.{Swinging, Over}
+use Rattle.range.specs.Begun.{Some}
+use Rattle.stretch.specs.Scan.{along, scanned}
+use Rattle.stretch.specs.declared.Incumbent.{Incumbent}
+
+-- ---- the path
+
+-- plant 1 makes limit drums or more, and there is a plan within the ceilings with that much more from plant 0
+pub record ShiftReady (N : Net) (p x : List ℕ) (limit : ℕ) : Type 0 where
+  pub swinging : Swinging N (get p 1) p x
+  pub some : 0 < limit
+  pub left : limit ≤ row (N .n) (N .x) 1
+  pub end : Some (N .m) (N .n) (N .u) (row (N .n) (N .x)) (col (N .m) (N .x)) (row (N .n) (N .x) 0 + limit) (row (N .n) (N .x) 1 - limit)
+
+-- t drums went over from plant 1 to plant 0, and left z, which is slack under the potentials p'
+pub record Part (N : Net) (p' z : List ℕ) (t : ℕ) : Type 0 where
+  pub flow : Flow (N .m) (N .n) t (N .x) (cells z) 1 0
+  pub slack : Slack (N .m) (N .n) (N .c) (N .u) (cells z) (λ i. get p' i) (λ j. get p' (32 + j))
+  pub under : Under (N .m) (N .n) (cells z) (N .u)
+  pub long : length z ≡ 2048
+
+-- a path of count arcs: up to d drums can go over along it, and what that leaves is slack under the lowered potentials
+pub record PathDone (N : Net) (p x : List ℕ) (limit : ℕ) (dist prev : List ℕ) (count gap d : ℕ) : Type 0 where
+  pub some : 0 < d
+  pub ends : get dist 1 ≡ get p 1 + gap
+  pub starts : get dist 0 ≡ get p 0
+  pub ready : LowerReady gap dist p
+  pub able : (t : ℕ) → t ≤ d → Walkable prev t count 1 x
+  pub trail : Trail (N .m) prev count 1
+  pub part : (p' : List ℕ) → Lowered gap dist p 96 p' → (t : ℕ) → t ≤ d → (z : List ℕ) → Walked prev t count 1 x z → Part N p' z t
+  pub over : (p' : List ℕ) → Lowered gap dist p 96 p' → (x' : List ℕ) → Walked prev d count 1 x x' → Over N (get p 1) limit p' x' d
+
+-- ---- the plan that is kept
+
+pub record KeepDone (prev : List ℕ) (count split y : ℕ) (x kept kept' : List ℕ) : Type 0 where
+  pub same : split ≤ y → kept' ≡ kept
+  pub walked : y < split → Walked prev (split - y) count 1 x kept'
+
+-- the potentials are kept with it
+pub record HoldDone (split y : ℕ) (p held held' : List ℕ) : Type 0 where
+  pub same : split ≤ y → held' ≡ held
+  pub new : y < split → held' ≡ p
+
+-- ---- the whole stretch, from split y of freight v
+
+pub record StretchReady (N : Net) (p x table : List ℕ) (y v limit : ℕ) (best : Incumbent) : Type 0 where
+  pub shift : ShiftReady N p x limit
+  pub few : limit ≤ 4000
+  pub split : row (N .n) (N .x) 0 ≡ y
+  pub value : freight (N .m) (N .n) (N .c) (N .x) ≡ v
+  pub start : v ≤ 1000000000000
+  pub entries : y + limit < length table
+  pub small : (t : ℕ) → t ≤ limit → getD table (y + t) 0 ≤ 1000000000
+  pub behind : best .split ≤ y
+
+-- the plan that is kept for an incumbent of this stretch, with its potentials
+pub record Kept (N : Net) (y : ℕ) (best : Incumbent) (kept held : List ℕ) : Type 0 where
+  pub long : length kept ≡ 2048
+  pub under : Under (N .m) (N .n) (cells kept) (N .u)
+  pub at : (a b : ℕ → ℕ) (z : ℕ) → At (N .m) (N .n) a b y z (N .x) → At (N .m) (N .n) a b (best .split) (z - (best .split - y)) (cells kept)
+  pub value : freight (N .m) (N .n) (N .c) (cells kept) ≡ best .freight
+  pub ready : CanonReady (again N kept) held
+
+-- d drums went over, each of which adds gain and takes off loss: the plan is x', the potentials p'; the incumbent best became best'
+pub record StretchDone (N : Net) (p table : List ℕ) (y v limit : ℕ) (best : Incumbent) (kept held p' x' kept' held' : List ℕ) (d gain loss : ℕ) (best' : Incumbent)
+    : Type 0 where
+  pub some : 0 < d
+  pub over : Over N (get p 1) limit p' x' d
+  pub up : gain ≡ get p' 1
+  pub down : loss ≡ get p' 0
+  pub line : (a b : ℕ → ℕ) (z : ℕ) → At (N .m) (N .n) a b y z (N .x) → (t : ℕ) → t ≤ d
+      → Least (N .m) (N .n) (N .c) (N .u) a b (y + t) (z - t) (along v gain loss t)
+  pub next : (a b : ℕ → ℕ) (z : ℕ) → At (N .m) (N .n) a b y z (N .x) → At (N .m) (N .n) a b (y + d) (z - d) (cells x')
+  pub value : freight (N .m) (N .n) (N .c) (cells x') ≡ along v gain loss d
+  pub look : best' ≡ scanned table y v gain loss best d
+  pub same : best' .split ≤ y → (best' ≡ best) × (kept' ≡ kept) × (held' ≡ held)
+  pub new : y < best' .split → (best' .split ≤ y + d) × Kept N y best' kept' held'

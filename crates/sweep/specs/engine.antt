@@ -1,0 +1,3 @@
+pub mod StopsPassed
+pub mod FreightSum
+pub mod Climb

@@ -1,0 +1,178 @@
+// The sweep from the first split to the last: the stops of the freight curve, and the split of least total.
+ghost use mathlib.Core.Path.{_≡_};
+ghost use Prim.Native.Nat.{_+_, _*_, _≤_};
+ghost use Rattle.transport.specs.Plan.{byRow, row, col};
+ghost use Rattle.residual.specs.Cells.{cells};
+ghost use Rattle.residual.specs.Network.{net};
+ghost use Rattle.residual.specs.LanesInUse.{Covers};
+ghost use Rattle.paths.specs.Search.{Wanted};
+ghost use Rattle.range.specs.Begun.{Begun};
+ghost use Rattle.range.specs.Range.{amountIn, demandIn};
+ghost use Rattle.sweep.specs.Sweep.{SweepReady, Swept};
+ghost use Rattle.sweep.specs.engine.StopsPassed.{NoteReady, Noted, Marked, turned};
+ghost use Rattle.sweep.specs.engine.Climb.{bothIn, ClimbReady};
+use super::freight::freight_of;
+use canonical::canon::canonize;
+use stretch::Incumbent;
+use stretch::stretch::stretch;
+
+// Writes a stop and its freight behind the count stops that stand in the slices; how many stand there then.
+fn note(count: usize, y: u64, freight: u64, splits: &mut [u64], freights: &mut [u64]) -> usize
+    requires { ⌜ NoteReady count (now splits) (now freights) ⌝ }
+    ensures { λ r. ⌜ Noted count y freight (now (splits .entry)) (now (freights .entry)) (now (splits .exit)) (now (freights .exit)) r ⌝ }
+{
+    splits[count] = y;
+    freights[count] = freight;
+    count + 1
+}
+
+// Writes y where it is a stop.
+fn mark(
+    stop: bool,
+    count: usize,
+    y: u64,
+    freight: u64,
+    splits: &mut [u64],
+    freights: &mut [u64],
+) -> usize
+    requires { ⌜ NoteReady count (now splits) (now freights) ⌝ }
+    ensures { λ r. ⌜ Marked stop count y freight (now (splits .entry)) (now (freights .entry)) (now (splits .exit)) (now (freights .exit)) r ⌝ }
+{
+    if stop {
+        return note(count, y, freight, splits, freights);
+    }
+    count
+}
+
+// Is y the first split, or one where the drum ahead (gain, loss) does not cost what the drum behind (rise, fall) did?
+fn turn(y: u64, lo: u64, gain: u64, loss: u64, rise: u64, fall: u64) -> bool
+    requires { ⌜ (gain + fall ≤ 10000000000) × (loss + rise ≤ 10000000000) ⌝ }
+    ensures { λ r. ⌜ r ≡ turned y lo gain loss rise fall ⌝ }
+{
+    y == lo || gain + fall != loss + rise
+}
+
+// The split of least total, with its total and its freight, and how many stops there are.
+pub struct Curve {
+    pub split: u64,
+    pub total: u64,
+    pub freight: u64,
+    pub stops: usize,
+}
+
+// From a cheapest plan x at lo, with its potentials and its freight, stretch by stretch up to hi.
+fn climb(
+    m: usize,
+    n: usize,
+    cost: &[u32; 2048],
+    cap: &[u32; 2048],
+    lo: u64,
+    hi: u64,
+    freight: u64,
+    demand: &[u32; 96],
+    table: &[u64],
+    splits: &mut [u64],
+    freights: &mut [u64],
+    x: &mut [u32; 2048],
+    serves: &mut [u32; 64],
+    pot: &mut [u32; 96],
+    kept: &mut [u32; 2048],
+) -> Curve
+    requires { ⌜ ClimbReady m n (now cost) (now cap) (now x) (now pot) lo hi freight (now table) (now splits) (now freights) ⌝ }
+    requires { ⌜ Wanted (net m n (now cost) (now cap) (now x)) (now demand) ⌝ }
+    requires { ⌜ Covers m n (now x) (now serves) ⌝ }
+    ensures { λ r. ⌜ Swept m n (cells (now (cost .entry))) (cells (now (cap .entry))) (bothIn n (now (x .entry))) (row n (cells (now (x .entry)))) (col m (cells (now (x .entry)))) lo hi (now (table .entry)) (now (splits .entry)) (now (freights .entry)) (now (splits .exit)) (now (freights .exit)) (now (kept .exit)) (r .split) (r .total) (r .freight) (r .stops) ⌝ }
+{
+    let at = lo as usize;
+    let mut best = Incumbent {
+        split: lo,
+        total: freight + table[at],
+        freight,
+    };
+    *kept = *x;
+    let mut prices = *pot;
+    let mut y = lo;
+    let mut value = freight;
+    let mut count: usize = 0;
+    let mut rise: u64 = 0;
+    let mut fall: u64 = 0;
+    while y < hi {
+        let left = (hi - y) as u32;
+        let moved = stretch(
+            m,
+            n,
+            cost,
+            cap,
+            table,
+            y,
+            value,
+            left,
+            best,
+            demand,
+            x,
+            serves,
+            pot,
+            kept,
+            &mut prices,
+        );
+        let stop = turn(y, lo, moved.gain, moved.loss, rise, fall);
+        count = mark(stop, count, y, value, splits, freights);
+        rise = moved.gain;
+        fall = moved.loss;
+        value = value + rise * moved.amount - fall * moved.amount;
+        y = y + moved.amount;
+        best = moved.best;
+    }
+    count = note(count, y, value, splits, freights);
+    canonize(m, n, cost, cap, &prices, kept);
+    Curve {
+        split: best.split,
+        total: best.total,
+        freight: best.freight,
+        stops: count,
+    }
+}
+
+// The sweep from split lo to split hi of a prepared case, of which x holds a cheapest plan at lo: the stops and their freights go into the
+// slices, the plan for everybody at the best split into kept.
+pub fn sweep(
+    m: usize,
+    n: usize,
+    cost: &[u32; 2048],
+    cap: &[u32; 2048],
+    supply: &[u32; 32],
+    demand: &[u32; 96],
+    made: u32,
+    lo: u64,
+    hi: u64,
+    table: &[u64],
+    splits: &mut [u64],
+    freights: &mut [u64],
+    x: &mut [u32; 2048],
+    serves: &mut [u32; 64],
+    pot: &mut [u32; 96],
+    kept: &mut [u32; 2048],
+) -> Curve
+    requires { ⌜ Begun m n (now cost) (now cap) (amountIn (now supply)) (demandIn (now demand)) made lo hi (now x) (now serves) (now pot) ⌝ }
+    requires { ⌜ SweepReady m n (now demand) lo hi (now table) (now splits) (now freights) ⌝ }
+    ensures { λ r. ⌜ Swept m n (byRow 64 (now (cost .entry))) (byRow 64 (now (cap .entry))) made (amountIn (now (supply .entry))) (demandIn (now (demand .entry))) lo hi (now (table .entry)) (now (splits .entry)) (now (freights .entry)) (now (splits .exit)) (now (freights .exit)) (now (kept .exit)) (r .split) (r .total) (r .freight) (r .stops) ⌝ }
+{
+    let freight = freight_of(m, n, cost, x);
+    climb(
+        m,
+        n,
+        cost,
+        cap,
+        lo,
+        hi,
+        freight,
+        demand,
+        table,
+        splits,
+        freights,
+        x,
+        serves,
+        pot,
+        kept,
+    )
+}

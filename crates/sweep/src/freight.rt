@@ -1,0 +1,33 @@
+// The freight of a plan.
+ghost use mathlib.Core.Path.{_≡_};
+ghost use Prim.Native.Nat.{_*_, _<_};
+ghost use Rattle.transport.specs.Sum.{sum};
+ghost use Rattle.transport.specs.Plan.{freight};
+ghost use Rattle.residual.specs.Cells.{cells};
+ghost use Rattle.sweep.specs.engine.FreightSum.{FreightReady};
+
+// The freight of what source i sends.
+fn row_freight(m: usize, n: usize, i: usize, cost: &[u32; 2048], x: &[u32; 2048]) -> u64
+    requires { ⌜ i < m ⌝ }
+    requires { ⌜ FreightReady m n (cells (now cost)) (cells (now x)) ⌝ }
+    ensures { λ r. ⌜ r ≡ sum n (λ j. cells (now (cost .entry)) i j * cells (now (x .entry)) i j) ⌝ }
+{
+    let mut total: u64 = 0;
+    for j in 0..n {
+        let k = i * 64 + j;
+        total = total + (cost[k] as u64) * (x[k] as u64);
+    }
+    total
+}
+
+// The freight of a plan.
+pub fn freight_of(m: usize, n: usize, cost: &[u32; 2048], x: &[u32; 2048]) -> u64
+    requires { ⌜ FreightReady m n (cells (now cost)) (cells (now x)) ⌝ }
+    ensures { λ r. ⌜ r ≡ freight m n (cells (now (cost .entry))) (cells (now (x .entry))) ⌝ }
+{
+    let mut total: u64 = 0;
+    for i in 0..m {
+        total = total + row_freight(m, n, i, cost, x);
+    }
+    total
+}
