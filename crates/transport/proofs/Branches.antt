@@ -20,7 +20,7 @@ use Rattle.transport.specs.engine.Path.Arc.{ahead, back}
 use Rattle.transport.specs.engine.Search.{Near, Label, Prev}
 use Rattle.transport.specs.engine.Search.Prev.{root, step}
 use Rattle.transport.specs.engine.Serves.{bit, Covers, Left}
-use Rattle.transport.specs.engine.Roam.{Opens, Bare, level, reached, Tree, Roaming, RoamAt, AheadAt, Moved, Back, Shut, Trodden, NoRoute, Roamed}
+use Rattle.transport.specs.engine.Roam.{Opens, level, reached, Tree, Roaming, Aiming, RoamAt, AheadAt, Moved, Back, Shut, Trodden, NoRoute}
 use Rattle.transport.specs.engine.Canon.{RowWays}
 use Rattle.transport.proofs.Sums.{sum-change}
 use Rattle.transport.proofs.Settle.{marks-most, arc-room, arc-source, arc-terminal, arc-eq}
@@ -220,9 +220,6 @@ module _ {m n : ℕ} {f x : List ℕ} {s limit R S W : ℕ} {P : List ℕ} (hm :
   rooted : get (q .dist) s < far
   rooted = omega (arith, q .tree .root-dist)
 
-  long-prev : length P ≡ 96
-  long-prev = q .tree .long .prevs
-
   -- a source that sends to a terminal reached
   pub visit-source : {a j : ℕ} → a < m → j < n → bit S a ≡ 1 → bit R j ≡ 0 → 0 < cells x a j
       → Roaming m n f x s limit R (S - 2 ^ a) (bitOr W (2 ^ a)) (set P a (32 + j))
@@ -247,8 +244,6 @@ module _ {m n : ℕ} {f x : List ℕ} {s limit R S W : ℕ} {P : List ℕ} (hm :
       | yes z ↦ rw z (take-own a S fresh)
       | no z ↦ take-kept a S b fresh (q .waits b hb (omega (arith, e, bit-or W (2 ^ a) b, bit-power a b z)))
     ];
-    named = λ b hb e. omega (arith, before (32 + b) (omega arith), q .named b hb e);
-    blank = λ b hb e. before (32 + b) (omega arith) ∙ q .blank b hb e;
   }
     where
       here : get (q .dist) (32 + j) < far
@@ -262,9 +257,6 @@ module _ {m n : ℕ} {f x : List ℕ} {s limit R S W : ℕ} {P : List ℕ} (hm :
 
       off : (u : ℕ) → u ≢ a → get (set (q .dist) a 800000000) u ≡ get (q .dist) u
       off u z = getD-set-other (q .dist) a u 800000000 0 z
-
-      before : (u : ℕ) → u ≢ a → get (set P a (32 + j)) u ≡ get P u
-      before u z = getD-set-other P a u (32 + j) 0 z
 
   -- a terminal that a source reached has room to send to
   pub visit-terminal : {i j : ℕ} → i < m → j < n → bit S i ≡ 0 → bit R j ≡ 1 → cells x i j < cells f i j
@@ -287,11 +279,6 @@ module _ {m n : ℕ} {f x : List ℕ} {s limit R S W : ℕ} {P : List ℕ} (hm :
       | no z ↦ omega (arith, off (32 + b) (λ y. z (omega arith)), q .seen-t b hb (take-gone j R b fresh z e))
     ];
     waits = q .waits;
-    named = λ b hb e. elim (ℕ-discrete b j) [
-      | yes z ↦ omega (arith, ap (λ y. get (set P (32 + j) i) (32 + y)) z, getD-set-same P (32 + j) i 0 (omega (arith, long-prev)))
-      | no z ↦ omega (arith, before (32 + b) (λ y. z (omega arith)), q .named b hb (take-gone j R b fresh z e))
-    ];
-    blank = λ b hb e. let t = take-less j R b fresh e in before (32 + b) (λ z. t .0 (omega arith)) ∙ q .blank b hb (t .1);
   }
     where
       here : get (q .dist) i < far
@@ -306,8 +293,73 @@ module _ {m n : ℕ} {f x : List ℕ} {s limit R S W : ℕ} {P : List ℕ} (hm :
       off : (u : ℕ) → u ≢ 32 + j → get (set (q .dist) (32 + j) 800000000) u ≡ get (q .dist) u
       off u z = getD-set-other (q .dist) (32 + j) u 800000000 0 z
 
-      before : (u : ℕ) → u ≢ 32 + j → get (set P (32 + j) i) u ≡ get P u
-      before u z = getD-set-other P (32 + j) u i 0 z
+-- ---- the goal is reached
+
+module _ {m n i j limit : ℕ} {f x : List ℕ} {R S W : ℕ} {P : List ℕ} (at : RoamAt m n i j) (q : Roaming m n f x i limit R S W P) where
+  flat : (u : ℕ) → u < 96 → get level u ≡ 800000000
+  flat u h = getD-replicate {A = ℕ} 96 u 800000000 0 h
+
+  low : (u : ℕ) → u < 96 → get level u ≤ get (q .dist) u
+  low u h = elim (decLt (get (q .dist) u) far) [ yes l ↦ omega (arith, flat u h, q .tree .flat u h l) | no l ↦ omega (arith, flat u h) ]
+
+  pub trodden : bit R j ≡ 0 → Trodden m n i j limit f x P
+  trodden gone = record {
+    dist = q .dist;
+    labelled = record {
+      hops = q .hops;
+      widths = q .widths;
+      searched = record {
+        long = q .tree .long;
+        low = low;
+        root-dist = q .tree .root-dist ∙ sym (flat i (omega (arith, at .source, at .sources)));
+        root-hops = q .tree .root-hops;
+        root-width = q .tree .root-width;
+        bound = omega (arith, goal);
+        found = λ _. record {
+          goal = seen;
+          has-room = omega (arith, getD-replicate {A = ℕ} 96 (32 + j) 1 0 goal);
+          label = label-end;
+          relaxed = λ a b t k ha hb l arc. absurd (omega (arith, nearer a ha l));
+          empty = λ a ha l. absurd (omega (arith, nearer a ha l));
+        };
+        stuck = λ e. absurd (omega (arith, goal));
+      };
+    };
+  }
+    where
+      goal : 32 + j < 96
+      goal = omega (arith, at .terminal, at .terminals)
+
+      seen : get (q .dist) (32 + j) < far
+      seen = q .seen-t j (omega (arith, at .terminal, at .terminals)) gone
+
+      even : get (q .dist) (32 + j) ≡ 800000000
+      even = q .tree .flat (32 + j) goal seen
+
+      nearer : (a : ℕ) → a < 96 → get (q .dist) a + get level (32 + j) < get (q .dist) (32 + j) + get level a → 1 ≤ 0
+      nearer a ha l = absurd (omega (arith, low a ha, even, flat (32 + j) goal, flat a ha))
+
+      label-end : (w : ℕ) → w < 96 → get (q .dist) w < far
+          → Label (net m n [] f x) i (Near level (q .dist) (32 + j)) level 96 limit (book (q .dist) P (q .hops) (q .widths)) w
+      label-end w hw l = record {
+        source = lw .source;
+        terminal = lw .terminal;
+        up = lw .up;
+        down = lw .down;
+        count = omega (arith, lw .count, marks-most 96 (λ u. reached (get (q .dist) u)) (λ u h. reached-most (get (q .dist) u)));
+        some = lw .some;
+        most = lw .most;
+        prev = go (lw .prev);
+      }
+        where
+          lw : Label (net m n [] f x) i (λ u. get (q .dist) u < far) level (sum 96 (λ u. reached (get (q .dist) u))) limit (book (q .dist) P (q .hops) (q .widths)) w
+          lw = q .tree .label w hw l
+
+          go : Prev (net m n [] f x) i (λ u. get (q .dist) u < far) (book (q .dist) P (q .hops) (q .widths)) w
+              → Prev (net m n [] f x) i (Near level (q .dist) (32 + j)) (book (q .dist) P (q .hops) (q .widths)) w
+          go (root z) = root z
+          go (step k b d a eh ew) =
+              step k b (d, omega (arith, q .tree .flat (get P w) b d, even, flat (32 + j) goal, flat (get P w) b)) a eh ew
 
 -- ---- sources that come to wait
 
@@ -333,30 +385,32 @@ moved-one {S} {W} i h = record {
 
 -- ---- the sources that send to terminal j, bit by bit
 
-pub record LookingBack (m n j : ℕ) (f x serves : List ℕ) (s limit R S₀ W₀ : ℕ) (P : List ℕ) (S W rest : ℕ) : Type 0 where
+pub record LookingBack (m n j g : ℕ) (f x serves : List ℕ) (s limit R S₀ W₀ : ℕ) (P : List ℕ) (S W rest : ℕ) : Type 0 where
   pub hi : ℕ
   pub most : hi ≤ m
   pub left : Left (bitAnd (get serves j) S₀) rest hi
   pub fits : rest < 2 ^ 32
   pub roaming : Roaming m n f x s limit R S W P
+  pub aiming : Aiming m n g f x R S
   pub moved : Moved S₀ W₀ S W
   pub above : (a : ℕ) → hi ≤ a → bit S a ≡ bit S₀ a
   pub closed : (a : ℕ) → a < hi → 0 < cells x a j → bit S a ≡ 0
 
-module _ {m n s j limit : ℕ} {f x serves : List ℕ} {R S₀ W₀ : ℕ} (at : RoamAt m n s j) (c : Covers m n x serves) (seen : bit R j ≡ 0) where
-  pub back-start : {P : List ℕ} → Roaming m n f x s limit R S₀ W₀ P → LookingBack m n j f x serves s limit R S₀ W₀ P S₀ W₀ (bitAnd (get serves j) S₀)
-  back-start q = record {
+module _ {m n s j g limit : ℕ} {f x serves : List ℕ} {R S₀ W₀ : ℕ} (at : RoamAt m n s j) (c : Covers m n x serves) (seen : bit R j ≡ 0) where
+  pub back-start : {P : List ℕ} → Roaming m n f x s limit R S₀ W₀ P → Aiming m n g f x R S₀ → LookingBack m n j g f x serves s limit R S₀ W₀ P S₀ W₀ (bitAnd (get serves j) S₀)
+  back-start q w = record {
     hi = 0;
     most = omega arith;
     left = left-start;
     fits = omega (arith, and-le-r (get serves j) S₀, q .fits-s);
     roaming = q;
+    aiming = w;
     moved = moved-none;
     above = λ a l. refl;
     closed = λ a l. absurd (omega arith);
   }
 
-  module _ {P : List ℕ} {S W rest : ℕ} (q : LookingBack m n j f x serves s limit R S₀ W₀ P S W rest) (p : 0 < rest) where
+  module _ {P : List ℕ} {S W rest : ℕ} (q : LookingBack m n j g f x serves s limit R S₀ W₀ P S W rest) (p : 0 < rest) where
     abbrev i : ℕ
     i = trailingZeros 32 rest
 
@@ -379,32 +433,48 @@ module _ {m n s j limit : ℕ} {f x serves : List ℕ} {R S₀ W₀ : ℕ} (at :
       | no h ↦ q .moved .kept a (omega (arith, bit-and (get serves j) S₀ a, left-none 32 (q .left) p (q .fits) a (omega arith) l, c .serving a j (omega (arith, back-source)) (at .terminal) o))
     ]
 
-    pub back-take : 0 < cells x (trailingZeros 32 rest) j
-        → LookingBack m n j f x serves s limit R S₀ W₀ (set P (trailingZeros 32 rest) (32 + j)) (S - 2 ^ trailingZeros 32 rest) (bitOr W (2 ^ trailingZeros 32 rest)) (bitAnd rest (rest - 1))
-    back-take o = record {
+    back-visit : 0 < cells x i j → Roaming m n f x s limit R (S - 2 ^ i) (bitOr W (2 ^ i)) (set P i (32 + j))
+    back-visit o = visit-source (at .sources) (at .terminals) (q .roaming) back-source (at .terminal) back-fresh seen o
+
+    pub back-found : 0 < cells x (trailingZeros 32 rest) j → cells x (trailingZeros 32 rest) g < cells f (trailingZeros 32 rest) g
+        → Trodden m n s g limit f x (set (set P (trailingZeros 32 rest) (32 + j)) (32 + g) (trailingZeros 32 rest))
+    back-found o l =
+        trodden (record { sources = at .sources; terminals = at .terminals; source = at .source; terminal = q .aiming .terminal })
+        (visit-terminal (at .sources) (at .terminals) (back-visit o) back-source (q .aiming .terminal) (take-own i S back-fresh) (q .aiming .fresh) l)
+        (take-own g R (q .aiming .fresh))
+
+    pub back-take : 0 < cells x (trailingZeros 32 rest) j → cells f (trailingZeros 32 rest) g ≤ cells x (trailingZeros 32 rest) g
+        → LookingBack m n j g f x serves s limit R S₀ W₀ (set P (trailingZeros 32 rest) (32 + j)) (S - 2 ^ trailingZeros 32 rest) (bitOr W (2 ^ trailingZeros 32 rest)) (bitAnd rest (rest - 1))
+    back-take o l = record {
       hi = i + 1;
       most = omega (arith, back-source);
       left = left-next 32 (q .left) p (q .fits);
       fits = omega (arith, back-fewer, q .fits);
-      roaming = visit-source (at .sources) (at .terminals) (q .roaming) back-source (at .terminal) back-fresh seen o;
+      roaming = back-visit o;
+      aiming = record {
+        terminal = q .aiming .terminal;
+        fresh = q .aiming .fresh;
+        full = λ a h e. elim (ℕ-discrete a i) [ yes z ↦ rw z l | no z ↦ q .aiming .full a h (take-gone i S a back-fresh z e) ];
+      };
       moved = moved-then (q .moved) (moved-one i back-fresh);
       above = λ a l. take-other i S a back-fresh (omega arith) ∙ q .above a (omega (arith, left-low 32 (q .left) p (q .fits)));
       closed = λ a l h. elim (ℕ-discrete a i) [ yes z ↦ rw z (take-own i S back-fresh) | no z ↦ take-kept i S a back-fresh (below a (omega arith) h) ];
     }
 
-    pub back-skip : cells x (trailingZeros 32 rest) j ≤ 0 → LookingBack m n j f x serves s limit R S₀ W₀ P S W (bitAnd rest (rest - 1))
+    pub back-skip : cells x (trailingZeros 32 rest) j ≤ 0 → LookingBack m n j g f x serves s limit R S₀ W₀ P S W (bitAnd rest (rest - 1))
     back-skip o = record {
       hi = i + 1;
       most = omega (arith, back-source);
       left = left-next 32 (q .left) p (q .fits);
       fits = omega (arith, back-fewer, q .fits);
       roaming = q .roaming;
+      aiming = q .aiming;
       moved = q .moved;
       above = λ a l. q .above a (omega (arith, left-low 32 (q .left) p (q .fits)));
       closed = λ a l h. elim (ℕ-discrete a i) [ yes z ↦ absurd (omega (arith, ap (λ y. cells x y j) z)) | no z ↦ below a (omega arith) h ];
     }
 
-  pub back-end : {P : List ℕ} {S W rest : ℕ} → LookingBack m n j f x serves s limit R S₀ W₀ P S W rest → rest ≤ 0 → Back m j x R S₀ W₀ R S W
+  pub back-end : {P : List ℕ} {S W rest : ℕ} → LookingBack m n j g f x serves s limit R S₀ W₀ P S W rest → rest ≤ 0 → Back m j x R S₀ W₀ R S W
   back-end {P} {S} q e = record {
     same = refl;
     moved = q .moved;
@@ -416,27 +486,30 @@ module _ {m n s j limit : ℕ} {f x serves : List ℕ} {R S₀ W₀ : ℕ} (at :
 
 -- ---- the terminals that source i has room to send to, bit by bit
 
-pub record LookingAhead (m n i : ℕ) (f x ways : List ℕ) (s limit R₀ S₀ W₀ : ℕ) (P : List ℕ) (R S W rest : ℕ) : Type 0 where
+pub record LookingAhead (m n i g : ℕ) (f x ways : List ℕ) (s limit R₀ S₀ W₀ : ℕ) (P : List ℕ) (R S W rest : ℕ) : Type 0 where
   pub hi : ℕ
   pub most : hi ≤ n
-  pub left : Left (bitAnd (get ways i) R₀) rest hi
+  pub left : Left (bitAnd (get ways i) (R₀ - 2 ^ g)) rest hi
   pub fits : rest < 2 ^ 64
   pub roaming : Roaming m n f x s limit R S W P
+  pub aiming : Aiming m n g f x R S
   pub moved : Moved S₀ W₀ S W
   pub above : (b : ℕ) → hi ≤ b → bit R b ≡ bit R₀ b
   pub shut : Shut m n i f x R S W
   pub gone : (b : ℕ) → bit R₀ b ≡ 0 → bit R b ≡ 0
   pub closed : (b : ℕ) → b < hi → cells x i b < cells f i b → bit R b ≡ 0
 
-module _ {m n s i limit : ℕ} {f x ways : List ℕ} {R₀ S₀ W₀ : ℕ} (at : AheadAt m n s i) (o : Opens m n f ways) (seen : bit S₀ i ≡ 0) where
+module _ {m n s i g limit : ℕ} {f x ways : List ℕ} {R₀ S₀ W₀ : ℕ} (at : AheadAt m n s i) (o : Opens m n f ways) (seen : bit S₀ i ≡ 0)
+    (w : Aiming m n g f x R₀ S₀) where
   pub ahead-start : {P : List ℕ} → Roaming m n f x s limit R₀ S₀ W₀ P → Shut m n i f x R₀ S₀ W₀
-      → LookingAhead m n i f x ways s limit R₀ S₀ W₀ P R₀ S₀ W₀ (bitAnd (get ways i) R₀)
+      → LookingAhead m n i g f x ways s limit R₀ S₀ W₀ P R₀ S₀ W₀ (bitAnd (get ways i) (R₀ - 2 ^ g))
   ahead-start q h = record {
     hi = 0;
     most = omega arith;
     left = left-start;
-    fits = omega (arith, and-le-r (get ways i) R₀, q .fits-r);
+    fits = omega (arith, and-le-r (get ways i) (R₀ - 2 ^ g), q .fits-r);
     roaming = q;
+    aiming = w;
     moved = moved-none;
     above = λ b l. refl;
     shut = h;
@@ -444,18 +517,29 @@ module _ {m n s i limit : ℕ} {f x ways : List ℕ} {R₀ S₀ W₀ : ℕ} (at 
     closed = λ b l. absurd (omega arith);
   }
 
-  module _ {P : List ℕ} {R S W rest : ℕ} (q : LookingAhead m n i f x ways s limit R₀ S₀ W₀ P R S W rest) (p : 0 < rest) where
+  -- a terminal that is not looked at is reached
+  missed : {P : List ℕ} {R S W rest : ℕ} → LookingAhead m n i g f x ways s limit R₀ S₀ W₀ P R S W rest → (b : ℕ) → b < n
+      → bit (bitAnd (get ways i) (R₀ - 2 ^ g)) b ≡ 0 → cells x i b < cells f i b → bit R b ≡ 0
+  missed q b hb e h = elim (ℕ-discrete b g) [
+    | yes z ↦ absurd (omega (arith, w .full i (at .source) seen, ap (λ y. cells x i y) z, ap (λ y. cells f i y) z))
+    | no z ↦ q .gone b (take-gone g R₀ b (w .fresh) z (omega (arith, e, bit-and (get ways i) (R₀ - 2 ^ g) b, o .has i b (at .source) hb (omega arith))))
+  ]
+
+  module _ {P : List ℕ} {R S W rest : ℕ} (q : LookingAhead m n i g f x ways s limit R₀ S₀ W₀ P R S W rest) (p : 0 < rest) where
     abbrev j : ℕ
     j = trailingZeros 64 rest
 
-    two : min (bit (get ways i) j) (bit R₀ j) ≡ 1
-    two = sym (bit-and (get ways i) R₀ j) ∙ left-set 64 (q .left) p (q .fits)
+    two : min (bit (get ways i) j) (bit (R₀ - 2 ^ g) j) ≡ 1
+    two = sym (bit-and (get ways i) (R₀ - 2 ^ g) j) ∙ left-set 64 (q .left) p (q .fits)
 
     pub ahead-terminal : trailingZeros 64 rest < n
     ahead-terminal = bit-place n (get ways i) j (o .within i (at .source)) (omega (arith, two, bit-most (get ways i) j))
 
+    was : (j ≢ g) × (bit R₀ j ≡ 1)
+    was = take-less g R₀ j (w .fresh) (omega (arith, two, bit-most (R₀ - 2 ^ g) j))
+
     pub ahead-fresh : bit R (trailingZeros 64 rest) ≡ 1
-    ahead-fresh = omega (arith, q .above j (left-low 64 (q .left) p (q .fits)), two, bit-most R₀ j)
+    ahead-fresh = q .above j (left-low 64 (q .left) p (q .fits)) ∙ was .1
 
     pub ahead-fewer : bitAnd rest (rest - 1) < rest
     ahead-fewer = omega (arith, and-le-r rest (rest - 1))
@@ -463,7 +547,7 @@ module _ {m n s i limit : ℕ} {f x ways : List ℕ} {R₀ S₀ W₀ : ℕ} (at 
     lower : (b : ℕ) → b < j → cells x i b < cells f i b → bit R b ≡ 0
     lower b l h = elim (decLt b (q .hi)) [
       | yes g ↦ q .closed b g h
-      | no g ↦ q .gone b (omega (arith, bit-and (get ways i) R₀ b, left-none 64 (q .left) p (q .fits) b (omega arith) l, o .has i b (at .source) (omega (arith, ahead-terminal)) (omega arith)))
+      | no g ↦ missed q b (omega (arith, ahead-terminal)) (left-none 64 (q .left) p (q .fits) b (omega arith) l) h
     ]
 
     pub ahead-visit : cells x i (trailingZeros 64 rest) < cells f i (trailingZeros 64 rest)
@@ -471,17 +555,25 @@ module _ {m n s i limit : ℕ} {f x ways : List ℕ} {R₀ S₀ W₀ : ℕ} (at 
     ahead-visit h =
         visit-terminal (at .sources) (at .terminals) (q .roaming) (at .source) ahead-terminal (q .moved .kept i seen) ahead-fresh h
 
+    pub ahead-aim : Aiming m n g f x (R - 2 ^ trailingZeros 64 rest) S
+    ahead-aim = record {
+      terminal = q .aiming .terminal;
+      fresh = take-other j R g ahead-fresh (λ z. was .0 (sym z)) ∙ q .aiming .fresh;
+      full = q .aiming .full;
+    }
+
     pub ahead-gone : bit (R - 2 ^ trailingZeros 64 rest) (trailingZeros 64 rest) ≡ 0
     ahead-gone = take-own j R ahead-fresh
 
-    pub ahead-take : {P' : List ℕ} {R' S' W' : ℕ} → Roaming m n f x s limit R' S' W' P' → Back m (trailingZeros 64 rest) x (R - 2 ^ trailingZeros 64 rest) S W R' S' W'
-        → LookingAhead m n i f x ways s limit R₀ S₀ W₀ P' R' S' W' (bitAnd rest (rest - 1))
-    ahead-take {P'} {R'} {S'} {W'} r d = record {
+    pub ahead-take : {P' : List ℕ} {R' S' W' : ℕ} → Roaming m n f x s limit R' S' W' P' → Aiming m n g f x R' S' → Back m (trailingZeros 64 rest) x (R - 2 ^ trailingZeros 64 rest) S W R' S' W'
+        → LookingAhead m n i g f x ways s limit R₀ S₀ W₀ P' R' S' W' (bitAnd rest (rest - 1))
+    ahead-take {P'} {R'} {S'} {W'} r t d = record {
       hi = j + 1;
       most = omega (arith, ahead-terminal);
       left = left-next 64 (q .left) p (q .fits);
       fits = omega (arith, ahead-fewer, q .fits);
       roaming = r;
+      aiming = t;
       moved = moved-then (q .moved) (d .moved);
       above = λ b l. rw (d .same) (take-other j R b ahead-fresh (omega arith) ∙ q .above b (omega (arith, left-low 64 (q .left) p (q .fits))));
       shut = record {
@@ -496,13 +588,14 @@ module _ {m n s i limit : ℕ} {f x ways : List ℕ} {R₀ S₀ W₀ : ℕ} (at 
     }
 
     pub ahead-skip : cells f i (trailingZeros 64 rest) ≤ cells x i (trailingZeros 64 rest)
-        → LookingAhead m n i f x ways s limit R₀ S₀ W₀ P R S W (bitAnd rest (rest - 1))
-    ahead-skip g = record {
+        → LookingAhead m n i g f x ways s limit R₀ S₀ W₀ P R S W (bitAnd rest (rest - 1))
+    ahead-skip t = record {
       hi = j + 1;
       most = omega (arith, ahead-terminal);
       left = left-next 64 (q .left) p (q .fits);
       fits = omega (arith, ahead-fewer, q .fits);
       roaming = q .roaming;
+      aiming = q .aiming;
       moved = q .moved;
       above = λ b l. q .above b (omega (arith, left-low 64 (q .left) p (q .fits)));
       shut = q .shut;
@@ -513,7 +606,7 @@ module _ {m n s i limit : ℕ} {f x ways : List ℕ} {R₀ S₀ W₀ : ℕ} (at 
       ];
     }
 
-  pub ahead-end : {P : List ℕ} {R S W rest : ℕ} → LookingAhead m n i f x ways s limit R₀ S₀ W₀ P R S W rest → rest ≤ 0 → Shut m n 32 f x R S W
+  pub ahead-end : {P : List ℕ} {R S W rest : ℕ} → LookingAhead m n i g f x ways s limit R₀ S₀ W₀ P R S W rest → rest ≤ 0 → Shut m n 32 f x R S W
   ahead-end {P} {R} {S} {W} q e = record {
     ahead = λ a b ha hb z h es ew. elim (ℕ-discrete a i) [
       | yes y ↦ all b hb (rw y at h)
@@ -525,15 +618,12 @@ module _ {m n s i limit : ℕ} {f x ways : List ℕ} {R₀ S₀ W₀ : ℕ} (at 
       all : (b : ℕ) → b < n → cells x i b < cells f i b → bit R b ≡ 0
       all b hb h = elim (decLt b (q .hi)) [
         | yes l ↦ q .closed b l h
-        | no l ↦ q .gone b (omega (arith, bit-and (get ways i) R₀ b, left-end (q .left) e b (omega arith), o .has i b (at .source) hb (omega arith)))
+        | no l ↦ missed q b hb (left-end (q .left) e b (omega arith)) h
       ]
 
 -- ---- the start
 
-pub bare : Bare (replicate 96 96)
-bare = record { long = length-replicate {A = ℕ} 96 96; each = λ v h. getD-replicate {A = ℕ} 96 v 96 0 h }
-
-module _ {m n i j limit : ℕ} (f x : List ℕ) {P : List ℕ} (at : RoamAt m n i j) (some : 0 < limit) (b : Bare P) where
+module _ {m n i j limit : ℕ} (f x : List ℕ) (at : RoamAt m n i j) (some : 0 < limit) where
   abbrev T₀ : List ℕ
   T₀ = set (replicate 96 far) i 800000000
 
@@ -552,8 +642,8 @@ module _ {m n i j limit : ℕ} (f x : List ℕ) {P : List ℕ} (at : RoamAt m n 
   width-all : get (replicate 96 limit) i ≡ limit
   width-all = getD-replicate {A = ℕ} 96 i limit 0 hs
 
-  start-label : Label (net m n [] f x) i (λ w. get T₀ w < far) level (sum 96 (λ w. reached (get T₀ w))) limit (book T₀ P (replicate 96 0) (replicate 96 limit)) i
-  start-label = record {
+  start-label : (P : List ℕ) → Label (net m n [] f x) i (λ w. get T₀ w < far) level (sum 96 (λ w. reached (get T₀ w))) limit (book T₀ P (replicate 96 0) (replicate 96 limit)) i
+  start-label P = record {
     source = λ l. at .source;
     terminal = λ l. absurd (omega (arith, at .source, at .sources));
     up = omega (arith, start-own, hops-none, getD-replicate {A = ℕ} 96 i 800000000 0 hs);
@@ -573,15 +663,15 @@ module _ {m n i j limit : ℕ} (f x : List ℕ) {P : List ℕ} (at : RoamAt m n 
   own-source : bit (2 ^ 32 - 1) i ≡ 1
   own-source = every-source i (omega (arith, at .source, at .sources))
 
-  pub roam-start : Roaming m n f x i limit (2 ^ 64 - 1) (2 ^ 32 - 1 - 2 ^ i) (2 ^ i) P
-  roam-start = record {
+  pub roam-start : (P : List ℕ) → length P ≡ 96 → Roaming m n f x i limit (2 ^ 64 - 1) (2 ^ 32 - 1 - 2 ^ i) (2 ^ i) P
+  roam-start P long = record {
     dist = T₀;
     hops = replicate 96 0;
     widths = replicate 96 limit;
     tree = record {
       long = record {
         dists = length-set (replicate 96 far) i 800000000 ∙ length-replicate {A = ℕ} 96 far;
-        prevs = b .long;
+        prevs = long;
         hopss = length-replicate {A = ℕ} 96 0;
         widths = length-replicate {A = ℕ} 96 limit;
       };
@@ -589,7 +679,7 @@ module _ {m n i j limit : ℕ} (f x : List ℕ) {P : List ℕ} (at : RoamAt m n 
       root-hops = hops-none;
       root-width = width-all;
       flat = λ v h l. elim (ℕ-discrete v i) [ yes z ↦ rw z start-own | no z ↦ absurd (omega (arith, start-off v h z)) ];
-      label = λ v h l. elim (ℕ-discrete v i) [ yes z ↦ rw z start-label | no z ↦ absurd (omega (arith, start-off v h z)) ];
+      label = λ v h l. elim (ℕ-discrete v i) [ yes z ↦ rw z (start-label P) | no z ↦ absurd (omega (arith, start-off v h z)) ];
     };
     fits-r = omega arith;
     fits-s = omega arith;
@@ -605,8 +695,6 @@ module _ {m n i j limit : ℕ} (f x : List ℕ) {P : List ℕ} (at : RoamAt m n 
       | yes z ↦ rw z (take-own i (2 ^ 32 - 1) own-source)
       | no z ↦ absurd (omega (arith, bit-power i a z))
     ];
-    named = λ a h e. absurd (omega (arith, every-terminal a h));
-    blank = λ a h e. b .each (32 + a) (omega arith);
   }
 
   pub shut-start : Shut m n 32 f x (2 ^ 64 - 1) (2 ^ 32 - 1 - 2 ^ i) (2 ^ i)
@@ -618,8 +706,16 @@ module _ {m n i j limit : ℕ} (f x : List ℕ) {P : List ℕ} (at : RoamAt m n 
     back = λ a b ha hb h e. absurd (omega (arith, every-terminal b (omega (arith, at .terminals))));
   }
 
-  pub goal-start : bit (2 ^ 64 - 1) j ≡ 1
-  goal-start = every-terminal j (omega (arith, at .terminal, at .terminals))
+  -- the lane from source i to terminal j is closed
+  pub aim-start : cells f i j ≡ 0 → Aiming m n j f x (2 ^ 64 - 1) (2 ^ 32 - 1 - 2 ^ i)
+  aim-start e = record {
+    terminal = at .terminal;
+    fresh = every-terminal j (omega (arith, at .terminal, at .terminals));
+    full = λ a h z. elim (ℕ-discrete a i) [
+      | yes y ↦ omega (arith, ap (λ v. cells f v j) y)
+      | no y ↦ absurd (omega (arith, take-gone i (2 ^ 32 - 1) a own-source y z, every-source a (omega (arith, at .sources))))
+    ];
+  }
 
 -- ---- a source that waits is looked at
 
@@ -665,8 +761,6 @@ module _ {m n i j limit : ℕ} {f x : List ℕ} {R S W : ℕ} {P : List ℕ} (at
         | yes z ↦ rw z turn-seen
         | no z ↦ q .waits a h (sym (rest-other 32 W a p (q .fits-w) z) ∙ e)
       ];
-      named = q .named;
-      blank = q .blank;
     }
 
     pub turn-shut : Shut m n 32 f x R S W → Shut m n (trailingZeros 32 W) f x R S (bitAnd W (W - 1))
@@ -676,12 +770,6 @@ module _ {m n i j limit : ℕ} {f x : List ℕ} {R S W : ℕ} {P : List ℕ} (at
     }
 
   -- ---- the end
-
-  pub goal-fresh : 96 ≤ get P (32 + j) → bit R j ≡ 1
-  goal-fresh h = elim (ℕ-discrete (bit R j) 0) [
-    | yes z ↦ absurd (omega (arith, q .named j (omega (arith, at .terminal, at .terminals)) z))
-    | no z ↦ omega (arith, bit-most R j)
-  ]
 
   start-seen : bit S i ≡ 0
   start-seen = elim (ℕ-discrete (bit S i) 0) [
@@ -708,77 +796,6 @@ module _ {m n i j limit : ℕ} {f x : List ℕ} {R S W : ℕ} {P : List ℕ} (at
     where
       none : (a : ℕ) → bit W a ≡ 0
       none a = let z : W ≡ 0 = omega arith in ap (λ y. bit y a) z ∙ bit-none a
-
-  flat : (u : ℕ) → u < 96 → get level u ≡ 800000000
-  flat u h = getD-replicate {A = ℕ} 96 u 800000000 0 h
-
-  low : (u : ℕ) → u < 96 → get level u ≤ get (q .dist) u
-  low u h = elim (decLt (get (q .dist) u) far) [ yes l ↦ omega (arith, flat u h, q .tree .flat u h l) | no l ↦ omega (arith, flat u h) ]
-
-  pub trodden : get P (32 + j) < 96 → Trodden m n i j limit f x P
-  trodden h = record {
-    dist = q .dist;
-    labelled = record {
-      hops = q .hops;
-      widths = q .widths;
-      searched = record {
-        long = q .tree .long;
-        low = low;
-        root-dist = q .tree .root-dist ∙ sym (flat i (omega (arith, at .source, at .sources)));
-        root-hops = q .tree .root-hops;
-        root-width = q .tree .root-width;
-        bound = omega (arith, goal);
-        found = λ _. record {
-          goal = seen;
-          has-room = omega (arith, getD-replicate {A = ℕ} 96 (32 + j) 1 0 goal);
-          label = label-end;
-          relaxed = λ a b t k ha hb l arc. absurd (omega (arith, nearer a ha l));
-          empty = λ a ha l. absurd (omega (arith, nearer a ha l));
-        };
-        stuck = λ e. absurd (omega (arith, goal));
-      };
-    };
-  }
-    where
-      goal : 32 + j < 96
-      goal = omega (arith, at .terminal, at .terminals)
-
-      gone : bit R j ≡ 0
-      gone = elim (ℕ-discrete (bit R j) 0) [
-        | yes z ↦ z
-        | no z ↦ absurd (omega (arith, q .blank j (omega (arith, at .terminal, at .terminals)) (omega (arith, bit-most R j))))
-      ]
-
-      seen : get (q .dist) (32 + j) < far
-      seen = q .seen-t j (omega (arith, at .terminal, at .terminals)) gone
-
-      even : get (q .dist) (32 + j) ≡ 800000000
-      even = q .tree .flat (32 + j) goal seen
-
-      nearer : (a : ℕ) → a < 96 → get (q .dist) a + get level (32 + j) < get (q .dist) (32 + j) + get level a → 1 ≤ 0
-      nearer a ha l = absurd (omega (arith, low a ha, even, flat (32 + j) goal, flat a ha))
-
-      label-end : (w : ℕ) → w < 96 → get (q .dist) w < far
-          → Label (net m n [] f x) i (Near level (q .dist) (32 + j)) level 96 limit (book (q .dist) P (q .hops) (q .widths)) w
-      label-end w hw l = record {
-        source = lw .source;
-        terminal = lw .terminal;
-        up = lw .up;
-        down = lw .down;
-        count = omega (arith, lw .count, marks-most 96 (λ u. reached (get (q .dist) u)) (λ u h. reached-most (get (q .dist) u)));
-        some = lw .some;
-        most = lw .most;
-        prev = go (lw .prev);
-      }
-        where
-          lw : Label (net m n [] f x) i (λ u. get (q .dist) u < far) level (sum 96 (λ u. reached (get (q .dist) u))) limit (book (q .dist) P (q .hops) (q .widths)) w
-          lw = q .tree .label w hw l
-
-          go : Prev (net m n [] f x) i (λ u. get (q .dist) u < far) (book (q .dist) P (q .hops) (q .widths)) w
-              → Prev (net m n [] f x) i (Near level (q .dist) (32 + j)) (book (q .dist) P (q .hops) (q .widths)) w
-          go (root z) = root z
-          go (step k b d a eh ew) =
-              step k b (d, omega (arith, q .tree .flat (get P w) b d, even, flat (32 + j) goal, flat (get P w) b)) a eh ew
 
 -- ---- the free lanes of a source, bit by bit
 

@@ -159,14 +159,15 @@ fn reroute(
     serves: &mut [u32; 64],
 ) -> u32
     requires { ⌜ FreeReady m n i j (now free) (now x) ⌝ }
+    requires { ⌜ getD (now free) (i * 64 + j) 0 ≡ 0 ⌝ }
     requires { ⌜ Opens m n (now free) (now ways) ⌝ }
     requires { ⌜ Covers m n (now x) (now serves) ⌝ }
     ensures { λ r. ⌜ Rerouted m n i j amount (now (free .entry)) (now (x .entry)) (now (x .exit)) r ⌝ }
     ensures { λ r. ⌜ Covers m n (now (x .exit)) (now (serves .exit)) ⌝ }
 {
+    let mut prev = [0u32; 96];
     let mut left = amount;
     while 0 < left {
-        let mut prev = [96u32; 96];
         if roam(m, n, i, j, left, ways, free, x, serves, &mut prev) {
             left = left - follow(m, n, i, j, left, &prev, free, x, serves);
         } else {

@@ -1,21 +1,33 @@
 // The way of drums over free lanes, which cost nothing: breadth first, with a bit for each node.
 ghost use mathlib.Core.Path.{_≡_};
-ghost use Prim.Native.Nat.{_+_, _≤_, _<_};
+ghost use Prim.Native.Nat.{_+_, _*_, _≤_, _<_};
+ghost use lib.ListN.{length, getD};
 ghost use Rattle.transport.specs.engine.Serves.{bit, Covers};
-ghost use Rattle.transport.specs.engine.Roam.{Opens, Bare, Roaming, RoamAt, AheadAt, Back, Shut, Roamed};
+ghost use Rattle.transport.specs.engine.Roam.{Opens, Leads, Roaming, Aiming, RoamAt, AheadAt, Shut, LookedBack, LookedAhead, Roamed};
 
-// The terminals and the sources that are not reached yet, and the sources that are and are to be looked at, a bit for each.
+// The terminals and the sources that are not reached yet, and the sources that are and are to be looked at, a bit for each; is the goal reached?
 pub struct Front {
     pub terminals: u64,
     pub sources: u32,
     pub wait: u32,
+    pub found: bool,
 }
 
-// Reaches each source that sends to terminal j.
+// Has source i room to send to terminal j?
+fn leads(i: usize, j: usize, free: &[u32; 2048], x: &[u32; 2048]) -> bool
+    requires { ⌜ (i < 32) × (j < 64) ⌝ }
+    ensures { λ r. ⌜ Leads i j (now (free .entry)) (now (x .entry)) r ⌝ }
+{
+    let k = i * 64 + j;
+    x[k] < free[k]
+}
+
+// Reaches each source that sends to terminal j, until one has room to send to the goal.
 fn look_back(
     m: usize,
     n: usize,
     start: usize,
+    goal: usize,
     limit: u32,
     j: usize,
     free: &[u32; 2048],
@@ -28,8 +40,8 @@ fn look_back(
     requires { ⌜ bit (front .terminals) j ≡ 0 ⌝ }
     requires { ⌜ Covers m n (now x) (now serves) ⌝ }
     requires { ⌜ Roaming m n (now free) (now x) start limit (front .terminals) (front .sources) (front .wait) (now prev) ⌝ }
-    ensures { λ r. ⌜ Roaming m n (now (free .entry)) (now (x .entry)) start limit (r .terminals) (r .sources) (r .wait) (now (prev .exit)) ⌝ }
-    ensures { λ r. ⌜ Back m j (now (x .entry)) (front .terminals) (front .sources) (front .wait) (r .terminals) (r .sources) (r .wait) ⌝ }
+    requires { ⌜ Aiming m n goal (now free) (now x) (front .terminals) (front .sources) ⌝ }
+    ensures { λ r. ⌜ LookedBack m n j start goal limit (now (free .entry)) (now (x .entry)) (front .terminals) (front .sources) (front .wait) (r .terminals) (r .sources) (r .wait) (now (prev .exit)) (r .found) ⌝ }
 {
     let mut sources = front.sources;
     let mut wait = front.wait;
@@ -38,23 +50,34 @@ fn look_back(
         let i = u32::trailing_zeros(rest) as usize;
         rest = rest & (rest - 1);
         if 0 < x[i * 64 + j] {
+            prev[i] = 32 + j as u32;
+            if leads(i, goal, free, x) {
+                prev[32 + goal] = i as u32;
+                return Front {
+                    terminals: front.terminals,
+                    sources,
+                    wait,
+                    found: true,
+                };
+            }
             sources = sources - (1 << i);
             wait = wait | (1 << i);
-            prev[i] = 32 + j as u32;
         }
     }
     Front {
         terminals: front.terminals,
         sources,
         wait,
+        found: false,
     }
 }
 
-// Reaches each terminal that source i has room to send to, and each source that sends there.
+// Reaches each terminal that source i has room to send to, and each source that sends there, until one has room to send to the goal.
 fn look_ahead(
     m: usize,
     n: usize,
     start: usize,
+    goal: usize,
     limit: u32,
     i: usize,
     ways: &[u64; 32],
@@ -69,31 +92,30 @@ fn look_ahead(
     requires { ⌜ Covers m n (now x) (now serves) ⌝ }
     requires { ⌜ Opens m n (now free) (now ways) ⌝ }
     requires { ⌜ Roaming m n (now free) (now x) start limit (front .terminals) (front .sources) (front .wait) (now prev) ⌝ }
+    requires { ⌜ Aiming m n goal (now free) (now x) (front .terminals) (front .sources) ⌝ }
     requires { ⌜ Shut m n i (now free) (now x) (front .terminals) (front .sources) (front .wait) ⌝ }
-    ensures { λ r. ⌜ Roaming m n (now (free .entry)) (now (x .entry)) start limit (r .terminals) (r .sources) (r .wait) (now (prev .exit)) ⌝ }
-    ensures { λ r. ⌜ Shut m n 32 (now (free .entry)) (now (x .entry)) (r .terminals) (r .sources) (r .wait) ⌝ }
-    ensures { λ r. ⌜ r .sources + r .wait ≤ front .sources + front .wait ⌝ }
+    ensures { λ r. ⌜ LookedAhead m n start goal limit (now (free .entry)) (now (x .entry)) (front .sources) (front .wait) (r .terminals) (r .sources) (r .wait) (now (prev .exit)) (r .found) ⌝ }
 {
     let mut now = front;
-    let mut rest = ways[i] & front.terminals;
+    let mut rest = ways[i] & (front.terminals - (1 << goal));
     while 0 < rest {
         let j = u64::trailing_zeros(rest) as usize;
         rest = rest & (rest - 1);
         let k = i * 64 + j;
         if x[k] < free[k] {
             prev[32 + j] = i as u32;
-            let more = Front {
-                terminals: now.terminals - (1 << j),
-                sources: now.sources,
-                wait: now.wait,
-            };
-            now = look_back(m, n, start, limit, j, free, x, serves, more, prev);
+            now.terminals = now.terminals - (1 << j);
+            now = look_back(m, n, start, goal, limit, j, free, x, serves, now, prev);
+            if now.found {
+                return now;
+            }
         }
     }
+    now.found = false;
     now
 }
 
-// Looks for a way from source i to terminal j for limit drums at most; the nodes before go into prev, which has 96 everywhere.
+// Looks for a way from source i to terminal j for limit drums at most; the nodes before go into prev. The lane (i, j) is closed.
 pub fn roam(
     m: usize,
     n: usize,
@@ -108,25 +130,23 @@ pub fn roam(
 ) -> bool
     requires { ⌜ RoamAt m n i j ⌝ }
     requires { ⌜ 0 < limit ⌝ }
+    requires { ⌜ getD (now free) (i * 64 + j) 0 ≡ 0 ⌝ }
     requires { ⌜ Covers m n (now x) (now serves) ⌝ }
     requires { ⌜ Opens m n (now free) (now ways) ⌝ }
-    requires { ⌜ Bare (now prev) ⌝ }
+    requires { ⌜ length (now prev) ≡ 96 ⌝ }
     ensures { λ r. ⌜ Roamed m n i j limit (now (free .entry)) (now (x .entry)) (now (prev .exit)) r ⌝ }
 {
     let mut front = Front {
         terminals: u64::MAX,
         sources: u32::MAX - (1 << i),
         wait: 1 << i,
+        found: false,
     };
     while 0 < front.wait {
         let v = u32::trailing_zeros(front.wait) as usize;
-        let next = Front {
-            terminals: front.terminals,
-            sources: front.sources,
-            wait: front.wait & (front.wait - 1),
-        };
-        front = look_ahead(m, n, i, limit, v, ways, free, x, serves, next, prev);
-        if prev[32 + j] < 96 {
+        front.wait = front.wait & (front.wait - 1);
+        front = look_ahead(m, n, i, j, limit, v, ways, free, x, serves, front, prev);
+        if front.found {
             return true;
         }
     }

@@ -52,8 +52,17 @@ pub record Roaming (m n : ℕ) (f x : List ℕ) (s limit R S W : ℕ) (P : List 
   pub fresh-t : (b : ℕ) → b < 64 → bit R b ≡ 1 → far ≤ get dist (32 + b)
   pub seen-t : (b : ℕ) → b < 64 → bit R b ≡ 0 → get dist (32 + b) < far
   pub waits : (a : ℕ) → a < 32 → bit W a ≡ 1 → bit S a ≡ 0
-  pub named : (b : ℕ) → b < 64 → bit R b ≡ 0 → get P (32 + b) < 96
-  pub blank : (b : ℕ) → b < 64 → bit R b ≡ 1 → get P (32 + b) ≡ 96
+
+-- terminal g is not reached yet, and no source that is has room to send to it
+pub record Aiming (m n g : ℕ) (f x : List ℕ) (R S : ℕ) : Type 0 where
+  pub terminal : g < n
+  pub fresh : bit R g ≡ 1
+  pub full : (a : ℕ) → a < m → bit S a ≡ 0 → cells f a g ≤ cells x a g
+
+-- whether source i has room to send to terminal g
+pub record Leads (i g : ℕ) (f x : List ℕ) (r : Bool) : Type 0 where
+  pub room : r ≡ true → cells x i g < cells f i g
+  pub full : r ≡ false → cells f i g ≤ cells x i g
 
 -- the size, a source and a terminal, or two sources
 pub record RoamAt (m n i j : ℕ) : Type 0 where
@@ -85,11 +94,6 @@ pub record Shut (m n e : ℕ) (f x : List ℕ) (R S W : ℕ) : Type 0 where
   pub ahead : (a b : ℕ) → a < m → b < n → a ≢ e → cells x a b < cells f a b → bit S a ≡ 0 → bit W a ≡ 0 → bit R b ≡ 0
   pub back : (a b : ℕ) → a < m → b < n → 0 < cells x a b → bit R b ≡ 0 → bit S a ≡ 0
 
--- no node before
-pub record Bare (P : List ℕ) : Type 0 where
-  pub long : length P ≡ 96
-  pub each : (v : ℕ) → v < 96 → get P v ≡ 96
-
 -- ---- the answer
 
 -- a way leads from source i to terminal j
@@ -106,6 +110,21 @@ pub record NoRoute (m n i j : ℕ) (f x : List ℕ) : Type 0 where
   pub most : (b : ℕ) → q b ≤ 1
   pub ahead : (a b : ℕ) → a < m → b < n → cells x a b < cells f a b → q b ≤ p a
   pub back : (a b : ℕ) → a < m → b < n → 0 < cells x a b → p a ≤ q b
+
+-- after a look from terminal j: terminal g is reached, or each source that sends to j is
+pub record LookedBack (m n j s g limit : ℕ) (f x : List ℕ) (R S W R' S' W' : ℕ) (P : List ℕ) (r : Bool) : Type 0 where
+  pub found : r ≡ true → Trodden m n s g limit f x P
+  pub roaming : r ≡ false → Roaming m n f x s limit R' S' W' P
+  pub aiming : r ≡ false → Aiming m n g f x R' S'
+  pub back : r ≡ false → Back m j x R S W R' S' W'
+
+-- after a look from a source: terminal g is reached, or no open arc leaves the nodes reached but from the sources that wait
+pub record LookedAhead (m n s g limit : ℕ) (f x : List ℕ) (S W R' S' W' : ℕ) (P : List ℕ) (r : Bool) : Type 0 where
+  pub found : r ≡ true → Trodden m n s g limit f x P
+  pub roaming : r ≡ false → Roaming m n f x s limit R' S' W' P
+  pub aiming : r ≡ false → Aiming m n g f x R' S'
+  pub shut : r ≡ false → Shut m n 32 f x R' S' W'
+  pub fewer : r ≡ false → S' + W' ≤ S + W
 
 pub record Roamed (m n i j limit : ℕ) (f x P : List ℕ) (r : Bool) : Type 0 where
   pub found : r ≡ true → Trodden m n i j limit f x P

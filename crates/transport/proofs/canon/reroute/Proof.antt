@@ -1,28 +1,28 @@
 -- `transport::canon::reroute` meets its contract. Assumes nothing.
 use mathlib.Core.Path.{_≡_}
-use Prim.Native.Nat.{_-_}
 use native.Mathlib.Omega.{arith}
+use lib.ListN.{length, length-replicate}
+use Prim.Native.Nat.{ℕ}
 use Rattle.transport.specs.engine.Serves.{Covers}
 use Rattle.transport.specs.engine.Canon.{Rerouting}
 use Rattle.transport.proofs.Reroute.{reroute-start, free-again, roam-at, reroute-next}
-use Rattle.transport.proofs.Branches.{bare}
 use Rattle.transport.proofs.canon.reroute.Statement.{statement}
 use Rattle.transport.proofs.canon.reroute.Tie as tie
 
 abbrev Inv-loop : tie.InvT-loop
-Inv-loop m n ways free i j amount x₀ serves₀ left₀ x serves left = Rerouting m n i j amount free x₀ x left × Covers m n x serves
+Inv-loop m n ways free i j amount x₀ serves₀ prev₀ left₀ x serves prev left = Rerouting m n i j amount free x₀ x left × Covers m n x serves × (length prev ≡ 96)
 
 abbrev μ-loop : tie.MeasureT-loop
-μ-loop m n ways free i j amount x₀ serves₀ left₀ x serves left = left
+μ-loop m n ways free i j amount x₀ serves₀ prev₀ left₀ x serves prev left = left
 
 loop-holds : tie.Need-loop-holds Inv-loop μ-loop
-loop-holds c = (reroute-start (c .pre .0), c .pre .1 .1)
+loop-holds c = (reroute-start (c .pre .0), c .pre .1 .1 .1, length-replicate {A = ℕ} 96 0)
 
 roam-requires : tie.Need-roam-requires Inv-loop μ-loop
 roam-requires c κs =
     let s = c .before .before .before .before .before .pre in
     let q = c .before .before .before .before .loop .inv in
-    (roam-at (s .0) (q .0), (c .before .before .before .loop-test .taken, (q .1, (s .1 .0, bare))))
+    (roam-at (s .0) (q .0), (c .before .before .before .loop-test .taken, (s .1 .0, (q .1, (s .1 .1 .0, q .2)))))
 
 follow-requires : tie.Need-follow-requires Inv-loop μ-loop
 follow-requires c κs =
@@ -37,7 +37,11 @@ loop-less : tie.Need-loop-less Inv-loop μ-loop
 loop-less c = omega (arith, c .follow .ensures .0 .some, c .follow .ensures .0 .most)
 
 loop-again : tie.Need-loop-again Inv-loop μ-loop
-loop-again c = (reroute-next (c .before .before .before .before .before .before .before .before .before .before .before .pre .0) (c .before .before .before .before .before .before .before .before .before .before .loop .inv .0) (c .follow .ensures .0), c .follow .ensures .1)
+loop-again c =
+    let s = c .before .before .before .before .before .before .before .before .before .before .before .pre in
+    let q = c .before .before .before .before .before .before .before .before .before .before .loop .inv in
+    let t = c .before .before .before .before .before .roam .ensures .found (c .before .before .before .before .if1 .taken) in
+    (reroute-next (s .0) (q .0) (c .follow .ensures .0), c .follow .ensures .1, t .labelled .searched .long .prevs)
 
 returns : tie.Need-returns Inv-loop μ-loop
 returns c = let q = c .before .before .before .before .before .before .loop .inv in (record { rerouting = q .0; none = λ h. c .before .roam .ensures .none (c .if1 .left) }, q .1)

@@ -1,17 +1,18 @@
 -- `transport::roam::look_back` meets its contract. Assumes nothing.
+use mathlib.Core.Bool.{true≢false, false≢true}
 use Prim.Native.Nat.{_+_, _-_, _*_, _<_}
 use native.Mathlib.Omega.{arith}
 use lib.Count.{trailingZeros}
 use Rattle.transport.proofs.Serving.{power-fits}
-use Rattle.transport.proofs.Branches.{LookingBack, back-start, back-source, back-fresh, back-fewer, back-take, back-skip, back-end, take-fits}
+use Rattle.transport.proofs.Branches.{LookingBack, back-start, back-source, back-fresh, back-fewer, back-found, back-take, back-skip, back-end, take-fits}
 use Rattle.transport.proofs.roam.look_back.Statement.{statement}
 use Rattle.transport.proofs.roam.look_back.Tie as tie
 
 abbrev Inv-loop : tie.InvT-loop
-Inv-loop m n start limit j free x serves front prev₀ sources₀ wait₀ rest₀ prev sources wait rest = LookingBack m n j free x serves start limit (front .terminals) (front .sources) (front .wait) prev sources wait rest
+Inv-loop m n start goal limit j free x serves front prev₀ sources₀ wait₀ rest₀ prev sources wait rest = LookingBack m n j goal free x serves start limit (front .terminals) (front .sources) (front .wait) prev sources wait rest
 
 abbrev μ-loop : tie.MeasureT-loop
-μ-loop m n start limit j free x serves front prev₀ sources₀ wait₀ rest₀ prev sources wait rest = rest
+μ-loop m n start goal limit j free x serves front prev₀ sources₀ wait₀ rest₀ prev sources wait rest = rest
 
 -- ---- a turn of the loop
 
@@ -19,6 +20,9 @@ source : (c : tie.In-loop Inv-loop μ-loop) → trailingZeros 32 (c .before .loo
 source c =
     let s = c .before .before .before .pre in
     omega (arith, back-source (s .0) (s .1 .1 .0) (s .1 .0) (c .before .loop .inv) (c .loop-test .taken), s .0 .sources)
+
+goal : (c : tie.In-loop Inv-loop μ-loop) → c .before .before .before .args .goal < 64
+goal c = let s = c .before .before .before .pre in omega (arith, s .1 .1 .1 .1 .terminal, s .0 .terminals)
 
 -- its lane
 lane : (c : tie.In-loop Inv-loop μ-loop) → trailingZeros 32 (c .before .loop .rest) * 64 + c .before .before .before .args .j < 2048
@@ -31,7 +35,7 @@ element-copy-out-rest : tie.Need-element-copy-out-rest Inv-loop μ-loop
 element-copy-out-rest c = omega (arith, c .pre .0 .terminal, c .pre .0 .terminals)
 
 loop-holds : tie.Need-loop-holds Inv-loop μ-loop
-loop-holds c = let s = c .before .pre in back-start (s .0) (s .1 .1 .0) (s .1 .0) (s .1 .1 .1)
+loop-holds c = let s = c .before .pre in back-start (s .0) (s .1 .1 .0) (s .1 .0) (s .1 .1 .1 .0) (s .1 .1 .1 .1)
 
 cast-i : tie.Need-cast-i Inv-loop μ-loop
 cast-i c = omega (arith, source c)
@@ -51,23 +55,6 @@ mul-if1-2 c = omega (arith, lane c)
 element-copy-out-if1 : tie.Need-element-copy-out-if1 Inv-loop μ-loop
 element-copy-out-if1 c = omega (arith, lane c)
 
-cast-sources : tie.Need-cast-sources Inv-loop μ-loop
-cast-sources c = omega (arith, source (c .before .before))
-
-shl-sources : tie.Need-shl-sources Inv-loop μ-loop
-shl-sources c = omega (arith, source (c .before .before))
-
-sub-sources : tie.Need-sub-sources Inv-loop μ-loop
-sub-sources c = let s = c .before .before .before .before .before .pre in
-    rw (power-fits (trailingZeros 32 (c .before .before .before .loop .rest)) (source (c .before .before)))
-    (take-fits _ _ (back-fresh (s .0) (s .1 .1 .0) (s .1 .0) (c .before .before .before .loop .inv) (c .before .before .loop-test .taken)))
-
-cast-wait : tie.Need-cast-wait Inv-loop μ-loop
-cast-wait c = omega (arith, source (c .before .before))
-
-shl-wait : tie.Need-shl-wait Inv-loop μ-loop
-shl-wait c = omega (arith, source (c .before .before))
-
 cast-prev : tie.Need-cast-prev Inv-loop μ-loop
 cast-prev c = let s = c .before .before .before .before .before .pre .0 in omega (arith, s .terminal, s .terminals)
 
@@ -80,13 +67,54 @@ mul-prev c = omega (arith, source (c .before .before))
 element-write-prev : tie.Need-element-write-prev Inv-loop μ-loop
 element-write-prev c = omega (arith, source (c .before .before))
 
+leads-requires : tie.Need-leads-requires Inv-loop μ-loop
+leads-requires c κs = (source (c .before .before), goal (c .before .before))
+
+cast-prev-2 : tie.Need-cast-prev-2 Inv-loop μ-loop
+cast-prev-2 c = omega (arith, source (c .before .before .before .before))
+
+add-prev-2 : tie.Need-add-prev-2 Inv-loop μ-loop
+add-prev-2 c = omega (arith, goal (c .before .before .before .before))
+
+mul-prev-2 : tie.Need-mul-prev-2 Inv-loop μ-loop
+mul-prev-2 c = omega (arith, goal (c .before .before .before .before))
+
+element-write-prev-2 : tie.Need-element-write-prev-2 Inv-loop μ-loop
+element-write-prev-2 c = omega (arith, goal (c .before .before .before .before))
+
+returns : tie.Need-returns Inv-loop μ-loop
+returns c = let s = c .before .before .before .before .before .before .before .pre in
+    record {
+      found = λ e. back-found (s .0) (s .1 .1 .0) (s .1 .0) (c .before .before .before .before .before .loop .inv) (c .before .before .before .before .loop-test .taken) (c .before .before .if1 .taken) (c .before .leads .ensures .room (c .if2 .taken));
+      roaming = λ e. absurd (true≢false e);
+      aiming = λ e. absurd (true≢false e);
+      back = λ e. absurd (true≢false e);
+    }
+
+cast-sources : tie.Need-cast-sources Inv-loop μ-loop
+cast-sources c = omega (arith, source (c .before .before .before .before))
+
+shl-sources : tie.Need-shl-sources Inv-loop μ-loop
+shl-sources c = omega (arith, source (c .before .before .before .before))
+
+sub-sources : tie.Need-sub-sources Inv-loop μ-loop
+sub-sources c = let s = c .before .before .before .before .before .before .before .pre in
+    rw (power-fits (trailingZeros 32 (c .before .before .before .before .before .loop .rest)) (source (c .before .before .before .before)))
+    (take-fits _ _ (back-fresh (s .0) (s .1 .1 .0) (s .1 .0) (c .before .before .before .before .before .loop .inv) (c .before .before .before .before .loop-test .taken)))
+
+cast-wait : tie.Need-cast-wait Inv-loop μ-loop
+cast-wait c = omega (arith, source (c .before .before .before .before))
+
+shl-wait : tie.Need-shl-wait Inv-loop μ-loop
+shl-wait c = omega (arith, source (c .before .before .before .before))
+
 loop-less : tie.Need-loop-less Inv-loop μ-loop
-loop-less c = let s = c .before .before .before .before .before .pre in back-fewer (s .0) (s .1 .1 .0) (s .1 .0) (c .before .before .before .loop .inv) (c .before .before .loop-test .taken)
+loop-less c = let s = c .before .before .before .before .before .before .before .pre in back-fewer (s .0) (s .1 .1 .0) (s .1 .0) (c .before .before .before .before .before .loop .inv) (c .before .before .before .before .loop-test .taken)
 
 loop-again : tie.Need-loop-again Inv-loop μ-loop
-loop-again c = let s = c .before .before .before .before .before .pre in
-    rw (power-fits (trailingZeros 32 (c .before .before .before .loop .rest)) (source (c .before .before)))
-    (back-take (s .0) (s .1 .1 .0) (s .1 .0) (c .before .before .before .loop .inv) (c .before .before .loop-test .taken) (c .if1 .taken))
+loop-again c = let s = c .before .before .before .before .before .before .before .pre in
+    rw (power-fits (trailingZeros 32 (c .before .before .before .before .before .loop .rest)) (source (c .before .before .before .before)))
+    (back-take (s .0) (s .1 .1 .0) (s .1 .0) (c .before .before .before .before .before .loop .inv) (c .before .before .before .before .loop-test .taken) (c .before .before .if1 .taken) (c .before .leads .ensures .full (c .if2 .left)))
 
 loop-less-2 : tie.Need-loop-less-2 Inv-loop μ-loop
 loop-less-2 c = let s = c .before .before .before .before .before .pre in back-fewer (s .0) (s .1 .1 .0) (s .1 .0) (c .before .before .before .loop .inv) (c .before .before .loop-test .taken)
@@ -94,8 +122,14 @@ loop-less-2 c = let s = c .before .before .before .before .before .pre in back-f
 loop-again-2 : tie.Need-loop-again-2 Inv-loop μ-loop
 loop-again-2 c = let s = c .before .before .before .before .before .pre in back-skip (s .0) (s .1 .1 .0) (s .1 .0) (c .before .before .before .loop .inv) (c .before .before .loop-test .taken) (omega (arith, c .if1 .left))
 
-returns : tie.Need-returns Inv-loop μ-loop
-returns c = let s = c .before .before .before .pre in let q = c .before .loop .inv in (q .roaming, back-end (s .0) (s .1 .1 .0) (s .1 .0) q (omega (arith, c .loop-test .left)))
+returns-2 : tie.Need-returns-2 Inv-loop μ-loop
+returns-2 c = let s = c .before .before .before .pre in let q = c .before .loop .inv in
+    record {
+      found = λ e. absurd (false≢true e);
+      roaming = λ e. q .roaming;
+      aiming = λ e. q .aiming;
+      back = λ e. back-end (s .0) (s .1 .1 .0) (s .1 .0) q (omega (arith, c .loop-test .left));
+    }
 
 pub look-back-spec : {M : Type 1} → statement M
 look-back-spec =
@@ -112,17 +146,23 @@ look-back-spec =
     add-if1
     mul-if1-2
     element-copy-out-if1
+    cast-prev
+    add-prev
+    mul-prev
+    element-write-prev
+    leads-requires
+    cast-prev-2
+    add-prev-2
+    mul-prev-2
+    element-write-prev-2
+    returns
     cast-sources
     shl-sources
     sub-sources
     cast-wait
     shl-wait
-    cast-prev
-    add-prev
-    mul-prev
-    element-write-prev
     loop-less
     loop-again
     loop-less-2
     loop-again-2
-    returns)
+    returns-2)

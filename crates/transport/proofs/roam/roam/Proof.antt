@@ -1,83 +1,72 @@
 -- `transport::roam::roam` meets its contract. Assumes nothing.
-use mathlib.Core.Path.{_≡_, sym}
+use mathlib.Core.Path.{sym}
 use mathlib.Core.Bool.{true≢false}
 use Prim.Native.Nat.{_+_, _-_, _*_, _^_, _<_}
 use native.Mathlib.Omega.{arith}
 use lib.Count.{trailingZeros}
-use Rattle.transport.specs.engine.Serves.{bit}
-use Rattle.transport.specs.engine.Roam.{Roaming, Shut}
+use Rattle.transport.specs.engine.Roam.{Roaming, Shut, Aiming}
 use Rattle.transport.proofs.Serving.{power-fits}
-use Rattle.transport.proofs.Branches.{roam-start, shut-start, goal-start, turn-seen, turn-at, turn-fewer, turn-roaming, turn-shut, goal-fresh, no-route, trodden}
+use Rattle.transport.proofs.Branches.{roam-start, shut-start, aim-start, turn-seen, turn-at, turn-fewer, turn-roaming, turn-shut, no-route}
 use Rattle.transport.proofs.roam.roam.Statement.{statement}
 use Rattle.transport.proofs.roam.roam.Tie as tie
 
 abbrev Inv-loop : tie.InvT-loop
 Inv-loop m n i j limit ways free x serves prev₀ front₀ prev front =
-    Roaming m n free x i limit (front .terminals) (front .sources) (front .wait) prev × Shut m n 32 free x (front .terminals) (front .sources) (front .wait) × (bit (front .terminals) j ≡ 1)
+    Roaming m n free x i limit (front .terminals) (front .sources) (front .wait) prev × Shut m n 32 free x (front .terminals) (front .sources) (front .wait) × Aiming m n j free x (front .terminals) (front .sources)
 
 abbrev μ-loop : tie.MeasureT-loop
 μ-loop m n i j limit ways free x serves prev₀ front₀ prev front = front .sources + front .wait
 
-cast-t14 : tie.Need-cast-t14 Inv-loop μ-loop
-cast-t14 c = omega (arith, c .pre .0 .source, c .pre .0 .sources)
+cast-t13 : tie.Need-cast-t13 Inv-loop μ-loop
+cast-t13 c = omega (arith, c .pre .0 .source, c .pre .0 .sources)
 
-shl-t15 : tie.Need-shl-t15 Inv-loop μ-loop
-shl-t15 c = omega (arith, c .pre .0 .source, c .pre .0 .sources)
+shl-t14 : tie.Need-shl-t14 Inv-loop μ-loop
+shl-t14 c = omega (arith, c .pre .0 .source, c .pre .0 .sources)
 
-sub-t16 : tie.Need-sub-t16 Inv-loop μ-loop
-sub-t16 c = omega arith
+sub-t15 : tie.Need-sub-t15 Inv-loop μ-loop
+sub-t15 c = omega arith
 
-cast-t17 : tie.Need-cast-t17 Inv-loop μ-loop
-cast-t17 c = omega (arith, c .pre .0 .source, c .pre .0 .sources)
+cast-t16 : tie.Need-cast-t16 Inv-loop μ-loop
+cast-t16 c = omega (arith, c .pre .0 .source, c .pre .0 .sources)
 
-shl-t18 : tie.Need-shl-t18 Inv-loop μ-loop
-shl-t18 c = omega (arith, c .pre .0 .source, c .pre .0 .sources)
+shl-t17 : tie.Need-shl-t17 Inv-loop μ-loop
+shl-t17 c = omega (arith, c .pre .0 .source, c .pre .0 .sources)
 
 loop-holds : tie.Need-loop-holds Inv-loop μ-loop
 loop-holds c = let s = c .pre in
     rw (power-fits (c .args .i) (omega (arith, s .0 .source, s .0 .sources))) (
-      roam-start (c .args .free .now) (c .args .x .now) (s .0) (s .1 .0) (s .1 .1 .1 .1),
-      shut-start (c .args .free .now) (c .args .x .now) (s .0) (s .1 .0) (s .1 .1 .1 .1),
-      goal-start (c .args .free .now) (c .args .x .now) (s .0) (s .1 .0) (s .1 .1 .1 .1),
+      roam-start (c .args .free .now) (c .args .x .now) (s .0) (s .1 .0) _ (s .1 .1 .1 .1 .1),
+      shut-start (c .args .free .now) (c .args .x .now) (s .0) (s .1 .0),
+      aim-start (c .args .free .now) (c .args .x .now) (s .0) (s .1 .0) (s .1 .1 .0),
     )
 
 cast-v : tie.Need-cast-v Inv-loop μ-loop
 cast-v c = let a = turn-at (c .before .before .before .before .pre .0) (c .before .before .before .loop .inv .0) (c .before .if1 .taken) in omega (arith, a .source, a .sources)
 
-sub-t20 : tie.Need-sub-t20 Inv-loop μ-loop
-sub-t20 c = omega (arith, c .before .before .if1 .taken)
+sub-front : tie.Need-sub-front Inv-loop μ-loop
+sub-front c = omega (arith, c .before .before .if1 .taken)
 
 look-ahead-requires : tie.Need-look-ahead-requires Inv-loop μ-loop
 look-ahead-requires c κs = let s = c .before .before .before .before .before .before .before .pre in
     let q = c .before .before .before .before .before .before .loop .inv in
     let p = c .before .before .before .before .if1 .taken in
-    (turn-at (s .0) (q .0) p, (turn-seen (s .0) (q .0) p, (s .1 .1 .0, (s .1 .1 .1 .0, (turn-roaming (s .0) (q .0) p, turn-shut (s .0) (q .0) p (q .1))))))
-
-add-if2 : tie.Need-add-if2 Inv-loop μ-loop
-add-if2 c = let s = c .before .before .before .before .before .before .before .before .pre .0 in omega (arith, s .terminal, s .terminals)
-
-mul-if2 : tie.Need-mul-if2 Inv-loop μ-loop
-mul-if2 c = let s = c .before .before .before .before .before .before .before .before .pre .0 in omega (arith, s .terminal, s .terminals)
-
-element-copy-out-if2 : tie.Need-element-copy-out-if2 Inv-loop μ-loop
-element-copy-out-if2 c = let s = c .before .before .before .before .before .before .before .before .pre .0 in omega (arith, s .terminal, s .terminals)
+    (turn-at (s .0) (q .0) p, (turn-seen (s .0) (q .0) p, (s .1 .1 .1 .0, (s .1 .1 .1 .1 .0, (turn-roaming (s .0) (q .0) p, (q .2, turn-shut (s .0) (q .0) p (q .1)))))))
 
 returns : tie.Need-returns Inv-loop μ-loop
-returns c = record {
-  found = λ e. trodden (c .before .before .before .before .before .before .before .before .before .before .pre .0) (c .before .before .look-ahead .ensures .0) (c .if2 .taken);
-  none = λ e. absurd (true≢false e);
-}
+returns c = record { found = λ e. c .before .look-ahead .ensures .found (c .if2 .taken); none = λ e. absurd (true≢false e) }
 
 loop-less : tie.Need-loop-less Inv-loop μ-loop
-loop-less c = omega (arith, c .before .before .look-ahead .ensures .1 .1, turn-fewer (c .before .before .before .before .before .before .before .before .before .before .pre .0) (c .before .before .before .before .before .before .before .before .before .loop .inv .0) (c .before .before .before .before .before .before .before .if1 .taken))
+loop-less c =
+    let s = c .before .before .before .before .before .before .before .before .before .pre in
+    let q = c .before .before .before .before .before .before .before .before .loop .inv in
+    omega (arith, c .before .look-ahead .ensures .fewer (c .if2 .left), turn-fewer (s .0) (q .0) (c .before .before .before .before .before .before .if1 .taken))
 
 loop-again : tie.Need-loop-again Inv-loop μ-loop
-loop-again c = let r = c .before .before .look-ahead .ensures in
-    (r .0, r .1 .0, goal-fresh (c .before .before .before .before .before .before .before .before .before .before .pre .0) (r .0) (c .if2 .left))
+loop-again c = let d = c .before .look-ahead .ensures in let l = c .if2 .left in (d .roaming l, d .shut l, d .aiming l)
 
 returns-2 : tie.Need-returns-2 Inv-loop μ-loop
 returns-2 c = let q = c .before .before .loop .inv in
-    record { found = λ e. absurd (true≢false (sym e)); none = λ e. no-route (c .before .before .before .pre .0) (q .0) (q .1) (omega (arith, c .if1 .left)) (q .2) }
+    record { found = λ e. absurd (true≢false (sym e)); none = λ e. no-route (c .before .before .before .pre .0) (q .0) (q .1) (omega (arith, c .if1 .left)) (q .2 .fresh) }
 
 pub roam-spec : {M : Type 1} → statement M
 roam-spec =
@@ -85,18 +74,15 @@ roam-spec =
     (tie.spec
     Inv-loop
     μ-loop
-    cast-t14
-    shl-t15
-    sub-t16
-    cast-t17
-    shl-t18
+    cast-t13
+    shl-t14
+    sub-t15
+    cast-t16
+    shl-t17
     loop-holds
     cast-v
-    sub-t20
+    sub-front
     look-ahead-requires
-    add-if2
-    mul-if2
-    element-copy-out-if2
     returns
     loop-less
     loop-again
