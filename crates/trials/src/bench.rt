@@ -1,8 +1,8 @@
-// All that a trial works on lies in one slice, the bench: the case, what is expected, what the planner gave.
+// All that a trial works on lies in two slices. The bench, unsigned, has the sizes of a case, its amounts, ceilings
+// and entries, the listing's work and the tally; the ledger, signed, has the unit costs and the least freight at each split.
 use crate::cells::at;
-use crate::cells::part;
 
-// The case: its sizes, the lengths of the lent slices, and the four slices that are read.
+// The cells of the bench: the sizes, the lengths of the lent slices, the least runs.
 pub const SOURCES: u64 = 0;
 
 pub const TERMINALS: u64 = 1;
@@ -20,63 +20,67 @@ pub const PLAN_LEN: u64 = 6;
 pub const SPLITS_LEN: u64 = 7;
 
 pub const FREIGHTS_LEN: u64 = 8;
+
+pub const CEILINGS_LEN: u64 = 9;
+
+pub const RUN_1: u64 = 10;
+
+pub const RUN_2: u64 = 11;
 // A cell that nothing reads.
-pub const SPARE: u64 = 9;
-// The number that the generator goes on from.
-pub const SEED: u64 = 10;
-// d, ℓ, u and how many splits there are.
-pub const MADE: u64 = 11;
+pub const SPARE: u64 = 15;
 
-pub const FIRST: u64 = 12;
+pub const SUPPLIES: u64 = 20;
 
-pub const LAST: u64 = 13;
+pub const DEMANDS: u64 = 60;
+// The amounts of the plan that is being listed, and how many cheapest plans each split has.
+pub const AMOUNTS: u64 = 130;
 
-pub const WIDTH: u64 = 14;
-// The answer expected and the answer got: number (0 for a plan), place, split, total, freight, stops.
-pub const WANT: u64 = 20;
+pub const TIES: u64 = 150;
 
-pub const GOT: u64 = 30;
-// How many splits share the least total.
-pub const SPLIT_TIES: u64 = 40;
+pub const TABLE: u64 = 200;
 
-pub const TALLY: u64 = 50;
-// The row sums expected of a plan.
-pub const WANT_ROWS: u64 = 23_000;
+pub const TALLY: u64 = 4_300;
 
-pub const COSTS: u64 = 100;
+pub const CEILINGS: u64 = 4_400;
+// The first cheapest plan of each split, 12 cells apart.
+pub const FIRSTS: u64 = 6_500;
+// The cells of the ledger.
+pub const COSTS: u64 = 0;
 
-pub const SUPPLIES: u64 = 2_300;
-
-pub const DEMANDS: u64 = 2_400;
-
-pub const TABLE: u64 = 2_500;
 // The least freight at each split; NONE where there is no plan.
-pub const BEST: u64 = 6_600;
-// What the planner wrote: three slices with room for any case.
-pub const PLAN: u64 = 10_700;
-
-pub const SPLITS: u64 = 14_800;
-
-pub const FREIGHTS: u64 = 18_900;
-
+pub const BEST: u64 = 2_100;
+// How many splits, and cells of a slice lent to the planner, there is room for.
 pub const ROOM: u64 = 4_100;
 
-pub const NONE: u64 = u64::MAX;
-// What every cell that the planner may write holds before.
-pub const MARK: u64 = 7_000_000_000_000;
-
-pub fn costs(b: &[u64]) -> &[u64] {
-    part(b, COSTS, at(b, COSTS_LEN))
+// The sizes of a case, and its least runs.
+pub struct Sizes {
+    pub m: u64,
+    pub n: u64,
+    pub costs: u64,
+    pub supplies: u64,
+    pub demands: u64,
+    pub table: u64,
+    pub plan: u64,
+    pub splits: u64,
+    pub freights: u64,
+    pub ceilings: u64,
+    pub run1: u64,
+    pub run2: u64,
 }
 
-pub fn supplies(b: &[u64]) -> &[u64] {
-    part(b, SUPPLIES, at(b, SUPPLIES_LEN))
-}
-
-pub fn demands(b: &[u64]) -> &[u64] {
-    part(b, DEMANDS, at(b, DEMANDS_LEN))
-}
-
-pub fn table(b: &[u64]) -> &[u64] {
-    part(b, TABLE, at(b, TABLE_LEN))
+pub fn sizes_of(b: &[u64]) -> Sizes {
+    Sizes {
+        m: at(b, SOURCES),
+        n: at(b, TERMINALS),
+        costs: at(b, COSTS_LEN),
+        supplies: at(b, SUPPLIES_LEN),
+        demands: at(b, DEMANDS_LEN),
+        table: at(b, TABLE_LEN),
+        plan: at(b, PLAN_LEN),
+        splits: at(b, SPLITS_LEN),
+        freights: at(b, FREIGHTS_LEN),
+        ceilings: at(b, CEILINGS_LEN),
+        run1: at(b, RUN_1),
+        run2: at(b, RUN_2),
+    }
 }

@@ -42,32 +42,9 @@ pub fn smaller(a: u64, b: u64) -> u64 {
     if a < b { a } else { b }
 }
 
-// The cell k of those from base on.
-pub fn get(s: &[u64], base: u64, k: u64) -> u64 {
-    at(s, plus(base, k))
-}
-
-pub fn set(s: &mut [u64], base: u64, k: u64, v: u64) {
-    put(s, plus(base, k), v);
-}
-
-// Adds to the cell k of those from base on.
-pub fn raise(s: &mut [u64], base: u64, k: u64, by: u64) {
-    let v = get(s, base, k);
-    set(s, base, k, plus(v, by));
-}
-
-// Takes from the cell k of those from base on.
-pub fn lower(s: &mut [u64], base: u64, k: u64, by: u64) {
-    let v = get(s, base, k);
-    set(s, base, k, minus(v, by));
-}
-
-// Adds one to the cell k of those from base on, where `on`.
-pub fn count(s: &mut [u64], base: u64, k: u64, on: bool) {
-    if on {
-        raise(s, base, k, 1);
-    }
+// v where `on`, else 0.
+pub fn given(on: bool, v: u64) -> u64 {
+    if on { v } else { 0 }
 }
 
 // The cells from start on, as many as `cells`; none where they do not all lie in s.
@@ -83,30 +60,26 @@ pub fn part(s: &[u64], start: u64, cells: u64) -> &[u64] {
     &s[from..to]
 }
 
+// The first cells of a slice, as many as `cells`; all where it has fewer.
+pub fn cut(s: &mut [u64], cells: u64) -> &mut [u64] {
+    let end = cells as usize;
+    if end <= s.len() { &mut s[0..end] } else { s }
+}
+
 // Copies a slice into another from the cell start on.
 pub fn copy(from: &[u64], to: &mut [u64], start: u64) {
     let mut k: usize = 0;
     while k < from.len() {
-        set(to, start, k as u64, from[k]);
-        k += 1;
-    }
-}
-
-// Copies as many cells as `cells` within a slice.
-pub fn transfer(s: &mut [u64], from: u64, cells: u64, to: u64) {
-    let mut k: u64 = 0;
-    while k < cells {
-        let v = get(s, from, k);
-        set(s, to, k, v);
+        put(to, plus(start, k as u64), from[k]);
         k += 1;
     }
 }
 
 // Writes one number into as many cells as `cells`, from start on.
-pub fn repeat(s: &mut [u64], start: u64, cells: u64, v: u64) {
+pub fn fill(s: &mut [u64], start: u64, cells: u64, v: u64) {
     let mut k: u64 = 0;
     while k < cells {
-        set(s, start, k, v);
+        put(s, plus(start, k), v);
         k += 1;
     }
 }
@@ -116,23 +89,12 @@ pub fn others(s: &[u64], v: u64) -> u64 {
     let mut found: u64 = 0;
     let mut k: usize = 0;
     while k < s.len() {
-        let one = if s[k] == v { 0 } else { 1 };
-        found = plus(found, one);
-        k += 1;
-    }
-    found
-}
-
-// The place, from 1, of the first cell that differs; 0 where all are alike.
-pub fn first_other(s: &[u64], t: &[u64]) -> u64 {
-    let mut k: usize = 0;
-    while k < s.len() {
-        if s[k] != at(t, k as u64) {
-            return plus(k as u64, 1);
+        if s[k] != v {
+            found = plus(found, 1);
         }
         k += 1;
     }
-    0
+    found
 }
 
 // The sum of as many cells as `cells`, from start on, each a step after the one before.
@@ -143,17 +105,6 @@ pub fn line(s: &[u64], start: u64, step: u64, cells: u64) -> u64 {
     while k < cells {
         sum = plus(sum, at(s, place));
         place = plus(place, step);
-        k += 1;
-    }
-    sum
-}
-
-// The sum of amount times unit cost over all lanes.
-pub fn freight(amounts: &[u64], costs: &[u64]) -> u64 {
-    let mut sum: u64 = 0;
-    let mut k: usize = 0;
-    while k < costs.len() {
-        sum = plus(sum, times(at(amounts, k as u64), costs[k]));
         k += 1;
     }
     sum

@@ -1,16 +1,16 @@
 // The fixed cases of the scope, with the answers that it gives.
 use crate::bench::BEST;
+use crate::bench::CEILINGS;
+use crate::bench::CEILINGS_LEN;
 use crate::bench::COSTS;
 use crate::bench::COSTS_LEN;
 use crate::bench::DEMANDS;
 use crate::bench::DEMANDS_LEN;
-use crate::bench::FIRST;
 use crate::bench::FREIGHTS_LEN;
-use crate::bench::GOT;
-use crate::bench::LAST;
-use crate::bench::NONE;
 use crate::bench::PLAN_LEN;
 use crate::bench::ROOM;
+use crate::bench::RUN_1;
+use crate::bench::RUN_2;
 use crate::bench::SOURCES;
 use crate::bench::SPARE;
 use crate::bench::SPLITS_LEN;
@@ -19,23 +19,35 @@ use crate::bench::SUPPLIES_LEN;
 use crate::bench::TABLE;
 use crate::bench::TABLE_LEN;
 use crate::bench::TERMINALS;
-use crate::cells::at;
+use crate::bench::sizes_of;
 use crate::cells::copy;
-use crate::cells::first_other;
-use crate::cells::minus;
-use crate::cells::part;
+use crate::cells::fill;
 use crate::cells::plus;
 use crate::cells::put;
-use crate::cells::repeat;
-use crate::cells::set;
 use crate::cells::times;
-use crate::paper::judge;
+use crate::compare::failed;
+use crate::money::NONE;
+use crate::money::fill_worths;
+use crate::money::put_worth;
+use crate::money::sum;
+use crate::money::whole;
+use crate::paper::span_of;
+use crate::trial::Outcome;
 use crate::trial::close;
 use crate::trial::run_known;
 use crate::trial::run_small;
 
+// A row of changes and an answer: a cell of the bench and its new value, a lane (from 0) and its new unit cost, then
+// number, place, split, total, freight, stops. In a signed column Z stands for 0.
+const Z: u64 = 500_000_000_000;
+
+const NO_LANE: u64 = 2_099;
+
+// In place of a number: no answer yet, the next row changes the same case.
+const ALSO: u64 = 99;
+
 // Case A.
-const A_COSTS: [u64; 6] = [2, 6, 5, 3, 1, 4];
+const A_COSTS: [i64; 6] = [2, 6, 5, 3, 1, 4];
 
 const A_SUPPLIES: [u64; 3] = [3, 3, 1];
 
@@ -43,739 +55,424 @@ const A_DEMANDS: [u64; 2] = [3, 2];
 
 const A_TABLE: [u64; 4] = [99, 20, 24, 20];
 
+// Cases made from A.
+const CHANGES: usize = 86;
+
+const CHANGED: [[u64; 10]; CHANGES] = [
+    // P1
+    [SPARE, 0, NO_LANE, Z, 0, 0, 3, Z + 33, Z + 13, 3],
+    // P2
+    [TABLE + 3, 22, NO_LANE, Z, 0, 0, 1, Z + 34, Z + 14, 3],
+    // P3
+    [TABLE + 3, 21, NO_LANE, Z, 0, 0, 1, Z + 34, Z + 14, 3],
+    // P4
+    [TABLE + 2, 20, NO_LANE, Z, 0, 0, 2, Z + 31, Z + 11, 3],
+    // P5
+    [SUPPLIES + 2, 6, NO_LANE, Z, 7, 0, 0, Z, Z, 0],
+    // P6
+    [SUPPLIES, 1, NO_LANE, Z, ALSO, 0, 0, Z, Z, 0],
+    [SUPPLIES + 1, 2, NO_LANE, Z, ALSO, 0, 0, Z, Z, 0],
+    [TABLE_LEN, 2, NO_LANE, Z, 8, 0, 0, Z, Z, 0],
+    // P7: a table that is not concave
+    [TABLE + 2, 20, NO_LANE, Z, ALSO, 0, 0, Z, Z, 0],
+    [TABLE + 3, 22, NO_LANE, Z, 0, 0, 2, Z + 31, Z + 11, 3],
+    // P8
+    [SUPPLIES, 4_001, NO_LANE, Z, 4, 1, 0, Z, Z, 0],
+    // P9
+    [SUPPLIES + 2, 5, NO_LANE, Z, 0, 0, 0, Z + 110, Z + 11, 1],
+    // P10
+    [SUPPLIES + 1, 1, NO_LANE, Z, 0, 0, 3, Z + 33, Z + 13, 1],
+    // the examples of the other refusals: 1, 2, 3, 5, 6, 9, 11
+    [SOURCES, 1, NO_LANE, Z, 1, 0, 0, Z, Z, 0],
+    [TERMINALS, 0, NO_LANE, Z, 2, 0, 0, Z, Z, 0],
+    [COSTS_LEN, 5, NO_LANE, Z, 3, 0, 0, Z, Z, 0],
+    [SPARE, 0, 0, Z + 1_000_001, 5, 1, 0, Z, Z, 0],
+    [TABLE_LEN, 3, NO_LANE, Z, 6, 0, 0, Z, Z, 0],
+    [TABLE + 2, 1_000_000_001, NO_LANE, Z, 9, 2, 0, Z, Z, 0],
+    [PLAN_LEN, 5, NO_LANE, Z, 11, 0, 0, Z, Z, 0],
+    // just room for the plan and the stops
+    [PLAN_LEN, 6, NO_LANE, Z, ALSO, 0, 0, Z, Z, 0],
+    [SPLITS_LEN, 3, NO_LANE, Z, ALSO, 0, 0, Z, Z, 0],
+    [FREIGHTS_LEN, 3, NO_LANE, Z, 0, 0, 3, Z + 33, Z + 13, 3],
+    // one cell less
+    [SPLITS_LEN, 2, NO_LANE, Z, 11, 0, 0, Z, Z, 0],
+    [FREIGHTS_LEN, 2, NO_LANE, Z, 11, 0, 0, Z, Z, 0],
+    // other lengths and places
+    [SUPPLIES_LEN, 2, NO_LANE, Z, 3, 0, 0, Z, Z, 0],
+    [DEMANDS_LEN, 3, NO_LANE, Z, 3, 0, 0, Z, Z, 0],
+    [DEMANDS + 1, 4_001, NO_LANE, Z, 4, 5, 0, Z, Z, 0],
+    [SPARE, 0, 5, Z + 1_000_001, ALSO, 0, 0, Z, Z, 0],
+    [SPARE, 0, 3, Z - 1_000_001, 5, 4, 0, Z, Z, 0],
+    // the lower number is given
+    [SUPPLIES + 2, 6, 5, Z + 1_000_001, ALSO, 0, 0, Z, Z, 0],
+    [PLAN_LEN, 0, NO_LANE, Z, 5, 6, 0, Z, Z, 0],
+    [SUPPLIES + 2, 6, NO_LANE, Z, ALSO, 0, 0, Z, Z, 0],
+    [TABLE + 2, 1_000_000_001, NO_LANE, Z, ALSO, 0, 0, Z, Z, 0],
+    [PLAN_LEN, 0, NO_LANE, Z, 7, 0, 0, Z, Z, 0],
+    // an entry outside the splits does not matter
+    [TABLE, 1_000_000_001, NO_LANE, Z, 0, 0, 3, Z + 33, Z + 13, 3],
+    // the largest entry
+    [TABLE + 1, 1_000_000_000, NO_LANE, Z, ALSO, 0, 0, Z, Z, 0],
+    [TABLE + 2, 1_000_000_000, NO_LANE, Z, ALSO, 0, 0, Z, Z, 0],
+    [
+        TABLE + 3,
+        1_000_000_000,
+        NO_LANE,
+        Z,
+        0,
+        0,
+        2,
+        Z + 1_000_000_011,
+        Z + 11,
+        3,
+    ],
+    // totals 12, -9, -33, and -3, 14, 23: read without their signs they have another order
+    [SPARE, 0, 0, Z - 20, 0, 0, 3, Z - 33, Z - 53, 3],
+    [SPARE, 0, 2, Z - 11, 0, 0, 1, Z - 3, Z - 23, 2],
+    // totals -34, -55, -56: the least is the largest in size
+    [SPARE, 0, 0, Z - 20, ALSO, 0, 0, Z, Z, 0],
+    [SPARE, 0, 3, Z - 20, 0, 0, 3, Z - 56, Z - 76, 3],
+    // the ends of the range of a unit cost
+    [SPARE, 0, 0, Z + 1_000_000, 0, 0, 1, Z + 40, Z + 20, 3],
+    [
+        SPARE,
+        0,
+        0,
+        Z - 1_000_000,
+        0,
+        0,
+        3,
+        Z - 2_999_973,
+        Z - 2_999_993,
+        3,
+    ],
+    [SPARE, 0, 0, Z - 1_000_001, 5, 1, 0, Z, Z, 0],
+    // least runs 2 and 1, 2 and 2
+    [RUN_1, 2, NO_LANE, Z, ALSO, 0, 0, Z, Z, 0],
+    [RUN_2, 1, NO_LANE, Z, 0, 0, 3, Z + 33, Z + 13, 2],
+    [RUN_1, 2, NO_LANE, Z, ALSO, 0, 0, Z, Z, 0],
+    [RUN_2, 2, NO_LANE, Z, 0, 0, 2, Z + 35, Z + 11, 1],
+    // a least run equal to its supply, both equal to d, and one more
+    [RUN_1, 3, NO_LANE, Z, 0, 0, 3, Z + 33, Z + 13, 1],
+    [RUN_2, 3, NO_LANE, Z, 0, 0, 1, Z + 34, Z + 14, 1],
+    [RUN_1, 3, NO_LANE, Z, ALSO, 0, 0, Z, Z, 0],
+    [RUN_2, 1, NO_LANE, Z, 0, 0, 3, Z + 33, Z + 13, 1],
+    [RUN_1, 3, NO_LANE, Z, ALSO, 0, 0, Z, Z, 0],
+    [RUN_2, 2, NO_LANE, Z, 7, 0, 0, Z, Z, 0],
+    // a least run above its supply
+    [RUN_1, 4, NO_LANE, Z, 23, 1, 0, Z, Z, 0],
+    [RUN_2, 4, NO_LANE, Z, 23, 2, 0, Z, Z, 0],
+    // 23 after 4 and before 5
+    [RUN_2, 4, NO_LANE, Z, ALSO, 0, 0, Z, Z, 0],
+    [DEMANDS + 1, 4_001, NO_LANE, Z, 4, 5, 0, Z, Z, 0],
+    [RUN_2, 4, 0, Z + 1_000_001, 23, 2, 0, Z, Z, 0],
+    // a ceiling of 1, and a closed lane
+    [CEILINGS, 1, NO_LANE, Z, 0, 0, 1, Z + 34, Z + 14, 2],
+    [CEILINGS, 0, NO_LANE, Z, 0, 0, 1, Z + 40, Z + 20, 2],
+    // a ceiling slice too short and too long, a ceiling above 4,000
+    [CEILINGS_LEN, 5, NO_LANE, Z, 26, 0, 0, Z, Z, 0],
+    [CEILINGS_LEN, 7, NO_LANE, Z, 26, 0, 0, Z, Z, 0],
+    [CEILINGS + 3, 4_001, NO_LANE, Z, 26, 4, 0, Z, Z, 0],
+    // 26 after 5 and before 6
+    [CEILINGS_LEN, 5, 0, Z - 1_000_001, 5, 1, 0, Z, Z, 0],
+    [CEILINGS + 5, 4_001, NO_LANE, Z, ALSO, 0, 0, Z, Z, 0],
+    [TABLE_LEN, 3, NO_LANE, Z, 26, 6, 0, Z, Z, 0],
+    // no plan by ceilings: terminal 1 gets 2 at most; the depot is closed
+    [CEILINGS, 0, NO_LANE, Z, ALSO, 0, 0, Z, Z, 0],
+    [CEILINGS + 2, 1, NO_LANE, Z, 27, 0, 0, Z, Z, 0],
+    [CEILINGS + 4, 0, NO_LANE, Z, ALSO, 0, 0, Z, Z, 0],
+    [CEILINGS + 5, 0, NO_LANE, Z, 27, 0, 0, Z, Z, 0],
+    // no plan by least runs and ceilings together
+    [CEILINGS, 0, NO_LANE, Z, ALSO, 0, 0, Z, Z, 0],
+    [RUN_1, 3, NO_LANE, Z, 27, 0, 0, Z, Z, 0],
+    // 27 after 8 and before 9
+    [CEILINGS + 4, 0, NO_LANE, Z, ALSO, 0, 0, Z, Z, 0],
+    [CEILINGS + 5, 0, NO_LANE, Z, ALSO, 0, 0, Z, Z, 0],
+    [DEMANDS, 9, NO_LANE, Z, 8, 0, 0, Z, Z, 0],
+    [CEILINGS + 4, 0, NO_LANE, Z, ALSO, 0, 0, Z, Z, 0],
+    [CEILINGS + 5, 0, NO_LANE, Z, ALSO, 0, 0, Z, Z, 0],
+    [TABLE + 2, 1_000_000_001, NO_LANE, Z, 27, 0, 0, Z, Z, 0],
+    // an entry at a split that the ceilings leave no plan
+    [CEILINGS, 0, NO_LANE, Z, ALSO, 0, 0, Z, Z, 0],
+    [
+        TABLE + 3,
+        1_000_000_001,
+        NO_LANE,
+        Z,
+        0,
+        0,
+        1,
+        Z + 40,
+        Z + 20,
+        2,
+    ],
+    // two cheapest plans at the split
+    [SPARE, 0, 3, Z + 9, 0, 0, 3, Z + 39, Z + 19, 2],
+    [SPARE, 0, 0, Z + 5, ALSO, 0, 0, Z, Z, 0],
+    [SPARE, 0, 1, Z + 3, 0, 0, 1, Z + 37, Z + 17, 2],
+];
+
 // The example of document 002, 4.2.
-const B_COSTS: [u64; 12] = [12, 1, 3, 4, 4, 9, 6, 2, 2, 6, 2, 10];
+const B_COSTS: [i64; 12] = [12, 1, 3, 4, 4, 9, 6, 2, 2, 6, 2, 10];
 
 const B_SUPPLIES: [u64; 3] = [200, 200, 150];
 
 const B_DEMANDS: [u64; 4] = [80, 180, 120, 70];
 
-// The answer to the example.
-const B_ANSWER: [u64; 6] = [0, 0, 200, 800, 800, 4];
+const B_ANSWER: [u64; 10] = [SPARE, 0, NO_LANE, Z, 0, 0, 200, Z + 800, Z + 800, 4];
 
-// Cases made from A by up to three changed cells: (cell, value) three times, then
-// number, place, split, total, freight, stops.
-const CHANGES: u64 = 28;
+// Cases with equal numbers: m, n, supply, demand, the unit costs of row 1 and of the other rows, f at the first split,
+// and what each split adds to it.
+const EVENS: usize = 18;
 
-const CHANGED: [u64; 336] = [
-    // P1
-    SPARE,
-    0,
-    SPARE,
-    0,
-    SPARE,
-    0,
-    0,
-    0,
-    3,
-    33,
-    13,
-    3,
-    // P2
-    TABLE + 3,
-    22,
-    SPARE,
-    0,
-    SPARE,
-    0,
-    0,
-    0,
-    1,
-    34,
-    14,
-    3,
-    // P3
-    TABLE + 3,
-    21,
-    SPARE,
-    0,
-    SPARE,
-    0,
-    0,
-    0,
-    1,
-    34,
-    14,
-    3,
-    // P4
-    TABLE + 2,
-    20,
-    SPARE,
-    0,
-    SPARE,
-    0,
-    0,
-    0,
-    2,
-    31,
-    11,
-    3,
-    // P5
-    SUPPLIES + 2,
-    6,
-    SPARE,
-    0,
-    SPARE,
-    0,
-    7,
-    0,
-    0,
-    0,
-    0,
-    0,
-    // P6
-    SUPPLIES,
-    1,
-    SUPPLIES + 1,
-    2,
-    TABLE_LEN,
-    2,
-    8,
-    0,
-    0,
-    0,
-    0,
-    0,
-    // P7
-    TABLE + 2,
-    20,
-    TABLE + 3,
-    22,
-    SPARE,
-    0,
-    10,
-    2,
-    0,
-    0,
-    0,
-    0,
-    // P8
-    SUPPLIES,
-    4_001,
-    SPARE,
-    0,
-    SPARE,
-    0,
-    4,
-    1,
-    0,
-    0,
-    0,
-    0,
-    // P9
-    SUPPLIES + 2,
-    5,
-    SPARE,
-    0,
-    SPARE,
-    0,
-    0,
-    0,
-    0,
-    110,
-    11,
-    1,
-    // P10
-    SUPPLIES + 1,
-    1,
-    SPARE,
-    0,
-    SPARE,
-    0,
-    0,
-    0,
-    3,
-    33,
-    13,
-    1,
-    // the examples of the other refusals
-    SOURCES,
-    1,
-    SPARE,
-    0,
-    SPARE,
-    0,
-    1,
-    0,
-    0,
-    0,
-    0,
-    0,
-    TERMINALS,
-    0,
-    SPARE,
-    0,
-    SPARE,
-    0,
-    2,
-    0,
-    0,
-    0,
-    0,
-    0,
-    COSTS_LEN,
-    5,
-    SPARE,
-    0,
-    SPARE,
-    0,
-    3,
-    0,
-    0,
-    0,
-    0,
-    0,
-    COSTS,
-    1_000_001,
-    SPARE,
-    0,
-    SPARE,
-    0,
-    5,
-    1,
-    0,
-    0,
-    0,
-    0,
-    TABLE_LEN,
-    3,
-    SPARE,
-    0,
-    SPARE,
-    0,
-    6,
-    0,
-    0,
-    0,
-    0,
-    0,
-    TABLE + 2,
-    1_000_000_001,
-    SPARE,
-    0,
-    SPARE,
-    0,
-    9,
-    2,
-    0,
-    0,
-    0,
-    0,
-    PLAN_LEN,
-    5,
-    SPARE,
-    0,
-    SPARE,
-    0,
-    11,
-    0,
-    0,
-    0,
-    0,
-    0,
-    // room for the plan and the stops, and one cell less
-    PLAN_LEN,
-    6,
-    SPLITS_LEN,
-    3,
-    FREIGHTS_LEN,
-    3,
-    0,
-    0,
-    3,
-    33,
-    13,
-    3,
-    SPLITS_LEN,
-    2,
-    SPARE,
-    0,
-    SPARE,
-    0,
-    11,
-    0,
-    0,
-    0,
-    0,
-    0,
-    FREIGHTS_LEN,
-    2,
-    SPARE,
-    0,
-    SPARE,
-    0,
-    11,
-    0,
-    0,
-    0,
-    0,
-    0,
-    // other lengths and places
-    SUPPLIES_LEN,
-    2,
-    SPARE,
-    0,
-    SPARE,
-    0,
-    3,
-    0,
-    0,
-    0,
-    0,
-    0,
-    DEMANDS_LEN,
-    3,
-    SPARE,
-    0,
-    SPARE,
-    0,
-    3,
-    0,
-    0,
-    0,
-    0,
-    0,
-    DEMANDS + 1,
-    4_001,
-    SPARE,
-    0,
-    SPARE,
-    0,
-    4,
-    5,
-    0,
-    0,
-    0,
-    0,
-    COSTS + 3,
-    1_000_001,
-    COSTS + 5,
-    1_000_001,
-    SPARE,
-    0,
-    5,
-    4,
-    0,
-    0,
-    0,
-    0,
-    // the lower number is given
-    SUPPLIES + 2,
-    6,
-    COSTS + 5,
-    1_000_001,
-    PLAN_LEN,
-    0,
-    5,
-    6,
-    0,
-    0,
-    0,
-    0,
-    SUPPLIES + 2,
-    6,
-    TABLE + 2,
-    1_000_000_001,
-    PLAN_LEN,
-    0,
-    7,
-    0,
-    0,
-    0,
-    0,
-    0,
-    // an entry outside the splits does not matter
-    TABLE,
-    1_000_000_001,
-    SPARE,
-    0,
-    SPARE,
-    0,
-    0,
-    0,
-    3,
-    33,
-    13,
-    3,
-    // the largest entry
-    TABLE + 1,
-    1_000_000_000,
-    TABLE + 2,
-    1_000_000_000,
-    TABLE + 3,
-    1_000_000_000,
-    0,
-    0,
-    2,
-    1_000_000_011,
-    11,
-    3,
-];
-
-// Cases with equal supplies, equal demands, and unit costs of row 1 and of the other rows: m, n, supply, demand,
-// two unit costs, a changed cell with its value, then number, place, split, total, freight, stops.
-const EVENS: u64 = 15;
-
-const EVEN: [u64; 210] = [
+const EVEN: [[u64; 8]; EVENS] = [
     // 32 sources, and 33
-    32,
-    1,
-    1,
-    31,
-    1,
-    2,
-    SPARE,
-    0,
-    0,
-    0,
-    1,
-    61,
-    61,
-    2,
-    33,
-    1,
-    1,
-    32,
-    1,
-    2,
-    SPARE,
-    0,
-    1,
-    0,
-    0,
-    0,
-    0,
-    0,
+    [32, 1, 1, 31, Z + 1, Z + 2, Z + 62, Z - 1],
+    [33, 1, 1, 32, Z + 1, Z + 2, Z, Z],
     // 64 terminals, and 65
-    2,
-    64,
-    40,
-    1,
-    1,
-    2,
-    SPARE,
-    0,
-    0,
-    0,
-    40,
-    88,
-    88,
-    2,
-    2,
-    65,
-    40,
-    1,
-    1,
-    2,
-    SPARE,
-    0,
-    2,
-    0,
-    0,
-    0,
-    0,
-    0,
-    // the largest case
-    32,
-    64,
-    4_000,
-    2_000,
-    1_000_000,
-    1_000_000,
-    TABLE + 4_000,
-    1_000_000_000,
-    0,
-    0,
-    4_000,
-    129_000_000_000,
-    128_000_000_000,
-    1,
+    [2, 64, 40, 1, Z + 1, Z + 2, Z + 104, Z - 1],
+    [2, 65, 40, 1, Z + 1, Z + 2, Z, Z],
+    // the largest case: the largest total, and the least
+    [
+        32,
+        64,
+        4_000,
+        2_000,
+        Z + 1_000_000,
+        Z + 1_000_000,
+        Z + 128_000_000_000,
+        Z,
+    ],
+    [
+        32,
+        64,
+        4_000,
+        2_000,
+        Z - 1_000_000,
+        Z - 1_000_000,
+        Z - 128_000_000_000,
+        Z,
+    ],
     // amounts of 4,000, and 4,001
-    2,
-    1,
-    4_000,
-    4_000,
-    1,
-    2,
-    SPARE,
-    0,
-    0,
-    0,
-    4_000,
-    4_000,
-    4_000,
-    2,
-    2,
-    1,
-    4_000,
-    4_000,
-    1,
-    2,
-    SUPPLIES,
-    4_001,
-    4,
-    1,
-    0,
-    0,
-    0,
-    0,
-    2,
-    1,
-    4_000,
-    4_000,
-    1,
-    2,
-    SUPPLIES + 1,
-    4_001,
-    4,
-    2,
-    0,
-    0,
-    0,
-    0,
-    2,
-    1,
-    4_000,
-    4_000,
-    1,
-    2,
-    DEMANDS,
-    4_001,
-    4,
-    3,
-    0,
-    0,
-    0,
-    0,
+    [2, 1, 4_000, 4_000, Z + 1, Z + 2, Z + 8_000, Z - 1],
+    [2, 1, 4_000, 4_000, Z + 1, Z + 2, Z, Z],
+    [2, 1, 4_000, 4_000, Z + 1, Z + 2, Z, Z],
+    [2, 1, 4_000, 4_000, Z + 1, Z + 2, Z, Z],
     // stop slices one cell short of 4,001
-    2,
-    1,
-    4_000,
-    4_000,
-    1,
-    2,
-    SPLITS_LEN,
-    4_000,
-    11,
-    0,
-    0,
-    0,
-    0,
-    0,
-    2,
-    1,
-    4_000,
-    4_000,
-    1,
-    2,
-    FREIGHTS_LEN,
-    4_000,
-    11,
-    0,
-    0,
-    0,
-    0,
-    0,
-    // unit costs of 1,000,000, and 1,000,001
-    2,
-    2,
-    3,
-    2,
-    1_000_000,
-    1_000_000,
-    SPARE,
-    0,
-    0,
-    0,
-    1,
-    4_000_000,
-    4_000_000,
-    2,
-    2,
-    2,
-    3,
-    2,
-    1_000_000,
-    1_000_000,
-    COSTS + 2,
-    1_000_001,
-    5,
-    3,
-    0,
-    0,
-    0,
-    0,
-    // more sources than any
-    2,
-    1,
-    1,
-    1,
-    1,
-    2,
-    SOURCES,
-    u64::MAX,
-    1,
-    0,
-    0,
-    0,
-    0,
-    0,
-    2,
-    1,
-    1,
-    1,
-    1,
-    2,
-    TERMINALS,
-    u64::MAX,
-    2,
-    0,
-    0,
-    0,
-    0,
-    0,
+    [2, 1, 4_000, 4_000, Z + 1, Z + 2, Z + 8_000, Z - 1],
+    [2, 1, 4_000, 4_000, Z + 1, Z + 2, Z + 8_000, Z - 1],
+    // unit costs of 1,000,000, and one more
+    [2, 2, 3, 2, Z + 1_000_000, Z + 1_000_000, Z + 4_000_000, Z],
+    [2, 2, 3, 2, Z + 1_000_000, Z + 1_000_000, Z, Z],
+    // unit costs of -1,000,000, and one less
+    [2, 2, 3, 2, Z - 1_000_000, Z - 1_000_000, Z - 4_000_000, Z],
+    [2, 2, 3, 2, Z - 1_000_000, Z - 1_000_000, Z, Z],
+    // more sources than any, and terminals
+    [2, 1, 1, 1, Z + 1, Z + 2, Z, Z],
+    [2, 1, 1, 1, Z + 1, Z + 2, Z, Z],
 ];
 
-const FIXED_CASES: u64 = CHANGES + EVENS + 1;
+// Their changes and answers.
+const EVEN_CHANGED: [[u64; 10]; EVENS] = [
+    // 32 sources, and 33
+    [SPARE, 0, NO_LANE, Z, 0, 0, 1, Z + 61, Z + 61, 2],
+    [SPARE, 0, NO_LANE, Z, 1, 0, 0, Z, Z, 0],
+    // 64 terminals, and 65
+    [SPARE, 0, NO_LANE, Z, 0, 0, 40, Z + 88, Z + 88, 2],
+    [SPARE, 0, NO_LANE, Z, 2, 0, 0, Z, Z, 0],
+    // the largest case: the largest total, and the least
+    [
+        TABLE + 4_000,
+        1_000_000_000,
+        NO_LANE,
+        Z,
+        0,
+        0,
+        4_000,
+        Z + 129_000_000_000,
+        Z + 128_000_000_000,
+        1,
+    ],
+    [
+        SPARE,
+        0,
+        NO_LANE,
+        Z,
+        0,
+        0,
+        4_000,
+        Z - 128_000_000_000,
+        Z - 128_000_000_000,
+        1,
+    ],
+    // amounts of 4,000, and 4,001
+    [SPARE, 0, NO_LANE, Z, 0, 0, 4_000, Z + 4_000, Z + 4_000, 2],
+    [SUPPLIES, 4_001, NO_LANE, Z, 4, 1, 0, Z, Z, 0],
+    [SUPPLIES + 1, 4_001, NO_LANE, Z, 4, 2, 0, Z, Z, 0],
+    [DEMANDS, 4_001, NO_LANE, Z, 4, 3, 0, Z, Z, 0],
+    // stop slices one cell short of 4,001
+    [SPLITS_LEN, 4_000, NO_LANE, Z, 11, 0, 0, Z, Z, 0],
+    [FREIGHTS_LEN, 4_000, NO_LANE, Z, 11, 0, 0, Z, Z, 0],
+    // unit costs of 1,000,000, and one more
+    [
+        SPARE,
+        0,
+        NO_LANE,
+        Z,
+        0,
+        0,
+        1,
+        Z + 4_000_000,
+        Z + 4_000_000,
+        2,
+    ],
+    [SPARE, 0, 2, Z + 1_000_001, 5, 3, 0, Z, Z, 0],
+    // unit costs of -1,000,000, and one less
+    [
+        SPARE,
+        0,
+        NO_LANE,
+        Z,
+        0,
+        0,
+        1,
+        Z - 4_000_000,
+        Z - 4_000_000,
+        2,
+    ],
+    [SPARE, 0, 2, Z - 1_000_001, 5, 3, 0, Z, Z, 0],
+    // more sources than any, and terminals
+    [SOURCES, u64::MAX, NO_LANE, Z, 1, 0, 0, Z, Z, 0],
+    [TERMINALS, u64::MAX, NO_LANE, Z, 2, 0, 0, Z, Z, 0],
+];
 
-// Sets the sizes, with slices of the lengths asked.
-fn set_sizes(b: &mut [u64], m: u64, n: u64, entries: u64, width: u64) {
-    let lanes = times(m, n);
-    let sizes = [m, n, lanes, m, n, entries, lanes, width, width];
-    copy(&sizes, b, SOURCES);
+// A number of a signed column.
+fn signed(v: u64) -> i64 {
+    sum(whole(v), -500_000_000_000)
+}
+
+fn change(b: &mut [u64], c: &mut [i64], row: [u64; 10]) {
+    put(b, row[0], row[1]);
+    put_worth(c, plus(COSTS, row[2]), signed(row[3]));
 }
 
 // Check 13: whether the answer is the one given.
-fn check_given(b: &[u64], answer: &[u64], failed: u64) -> u64 {
-    if failed != 0 {
-        return failed;
-    }
-    if first_other(answer, part(b, GOT, 6)) == 0 {
-        0
-    } else {
-        13
+fn check_known(o: Outcome, row: [u64; 10]) -> u64 {
+    let want = o.want;
+    let f = failed(o.failed, want.number != row[4], 13);
+    let f = failed(f, want.place != row[5], 13);
+    let f = failed(f, want.split != row[6], 13);
+    let f = failed(f, want.total != signed(row[7]), 13);
+    let f = failed(f, want.freight != signed(row[8]), 13);
+    failed(f, want.stops != row[9], 13)
+}
+
+// Sets the sizes, with slices of the lengths asked, no least runs and wide ceilings.
+fn set_sizes(b: &mut [u64], m: u64, n: u64, entries: u64, width: u64) {
+    let lanes = times(m, n);
+    let sizes = [m, n, lanes, m, n, entries, lanes, width, width, lanes, 0, 0];
+    copy(&sizes, b, SOURCES);
+    fill(b, CEILINGS, 2_048, 4_000);
+}
+
+// Copies unit costs.
+fn set_costs(costs: &[i64], c: &mut [i64]) {
+    let mut k: usize = 0;
+    while k < costs.len() {
+        put_worth(c, plus(COSTS, k as u64), costs[k]);
+        k += 1;
     }
 }
 
-fn set_a(b: &mut [u64]) {
+fn set_a(b: &mut [u64], c: &mut [i64]) {
     set_sizes(b, 3, 2, 4, 5);
-    put(b, PLAN_LEN, 8);
-    copy(&A_COSTS, b, COSTS);
+    set_costs(&A_COSTS, c);
     copy(&A_SUPPLIES, b, SUPPLIES);
     copy(&A_DEMANDS, b, DEMANDS);
     copy(&A_TABLE, b, TABLE);
 }
 
-// Changes the cells that a row names.
-fn change(b: &mut [u64], row: &[u64]) {
-    put(b, at(row, 0), at(row, 1));
-    put(b, at(row, 2), at(row, 3));
-    put(b, at(row, 4), at(row, 5));
+// Runs a case made from A, against the listing and the answer given; then A stands again.
+fn run_changed(b: &mut [u64], c: &mut [i64], row: [u64; 10]) {
+    change(b, c, row);
+    if row[4] != ALSO {
+        let o = run_small(b, c);
+        close(b, check_known(o, row));
+        set_a(b, c);
+    }
 }
 
-// Runs case k of those made from A, against the listing and the answer given.
-fn run_changed(b: &mut [u64], k: u64) -> u64 {
-    let rows: &[u64] = &CHANGED;
-    let row = part(rows, times(12, k), 12);
-    set_a(b);
-    change(b, row);
-    let failed = run_small(b);
-    check_given(b, part(row, 6, 6), failed)
+fn run_changes(b: &mut [u64], c: &mut [i64]) {
+    set_a(b, c);
+    let mut k: usize = 0;
+    while k < CHANGES {
+        run_changed(b, c, CHANGED[k]);
+        k += 1;
+    }
 }
 
-// f as a straight line that falls from split first to split last.
-fn set_line(b: &mut [u64], first: u64, last: u64, start: u64, fall: u64) {
+// f as a straight line from split first to split last.
+fn set_line(c: &mut [i64], first: u64, last: u64, start: i64, step: i64) {
     let end = plus(last, 1);
     let mut f = start;
     let mut y = first;
     while y < end {
-        set(b, BEST, y, f);
-        f = minus(f, fall);
+        put_worth(c, plus(BEST, y), f);
+        f = sum(f, step);
         y += 1;
     }
 }
 
-fn set_even_amounts(b: &mut [u64], row: &[u64], m: u64, n: u64) {
-    let supply = at(row, 2);
-    let entries = plus(supply, 1);
+fn set_even(b: &mut [u64], c: &mut [i64], even: [u64; 8]) {
+    let m = even[0];
+    let n = even[1];
+    let entries = plus(even[2], 1);
     set_sizes(b, m, n, entries, entries);
-    repeat(b, SUPPLIES, m, supply);
-    repeat(b, DEMANDS, n, at(row, 3));
-    repeat(b, TABLE, entries, 0);
+    fill(b, SUPPLIES, m, even[2]);
+    fill(b, DEMANDS, n, even[3]);
+    fill(b, TABLE, entries, 0);
+    fill_worths(c, COSTS, times(m, n), signed(even[5]));
+    fill_worths(c, COSTS, n, signed(even[4]));
 }
 
-// Sets a case with equal numbers.
-fn set_even(b: &mut [u64], row: &[u64]) {
-    let m = at(row, 0);
-    let n = at(row, 1);
-    set_even_amounts(b, row, m, n);
-    repeat(b, COSTS, times(m, n), at(row, 5));
-    repeat(b, COSTS, n, at(row, 4));
-    put(b, at(row, 6), at(row, 7));
+// Runs a case with equal numbers. A drum costs what its row says, wherever it goes, so f is a straight line.
+fn run_even(b: &mut [u64], c: &mut [i64], even: [u64; 8], row: [u64; 10]) {
+    set_even(b, c, even);
+    change(b, c, row);
+    let s = span_of(sizes_of(b), b);
+    fill_worths(c, BEST, ROOM, NONE);
+    set_line(c, s.first, s.last, signed(even[6]), signed(even[7]));
+    close(b, check_known(run_known(b, c), row));
 }
 
-// f(y) is the other rows' unit cost for every drum, less what each of plant 1's drums saves.
-fn set_even_curve(b: &mut [u64], row: &[u64]) {
-    let first = at(b, FIRST);
-    let last = at(b, LAST);
-    let drums = times(at(row, 1), at(row, 3));
-    let fall = minus(at(row, 5), at(row, 4));
-    let start = minus(times(at(row, 5), drums), times(fall, first));
-    repeat(b, BEST, ROOM, NONE);
-    set_line(b, first, last, start, fall);
-}
-
-fn run_even(b: &mut [u64], k: u64) -> u64 {
-    let rows: &[u64] = &EVEN;
-    let row = part(rows, times(14, k), 14);
-    set_even(b, row);
-    judge(b);
-    set_even_curve(b, row);
-    let failed = run_known(b);
-    check_given(b, part(row, 8, 6), failed)
-}
-
-fn set_b(b: &mut [u64]) {
-    set_sizes(b, 3, 4, 201, 101);
-    copy(&B_COSTS, b, COSTS);
-    copy(&B_SUPPLIES, b, SUPPLIES);
-    copy(&B_DEMANDS, b, DEMANDS);
-    repeat(b, TABLE, 201, 0);
-}
-
-// f at the stops 100, 150, 180, 200 is 1430, 1030, 820, 800.
-fn set_b_curve(b: &mut [u64]) {
-    repeat(b, BEST, ROOM, NONE);
-    set_line(b, 100, 150, 1_430, 8);
-    set_line(b, 150, 180, 1_030, 7);
-    set_line(b, 180, 200, 820, 1);
-}
-
-// The example of 4.2 with a table of zeros.
-fn run_b(b: &mut [u64]) -> u64 {
-    set_b(b);
-    judge(b);
-    set_b_curve(b);
-    let failed = run_known(b);
-    check_given(b, &B_ANSWER, failed)
-}
-
-// Runs fixed case k: the example of 4.2, then those made from A, then those with equal numbers.
-fn run_one(b: &mut [u64], k: u64) -> u64 {
-    if k == 0 {
-        return run_b(b);
-    }
-    if k <= CHANGES {
-        return run_changed(b, k - 1);
-    }
-    run_even(b, minus(k, CHANGES + 1))
-}
-
-pub fn run_fixed(b: &mut [u64]) {
-    let mut k: u64 = 0;
-    while k < FIXED_CASES {
-        let failed = run_one(b, k);
-        close(b, failed);
+fn run_evens(b: &mut [u64], c: &mut [i64]) {
+    let mut k: usize = 0;
+    while k < EVENS {
+        run_even(b, c, EVEN[k], EVEN_CHANGED[k]);
         k += 1;
     }
+}
+
+fn set_b(b: &mut [u64], c: &mut [i64]) {
+    set_sizes(b, 3, 4, 201, 101);
+    set_costs(&B_COSTS, c);
+    copy(&B_SUPPLIES, b, SUPPLIES);
+    copy(&B_DEMANDS, b, DEMANDS);
+    fill(b, TABLE, 201, 0);
+}
+
+// The example of 4.2 with a table of zeros: f at the stops 100, 150, 180, 200 is 1430, 1030, 820, 800.
+fn run_b(b: &mut [u64], c: &mut [i64]) {
+    set_b(b, c);
+    fill_worths(c, BEST, ROOM, NONE);
+    set_line(c, 100, 150, 1_430, -8);
+    set_line(c, 150, 180, 1_030, -7);
+    set_line(c, 180, 200, 820, -1);
+    close(b, check_known(run_known(b, c), B_ANSWER));
+}
+
+pub fn run_fixed(b: &mut [u64], c: &mut [i64]) {
+    run_b(b, c);
+    run_changes(b, c);
+    run_evens(b, c);
 }

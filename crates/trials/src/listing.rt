@@ -1,169 +1,148 @@
-// A listing of all plans of a small case, judged from the input: row 1 sums to a_1 or less, row 2 to a_2 or less,
-// each depot row to its stock, each column to its demand. Lanes are gone through in row order; at each lane every
-// amount that rows and columns leave room for is tried.
+// A listing of all plans of a small case, judged from the input: row 1 sums to r_1 up to a_1, row 2 to r_2 up to a_2,
+// each depot row to its stock, each column to its demand, no lane above its ceiling. Lanes are gone through in row
+// order; at each lane every amount that rows, columns and ceilings leave room for is tried, the least first.
+use crate::bench::AMOUNTS;
 use crate::bench::BEST;
-use crate::bench::COSTS_LEN;
+use crate::bench::CEILINGS;
+use crate::bench::COSTS;
 use crate::bench::DEMANDS;
-use crate::bench::NONE;
+use crate::bench::FIRSTS;
 use crate::bench::ROOM;
-use crate::bench::SOURCES;
 use crate::bench::SUPPLIES;
-use crate::bench::TERMINALS;
-use crate::bench::costs;
+use crate::bench::Sizes;
+use crate::bench::TIES;
 use crate::cells::at;
-use crate::cells::count;
-use crate::cells::freight;
-use crate::cells::get;
+use crate::cells::fill;
+use crate::cells::given;
 use crate::cells::larger;
 use crate::cells::line;
-use crate::cells::lower;
+use crate::cells::minus;
 use crate::cells::part;
 use crate::cells::plus;
 use crate::cells::put;
-use crate::cells::raise;
-use crate::cells::repeat;
-use crate::cells::set;
 use crate::cells::smaller;
-use crate::cells::transfer;
+use crate::cells::times;
+use crate::money::NONE;
+use crate::money::fill_worths;
+use crate::money::freight;
+use crate::money::put_worth;
+use crate::money::worth;
+use crate::money::worths;
 
-// The amounts, the next amount to try at each lane, what each row and each column has left, how many cheapest
-// plans each split has, and how many plans there are.
-const AMOUNTS: u64 = 23_100;
+// The least and the most that a lane can carry beside the lanes before it.
+struct Reach {
+    least: u64,
+    most: u64,
+}
 
-const NEXT: u64 = 23_200;
+// Where the listing is: the lane to look at, the least amount to try there, and how many plans were found.
+struct Turn {
+    lane: u64,
+    low: u64,
+    plans: u64,
+}
 
-const ROWS: u64 = 23_300;
-
-const COLUMNS: u64 = 23_400;
-
-pub const CHEAPEST: u64 = 23_500;
-
-pub const LISTED: u64 = 23_600;
+// No lane: all is tried.
+const DONE: u64 = u64::MAX;
 // More turns than any case of the trials needs.
 const TURNS: u64 = 100_000_000;
 
-// Keeps the least freight at a split, and counts the plans that have it.
-fn keep_least(b: &mut [u64], y: u64, cost: u64) {
-    let known = get(b, BEST, y);
-    if cost < known {
-        set(b, BEST, y, cost);
-        set(b, CHEAPEST, y, 1);
-    } else {
-        count(b, CHEAPEST, y, cost == known);
+// What row i must sum to at least.
+fn row_least(z: Sizes, b: &[u64], i: u64) -> u64 {
+    match i {
+        0 => z.run1,
+        1 => z.run2,
+        _ => at(b, plus(SUPPLIES, i)),
     }
 }
 
-// Keeps the freight of a full table.
-fn keep(b: &mut [u64]) {
-    let y = line(b, AMOUNTS, 1, at(b, TERMINALS));
-    let cost = freight(part(b, AMOUNTS, at(b, COSTS_LEN)), costs(b));
-    raise(b, LISTED, 0, 1);
-    keep_least(b, y, cost);
-}
-
-// Gives a lane an amount out of what its row and its column have left.
-fn give(b: &mut [u64], lane: u64, row: u64, column: u64, amount: u64) {
-    set(b, AMOUNTS, lane, amount);
-    set(b, NEXT, lane, plus(amount, 1));
-    lower(b, ROWS, row, amount);
-    lower(b, COLUMNS, column, amount);
-}
-
-// Takes the amount of a lane back.
-fn take(b: &mut [u64], lane: u64, row: u64, column: u64) {
-    let amount = get(b, AMOUNTS, lane);
-    raise(b, ROWS, row, amount);
-    raise(b, COLUMNS, column, amount);
-}
-
-// What a depot's last lane must take: the rest of its stock.
-fn least_of_row(b: &[u64], row: u64, column: u64) -> u64 {
-    if row < 2 {
-        return 0;
-    }
-    if plus(column, 1) == at(b, TERMINALS) {
-        get(b, ROWS, row)
-    } else {
-        0
+// A row's last lane must take what the row still lacks, the last source's lane all that the terminal still lacks.
+fn reach_of(z: Sizes, b: &[u64], lane: u64, row: u64, column: u64) -> Reach {
+    let sent = line(b, plus(AMOUNTS, minus(lane, column)), 1, column);
+    let got = line(b, plus(AMOUNTS, column), z.n, row);
+    let row_left = minus(at(b, plus(SUPPLIES, row)), sent);
+    let column_left = minus(at(b, plus(DEMANDS, column)), got);
+    let of_row = given(plus(column, 1) == z.n, minus(row_least(z, b, row), sent));
+    let of_column = given(plus(row, 1) == z.m, column_left);
+    Reach {
+        least: larger(of_row, of_column),
+        most: smaller(smaller(row_left, column_left), at(b, plus(CEILINGS, lane))),
     }
 }
 
-// What the last source's lane must take: all that the terminal still lacks.
-fn least_of_column(b: &[u64], row: u64, column: u64) -> u64 {
-    if plus(row, 1) == at(b, SOURCES) {
-        get(b, COLUMNS, column)
-    } else {
-        0
+// Goes back to the lane before, to try one drum more there.
+fn back(b: &[u64], lane: u64, plans: u64) -> Turn {
+    let before = minus(lane, 1);
+    let low = plus(at(b, plus(AMOUNTS, before)), 1);
+    let lane = if lane == 0 { DONE } else { before };
+    Turn { lane, low, plans }
+}
+
+// Copies as many cells as `cells` within a slice.
+fn transfer(s: &mut [u64], from: u64, cells: u64, to: u64) {
+    let mut k: u64 = 0;
+    while k < cells {
+        let v = at(s, plus(from, k));
+        put(s, plus(to, k), v);
+        k += 1;
     }
 }
 
-// The least amount left to try at a lane.
-fn least(b: &[u64], lane: u64, row: u64, column: u64) -> u64 {
-    let must = larger(
-        least_of_row(b, row, column),
-        least_of_column(b, row, column),
-    );
-    larger(must, get(b, NEXT, lane))
+// Keeps the least freight at the split of a full plan and the first plan that has it, and counts those plans.
+fn keep(z: Sizes, b: &mut [u64], c: &mut [i64]) {
+    let y = line(b, AMOUNTS, 1, z.n);
+    let cost = freight(part(b, AMOUNTS, z.costs), worths(c, COSTS, z.costs));
+    let known = worth(c, plus(BEST, y));
+    if known < cost {
+        return;
+    }
+    let ties = given(known == cost, at(b, plus(TIES, y)));
+    put_worth(c, plus(BEST, y), cost);
+    put(b, plus(TIES, y), plus(ties, 1));
+    if ties == 0 {
+        transfer(b, AMOUNTS, 12, plus(FIRSTS, times(12, y)));
+    }
 }
 
-// Goes back to the lane before; NONE from the first.
-fn back(b: &mut [u64], n: u64, lane: u64) -> u64 {
-    set(b, NEXT, lane, 0);
-    if lane == 0 {
-        return NONE;
+// One turn of the listing, at a lane or past the last.
+fn next(z: Sizes, b: &mut [u64], c: &mut [i64], t: Turn) -> Turn {
+    if t.lane == z.costs {
+        keep(z, b, c);
+        return back(b, t.lane, plus(t.plans, 1));
     }
-    if n == 0 {
-        return NONE;
+    if z.n == 0 {
+        return back(b, 0, 0);
     }
-    let before = lane - 1;
-    take(b, before, before / n, before % n);
-    before
+    let n = z.n;
+    let r = reach_of(z, b, t.lane, t.lane / n, t.lane % n);
+    let amount = larger(r.least, t.low);
+    if r.most < amount {
+        return back(b, t.lane, t.plans);
+    }
+    put(b, plus(AMOUNTS, t.lane), amount);
+    Turn {
+        lane: plus(t.lane, 1),
+        low: 0,
+        plans: t.plans,
+    }
 }
 
-// Tries the least amount left at a lane. The lane to look at next, or NONE where all is tried.
-fn try_lane(b: &mut [u64], n: u64, lane: u64, row: u64, column: u64) -> u64 {
-    let amount = least(b, lane, row, column);
-    if smaller(get(b, ROWS, row), get(b, COLUMNS, column)) < amount {
-        return back(b, n, lane);
-    }
-    give(b, lane, row, column, amount);
-    plus(lane, 1)
-}
-
-// One step of the listing, at a lane or past the last.
-fn step(b: &mut [u64], lane: u64) -> u64 {
-    let n = at(b, TERMINALS);
-    if n == 0 {
-        return NONE;
-    }
-    if lane == at(b, COSTS_LEN) {
-        keep(b);
-        return back(b, n, lane);
-    }
-    try_lane(b, n, lane, lane / n, lane % n)
-}
-
-// Clears the desk and the least freights.
-fn clear(b: &mut [u64]) {
-    repeat(b, AMOUNTS, 600, 0);
-    repeat(b, BEST, ROOM, NONE);
-    let m = at(b, SOURCES);
-    transfer(b, SUPPLIES, m, ROWS);
-    let n = at(b, TERMINALS);
-    transfer(b, DEMANDS, n, COLUMNS);
-}
-
-// Finds the least freight at each split. Answers whether every plan was looked at.
-pub fn list(b: &mut [u64]) -> bool {
-    clear(b);
-    let mut lane: u64 = 0;
+// Finds the least freight at each split. Answers how many plans there are, or DONE where not all were looked at.
+pub fn list(z: Sizes, b: &mut [u64], c: &mut [i64]) -> u64 {
+    fill(b, TIES, 40, 0);
+    fill_worths(c, BEST, ROOM, NONE);
+    let mut t = Turn {
+        lane: 0,
+        low: 0,
+        plans: 0,
+    };
     let mut turns: u64 = 0;
     while turns < TURNS {
-        lane = step(b, lane);
-        if lane == NONE {
-            return true;
+        t = next(z, b, c, t);
+        if t.lane == DONE {
+            return t.plans;
         }
         turns += 1;
     }
-    false
+    DONE
 }

@@ -8,54 +8,57 @@ mod cells;
 mod compare;
 mod fixed;
 mod listing;
+mod money;
 mod paper;
 mod planned;
 mod random;
 mod report;
 mod trial;
 
-use crate::bench::SEED;
 use crate::bench::TALLY;
-use crate::cells::put;
-use crate::cells::repeat;
+use crate::cells::fill;
 use crate::fixed::run_fixed;
-use crate::random::next_case;
+use crate::random::set_case;
 use crate::report::report;
-use crate::trial::CASES;
 use crate::trial::close;
 use crate::trial::run_small;
 
 const RANDOM_CASES: u64 = 10_000;
 
-fn new_bench() -> [u64; 24000]
-    ensures { λ r. ⌜ 24000 ≡ length r ⌝ }
+fn new_bench() -> [u64; 7000]
+    ensures { λ r. ⌜ 7000 ≡ length r ⌝ }
 {
-    [0; 24000]
+    [0; 7000]
 }
 
-// Runs the random cases, from a fixed seed.
-fn run_random(b: &mut [u64]) {
-    put(b, SEED, 20_260_101);
+fn new_ledger() -> [i64; 6200]
+    ensures { λ r. ⌜ 6200 ≡ length r ⌝ }
+{
+    [0; 6200]
+}
+
+fn run_random(b: &mut [u64], c: &mut [i64]) {
     let mut k: u64 = 0;
     while k < RANDOM_CASES {
-        next_case(b);
-        let failed = run_small(b);
-        close(b, failed);
+        set_case(b, c, k);
+        let o = run_small(b, c);
+        close(b, o.failed);
         k += 1;
     }
 }
 
-fn run_trials(b: &mut [u64]) {
-    run_fixed(b);
+fn run_trials(b: &mut [u64], c: &mut [i64]) {
+    run_fixed(b, c);
     io::write_all(1, b"fixed\n");
-    report(b, CASES as usize);
-    repeat(b, TALLY, 50, 0);
-    run_random(b);
+    report(b, 33);
+    fill(b, TALLY, 100, 0);
+    run_random(b, c);
     io::write_all(1, b"random\n");
     report(b, 0);
 }
 
 fn main() {
     let mut b = new_bench();
-    run_trials(&mut b);
+    let mut c = new_ledger();
+    run_trials(&mut b, &mut c);
 }

@@ -1,56 +1,91 @@
-// The refusals 1 to 11, judged as the table of the scope says, without the planner's code.
-use crate::bench::COSTS_LEN;
-use crate::bench::DEMANDS_LEN;
-use crate::bench::FIRST;
-use crate::bench::FREIGHTS_LEN;
-use crate::bench::LAST;
-use crate::bench::MADE;
-use crate::bench::PLAN_LEN;
-use crate::bench::SOURCES;
-use crate::bench::SPLITS_LEN;
+// The refusals, judged as the table of the scope says, without the planner's code.
+use crate::bench::CEILINGS;
+use crate::bench::COSTS;
+use crate::bench::DEMANDS;
 use crate::bench::SUPPLIES;
-use crate::bench::SUPPLIES_LEN;
-use crate::bench::TABLE_LEN;
-use crate::bench::TERMINALS;
-use crate::bench::WANT;
-use crate::bench::WIDTH;
-use crate::bench::costs;
-use crate::bench::demands;
-use crate::bench::supplies;
-use crate::bench::table;
+use crate::bench::Sizes;
+use crate::bench::TABLE;
 use crate::cells::at;
-use crate::cells::copy;
-use crate::cells::get;
+use crate::cells::given;
+use crate::cells::larger;
 use crate::cells::line;
 use crate::cells::minus;
 use crate::cells::part;
 use crate::cells::plus;
-use crate::cells::put;
 use crate::cells::smaller;
 use crate::cells::times;
+use crate::money::NONE;
+use crate::money::worths;
 
-fn all_demands(b: &[u64]) -> u64 {
-    line(demands(b), 0, 1, at(b, DEMANDS_LEN))
+// d, ℓ, u and how many splits there are.
+pub struct Span {
+    pub made: u64,
+    pub first: u64,
+    pub last: u64,
+    pub width: u64,
 }
 
-fn all_stock(b: &[u64]) -> u64 {
-    line(supplies(b), 2, 1, minus(at(b, SUPPLIES_LEN), 2))
-}
-
-// Sets d, ℓ, u and the number of splits, which is 0 where d is below 0 or above a_1 + a_2.
-pub fn set_span(b: &mut [u64]) {
-    let all = all_demands(b);
-    let stock = all_stock(b);
+// The splits within the supplies and the least runs, ceilings aside.
+pub fn span_of(z: Sizes, b: &[u64]) -> Span {
+    let all = line(b, DEMANDS, 1, z.demands);
+    let stock = line(b, SUPPLIES + 2, 1, minus(z.supplies, 2));
     let made = minus(all, stock);
-    let first = minus(made, get(b, SUPPLIES, 1));
-    let last = smaller(at(b, SUPPLIES), made);
-    let width = if all < stock {
-        0
-    } else {
-        minus(plus(last, 1), first)
-    };
-    let cells = [made, first, last, width];
-    copy(&cells, b, MADE);
+    let first = larger(z.run1, minus(made, at(b, SUPPLIES + 1)));
+    let last = smaller(at(b, SUPPLIES), minus(made, z.run2));
+    let lacks = given(all < stock, 1);
+    let width = given(lacks == 0, minus(plus(last, 1), first));
+    Span {
+        made,
+        first,
+        last,
+        width,
+    }
+}
+
+// The least and the greatest split that have a plan, and how many there are.
+pub fn narrowed(s: Span, best: &[i64]) -> Span {
+    let mut first: u64 = 0;
+    let mut last: u64 = 0;
+    let mut width: u64 = 0;
+    let mut k: usize = 0;
+    while k < best.len() {
+        if best[k] != NONE {
+            last = k as u64;
+            first = if width == 0 { last } else { first };
+            width = plus(width, 1);
+        }
+        k += 1;
+    }
+    Span {
+        made: s.made,
+        first,
+        last,
+        width,
+    }
+}
+
+// The number of a refusal and its place; number 0 where the tests pass.
+pub struct Verdict {
+    pub number: u64,
+    pub place: u64,
+}
+
+// What a test says after those before it.
+fn test(before: Verdict, fails: bool, number: u64, place: u64) -> Verdict {
+    if before.number != 0 {
+        return before;
+    }
+    if fails {
+        return Verdict { number, place };
+    }
+    before
+}
+
+fn outside(v: u64, low: u64, high: u64) -> bool {
+    if v < low {
+        return true;
+    }
+    high < v
 }
 
 // The place, from 1, of the first number above the limit; 0 where there is none.
@@ -65,168 +100,76 @@ fn first_above(s: &[u64], limit: u64) -> u64 {
     0
 }
 
-fn sags(table: &[u64], y: u64) -> bool {
-    let entry = at(table, y);
-    plus(entry, entry) < plus(at(table, minus(y, 1)), at(table, plus(y, 1)))
+fn out_of_range(cost: i64) -> bool {
+    if cost < -1_000_000 {
+        return true;
+    }
+    1_000_000 < cost
 }
 
-// The first y strictly between the two splits whose double entry is below its neighbours' sum; 0 where there is none.
-fn first_sag(table: &[u64], first: u64, last: u64) -> u64 {
-    let mut y = plus(first, 1);
-    while y < last {
-        if sags(table, y) {
-            return y;
+// The place, from 1, of the first unit cost below -1,000,000 or above 1,000,000; 0 where there is none.
+fn first_outside(costs: &[i64]) -> u64 {
+    let mut k: usize = 0;
+    while k < costs.len() {
+        if out_of_range(costs[k]) {
+            return plus(k as u64, 1);
         }
-        y += 1;
+        k += 1;
     }
     0
 }
 
-// Tests 1 and 2.
-fn sizes_test(m: u64, n: u64) -> u64 {
-    if m < 2 || 32 < m {
-        return 1;
-    }
-    if n < 1 || 64 < n {
-        return 2;
-    }
-    0
+// Tests 1 to 3.
+fn judge_form(z: Sizes) -> Verdict {
+    let v = Verdict {
+        number: 0,
+        place: 0,
+    };
+    let v = test(v, outside(z.m, 2, 32), 1, 0);
+    let v = test(v, outside(z.n, 1, 64), 2, 0);
+    let v = test(v, z.costs != times(z.m, z.n), 3, 0);
+    let v = test(v, z.supplies != z.m, 3, 0);
+    test(v, z.demands != z.n, 3, 0)
 }
 
-// Test 3.
-fn lengths_test(b: &[u64], m: u64, n: u64) -> u64 {
-    if at(b, COSTS_LEN) != times(m, n) {
-        return 3;
-    }
-    if at(b, SUPPLIES_LEN) != m {
-        return 3;
-    }
-    if at(b, DEMANDS_LEN) != n {
-        return 3;
-    }
-    0
+// Tests 4, 23, 5 and 26.
+fn judge_numbers(before: Verdict, z: Sizes, b: &[u64], c: &[i64]) -> Verdict {
+    let source = first_above(part(b, SUPPLIES, z.supplies), 4_000);
+    let v = test(before, source != 0, 4, source);
+    let terminal = first_above(part(b, DEMANDS, z.demands), 4_000);
+    let v = test(v, terminal != 0, 4, plus(z.m, terminal));
+    let v = test(v, at(b, SUPPLIES) < z.run1, 23, 1);
+    let v = test(v, at(b, SUPPLIES + 1) < z.run2, 23, 2);
+    let lane = first_outside(worths(c, COSTS, z.costs));
+    let v = test(v, lane != 0, 5, lane);
+    let v = test(v, z.ceilings != z.costs, 26, 0);
+    let high = first_above(part(b, CEILINGS, z.ceilings), 4_000);
+    test(v, high != 0, 26, high)
 }
 
-// Tests 1 to 3, whose place is 0.
-fn form_test(b: &[u64]) -> u64 {
-    let m = at(b, SOURCES);
-    let n = at(b, TERMINALS);
-    let number = sizes_test(m, n);
-    if number != 0 {
-        return number;
-    }
-    lengths_test(b, m, n)
-}
-
-// Test 4: the place of the first amount above 4,000.
-fn high_amount(b: &[u64]) -> u64 {
-    let source = first_above(supplies(b), 4_000);
-    if source != 0 {
-        return source;
-    }
-    let terminal = first_above(demands(b), 4_000);
-    if terminal != 0 {
-        return plus(at(b, SOURCES), terminal);
-    }
-    0
-}
-
-// Tests 6 to 8, whose place is 0.
-fn balance_test(b: &[u64]) -> u64 {
+// Tests 6 to 8. Without a sign: d is all demands less the stock.
+fn judge_balance(before: Verdict, z: Sizes, b: &[u64]) -> Verdict {
     let a_1 = at(b, SUPPLIES);
-    if at(b, TABLE_LEN) != plus(a_1, 1) {
-        return 6;
-    }
-    if all_demands(b) < all_stock(b) {
-        return 7;
-    }
-    if plus(a_1, get(b, SUPPLIES, 1)) < at(b, MADE) {
-        return 8;
-    }
-    0
+    let all = line(b, DEMANDS, 1, z.demands);
+    let stock = line(b, SUPPLIES + 2, 1, minus(z.supplies, 2));
+    let most = plus(stock, plus(a_1, at(b, SUPPLIES + 1)));
+    let v = test(before, z.table != plus(a_1, 1), 6, 0);
+    let v = test(v, all < plus(stock, plus(z.run1, z.run2)), 7, 0);
+    test(v, most < all, 8, 0)
 }
 
-// Test 9: one more than the split of the first entry above 1,000,000,000.
-fn high_entry(b: &[u64]) -> u64 {
-    let first = at(b, FIRST);
-    let place = first_above(part(table(b), first, at(b, WIDTH)), 1_000_000_000);
-    if place == 0 {
-        return 0;
-    }
-    plus(first, place)
+// The tests up to 8, in their order.
+pub fn judge(z: Sizes, b: &[u64], c: &[i64]) -> Verdict {
+    let v = judge_form(z);
+    let v = judge_numbers(v, z, b, c);
+    judge_balance(v, z, b)
 }
 
-// Test 11, whose place is 0.
-fn room_test(b: &[u64]) -> u64 {
-    if at(b, PLAN_LEN) < at(b, COSTS_LEN) {
-        return 11;
-    }
-    if at(b, SPLITS_LEN) < at(b, WIDTH) {
-        return 11;
-    }
-    if at(b, FREIGHTS_LEN) < at(b, WIDTH) {
-        return 11;
-    }
-    0
-}
-
-// The number of a refusal and its place; number 0 where a test passes.
-struct Verdict {
-    number: u64,
-    place: u64,
-}
-
-fn refused(number: u64, place: u64) -> Verdict {
-    Verdict { number, place }
-}
-
-// Tests 1 to 5.
-fn judge_numbers(b: &[u64]) -> Verdict {
-    let form = form_test(b);
-    if form != 0 {
-        return refused(form, 0);
-    }
-    let amount = high_amount(b);
-    if amount != 0 {
-        return refused(4, amount);
-    }
-    let lane = first_above(costs(b), 1_000_000);
-    if lane != 0 {
-        return refused(5, lane);
-    }
-    refused(0, 0)
-}
-
-// Tests 6 to 11.
-fn judge_splits(b: &[u64]) -> Verdict {
-    let balance = balance_test(b);
-    if balance != 0 {
-        return refused(balance, 0);
-    }
-    let entry = high_entry(b);
-    if entry != 0 {
-        return refused(9, entry - 1);
-    }
-    let sag = first_sag(table(b), at(b, FIRST), at(b, LAST));
-    if sag != 0 {
-        return refused(10, sag);
-    }
-    refused(room_test(b), 0)
-}
-
-// All tests, in the order of their numbers.
-fn verdict_of(b: &[u64]) -> Verdict {
-    let numbers = judge_numbers(b);
-    if numbers.number != 0 {
-        return numbers;
-    }
-    judge_splits(b)
-}
-
-// Sets the splits, and the number and place expected.
-pub fn judge(b: &mut [u64]) {
-    set_span(b);
-    let v = verdict_of(b);
-    put(b, WANT, v.number);
-    put(b, WANT + 1, v.place);
+// Tests 27, 9 and 11, where the splits that have a plan are known.
+pub fn judge_splits(before: Verdict, z: Sizes, s: Span, b: &[u64]) -> Verdict {
+    let v = test(before, s.width == 0, 27, 0);
+    let entry = first_above(part(b, plus(TABLE, s.first), s.width), 1_000_000_000);
+    let v = test(v, entry != 0, 9, minus(plus(s.first, entry), 1));
+    let v = test(v, z.plan < z.costs, 11, 0);
+    test(v, smaller(z.splits, z.freights) < s.width, 11, 0)
 }

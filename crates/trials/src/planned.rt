@@ -1,106 +1,80 @@
-// Runs the planner on the case of the bench, and keeps all that it gave.
+// Runs the planner on the case of the bench, and checks all that it gave.
 ghost use mathlib.Core.Path.{_≡_};
 ghost use lib.ListN.{length};
-use crate::bench::FREIGHTS;
-use crate::bench::FREIGHTS_LEN;
-use crate::bench::GOT;
-use crate::bench::MARK;
-use crate::bench::PLAN;
-use crate::bench::PLAN_LEN;
-use crate::bench::SOURCES;
-use crate::bench::SPLITS;
-use crate::bench::SPLITS_LEN;
-use crate::bench::TERMINALS;
-use crate::bench::costs;
-use crate::bench::demands;
-use crate::bench::supplies;
-use crate::bench::table;
-use crate::cells::at;
-use crate::cells::copy;
+use crate::bench::CEILINGS;
+use crate::bench::COSTS;
+use crate::bench::DEMANDS;
+use crate::bench::SUPPLIES;
+use crate::bench::Sizes;
+use crate::bench::TABLE;
+use crate::cells::cut;
+use crate::cells::part;
+use crate::compare::BLANK;
+use crate::compare::Expected;
+use crate::compare::MARK;
+use crate::compare::check_answer;
+use crate::compare::check_lanes;
+use crate::compare::check_plan;
+use crate::compare::check_refusal;
+use crate::money::cut_worths;
+use crate::money::worths;
+use crate::paper::Span;
 use planner::Answer;
 
-// A slice with room for any case.
+// Slices with room for any case.
 fn marked() -> [u64; 4100]
     ensures { λ r. ⌜ 4100 ≡ length r ⌝ }
 {
     [MARK; 4100]
 }
 
+fn blank() -> [i64; 4100]
+    ensures { λ r. ⌜ 4100 ≡ length r ⌝ }
+{
+    [BLANK; 4100]
+}
+
 // Lends the planner slices of the lengths that the case names.
-fn lend(b: &[u64], plan: &mut [u64], splits: &mut [u64], freights: &mut [u64]) -> Answer {
+fn lend(
+    z: Sizes,
+    b: &[u64],
+    c: &[i64],
+    plan: &mut [u64],
+    splits: &mut [u64],
+    freights: &mut [i64],
+) -> Answer {
     planner::plan(
-        at(b, SOURCES) as usize,
-        at(b, TERMINALS) as usize,
-        costs(b),
-        supplies(b),
-        demands(b),
-        table(b),
-        plan,
-        splits,
-        freights,
+        z.m as usize,
+        z.n as usize,
+        z.run1,
+        z.run2,
+        worths(c, COSTS, z.costs),
+        part(b, SUPPLIES, z.supplies),
+        part(b, DEMANDS, z.demands),
+        part(b, CEILINGS, z.ceilings),
+        part(b, TABLE, z.table),
+        cut(plan, z.plan),
+        cut(splits, z.splits),
+        cut_worths(freights, z.freights),
     )
 }
 
-// The same, with the slices cut; a length above the room is no case of the trials.
-fn lend_parts(b: &[u64], plan: &mut [u64], splits: &mut [u64], freights: &mut [u64]) -> Answer {
-    let p = at(b, PLAN_LEN) as usize;
-    let s = at(b, SPLITS_LEN) as usize;
-    let f = at(b, FREIGHTS_LEN) as usize;
-    if plan.len() < p {
-        return Answer::Refused {
-            number: 0,
-            place: 1,
-        };
-    }
-    if splits.len() < s {
-        return Answer::Refused {
-            number: 0,
-            place: 1,
-        };
-    }
-    if freights.len() < f {
-        return Answer::Refused {
-            number: 0,
-            place: 1,
-        };
-    }
-    lend(b, &mut plan[0..p], &mut splits[0..s], &mut freights[0..f])
-}
-
-// Keeps an answer: number, place, split, total, freight, stops.
-fn keep_answer(b: &mut [u64], answer: Answer) {
-    match answer {
-        Answer::Planned {
-            split,
-            total,
-            freight,
-            stops,
-        } => {
-            let cells = [0, 0, split, total, freight, stops as u64];
-            copy(&cells, b, GOT);
-        }
-        Answer::Refused { number, place } => {
-            let cells = [number, place, 0, 0, 0, 0];
-            copy(&cells, b, GOT);
-        }
-    }
-}
-
-fn keep_cells(b: &mut [u64], plan: &[u64], splits: &[u64], freights: &[u64]) {
-    copy(plan, b, PLAN);
-    copy(splits, b, SPLITS);
-    copy(freights, b, FREIGHTS);
-}
-
-fn run_on(b: &mut [u64], plan: &mut [u64], splits: &mut [u64], freights: &mut [u64]) {
-    let answer = lend_parts(b, plan, splits, freights);
-    keep_answer(b, answer);
-    keep_cells(b, plan, splits, freights);
-}
-
-pub fn run(b: &mut [u64]) {
+// The number of the first check that fails, or 0. The lanes are compared where the plans are listed.
+pub fn check(z: Sizes, s: Span, want: Expected, listed: bool, b: &[u64], c: &[i64]) -> u64 {
     let mut plan = marked();
     let mut splits = marked();
-    let mut freights = marked();
-    run_on(b, &mut plan, &mut splits, &mut freights);
+    let mut freights = blank();
+    let answer = lend(z, b, c, &mut plan, &mut splits, &mut freights);
+    let f = check_answer(want, answer);
+    if f != 0 {
+        return f;
+    }
+    if want.number != 0 {
+        return check_refusal(&plan, &splits, &freights);
+    }
+    let f = check_plan(z, s, want, b, c, &plan, &splits, &freights);
+    if f != 0 {
+        return f;
+    }
+    check_lanes(z, want.split, listed, b, &plan)
 }

@@ -1,43 +1,87 @@
 // What the trials found, a line for each count of the tally.
 use crate::bench::TALLY;
-use crate::cells::get;
+use crate::cells::at;
+use crate::cells::plus;
 
-// How many lines there are, and how wide a name is.
-const LINES: usize = 26;
+// How many lines there are, how wide a name is, and the cell of the tally for each line.
+const LINES: usize = 37;
 
-const WIDTH: usize = 25;
+const WIDTH: usize = 26;
 
-// Writes line k of the names and a number.
-fn say(names: &[u8], k: usize, number: u64) {
+const COUNTS: [u64; LINES] = [
+    0,
+    1,
+    2,
+    3,
+    4,
+    5,
+    6,
+    7,
+    8,
+    9,
+    11,
+    23,
+    26,
+    27,
+    32,
+    33,
+    34,
+    35,
+    36,
+    37,
+    38,
+    39,
+    40,
+    41,
+    42,
+    43,
+    44,
+    45,
+    46,
+    47,
+    48,
+    50,
+    51,
+    60,
+    61,
+    62,
+    63,
+];
+
+// Writes line k of the names and its count.
+fn say(names: &[u8], b: &[u64], k: usize) {
     if k < LINES {
         let start = k * WIDTH;
         let end = start + WIDTH;
         if end <= names.len() {
             io::write_all(1, &names[start..end]);
-            io::print_decimal(1, number);
+            io::print_decimal(1, at(b, plus(TALLY, COUNTS[k])));
             io::write_all(1, b"\n");
         }
     }
 }
 
-// Writes the tally from its cell `first` on.
+// Writes the lines from `first` on.
 fn say_from(names: &[u8], b: &[u64], first: usize) {
     let mut k = first;
     while k < LINES {
-        say(names, k, get(b, TALLY, k as u64));
+        say(names, b, k);
         k += 1;
     }
 }
 
 pub fn report(b: &[u64], first: usize) {
     say_from(
-        b"planned:                 refused 1:               refused 2:               refused 3:               \
-          refused 4:               refused 5:               refused 6:               refused 7:               \
-          refused 8:               refused 9:               refused 10:              refused 11:              \
-          one split:               ties between splits:     ties between plans:      plans listed:            \
-          no depots:               one terminal:            a supply of 0:           a demand of 0:           \
-          balanced, with plans:    unbalanced, no plan:     cases:                   differences:             \
-          first difference: case   first difference: check  ",
+        b"planned:                  refused 1:                refused 2:                refused 3:                \
+          refused 4:                refused 5:                refused 6:                refused 7:                \
+          refused 8:                refused 9:                refused 11:               refused 23:               \
+          refused 26:               refused 27:               one split:                ties between splits:      \
+          ties between plans:       plans listed:             best between stops:       no depots:                \
+          one terminal:             a supply of 0:            a demand of 0:            with rebates:             \
+          total below 0:            with ceilings:            with least runs:          least run 1 = a_1:        \
+          least run 2 = a_2:        least runs make d:        fewer splits by ceilings: listed, with plans:       \
+          listed, no plan:          cases:                    differences:              first difference: case    \
+          first difference: check   ",
         b,
         first,
     );
