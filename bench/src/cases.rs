@@ -1,21 +1,25 @@
 //! Random cases of a given shape, repeatable.
 
-/// How the unit costs are drawn.
+/// How the unit costs are drawn; of the last kind they are uniform, and the lanes narrow.
 #[derive(Clone, Copy, PartialEq, Eq)]
 pub enum Kind {
     Uniform,
     Few,
     Plane,
+    Rebates,
+    Ceilings,
 }
 
 impl Kind {
-    pub const ALL: [Kind; 3] = [Kind::Uniform, Kind::Few, Kind::Plane];
+    pub const ALL: [Kind; 5] = [Kind::Uniform, Kind::Few, Kind::Plane, Kind::Rebates, Kind::Ceilings];
 
     pub fn name(self) -> &'static str {
         match self {
             Kind::Uniform => "uniform",
             Kind::Few => "few values",
             Kind::Plane => "plane",
+            Kind::Rebates => "rebates",
+            Kind::Ceilings => "ceilings",
         }
     }
 }
@@ -32,9 +36,10 @@ pub struct Shape {
 pub struct Case {
     pub m: usize,
     pub n: usize,
-    pub costs: Vec<u64>,
+    pub costs: Vec<i64>,
     pub supplies: Vec<u64>,
     pub demands: Vec<u64>,
+    pub ceilings: Vec<u64>,
     pub table: Vec<u64>,
     pub least: u64,
     pub greatest: u64,
@@ -72,19 +77,56 @@ pub fn case(shape: Shape, seed: u64) -> Case {
     let demands = shares(&mut random, drums, n);
     let least = made - second;
     let table = table(&mut random, first, steps, least, kind);
-    Case { m, n, costs, supplies, demands, table, least, greatest: first }
+    let ceilings = match kind {
+        Kind::Ceilings => narrow(&mut random, made, &supplies, &demands),
+        _ => vec![4_000; m * n],
+    };
+    Case { m, n, costs, supplies, demands, ceilings, table, least, greatest: first }
 }
 
-fn costs(random: &mut Random, m: usize, n: usize, kind: Kind) -> Vec<u64> {
+/// Ceilings of up to 200 drums above some plan at the first split and some plan at the last, so that all splits keep a plan.
+fn narrow(random: &mut Random, made: u64, supplies: &[u64], demands: &[u64]) -> Vec<u64> {
+    let first = some_plan(random, made - supplies[1], made, supplies, demands);
+    let last = some_plan(random, supplies[0], made, supplies, demands);
+    first.iter().zip(&last).map(|(&x, &z)| (x.max(z) + random.within(0, 200)).min(4_000)).collect()
+}
+
+/// A plan at split y: the lanes in a random order, each with all that it can still take.
+fn some_plan(random: &mut Random, y: u64, made: u64, supplies: &[u64], demands: &[u64]) -> Vec<u64> {
+    let mut left = supplies.to_vec();
+    (left[0], left[1]) = (y, made - y);
+    let mut wanted = demands.to_vec();
+    let mut plan = vec![0; left.len() * wanted.len()];
+    let mut lanes: Vec<usize> = (0..plan.len()).collect();
+    for k in (1..lanes.len()).rev() {
+        lanes.swap(k, random.within(0, k as u64) as usize);
+    }
+    for k in lanes {
+        let (i, j) = (k / wanted.len(), k % wanted.len());
+        plan[k] = left[i].min(wanted[j]);
+        left[i] -= plan[k];
+        wanted[j] -= plan[k];
+    }
+    plan
+}
+
+fn costs(random: &mut Random, m: usize, n: usize, kind: Kind) -> Vec<i64> {
+    let mut each = |low: u64, high: u64| (0..m * n).map(|_| random.within(low, high) as i64).collect();
     match kind {
-        Kind::Uniform => (0..m * n).map(|_| random.within(0, 1_000_000)).collect(),
-        Kind::Few => (0..m * n).map(|_| random.within(1, 5)).collect(),
+        Kind::Uniform | Kind::Ceilings => each(0, 1_000_000),
+        Kind::Few => each(1, 5),
+        Kind::Rebates => {
+            // on one lane in five the haulier pays
+            let mut costs: Vec<i64> = each(0, 1_000_000);
+            costs.iter_mut().filter(|_| random.within(0, 4) == 0).for_each(|cost| *cost = -*cost);
+            costs
+        }
         Kind::Plane => {
             let mut points = |k: usize| -> Vec<(f64, f64)> {
                 (0..k).map(|_| (random.within(0, 10_000) as f64, random.within(0, 10_000) as f64)).collect()
             };
             let (sources, terminals) = (points(m), points(n));
-            let away = |s: (f64, f64), t: (f64, f64)| (s.0 - t.0).hypot(s.1 - t.1).round() as u64;
+            let away = |s: (f64, f64), t: (f64, f64)| (s.0 - t.0).hypot(s.1 - t.1).round() as i64;
             (0..m * n).map(|k| away(sources[k / n], terminals[k % n])).collect()
         }
     }
@@ -108,7 +150,7 @@ fn shares(random: &mut Random, drums: u64, n: usize) -> Vec<u64> {
 /// A concave table whose slopes are of the size of the costs' differences.
 fn table(random: &mut Random, first: u64, steps: u64, least: u64, kind: Kind) -> Vec<u64> {
     let most = match kind {
-        Kind::Uniform => 100_000,
+        Kind::Uniform | Kind::Rebates | Kind::Ceilings => 100_000,
         Kind::Few => 2,
         Kind::Plane => 2_000,
     };

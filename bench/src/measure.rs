@@ -16,8 +16,15 @@ pub struct Times {
 }
 
 extern "C" {
-    fn lemon_new(m: usize, n: usize, costs: *const u64, supplies: *const u64, demands: *const u64) -> *mut c_void;
-    fn lemon_split(solver: *mut c_void, y: u64) -> u64;
+    fn lemon_new(
+        m: usize,
+        n: usize,
+        costs: *const i64,
+        supplies: *const u64,
+        demands: *const u64,
+        ceilings: *const u64,
+    ) -> *mut c_void;
+    fn lemon_split(solver: *mut c_void, y: u64) -> i64;
     fn lemon_free(solver: *mut c_void);
     fn clock_gettime(clock: i32, time: *mut [i64; 2]) -> i32;
 }
@@ -38,34 +45,49 @@ fn clocked<T>(work: impl FnOnce() -> T) -> (f64, T) {
     (now() - start, value)
 }
 
-type Planner = fn(usize, usize, &[u64], &[u64], &[u64], &[u64], &mut [u64], &mut [u64], &mut [u64], &mut [u64]) -> u64;
+#[rustfmt::skip]
+type Planner = fn(
+    usize, usize, u64, u64, &[i64], &[u64], &[u64], &[u64], &[u64],
+    &mut [u64], &mut [u64], &mut [i64], &mut [u64], &mut [i64],
+) -> u64;
 
 /// The lent slices.
 struct Lent {
     plan: Vec<u64>,
     splits: Vec<u64>,
-    freights: Vec<u64>,
-    report: Vec<u64>,
+    freights: Vec<i64>,
+    report: [u64; 2],
+    worth: [i64; 2],
 }
 
 impl Lent {
     fn of(case: &Case) -> Lent {
         let splits = (case.greatest - case.least + 1) as usize;
-        Lent { plan: vec![0; case.m * case.n], splits: vec![0; splits], freights: vec![0; splits], report: vec![0; 4] }
+        Lent {
+            plan: vec![0; case.m * case.n],
+            splits: vec![0; splits],
+            freights: vec![0; splits],
+            report: [0; 2],
+            worth: [0; 2],
+        }
     }
 
     /// The cells that the papers settle: all but the amounts among equally cheap plans.
-    fn settled(&self) -> (&[u64], &[u64], &[u64]) {
-        (&self.splits, &self.freights, &self.report)
+    fn settled(&self) -> (&[u64], &[i64], [u64; 2], [i64; 2]) {
+        (&self.splits, &self.freights, self.report, self.worth)
     }
 
     /// Clears the slices, then plans; the seconds of the planning alone.
     fn plan(&mut self, planner: Planner, c: &Case) -> f64 {
-        for slice in [&mut self.plan, &mut self.splits, &mut self.freights, &mut self.report] {
-            slice.fill(0);
-        }
-        let Lent { plan, splits, freights, report } = self;
-        let work = || planner(c.m, c.n, &c.costs, &c.supplies, &c.demands, &c.table, plan, splits, freights, report);
+        let Lent { plan, splits, freights, report, worth } = self;
+        plan.fill(0);
+        splits.fill(0);
+        freights.fill(0);
+        report.fill(0);
+        worth.fill(0);
+        let Case { m, n, costs, supplies, demands, ceilings, table, .. } = c;
+        let work =
+            || planner(*m, *n, 0, 0, costs, supplies, demands, ceilings, table, plan, splits, freights, report, worth);
         let (time, answer) = clocked(work);
         assert_eq!(answer, 0, "the case is planned");
         time
@@ -77,11 +99,12 @@ struct Lemon(*mut c_void);
 
 impl Lemon {
     fn of(c: &Case) -> Lemon {
+        let (costs, ceilings) = (c.costs.as_ptr(), c.ceilings.as_ptr());
         // Safety: the slices have the lengths that m and n say, and outlive the call.
-        Lemon(unsafe { lemon_new(c.m, c.n, c.costs.as_ptr(), c.supplies.as_ptr(), c.demands.as_ptr()) })
+        Lemon(unsafe { lemon_new(c.m, c.n, costs, c.supplies.as_ptr(), c.demands.as_ptr(), ceilings) })
     }
 
-    fn split(&self, y: u64) -> u64 {
+    fn split(&self, y: u64) -> i64 {
         // Safety: the solver is freed only when it is dropped.
         unsafe { lemon_split(self.0, y) }
     }
@@ -107,17 +130,17 @@ pub fn times(shape: Shape, cases: u64, repeats: u32) -> Times {
             let split = proved.report[0];
             let (time, freight) = clocked(|| lemon.split(split));
             least_one = least_one.min(time);
-            assert_eq!(freight, proved.report[2], "LEMON's freight at the split given");
+            assert_eq!(freight, proved.worth[1], "LEMON's freight at the split given");
         }
         assert!(proved.settled() == plain.settled(), "all that the papers settle agrees in each cell");
         sum.alike += u64::from(proved.plan == plain.plan);
         let (all, best) = clocked(|| every_split(&lemon, &case));
-        assert_eq!(best, (proved.report[1], proved.report[0]), "LEMON's least total and its smallest split");
+        assert_eq!(best, (proved.worth[0], proved.report[0]), "LEMON's least total and its smallest split");
         sum.proved += least_proved;
         sum.plain += least_plain;
         sum.one += least_one;
         sum.all += all;
-        sum.stops += proved.report[3] as f64;
+        sum.stops += proved.report[1] as f64;
     }
     let mean = |time: f64| time / cases as f64;
     Times {
@@ -139,6 +162,7 @@ pub fn plan_only(shape: Shape, cases: u64) {
 }
 
 /// The least total and the smallest split that has it, solved split by split.
-fn every_split(lemon: &Lemon, case: &Case) -> (u64, u64) {
-    (case.least..=case.greatest).map(|y| (lemon.split(y) + case.table[y as usize], y)).min().expect("a split")
+fn every_split(lemon: &Lemon, case: &Case) -> (i64, u64) {
+    let total = |y: u64| lemon.split(y) + case.table[y as usize] as i64;
+    (case.least..=case.greatest).map(|y| (total(y), y)).min().expect("a split")
 }

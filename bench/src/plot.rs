@@ -23,10 +23,10 @@ const LEFT: f64 = 64.0;
 const TOP: f64 = 46.0;
 const BETWEEN: f64 = 30.0;
 
-/// Two rows of three panels: time against m × n, and time against u - ℓ, for each kind of costs.
+/// Two rows of panels: time against m × n, and time against u - ℓ, for each kind of costs.
 pub fn svg(lines: &[Line]) -> String {
     let scale = Scale::of(lines);
-    let (width, height) = (LEFT + 3.0 * (WIDTH + BETWEEN), TOP + 2.0 * (HEIGHT + 74.0) + 10.0);
+    let (width, height) = (LEFT + Kind::ALL.len() as f64 * (WIDTH + BETWEEN), TOP + 2.0 * (HEIGHT + 74.0) + 10.0);
     let mut text = format!(
         "<svg xmlns=\"http://www.w3.org/2000/svg\" width=\"{width}\" height=\"{height}\" viewBox=\"0 0 {width} {height}\" \
          font-family=\"sans-serif\" font-size=\"11\">\n<rect width=\"100%\" height=\"100%\" fill=\"white\"/>\n"

@@ -1,4 +1,4 @@
-/* Plans case A and prints the plan, the freight curve, and what a refusal looks like. */
+/* Plans case A and cases made from it, and prints each plan with its freight curve, or the refusal. */
 #include "yadvorkhul.h"
 
 #include <inttypes.h>
@@ -6,29 +6,50 @@
 
 #define CELLS(a) (sizeof(a) / sizeof((a)[0]))
 
-int main(void) {
-    const uint64_t costs[] = {2, 6, 5, 3, 1, 4};
-    const uint64_t supplies[] = {3, 3, 1};
-    const uint64_t demands[] = {3, 2};
-    const uint64_t table[] = {99, 20, 24, 20};
-    const uint64_t sagging[] = {99, 20, 20, 22};
-    uint64_t plan[6], splits[3], freights[3], report[YADVORKHUL_REPORT_CELLS];
-    uint64_t answer = yadvorkhul_plan(3, 2, costs, CELLS(costs), supplies, CELLS(supplies), demands, CELLS(demands),
-                                      table, CELLS(table), plan, CELLS(plan), splits, CELLS(splits),
-                                      freights, CELLS(freights), report, CELLS(report));
+static const uint64_t supplies[] = {3, 3, 1};
+static const uint64_t demands[] = {3, 2};
+
+struct change {
+    const char *name;
+    uint64_t run1, run2;
+    int64_t last_cost;
+    uint64_t first_ceiling, last_ceiling, entry2, entry3;
+};
+
+static void print_plan(struct change c) {
+    const int64_t costs[] = {2, 6, 5, 3, 1, c.last_cost};
+    const uint64_t ceilings[] = {c.first_ceiling, 4000, 4000, 4000, 4000, c.last_ceiling};
+    const uint64_t table[] = {99, 20, c.entry2, c.entry3};
+    uint64_t plan[6], splits[3], report[YADVORKHUL_REPORT_CELLS];
+    int64_t freights[3], worth[YADVORKHUL_WORTH_CELLS];
+    uint64_t answer = yadvorkhul_plan(3, 2, c.run1, c.run2, costs, CELLS(costs), supplies, CELLS(supplies),
+                                      demands, CELLS(demands), ceilings, CELLS(ceilings), table, CELLS(table),
+                                      plan, CELLS(plan), splits, CELLS(splits), freights, CELLS(freights),
+                                      report, CELLS(report), worth, CELLS(worth));
+    printf("%s\n", c.name);
     if (answer != 0) {
-        printf("refusal %" PRIu64 " at place %" PRIu64 "\n", answer, report[0]);
-        return 1;
+        printf("  refusal %" PRIu64 " at place %" PRIu64 "\n", answer, report[0]);
+        return;
     }
-    printf("split %" PRIu64 ", total %" PRIu64 ", freight %" PRIu64 "\n", report[0], report[1], report[2]);
+    printf("  split %" PRIu64 ", total %" PRId64 ", freight %" PRId64 "\n", report[0], worth[0], worth[1]);
     for (size_t i = 0; i < 3; i++)
         for (size_t j = 0; j < 2; j++)
-            printf("source %zu, terminal %zu: %" PRIu64 "\n", i + 1, j + 1, plan[i * 2 + j]);
-    for (size_t k = 0; k < report[3]; k++)
-        printf("stop %" PRIu64 ": freight %" PRIu64 "\n", splits[k], freights[k]);
-    answer = yadvorkhul_plan(3, 2, costs, CELLS(costs), supplies, CELLS(supplies), demands, CELLS(demands),
-                             sagging, CELLS(sagging), plan, CELLS(plan), splits, CELLS(splits),
-                             freights, CELLS(freights), report, CELLS(report));
-    printf("entry 2 lowered: refusal %" PRIu64 " at place %" PRIu64 "\n", answer, report[0]);
-    return answer == 10 && report[0] == 2 ? 0 : 1;
+            printf("  source %zu, terminal %zu: %" PRIu64 "\n", i + 1, j + 1, plan[i * 2 + j]);
+    for (size_t k = 0; k < report[1]; k++)
+        printf("  stop %" PRIu64 ": freight %" PRId64 "\n", splits[k], freights[k]);
+}
+
+int main(void) {
+    const struct change changes[] = {
+        {"case A", 0, 0, 4, 4000, 4000, 24, 20},
+        {"40 back for each drum from source 3 to terminal 2", 0, 0, -40, 4000, 4000, 24, 20},
+        {"1,000,001 back", 0, 0, -1000001, 4000, 4000, 24, 20},
+        {"entry 2 lowered: the least total lies between two others", 0, 0, 4, 4000, 4000, 20, 22},
+        {"each plant makes 2 at least", 2, 2, 4, 4000, 4000, 24, 20},
+        {"plant 2 makes 4 at least, and can make 3", 2, 4, 4, 4000, 4000, 24, 20},
+        {"1 at most from source 1 to terminal 1", 0, 0, 4, 1, 4000, 24, 20},
+        {"4,001 at most from source 3 to terminal 2", 0, 0, 4, 4000, 4001, 24, 20},
+    };
+    for (size_t k = 0; k < CELLS(changes); k++) print_plan(changes[k]);
+    return 0;
 }

@@ -1,7 +1,7 @@
 /* The proved two-plant production and freight planner, for C and C++.
 
-   The archive target/staticlib/libffi.a, which `rt staticlib ffi` writes, defines the function. Nothing checks this
-   declaration against the Rattle source (crates/ffi/src/lib.rt): a slice there is a pointer and then a length here, and
+   The archive target/staticlib/libffi.a, which `rt staticlib ffi` writes, defines the functions. Nothing checks these
+   declarations against the Rattle source (crates/ffi/src): a slice there is a pointer and then a length here, and
    a usize is a size_t of 64 bits. */
 #ifndef YADVORKHUL_H
 #define YADVORKHUL_H
@@ -15,39 +15,68 @@ extern "C" {
 
 #define YADVORKHUL_MOST_SOURCES 32   /* m is 2 to 32 */
 #define YADVORKHUL_MOST_TERMINALS 64 /* n is 1 to 64 */
+#define YADVORKHUL_MOST_COST 1000000 /* a unit cost is -1,000,000 to 1,000,000 */
+#define YADVORKHUL_MOST_AMOUNT 4000  /* a supply, a demand or a ceiling is 0 to 4,000 */
 #define YADVORKHUL_MOST_SPLITS 4001  /* stops of a case are never more */
-#define YADVORKHUL_REPORT_CELLS 4
+#define YADVORKHUL_REPORT_CELLS 2
+#define YADVORKHUL_WORTH_CELLS 2
 #define YADVORKHUL_SHORT_REPORT 34
 
 /* Plans a case, or refuses it. Any numbers and any lengths may be passed; nothing else is required of them.
 
    m, n         sources and terminals. Sources 1 and 2 are plants, the others depots.
-   costs        m × n unit costs, one source's together, row after row: source i to terminal j (from 0) at i × n + j
+   run1, run2   the least that plant 1 and plant 2 must make, at most its supply each; 0 for none
+   costs        m × n unit costs, one source's together, row after row: source i to terminal j (from 0) at i × n + j;
+                a rebate is a cost below 0
    supplies     m numbers: the most each of the plants can make, then each depot's stock, which must all leave
    demands      n numbers: what each terminal takes
-   table        one entry more than the first supply: entry y is the cost of both plants together when plant 1 makes y
+   ceilings     m × n numbers, in the order of the costs: the most that each lane carries; 0 closes it,
+                YADVORKHUL_MOST_AMOUNT on every lane is no bound
+   table        one entry more than the first supply: entry y is the cost of both plants together when plant 1 makes y;
+                of any shape, steps and fixed charges included
    plan         gets the amounts in its first m × n cells, in the order of the costs
-   splits       gets the stops of the freight curve, rising; give it one cell for each split, YADVORKHUL_MOST_SPLITS at most
+   splits       gets the stops of the freight curve, rising: l, u, and each split between where the slope changes, no others;
+                give it one cell for each split, YADVORKHUL_MOST_SPLITS at most
    freights     gets the least freight at each stop; as long as splits
    report       at least YADVORKHUL_REPORT_CELLS cells; gets in its first cells
-                  split, total, freight, count of stops   where the answer is 0
-                  the place of the refusal                where it is another
+                  split, count of stops      where the answer is 0
+                  the place of the refusal   where it is another
+   worth        at least YADVORKHUL_WORTH_CELLS cells; gets in its first cells
+                  total, freight             where the answer is 0
 
-   Each pointer is followed by its number of cells. It points at that many numbers that lie together and are aligned for
-   uint64_t; it may not be null, even where the number is 0. plan, splits, freights and report overlap nothing.
+   The splits: with d for all demands minus all depot stock, plant 1 makes at least run1 and d - supplies[1], at most
+   supplies[0] and d - run2, and plant 2 the rest of d. Of these splits l is the least and u the greatest at which a plan is
+   within the ceilings. Where d is below run1 + run2 the answer is 7; where run1 or run2 is above its plant's supply it is 23,
+   with place 1 or 2, tested straight after 4. Where the ceilings are not m × n the answer is 26 with place 0, where one is
+   above 4,000 it is 26 with that lane as place, from 1 in the order of the costs, both tested after 5. Where the sums are in
+   balance but no plan is within both the ceilings and the runs it is 27, tested after 8.
 
-   Answers 0 where the case is planned, or the number of the first test that it fails (1 to 12, see docs/USING.md), or
-   YADVORKHUL_SHORT_REPORT where the report is too short for anything to be told. On a refusal plan, splits and freights
-   keep their contents. All cells that are not named here keep theirs always. It needs about 48 kB of stack, and no heap. */
-uint64_t yadvorkhul_plan(size_t m, size_t n,
-                         const uint64_t *costs, size_t costs_cells,
+   Costs, freights and worth are signed; the total is -128,000,000,000 to 129,000,000,000. Each pointer is followed by its
+   number of cells. It points at that many numbers that lie together and are aligned for uint64_t; it may not be null, even
+   where the number is 0. plan, splits, freights, report and worth overlap nothing.
+
+   Answers 0 where the case is planned, or the number of the first test that it fails (1 to 9, 11, 23, 26 and 27, see
+   docs/USING.md), or YADVORKHUL_SHORT_REPORT where report or worth is too short for anything to be told. On a refusal plan,
+   splits, freights and worth keep their contents. All cells that are not named here keep theirs always. It needs about
+   97 kB of stack, and no heap. */
+uint64_t yadvorkhul_plan(size_t m, size_t n, uint64_t run1, uint64_t run2,
+                         const int64_t *costs, size_t costs_cells,
                          const uint64_t *supplies, size_t supplies_cells,
                          const uint64_t *demands, size_t demands_cells,
+                         const uint64_t *ceilings, size_t ceilings_cells,
                          const uint64_t *table, size_t table_cells,
                          uint64_t *plan, size_t plan_cells,
                          uint64_t *splits, size_t splits_cells,
-                         uint64_t *freights, size_t freights_cells,
-                         uint64_t *report, size_t report_cells);
+                         int64_t *freights, size_t freights_cells,
+                         uint64_t *report, size_t report_cells,
+                         int64_t *worth, size_t worth_cells);
+
+/* Writes the square-root rates, a production table for a house that has none: for each y from 0 to most, 100 times the
+   square root of y, rounded down, in the first most + 1 cells of to, which is passed like the slices above.
+
+   Answers 0; or 4 where most is above YADVORKHUL_MOST_AMOUNT, or 11 where to has fewer cells, and then writes nothing. Later
+   cells keep their contents. It needs about 32 kB of stack. */
+uint64_t yadvorkhul_rates(uint64_t most, uint64_t *to, size_t to_cells);
 
 #ifdef __cplusplus
 }

@@ -10,15 +10,15 @@ from yadvorkhul import Refusal, plan, plan_into
 A = dict(costs=[[2, 6], [5, 3], [1, 4]], supplies=[3, 3, 1], demands=[3, 2], table=[99, 20, 24, 20])
 
 
-def rows(m, n, total_rows, columns):
-    """All ways to fill m rows of n amounts with these row and column sums."""
+def rows(m, n, total_rows, columns, ceilings):
+    """All ways to fill m rows of n amounts with these row and column sums, none above its ceiling."""
     if m == 0:
         if not any(columns):
             yield []
         return
-    for row in fill(n, total_rows[0], columns):
+    for row in fill(n, total_rows[0], [min(pair) for pair in zip(columns, ceilings[0])]):
         left = [b - x for b, x in zip(columns, row)]
-        for rest in rows(m - 1, n, total_rows[1:], left):
+        for rest in rows(m - 1, n, total_rows[1:], left, ceilings[1:]):
             yield [row] + rest
 
 
@@ -32,14 +32,17 @@ def fill(n, total, most):
             yield [x] + rest
 
 
-def listed(costs, supplies, demands, table):
-    """Split, total, and f at each split, by a listing of all plans."""
+def listed(costs, supplies, demands, table, runs, ceilings):
+    """Split, total, and f at each split that has a plan, by a listing of all plans; None where no split has one."""
     m, n = len(supplies), len(demands)
     d = sum(demands) - sum(supplies[2:])
     curve = {}
-    for y in range(max(0, d - supplies[1]), min(supplies[0], d) + 1):
-        plans = rows(m, n, [y, d - y] + supplies[2:], demands)
-        curve[y] = min(sum(c * x for cr, xr in zip(costs, p) for c, x in zip(cr, xr)) for p in plans)
+    for y in range(max(runs[0], d - supplies[1]), min(supplies[0], d - runs[1]) + 1):
+        plans = list(rows(m, n, [y, d - y] + supplies[2:], demands, ceilings))
+        if plans:
+            curve[y] = min(sum(c * x for cr, xr in zip(costs, p) for c, x in zip(cr, xr)) for p in plans)
+    if not curve:
+        return None
     total, split = min((f + table[y], y) for y, f in curve.items())
     return split, total, curve
 
@@ -66,7 +69,7 @@ class Cases(unittest.TestCase):
     def test_p5_to_p8(self):
         self.refused(7, 0, supplies=[3, 3, 6])
         self.refused(8, 0, supplies=[1, 2, 1], table=[99, 20])
-        self.refused(10, 2, table=[99, 20, 20, 22])
+        self.expect(2, 31, table=[99, 20, 20, 22])
         self.refused(4, 1, supplies=[4001, 3, 1])
 
     def test_p9_and_p10(self):
@@ -81,23 +84,58 @@ class Cases(unittest.TestCase):
         self.assertEqual(found.split, 200)
         self.assertEqual(found.stops, [(100, 1430), (150, 1030), (180, 820), (200, 800)])
 
+    def test_runs(self):
+        self.expect(3, 33, runs=(2, 1))
+        found = self.expect(2, 35, runs=[2, 2])
+        self.assertEqual(found.stops, [(2, 11)])
+        self.refused(7, 0, runs=(2, 3))
+        self.refused(23, 1, runs=(4, 4))
+        self.refused(23, 2, runs=(3, (1 << 64) - 1))
+        for odd in ((-1, 0), (0, 1.5), (0, 1 << 64)):
+            with self.assertRaises(TypeError):
+                plan(**A, runs=odd)
+
+    def test_ceilings(self):
+        found = self.expect(1, 34, ceilings=[[1, 4000], [4000, 4000], [4000, 4000]])
+        self.assertEqual(found.stops, [(1, 14), (3, 20)])
+        self.expect(3, 33, ceilings=[[4000] * 2] * 3)
+        self.refused(26, 0, ceilings=[[4000] * 2] * 2)
+        self.refused(26, 0, ceilings=[[4000] * 3, [4000], [4000] * 2])
+        self.refused(26, 4, ceilings=[[4000] * 2, [4000, 4001], [4001] * 2])
+        self.refused(27, 0, ceilings=[[4000] * 2, [4000] * 2, [0, 0]])
+        self.refused(27, 0, ceilings=[[1, 1], [4000] * 2, [4000] * 2], runs=(3, 0))
+        with self.assertRaises(TypeError):
+            plan(**A, ceilings=[[-1, 4000], [4000] * 2, [4000] * 2])
+
+    def test_rebates(self):
+        found = self.expect(3, -11, costs=[[2, 6], [5, 3], [1, -40]])
+        self.assertEqual((found.freight, found.stops), (-31, [(1, -25), (3, -31)]))
+        self.expect(3, -30, costs=[[-10, -10], [0, 0], [0, 0]], table=[99, 11, 11, 0])
+
     def test_other_refusals(self):
         self.refused(1, 0, supplies=[3], costs=[[2, 6]])
         self.refused(2, 0, demands=[], costs=[[], [], []])
         self.refused(3, 0, costs=[[2, 6], [5, 3, 1], [4]])
         self.refused(3, 0, costs=[[2, 6], [5, 3]])
         self.refused(5, 6, costs=[[2, 6], [5, 3], [1, 1_000_001]])
+        self.refused(5, 6, costs=[[2, 6], [5, 3], [1, -1_000_001]])
+        self.refused(5, 1, costs=[[-1 << 63, 6], [5, 3], [1, (1 << 63) - 1]])
         self.refused(6, 0, table=[99, 20, 24])
         self.refused(9, 2, table=[99, 20, 1_000_000_001, 20])
 
     def test_readable(self):
         with self.assertRaisesRegex(Refusal, "^refusal 4 at place 5: a supply or demand is above 4,000$"):
             plan(**{**A, "demands": [3, 4001]})
+        with self.assertRaisesRegex(Refusal, "^refusal 5 at place 1: a unit cost is below -1,000,000 or above 1,000,000$"):
+            plan(**{**A, "costs": [[-1_000_001, 6], [5, 3], [1, 4]]})
 
     def test_numbers(self):
         for odd in (-1, 1 << 64, 1.5, "3", True, None):
             with self.assertRaises(TypeError):
                 plan(**{**A, "demands": [3, odd]})
+        for odd in ((-1 << 63) - 1, 1 << 63, 1.5, "3", True, None):
+            with self.assertRaises(TypeError):
+                plan(**{**A, "costs": [[2, 6], [5, 3], [1, odd]]})
         self.refused(4, 5, demands=[3, (1 << 64) - 1])
 
     def test_doc(self):
@@ -107,68 +145,76 @@ class Cases(unittest.TestCase):
 
 
 class Lent(unittest.TestCase):
-    def call(self, plan_cells=8, split_cells=4, freight_cells=5, report_cells=6, **changes):
+    def call(self, plan_cells=8, split_cells=4, freight_cells=5, report_cells=4, worth_cells=3, **changes):
         case = {**A, **changes}
-        lent = [[7] * k for k in (plan_cells, split_cells, freight_cells, report_cells)]
+        lent = [[7] * k for k in (plan_cells, split_cells, freight_cells, report_cells, worth_cells)]
         costs = [c for row in case["costs"] for c in row]
-        return plan_into(3, 2, costs, case["supplies"], case["demands"], case["table"], *lent), lent
+        read = costs, case["supplies"], case["demands"], [4000] * 6, case["table"]
+        return plan_into(3, 2, 0, 0, *read, *lent), lent
 
     def test_planned(self):
         number, lent = self.call()
         self.assertEqual(number, 0)
-        self.assertEqual(lent, [[3, 0, 0, 1, 0, 1, 7, 7], [1, 2, 3, 7], [14, 11, 13, 7, 7], [3, 33, 13, 3, 7, 7]])
+        self.assertEqual(lent, [[3, 0, 0, 1, 0, 1, 7, 7], [1, 2, 3, 7], [14, 11, 13, 7, 7], [3, 3, 7, 7], [33, 13, 7]])
 
     def test_refused(self):
-        number, lent = self.call(table=[99, 20, 20, 22])
-        self.assertEqual(number, 10)
-        self.assertEqual(lent, [[7] * 8, [7] * 4, [7] * 5, [2] + [7] * 5])
+        number, lent = self.call(table=[99, 20, 1_000_000_001, 22])
+        self.assertEqual(number, 9)
+        self.assertEqual(lent, [[7] * 8, [7] * 4, [7] * 5, [2] + [7] * 3, [7] * 3])
 
     def test_short_by_one(self):
         for short in (dict(plan_cells=5), dict(split_cells=2), dict(freight_cells=2)):
             number, lent = self.call(**short)
             self.assertEqual((number, lent[3][0]), (11, 0))
-            self.assertTrue(all(cell == 7 for cells in lent[:3] for cell in cells))
+            self.assertTrue(all(cell == 7 for cells in lent[:3] + lent[4:] for cell in cells))
 
     def test_short_report(self):
-        for cells in range(4):
-            number, lent = self.call(report_cells=cells)
+        for report, worth in ((0, 2), (1, 2), (2, 0), (2, 1), (0, 0)):
+            number, lent = self.call(report_cells=report, worth_cells=worth)
             self.assertEqual(number, yadvorkhul.SHORT_REPORT)
             self.assertTrue(all(cell == 7 for cells in lent for cell in cells))
+        self.assertEqual(self.call(report_cells=2, worth_cells=2)[1][3:], [[3, 3], [33, 13]])
 
 
 class Listing(unittest.TestCase):
     def test_random_small_cases(self):
         draw = random.Random(1995)
-        planned = 0
+        planned, without = 0, 0
         while planned < 500:
             m, n = draw.randint(2, 3), draw.randint(1, 3)
-            costs = [[draw.randint(0, 9) for _ in range(n)] for _ in range(m)]
+            size = draw.choice((1, 9, 1_000_000))
+            costs = [[draw.randint(-size, size) for _ in range(n)] for _ in range(m)]
             supplies = [draw.randint(0, 4) for _ in range(m)]
             demands = [draw.randint(0, 4) for _ in range(n)]
-            table = [draw.randint(0, 3) for _ in range(supplies[0] + 1)]
+            most = draw.choice((3, 30, 1_000_000_000))
+            table = [draw.randint(0, most) for _ in range(supplies[0] + 1)]
+            runs = draw.choice(((0, 0), tuple(draw.randint(0, a) for a in supplies[:2])))
+            most = draw.choice((2, 4, 4000))
+            ceilings = [[draw.randint(most // 2, most) for _ in range(n)] for _ in range(m)]
+            case = costs, supplies, demands, table, runs, ceilings
             d = sum(demands) - sum(supplies[2:])
-            if d < 0 or d > supplies[0] + supplies[1]:
+            number = 7 if d < sum(runs) else 8 if d > supplies[0] + supplies[1] else 0 if listed(*case) else 27
+            if number:
                 with self.assertRaises(Refusal) as caught:
-                    plan(costs, supplies, demands, table)
-                self.assertEqual(caught.exception.number, 7 if d < 0 else 8)
+                    plan(*case)
+                self.assertEqual((caught.exception.number, caught.exception.place), (number, 0))
+                without += number == 27
                 continue
-            low, high = max(0, d - supplies[1]), min(supplies[0], d)
-            sags = [y for y in range(low + 1, high) if 2 * table[y] < table[y - 1] + table[y + 1]]
-            if sags:
-                with self.assertRaises(Refusal) as caught:
-                    plan(costs, supplies, demands, table)
-                self.assertEqual((caught.exception.number, caught.exception.place), (10, sags[0]))
-                continue
-            found = plan(costs, supplies, demands, table)
-            split, total, curve = listed(costs, supplies, demands, table)
-            self.assertEqual((found.split, found.total, found.freight), (split, total, curve[split]))
-            self.assertEqual([sum(row) for row in found.amounts], [split, d - split] + supplies[2:])
-            self.assertEqual([sum(column) for column in zip(*found.amounts)], demands)
-            spent = sum(c * x for cr, xr in zip(costs, found.amounts) for c, x in zip(cr, xr))
-            self.assertEqual(spent, found.freight)
-            bends = [y for y in curve if y in (low, high) or curve[y - 1] + curve[y + 1] != 2 * curve[y]]
-            self.assertEqual(found.stops, [(y, curve[y]) for y in bends])
+            self.check(plan(*case), d, *case)
             planned += 1
+        self.assertGreater(without, 50)
+
+    def check(self, found, d, costs, supplies, demands, table, runs, ceilings):
+        split, total, curve = listed(costs, supplies, demands, table, runs, ceilings)
+        self.assertEqual((found.split, found.total, found.freight), (split, total, curve[split]))
+        self.assertEqual([sum(row) for row in found.amounts], [split, d - split] + supplies[2:])
+        self.assertEqual([sum(column) for column in zip(*found.amounts)], demands)
+        self.assertTrue(all(0 <= x <= u for xr, ur in zip(found.amounts, ceilings) for x, u in zip(xr, ur)))
+        spent = sum(c * x for cr, xr in zip(costs, found.amounts) for c, x in zip(cr, xr))
+        self.assertEqual(spent, found.freight)
+        ends = min(curve), max(curve)
+        bends = [y for y in curve if y in ends or curve[y - 1] + curve[y + 1] != 2 * curve[y]]
+        self.assertEqual(found.stops, [(y, curve[y]) for y in bends])
 
 
 if __name__ == "__main__":

@@ -1,6 +1,6 @@
 """The proved two-plant production and freight planner, for Python.
 
-    >>> from yadvorkhul import plan
+    >>> from yadvorkhul import plan, rates
     >>> p = plan(costs=[[2, 6], [5, 3], [1, 4]], supplies=[3, 3, 1], demands=[3, 2], table=[99, 20, 24, 20])
     >>> p.split, p.total, p.freight
     (3, 33, 13)
@@ -9,11 +9,26 @@
     >>> p.stops
     [(1, 14), (2, 11), (3, 13)]
 
+A unit cost below 0 is a rebate; freights and totals are signed too. A plant may have a least run, which every plan makes, and
+a lane a ceiling, which no plan passes:
+
+    >>> p = plan([[2, 6], [5, 3], [1, 4]], [3, 3, 1], [3, 2], [99, 20, 24, 20], runs=(2, 2))
+    >>> p.split, p.total
+    (2, 35)
+    >>> p = plan([[2, 6], [5, 3], [1, 4]], [3, 3, 1], [3, 2], [99, 20, 24, 20], ceilings=[[1, 9], [9, 9], [9, 9]])
+    >>> p.split, p.total
+    (1, 34)
+
 A case that fails a test is refused by an exception that has the number and the place:
 
     >>> plan(costs=[[2, 6], [5, 3], [1, 4]], supplies=[3, 3, 6], demands=[3, 2], table=[99, 20, 24, 20])
     Traceback (most recent call last):
-    yadvorkhul.Refusal: refusal 7: the depots hold more than the terminals take
+    yadvorkhul.Refusal: refusal 7: the terminals take less than the depots hold and the least runs make
+
+A house without a production table starts from the square-root rates, one for each output of plant 1 up to its supply:
+
+    >>> rates(3)
+    [0, 100, 141, 173]
 
 The shared object is made from the proved archive by `bindings/python/build`. Nothing checks the declaration here against
 the Rattle source.
@@ -23,12 +38,14 @@ import ctypes
 import os
 from typing import List, NamedTuple, Tuple
 
-__all__ = ["plan", "plan_into", "Plan", "Refusal", "SHORT_REPORT"]
+__all__ = ["plan", "plan_into", "rates", "rates_into", "Plan", "Refusal", "SHORT_REPORT"]
 
 MOST_SOURCES = 32
 MOST_TERMINALS = 64
+MOST_AMOUNT = 4000
 MOST_SPLITS = 4001
-REPORT_CELLS = 4
+REPORT_CELLS = 2
+WORTH_CELLS = 2
 SHORT_REPORT = 34
 
 _MEANINGS = {
@@ -36,15 +53,16 @@ _MEANINGS = {
     2: "the count of terminals is not 1 to 64",
     3: "the costs are not one for each source and terminal",
     4: "a supply or demand is above 4,000",
-    5: "a unit cost is above 1,000,000",
+    5: "a unit cost is below -1,000,000 or above 1,000,000",
     6: "the table has not one entry more than plant 1's supply",
-    7: "the depots hold more than the terminals take",
+    7: "the terminals take less than the depots hold and the least runs make",
     8: "the terminals take more than depots and plants can give",
     9: "a table entry at a split in use is above 1,000,000,000",
-    10: "the table is not concave",
     11: "a lent slice is too short for the plan or the stops",
-    12: "the total is above 200,000,000,000",
-    SHORT_REPORT: "the report has fewer than four cells",
+    23: "a least run is above its plant's supply",
+    26: "the ceilings are not one for each lane, or a ceiling is above 4,000",
+    27: "no plan is within both the ceilings and the least runs",
+    SHORT_REPORT: "the report or the worth has fewer than two cells",
 }
 
 
@@ -54,7 +72,7 @@ class Refusal(ValueError):
     def __init__(self, number: int, place: int):
         self.number = number
         self.place = place
-        at = f" at place {place}" if place or number in (9, 10) else ""
+        at = f" at place {place}" if place or number == 9 else ""
         super().__init__(f"refusal {number}{at}: {_MEANINGS.get(number, 'unknown')}")
 
 
@@ -65,65 +83,100 @@ class Plan(NamedTuple):
     total: int  # freight plus the table's entry at the split
     freight: int  # the least of any plan at the split
     amounts: List[List[int]]  # a row for each source: the drums to each terminal
-    stops: List[Tuple[int, int]]  # the freight curve: split and least freight, at the ends and where the slope changes
+    stops: List[Tuple[int, int]]  # the freight curve: split and least freight, at the ends and the bends alone
 
 
 def _load():
     path = os.environ.get("YADVORKHUL_SO") or os.path.join(os.path.dirname(os.path.abspath(__file__)), "libyadvorkhul.so")
     if not os.path.exists(path):
         raise ImportError("libyadvorkhul.so is not there: run bindings/python/build, or name it in YADVORKHUL_SO")
-    function = ctypes.CDLL(path).yadvorkhul_plan
-    cells = ctypes.POINTER(ctypes.c_uint64)
-    # m and n, then eight slices, each a pointer and then a length
-    function.argtypes = [ctypes.c_size_t] * 2 + [cells, ctypes.c_size_t] * 8
-    function.restype = ctypes.c_uint64
-    return function
+    library = ctypes.CDLL(path)
+    # m, n and the least runs, then the slices, each a pointer and then a length
+    slices = [part for kind in _READ + _WRITTEN for part in (ctypes.POINTER(kind), ctypes.c_size_t)]
+    library.yadvorkhul_plan.argtypes = [ctypes.c_size_t] * 2 + [ctypes.c_uint64] * 2 + slices
+    library.yadvorkhul_plan.restype = ctypes.c_uint64
+    library.yadvorkhul_rates.argtypes = [ctypes.c_uint64, ctypes.POINTER(ctypes.c_uint64), ctypes.c_size_t]
+    library.yadvorkhul_rates.restype = ctypes.c_uint64
+    return library
 
 
-_function = _load()
+_READ = [ctypes.c_int64] + [ctypes.c_uint64] * 4  # costs; supplies, demands, ceilings, table
+_WRITTEN = [ctypes.c_uint64] * 2 + [ctypes.c_int64, ctypes.c_uint64, ctypes.c_int64]  # plan, splits; freights; report; worth
+_library = _load()
 
 
-def _cells(numbers):
-    """An array of the numbers. A number that is no unsigned 64-bit one is an error, and is not cut down to one."""
+def _cells(kind, numbers):
+    """An array of the numbers. A number that does not fit a cell is an error, and is not cut down to one that does."""
     numbers = list(numbers)
+    low, high = (-1 << 63, 1 << 63) if kind is ctypes.c_int64 else (0, 1 << 64)
     for number in numbers:
-        if isinstance(number, bool) or not isinstance(number, int) or not 0 <= number < 1 << 64:
-            raise TypeError(f"not a whole number from 0 to 2^64 - 1: {number!r}")
+        if isinstance(number, bool) or not isinstance(number, int) or not low <= number < high:
+            raise TypeError(f"not a whole number from {low} to {high - 1}: {number!r}")
     # one cell more, so that the pointer of an empty slice points at something
-    return (ctypes.c_uint64 * (len(numbers) + 1))(*numbers), len(numbers)
+    return (kind * (len(numbers) + 1))(*numbers), len(numbers)
 
 
-def plan_into(m, n, costs, supplies, demands, table, plan, splits, freights, report):
-    """The planner on lent lists. Each of the last four is changed in the cells that the planner writes. Answers its number."""
-    read = [_cells(numbers) for numbers in (costs, supplies, demands, table)]
-    lent = [plan, splits, freights, report]
-    written = [_cells(numbers) for numbers in lent]
-    _cells([m, n])
-    answer = _function(m, n, *(part for pair in read + written for part in pair))
+def plan_into(m, n, run1, run2, costs, supplies, demands, ceilings, table, plan, splits, freights, report, worth):
+    """The planner on lent lists. Each of the last five is changed in the cells that the planner writes. Answers its number."""
+    read = [_cells(kind, numbers) for kind, numbers in zip(_READ, (costs, supplies, demands, ceilings, table))]
+    lent = [plan, splits, freights, report, worth]
+    written = [_cells(kind, numbers) for kind, numbers in zip(_WRITTEN, lent)]
+    _cells(ctypes.c_uint64, [m, n, run1, run2])
+    answer = _library.yadvorkhul_plan(m, n, run1, run2, *(part for pair in read + written for part in pair))
     for numbers, (cells, length) in zip(lent, written):
         numbers[:] = cells[:length]
     return answer
 
 
-def plan(costs, supplies, demands, table) -> Plan:
+def _lanes(rows, m, n):
+    """The numbers of m rows of n, one row after the other; rows of other lengths must not pass for a table of the right size."""
+    rows = [list(row) for row in rows]
+    even = len(rows) == m and all(len(row) == n for row in rows)
+    return [number for row in rows for number in row] if even else []
+
+
+def plan(costs, supplies, demands, table, runs=(0, 0), ceilings=None) -> Plan:
     """A cheapest plan, or a `Refusal`.
 
-    costs     a row for each source: its unit cost to each terminal
+    costs     a row for each source: its unit cost to each terminal, below 0 for a rebate
     supplies  the most each of the two plants can make, then each depot's stock, which must all leave
     demands   what each terminal takes
-    table     one entry more than the first supply: entry y is the cost of both plants together when plant 1 makes y
+    table     one entry more than the first supply: entry y is the cost of both plants together when plant 1 makes y;
+              of any shape
+    runs      the least that each of the two plants must make, at most its supply; 0 for none
+    ceilings  a row for each source: the most that its lane to each terminal carries; 0 closes it; None for no bound
     """
-    rows = [list(row) for row in costs]
     supplies, demands = list(supplies), list(demands)
     m, n = len(supplies), len(demands)
-    # rows of other lengths must not pass for a table of the right size
-    even = len(rows) == m and all(len(row) == n for row in rows)
-    lanes = [cost for row in rows for cost in row] if even else []
-    amounts = [0] * (min(m, MOST_SOURCES) * min(n, MOST_TERMINALS))
-    splits, freights, report = [0] * MOST_SPLITS, [0] * MOST_SPLITS, [0] * REPORT_CELLS
-    number = plan_into(m, n, lanes, supplies, demands, table, amounts, splits, freights, report)
+    run1, run2 = runs
+    cells = min(m, MOST_SOURCES) * min(n, MOST_TERMINALS)
+    wide = [MOST_AMOUNT] * cells if ceilings is None else _lanes(ceilings, m, n)
+    amounts = [0] * cells
+    splits, freights = [0] * MOST_SPLITS, [0] * MOST_SPLITS
+    report, worth = [0] * REPORT_CELLS, [0] * WORTH_CELLS
+    lanes = _lanes(costs, m, n)
+    number = plan_into(m, n, run1, run2, lanes, supplies, demands, wide, table, amounts, splits, freights, report, worth)
     if number != 0:
         raise Refusal(number, report[0])
-    split, total, freight, count = report
+    (split, count), (total, freight) = report, worth
     by_source = [amounts[i * n : (i + 1) * n] for i in range(m)]
     return Plan(split, total, freight, by_source, list(zip(splits[:count], freights[:count])))
+
+
+def rates_into(most, to):
+    """Writes 100 times the square root of y, rounded down, for y from 0 to most, into the first items of a list. Answers 0; or 4
+    where most is above 4,000, or 11 where the list is too short, and then writes nothing."""
+    cells, length = _cells(ctypes.c_uint64, to)
+    _cells(ctypes.c_uint64, [most])
+    answer = _library.yadvorkhul_rates(most, cells, length)
+    to[:] = cells[:length]
+    return answer
+
+
+def rates(supply) -> List[int]:
+    """A production table for a plant 1 of this supply, at most 4,000: 100 times the square root of its output, rounded down."""
+    table = [0] * (min(supply, MOST_AMOUNT) + 1)
+    number = rates_into(supply, table)
+    if number != 0:
+        raise Refusal(number, 1)
+    return table

@@ -7,10 +7,10 @@ const FAR: u32 = 2_000_000_000;
 const SHUT: u32 = 4_000_000_000;
 const NODES: usize = 96;
 const NONE: usize = 96;
-type Cells = [u32; 2048];
-type Nodes = [u32; NODES];
+pub type Cells = [u32; 2048];
+pub type Nodes = [u32; NODES];
 /// For each terminal a bit for each source that serves it, or did.
-type Masks = [u32; 64];
+pub type Masks = [u32; 64];
 
 #[derive(Clone, Copy)]
 struct Incumbent {
@@ -224,37 +224,133 @@ fn measure(prev: &Nodes, start: usize, goal: usize, limit: u32, x: &Cells, cap: 
     (count, amount)
 }
 
-/// Step 1: a cheapest plan at the first split. Depots first, plant 1 last.
-fn plan_base(
+/// Sends up to limit along a cheapest path from a source to a node that has room: that node (NONE: none), and how much.
+fn send(
     m: usize,
     n: usize,
     cost: &Cells,
     cap: &Cells,
-    amounts: &[u32; 32],
+    room: &Nodes,
     demand: &Nodes,
+    start: usize,
+    limit: u32,
+    x: &mut Cells,
+    serves: &mut Masks,
+    pot: &mut Nodes,
+) -> (usize, u32) {
+    let found = search(m, n, cost, x, cap, serves, pot, room, demand, start);
+    let goal = found.goal;
+    if goal == NONE {
+        return (goal, 0);
+    }
+    let (count, amount) = measure(&found.prev, start, goal, limit, x, cap);
+    let part = amount.min(room[goal]);
+    push(&found.prev, count, goal, part, x);
+    mark(&found.prev, count, goal, serves);
+    lower(found.dist[goal] - pot[goal], &found.dist, pot);
+    (goal, part)
+}
+
+/// Sends amount from a source to the terminals that have room; what is left.
+fn ship(
+    m: usize,
+    n: usize,
+    cost: &Cells,
+    cap: &Cells,
+    demand: &Nodes,
+    start: usize,
+    amount: u32,
     x: &mut Cells,
     serves: &mut Masks,
     pot: &mut Nodes,
     room: &mut Nodes,
-) {
+) -> u32 {
+    let mut left = amount;
+    while 0 < left {
+        let (goal, part) = send(m, n, cost, cap, room, demand, start, left, x, serves, pot);
+        if goal == NONE {
+            return left;
+        }
+        room[goal] -= part;
+        left -= part;
+    }
+    left
+}
+
+/// Step 1: a cheapest plan at the first split that has one: the depots, plant 1's least run, plant 2, and plant 1's rest.
+fn first_plan(
+    m: usize,
+    n: usize,
+    cost: &Cells,
+    cap: &Cells,
+    supply: &[u32; 32],
+    demand: &Nodes,
+    run1: u32,
+    run2: u32,
+    made: u32,
+    x: &mut Cells,
+    serves: &mut Masks,
+    pot: &mut Nodes,
+) -> Option<u32> {
+    let mut room = *demand;
     *pot = [800_000_000; NODES];
-    for i in (0..m).rev() {
-        let mut left = amounts[i];
-        while 0 < left {
-            let found = search(m, n, cost, x, cap, serves, pot, room, demand, i);
-            let goal = found.goal;
-            if goal == NONE {
-                return;
-            }
-            let (count, amount) = measure(&found.prev, i, goal, left, x, cap);
-            let part = amount.min(room[goal]);
-            push(&found.prev, count, goal, part, x);
-            mark(&found.prev, count, goal, serves);
-            lower(found.dist[goal] - pot[goal], &found.dist, pot);
-            room[goal] -= part;
-            left -= part;
+    let mut ship = |i: usize, amount: u32| ship(m, n, cost, cap, demand, i, amount, x, serves, pot, &mut room);
+    for i in (2..m).rev() {
+        if 0 < ship(i, supply[i]) {
+            return None;
         }
     }
+    if 0 < ship(0, run1) {
+        return None;
+    }
+    let most = supply[1].min(made - run1);
+    let second = most - ship(1, most);
+    let split = made - second;
+    if second < run2 || supply[0] < split || 0 < ship(0, split - run1) {
+        return None;
+    }
+    Some(split)
+}
+
+/// How many drums can go over from plant 2 to plant 1, limit at most, from a plan that is to stay.
+fn last(m: usize, n: usize, cap: &Cells, limit: u32, demand: &Nodes, x: &Cells, serves: &Masks) -> u32 {
+    if (0..m).all(|i| (0..n).all(|j| demand[32 + j] <= cap[i * 64 + j])) {
+        return limit;
+    }
+    let free = [0u32; 2048];
+    let (mut x, mut serves, mut pot) = (*x, *serves, [800_000_000; NODES]);
+    let mut gone = 0;
+    while gone < limit {
+        let mut room = [0u32; NODES];
+        room[1] = limit - gone;
+        let (goal, part) = send(m, n, &free, cap, &room, demand, 0, limit - gone, &mut x, &mut serves, &mut pot);
+        if goal == NONE {
+            break;
+        }
+        gone += part;
+    }
+    gone
+}
+
+/// The first and the last split of a prepared case that have a plan within the ceilings; a cheapest plan at the first goes into x.
+pub fn begin(
+    m: usize,
+    n: usize,
+    cost: &Cells,
+    cap: &Cells,
+    supply: &[u32; 32],
+    demand: &Nodes,
+    run1: u32,
+    run2: u32,
+    made: u32,
+    x: &mut Cells,
+    serves: &mut Masks,
+    pot: &mut Nodes,
+) -> Option<(u64, u64)> {
+    let split = first_plan(m, n, cost, cap, supply, demand, run1, run2, made, x, serves, pot)?;
+    let top = supply[0].min(made - run2);
+    let gone = last(m, n, cap, top - split, demand, x, serves);
+    Some((u64::from(split), u64::from(split + gone)))
 }
 
 fn scan(table: &[u64], y: u64, amount: u64, freight: u64, gain: u64, loss: u64, best: Incumbent) -> Incumbent {
@@ -269,29 +365,26 @@ fn scan(table: &[u64], y: u64, amount: u64, freight: u64, gain: u64, loss: u64, 
     held
 }
 
-/// The sweep of a prepared case from split lo to split hi.
+/// The sweep from split lo to split hi of a prepared case, of which x holds a cheapest plan at lo.
 pub fn sweep(
     m: usize,
     n: usize,
     cost: &Cells,
     cap: &Cells,
-    amounts: &[u32; 32],
     demand: &Nodes,
     lo: u64,
     hi: u64,
     table: &[u64],
     splits: &mut [u64],
     freights: &mut [u64],
+    x: &mut Cells,
+    serves: &mut Masks,
+    pot: &mut Nodes,
     kept: &mut Cells,
 ) -> Curve {
-    let mut x = [0u32; 2048];
-    let mut serves = [0u32; 64];
-    let mut pot = [0u32; NODES];
-    let mut room = *demand;
-    plan_base(m, n, cost, cap, amounts, demand, &mut x, &mut serves, &mut pot, &mut room);
-    let freight: u64 = cost.iter().zip(&x).map(|(&c, &x)| u64::from(c) * u64::from(x)).sum();
+    let freight: u64 = cost.iter().zip(x.iter()).map(|(&c, &x)| u64::from(c) * u64::from(x)).sum();
     let mut best = Incumbent { split: lo, total: freight + table[lo as usize], freight };
-    *kept = x;
+    *kept = *x;
     let (mut y, mut value, mut count, mut rise, mut fall) = (lo, freight, 0, 0, 0);
     let mut note = |count: &mut usize, y: u64, value: u64| {
         splits[*count] = y;
@@ -302,18 +395,18 @@ pub fn sweep(
         let limit = (hi - y) as u32;
         let mut room = [0u32; NODES];
         room[1] = limit;
-        let found = search(m, n, cost, &x, cap, &serves, &pot, &room, demand, 0);
-        let (hops, amount) = measure(&found.prev, 0, 1, limit, &x, cap);
+        let found = search(m, n, cost, x, cap, serves, pot, &room, demand, 0);
+        let (hops, amount) = measure(&found.prev, 0, 1, limit, x, cap);
         let gap = found.dist[1] - pot[1];
         let (gain, loss) = (u64::from(pot[1]), u64::from(pot[0] - gap));
         let held = scan(table, y, u64::from(amount), value, gain, loss, best);
         if y < held.split {
-            *kept = x;
+            *kept = *x;
             push(&found.prev, hops, 1, (held.split - y) as u32, kept);
         }
-        push(&found.prev, hops, 1, amount, &mut x);
-        mark(&found.prev, hops, 1, &mut serves);
-        lower(gap, &found.dist, &mut pot);
+        push(&found.prev, hops, 1, amount, x);
+        mark(&found.prev, hops, 1, serves);
+        lower(gap, &found.dist, pot);
         if y == lo || gain + fall != loss + rise {
             note(&mut count, y, value);
         }

@@ -11,13 +11,14 @@ use std::fmt;
 ///     supplies: vec![3, 3, 1],
 ///     demands: vec![3, 4001],
 ///     table: vec![99, 20, 24, 20],
+///     ..Default::default()
 /// };
 /// let refusal = case.plan().unwrap_err();
 /// assert_eq!(refusal.to_string(), "refusal 4 at place 5: a supply or demand is above 4,000; look at the demand of terminal 2");
 /// ```
 #[derive(Clone, Copy, Debug, PartialEq, Eq)]
 pub struct Refusal {
-    /// 1 to 12.
+    /// 1 to 9, 11, 23, 26 or 27.
     pub number: u64,
     /// Where the test fails, as the number has it; 0 where it names no place.
     pub place: u64,
@@ -33,16 +34,23 @@ impl Refusal {
             2 => "the count of terminals is not 1 to 64",
             3 => "the costs are not one for each source and terminal",
             4 => "a supply or demand is above 4,000",
-            5 => "a unit cost is above 1,000,000",
+            5 => "a unit cost is below -1,000,000 or above 1,000,000",
             6 => "the table has not one entry more than plant 1's supply",
-            7 => "the depots hold more than the terminals take",
+            7 => "the terminals take less than the depots hold and the least runs make",
             8 => "the terminals take more than depots and plants can give",
             9 => "a table entry at a split in use is above 1,000,000,000",
-            10 => "the table is not concave",
             11 => "a lent slice is too short for the plan or the stops",
-            12 => "the total is above 200,000,000,000",
+            23 => "a least run is above its plant's supply",
+            26 => "the ceilings are not one for each lane, or a ceiling is above 4,000",
+            27 => "no plan is within both the ceilings and the least runs",
             _ => "a number that this wrapper does not know",
         }
+    }
+
+    /// The lane that the place names, by its source and terminal.
+    fn lane(&self) -> String {
+        let (k, n) = (self.place.saturating_sub(1), (self.terminals as u64).max(1));
+        format!("from source {} to terminal {}", k / n + 1, k % n + 1)
     }
 
     /// Where to look, with sources and terminals counted from 1 and table entries from 0, as in the paper.
@@ -54,15 +62,16 @@ impl Refusal {
             3 => format!("{m} sources and {n} terminals need {} costs", m * n),
             4 if place <= m => format!("look at the supply of source {place}"),
             4 => format!("look at the demand of terminal {}", place - m),
-            5 if n > 0 && place > 0 => {
-                format!("look at the cost from source {} to terminal {}", (place - 1) / n + 1, (place - 1) % n + 1)
-            }
+            5 => format!("look at the cost {}", self.lane()),
             6 => "look at the table's length and the first supply".to_string(),
-            7 => "compare the sum of supplies from the third on with the sum of demands".to_string(),
+            7 => "compare the sum of demands with the supplies from the third on and the least runs".to_string(),
             8 => "compare the sum of all supplies with the sum of demands".to_string(),
             9 => format!("look at table entry {place}"),
-            10 => format!("twice table entry {place} is below the sum of its two neighbours"),
             11 => "lend m × n cells for the plan and one for each split for the stops".to_string(),
+            23 => format!("look at the least run of plant {place}"),
+            26 if place == 0 => format!("{m} sources and {n} terminals need {} ceilings", m * n),
+            26 => format!("look at the ceiling {}", self.lane()),
+            27 => "look for closed or narrow lanes of a depot, a terminal or a plant that has a least run".to_string(),
             _ => "no place is named".to_string(),
         }
     }
@@ -71,7 +80,7 @@ impl Refusal {
 impl fmt::Display for Refusal {
     fn fmt(&self, f: &mut fmt::Formatter<'_>) -> fmt::Result {
         write!(f, "refusal {}", self.number)?;
-        if self.place != 0 || matches!(self.number, 9 | 10) {
+        if self.place != 0 || self.number == 9 {
             write!(f, " at place {}", self.place)?;
         }
         write!(f, ": {}; {}", self.meaning(), self.whereabouts())

@@ -4,8 +4,8 @@
 
 mod common;
 
-use common::random::{accepted, Limits, Random};
-use common::{expect_plan, referee};
+use common::random::{accepted, balanced, Limits, Random};
+use common::{expect_plan, expect_referee, referee, Lent};
 
 fn against_referee(name: &str, seed: u64, count: usize, limits: Limits) {
     let times = std::env::var("YADVORKHUL_CASES").ok().and_then(|t| t.parse().ok()).unwrap_or(1);
@@ -55,15 +55,43 @@ fn one_terminal() {
     against_referee("one terminal", 17, 500, Limits { sources: (2, 32), terminals: (1, 1), amount: 200 });
 }
 
-/// The referee itself, against a listing of all plans of tiny cases at each split.
+/// Ceilings drawn without a plan in mind: a plan is given or refused as the referee says.
+#[test]
+fn any_ceilings() {
+    let mut random = Random::new(19);
+    let mut refused = 0;
+    for round in 0..6_000 {
+        let small = Limits { sources: (2, 4), terminals: (1, 4), amount: 6 };
+        let large = Limits { sources: (2, 12), terminals: (1, 16), amount: 100 };
+        let lent = balanced(&mut random, if round % 3 > 0 { small } else { large });
+        let number = expect_referee(&lent);
+        assert!(number == 0 || number == 27, "{number}; {lent:?}");
+        refused += usize::from(number == 27);
+    }
+    assert!((500..5_500).contains(&refused), "{refused} of 6,000");
+    println!("any ceilings: {refused} of 6,000 have no plan");
+}
+
+/// The referee itself, against a listing of all plans of tiny cases at each split within the supplies and the least runs.
 #[test]
 fn referee_against_listing() {
     let mut random = Random::new(18);
+    let limits = Limits { sources: (2, 3), terminals: (1, 3), amount: 4 };
     for _ in 0..2_000 {
-        let limits = Limits { sources: (2, 3), terminals: (1, 3), amount: 4 };
         let (lent, least, curve) = accepted(&mut random, limits);
-        for (k, f) in curve.iter().enumerate() {
-            assert_eq!(referee::listed(&lent, least + k as u64), Some(*f), "{lent:?}");
+        against_listing(&lent, least, &curve);
+        let lent = balanced(&mut random, limits);
+        match referee::range(&lent) {
+            Some((least, _)) => against_listing(&lent, least, &referee::curve(&lent).1),
+            None => against_listing(&lent, 0, &[]),
         }
+    }
+}
+
+fn against_listing(lent: &Lent, least: u64, curve: &[i64]) {
+    let (_, l, u) = referee::splits(lent);
+    for y in l..=u {
+        let f = y.checked_sub(least).and_then(|k| curve.get(k as usize));
+        assert_eq!(referee::listed(lent, y).as_ref(), f, "split {y}; {lent:?}");
     }
 }

@@ -1,21 +1,31 @@
 //! The independent referee: the refusals read off the paper, and the freight curve by cancelling negative cycles.
 //!
-//! Nothing here is taken from the proved planner. At each split it starts from any plan and pushes drums around cycles of
-//! negative cost, found by Bellman and Ford's method over the lanes and their return arcs, until there is none: then the
-//! plan is a cheapest one at that split. No shortest path between the plants is looked for and nothing is assumed about
-//! the curve. The next split starts from this plan with one drum moved from plant 2 to plant 1.
+//! Nothing here is taken from the proved planner. At each split within the supplies and the least runs it asks whether a plan is
+//! within the ceilings: drums go along any paths, found breadth first, until all are delivered or no path is left (Ford and
+//! Fulkerson). Then it pushes drums around cycles of negative cost, found by Bellman and Ford's method over the lanes and their
+//! return arcs, until there is none: the plan is a cheapest one at that split. No shortest path between the plants is looked for
+//! and nothing is assumed about the curve or about which splits have a plan. The next split starts from this plan with one drum
+//! moved from plant 2 to plant 1.
 
 use super::Lent;
 
-/// d, ℓ and u of a case that passes tests 1 to 8.
+/// d of a case that passes tests 1 to 8, and the first and the last split within the supplies and the least runs.
 pub fn splits(lent: &Lent) -> (u64, u64, u64) {
     let demand: u64 = lent.demands.iter().sum();
     let stock: u64 = lent.supplies[2..].iter().sum();
     let d = demand - stock;
-    (d, d.saturating_sub(lent.supplies[1]), d.min(lent.supplies[0]))
+    (d, lent.run1.max(d.saturating_sub(lent.supplies[1])), lent.supplies[0].min(d - lent.run2))
 }
 
-/// The first of the tests 1 to 11 that the case fails, and its place.
+/// ℓ and u of such a case: the first and the last of these splits that have a plan within the ceilings.
+pub fn range(lent: &Lent) -> Option<(u64, u64)> {
+    let found = over_splits(lent, |_| 0);
+    let least = found.iter().find(|f| f.1.is_some())?.0;
+    let greatest = found.iter().rfind(|f| f.1.is_some())?.0;
+    Some((least, greatest))
+}
+
+/// The first of the tests that the case fails, and its place.
 pub fn refusal(lent: &Lent) -> Option<(u64, u64)> {
     let Lent { m, n, .. } = *lent;
     if !(2..=32).contains(&m) {
@@ -30,27 +40,35 @@ pub fn refusal(lent: &Lent) -> Option<(u64, u64)> {
     if let Some(k) = lent.supplies.iter().chain(&lent.demands).position(|&a| a > 4_000) {
         return Some((4, k as u64 + 1));
     }
-    if let Some(k) = lent.costs.iter().position(|&c| c > 1_000_000) {
+    if lent.run1 > lent.supplies[0] {
+        return Some((23, 1));
+    }
+    if lent.run2 > lent.supplies[1] {
+        return Some((23, 2));
+    }
+    if let Some(k) = lent.costs.iter().position(|&c| !(-1_000_000..=1_000_000).contains(&c)) {
         return Some((5, k as u64 + 1));
+    }
+    if lent.ceilings.len() != m * n {
+        return Some((26, 0));
+    }
+    if let Some(k) = lent.ceilings.iter().position(|&u| u > 4_000) {
+        return Some((26, k as u64 + 1));
     }
     if lent.table.len() as u64 != lent.supplies[0] + 1 {
         return Some((6, 0));
     }
     let demand: u64 = lent.demands.iter().sum();
     let stock: u64 = lent.supplies[2..].iter().sum();
-    if demand < stock {
+    if demand < stock + lent.run1 + lent.run2 {
         return Some((7, 0));
     }
     if demand - stock > lent.supplies[0] + lent.supplies[1] {
         return Some((8, 0));
     }
-    let (_, l, u) = splits(lent);
-    let entry = |y: u64| lent.table[y as usize];
-    if let Some(y) = (l..=u).find(|&y| entry(y) > 1_000_000_000) {
+    let Some((l, u)) = range(lent) else { return Some((27, 0)) };
+    if let Some(y) = (l..=u).find(|&y| lent.table[y as usize] > 1_000_000_000) {
         return Some((9, y));
-    }
-    if let Some(y) = (l + 1..u).find(|&y| 2 * entry(y) < entry(y - 1) + entry(y + 1)) {
-        return Some((10, y));
     }
     let room = (u - l + 1) as usize;
     if lent.plan_cells < m * n || lent.split_cells < room || lent.freight_cells < room {
@@ -60,11 +78,11 @@ pub fn refusal(lent: &Lent) -> Option<(u64, u64)> {
 }
 
 /// Sum of amount times unit cost.
-pub fn freight(lent: &Lent, amounts: &[u64]) -> u64 {
-    amounts.iter().zip(&lent.costs).map(|(x, c)| x * c).sum()
+pub fn freight(lent: &Lent, amounts: &[u64]) -> i64 {
+    amounts.iter().zip(&lent.costs).map(|(&x, &c)| x as i64 * c).sum()
 }
 
-/// What keeps `amounts` from being a plan at split y.
+/// What keeps `amounts` from being a plan at split y that respects the least runs and the ceilings.
 pub fn faults(lent: &Lent, y: u64, amounts: &[u64]) -> Vec<String> {
     let (d, _, _) = splits(lent);
     let mut faults = Vec::new();
@@ -80,6 +98,10 @@ pub fn faults(lent: &Lent, y: u64, amounts: &[u64]) -> Vec<String> {
         if made != due {
             faults.push(format!("row {i} sums to {made}, not {due}"));
         }
+        let run = [lent.run1, lent.run2].get(i).copied().unwrap_or(0);
+        if made < run || made > lent.supplies[i] {
+            faults.push(format!("row {i} sums to {made}, not {run} to {}", lent.supplies[i]));
+        }
     }
     for j in 0..lent.n {
         let taken: u64 = (0..lent.m).map(|i| amounts[i * lent.n + j]).sum();
@@ -87,47 +109,69 @@ pub fn faults(lent: &Lent, y: u64, amounts: &[u64]) -> Vec<String> {
             faults.push(format!("column {j} sums to {taken}, not {}", lent.demands[j]));
         }
     }
+    for (k, (x, u)) in amounts.iter().zip(&lent.ceilings).enumerate() {
+        if x > u {
+            faults.push(format!("lane {k} carries {x}, not {u} at most"));
+        }
+    }
     faults
 }
 
-/// ℓ, and f at ℓ, ℓ + 1, .., u.
-pub fn curve(lent: &Lent) -> (u64, Vec<u64>) {
-    let (_, l, u) = splits(lent);
-    let mut network = Network::corner(lent, l);
-    let mut curve = Vec::new();
-    for y in l..=u {
-        if y > l {
-            network.shift_one();
-        }
+/// ℓ, and f at ℓ, ℓ + 1, .., u, of a case that has a plan.
+pub fn curve(lent: &Lent) -> (u64, Vec<i64>) {
+    let found = over_splits(lent, |network| {
         network.cheapen();
-        if y == l || y == u {
-            assert!(faults(lent, y, &network.amounts).is_empty(), "the referee's own plan");
-        }
-        curve.push(freight(lent, &network.amounts));
-    }
-    (l, curve)
+        freight(lent, &network.amounts)
+    });
+    let least = found.iter().find(|f| f.1.is_some()).expect("a split that has a plan").0;
+    let curve: Vec<i64> = found.iter().filter_map(|f| f.1).collect();
+    let last = found.iter().rfind(|f| f.1.is_some()).expect("likewise").0;
+    assert_eq!(curve.len() as u64, last - least + 1, "no split without a plan lies between two others; {lent:?}");
+    (least, curve)
+}
+
+/// Each split within the supplies and the least runs, with what `at` says of a plan there, if there is one.
+fn over_splits(lent: &Lent, mut at: impl FnMut(&mut Network) -> i64) -> Vec<(u64, Option<i64>)> {
+    let (_, l, u) = splits(lent);
+    let mut network = Network::empty(lent, l);
+    (l..=u)
+        .map(|y| {
+            if y > l {
+                network.shift_one();
+            }
+            let whole = network.deliver();
+            if whole && (y == l || y == u) {
+                assert!(faults(lent, y, &network.amounts).is_empty(), "the referee's own plan");
+            }
+            (y, whole.then(|| at(&mut network)))
+        })
+        .collect()
 }
 
 /// The smallest split of least total, and that total.
-pub fn best(least: u64, curve: &[u64], table: &[u64]) -> (u64, u64) {
-    let total = |k: usize| curve[k] + table[least as usize + k];
+pub fn best(least: u64, curve: &[i64], table: &[u64]) -> (u64, i64) {
+    let total = |k: usize| curve[k] + table[least as usize + k] as i64;
     let k = (0..curve.len()).min_by_key(|&k| (total(k), k)).expect("a split");
     (least + k as u64, total(k))
 }
 
 /// The ends of the curve, and each split between where the slope changes, with the freight there.
-pub fn stops(least: u64, curve: &[u64]) -> Vec<(u64, u64)> {
+pub fn stops(least: u64, curve: &[i64]) -> Vec<(u64, i64)> {
     let last = curve.len() - 1;
     let bend = |k: usize| k == 0 || k == last || curve[k - 1] + curve[k + 1] != 2 * curve[k];
     (0..=last).filter(|&k| bend(k)).map(|k| (least + k as u64, curve[k])).collect()
 }
 
-/// The lanes with their amounts, and a label for each node: the sources, then the terminals.
+/// The lanes with their amounts and ceilings, what each source has still to send and each terminal to get, and a label for
+/// each node: the sources, then the terminals.
 struct Network {
     m: usize,
     n: usize,
     costs: Vec<i64>,
+    ceilings: Vec<u64>,
     amounts: Vec<u64>,
+    left: Vec<u64>,
+    wanted: Vec<u64>,
     label: Vec<i64>,
     previous: Vec<usize>,
 }
@@ -135,36 +179,110 @@ struct Network {
 const NONE: usize = usize::MAX;
 
 impl Network {
-    /// The plan at split y that fills the lanes from the north-west corner on.
-    fn corner(lent: &Lent, y: u64) -> Network {
+    /// No amounts, with all of split y to be sent.
+    fn empty(lent: &Lent, y: u64) -> Network {
         let (m, n) = (lent.m, lent.n);
         let (d, _, _) = splits(lent);
         let mut left = lent.supplies.clone();
         left[0] = y;
         left[1] = d - y;
-        let mut wanted = lent.demands.clone();
-        let mut amounts = vec![0; m * n];
-        let (mut i, mut j) = (0, 0);
-        while i < m && j < n {
-            let x = left[i].min(wanted[j]);
-            amounts[i * n + j] = x;
-            left[i] -= x;
-            wanted[j] -= x;
-            if left[i] == 0 {
-                i += 1;
-            } else {
-                j += 1;
-            }
+        Network {
+            m,
+            n,
+            costs: lent.costs.clone(),
+            ceilings: lent.ceilings.clone(),
+            amounts: vec![0; m * n],
+            left,
+            wanted: lent.demands.clone(),
+            label: vec![0; m + n],
+            previous: vec![NONE; m + n],
         }
-        let costs = lent.costs.iter().map(|&c| c as i64).collect();
-        Network { m, n, costs, amounts, label: vec![0; m + n], previous: vec![NONE; m + n] }
     }
 
-    /// Plant 1 makes one drum more and plant 2 one less, for some terminal that plant 2 serves.
+    /// Plant 1 has one drum more to send and plant 2 one less: one not yet sent, or one on its way to some terminal.
     fn shift_one(&mut self) {
+        self.left[0] += 1;
+        if self.left[1] > 0 {
+            self.left[1] -= 1;
+            return;
+        }
         let j = (0..self.n).find(|&j| self.amounts[self.n + j] > 0).expect("plant 2 makes a drum");
         self.amounts[self.n + j] -= 1;
-        self.amounts[j] += 1;
+        self.wanted[j] += 1;
+    }
+
+    /// Sends what is left along any paths, as far as they go; answers whether all was sent.
+    fn deliver(&mut self) -> bool {
+        while let Some(terminal) = self.path_to_room() {
+            let arcs = self.arcs_to(self.m + terminal, |v| self.previous[v] == NONE);
+            let start = arcs.last().expect("an arc").0;
+            let width = self.width(&arcs).min(self.left[start]).min(self.wanted[terminal]);
+            self.carry(&arcs, width);
+            self.left[start] -= width;
+            self.wanted[terminal] -= width;
+        }
+        self.left.iter().all(|&drums| drums == 0)
+    }
+
+    /// A terminal with room that a source with drums has a path to, breadth first; the path is in `previous`.
+    fn path_to_room(&mut self) -> Option<usize> {
+        let (m, n) = (self.m, self.n);
+        let mut queue: Vec<usize> = (0..m).filter(|&i| self.left[i] > 0).collect();
+        let mut seen = vec![false; m + n];
+        queue.iter().for_each(|&i| seen[i] = true);
+        self.previous.fill(NONE);
+        let mut next = 0;
+        while next < queue.len() {
+            let v = queue[next];
+            next += 1;
+            let others = if v < m { m..m + n } else { 0..m };
+            for w in others {
+                if seen[w] || self.residual(v, w) == 0 {
+                    continue;
+                }
+                seen[w] = true;
+                self.previous[w] = v;
+                if w >= m && self.wanted[w - m] > 0 {
+                    return Some(w - m);
+                }
+                queue.push(w);
+            }
+        }
+        None
+    }
+
+    /// What the arc from v to w can carry: what a lane has room for, or what it carries, backwards.
+    fn residual(&self, v: usize, w: usize) -> u64 {
+        if v < self.m {
+            let k = v * self.n + (w - self.m);
+            self.ceilings[k] - self.amounts[k]
+        } else {
+            self.amounts[w * self.n + (v - self.m)]
+        }
+    }
+
+    /// The arcs of previous nodes that lead to `node`, the last one first, until `end` says of the node that they start at.
+    fn arcs_to(&self, node: usize, end: impl Fn(usize) -> bool) -> Vec<(usize, usize)> {
+        let mut arcs = vec![(self.previous[node], node)];
+        while !end(arcs[arcs.len() - 1].0) {
+            let v = arcs[arcs.len() - 1].0;
+            arcs.push((self.previous[v], v));
+        }
+        arcs
+    }
+
+    fn width(&self, arcs: &[(usize, usize)]) -> u64 {
+        arcs.iter().map(|&(v, w)| self.residual(v, w)).min().expect("an arc")
+    }
+
+    fn carry(&mut self, arcs: &[(usize, usize)], drums: u64) {
+        for &(v, w) in arcs {
+            if v < self.m {
+                self.amounts[v * self.n + (w - self.m)] += drums;
+            } else {
+                self.amounts[w * self.n + (v - self.m)] -= drums;
+            }
+        }
     }
 
     /// Cancels negative cycles until there is none.
@@ -186,7 +304,7 @@ impl Network {
             for j in 0..n {
                 let k = i * n + j;
                 let there = self.label[i] + self.costs[k];
-                if there < self.label[m + j] {
+                if self.amounts[k] < self.ceilings[k] && there < self.label[m + j] {
                     self.label[m + j] = there;
                     self.previous[m + j] = i;
                     fell = true;
@@ -221,31 +339,15 @@ impl Network {
 
     /// Sends as many drums as fit around the cycle through `node`.
     fn cancel(&mut self, node: usize) {
-        let mut arcs = Vec::new();
-        let mut v = node;
-        loop {
-            let p = self.previous[v];
-            arcs.push((p, v));
-            v = p;
-            if v == node {
-                break;
-            }
-        }
-        let (m, n) = (self.m, self.n);
-        let returns = arcs.iter().filter(|a| a.0 >= m).map(|&(p, v)| v * n + (p - m));
-        let width = returns.map(|k| self.amounts[k]).min().expect("a return arc on the cycle");
-        for (p, v) in arcs {
-            if p < m {
-                self.amounts[p * n + (v - m)] += width;
-            } else {
-                self.amounts[v * n + (p - m)] -= width;
-            }
-        }
+        let arcs = self.arcs_to(node, |v| v == node);
+        let width = self.width(&arcs);
+        assert!(width > 0, "a cycle of open arcs");
+        self.carry(&arcs, width);
     }
 }
 
-/// f at split y by listing every plan: for tiny cases, to test the referee itself.
-pub fn listed(lent: &Lent, y: u64) -> Option<u64> {
+/// f at split y by listing every plan within the ceilings, if there is one: for tiny cases, to test the referee itself.
+pub fn listed(lent: &Lent, y: u64) -> Option<i64> {
     let (d, _, _) = splits(lent);
     let mut rows = lent.supplies.clone();
     rows[0] = y;
@@ -254,7 +356,7 @@ pub fn listed(lent: &Lent, y: u64) -> Option<u64> {
 }
 
 /// Least freight of the lanes from k on, with `left` still to leave the lane's source.
-fn fill(lent: &Lent, rows: &[u64], wanted: &mut [u64], k: usize, left: u64) -> Option<u64> {
+fn fill(lent: &Lent, rows: &[u64], wanted: &mut [u64], k: usize, left: u64) -> Option<i64> {
     let (i, j) = (k / lent.n, k % lent.n);
     if i == lent.m {
         return wanted.iter().all(|&w| w == 0).then_some(0);
@@ -262,7 +364,7 @@ fn fill(lent: &Lent, rows: &[u64], wanted: &mut [u64], k: usize, left: u64) -> O
     let last = j + 1 == lent.n;
     let mut least = None;
     for x in if last { left } else { 0 }..=left {
-        if x > wanted[j] {
+        if x > wanted[j] || x > lent.ceilings[k] {
             break;
         }
         wanted[j] -= x;
@@ -270,8 +372,8 @@ fn fill(lent: &Lent, rows: &[u64], wanted: &mut [u64], k: usize, left: u64) -> O
         let rest = fill(lent, rows, wanted, k + 1, next);
         wanted[j] += x;
         if let Some(rest) = rest {
-            let all = rest + x * lent.costs[k];
-            least = Some(least.map_or(all, |l: u64| l.min(all)));
+            let all = rest + x as i64 * lent.costs[k];
+            least = Some(least.map_or(all, |l: i64| l.min(all)));
         }
     }
     least
