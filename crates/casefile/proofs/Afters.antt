@@ -35,6 +35,7 @@ use Rattle.casefile.specs.Form.{
   afterComma,
   afterLine,
   inTariff,
+  leading,
 }
 use Rattle.casefile.specs.Records.{reading, run, signed, isFirst, absorb, recordsAtEnd, rowWith, rowsWith}
 use Rattle.casefile.specs.Reader.{AfterRead, afterEnds, onAfter, closedAs, atField, atCost, atComma, atDemand, atCr, atLastCr, atLast, Any, Source, Known}
@@ -63,7 +64,7 @@ module _ (s : List ℕ) (at : ℕ) where
   unfolding mayEnd
   demands-none h = record {
     ends = tt;
-    meaning = λ m v b r rs _. refused Tariff (atLastCr Tariff m v b r rs) s at (no-feed Tariff _ _ _ (seen _) h .1) refl;
+    meaning = λ m v b r rs _. refused Tariff (atLastCr Tariff m v b r rs) s at (no-feed Tariff _ _ _ (seen _) h .1) refl refl;
   }
 
   pub demands-more : at + 1 < length s → getD s at 0 ≡ 10 → AfterRead atLastCr Any Tariff s at (Refused (at + 1))
@@ -139,7 +140,7 @@ module _ (s : List ℕ) (at : ℕ) where
   unfolding mayEnd
   record-none kind h = record {
     ends = tt;
-    meaning = λ m v b r rs _. refused kind (atCr kind m v b r rs) s at (no-feed kind _ _ _ (seen _) h .0) refl;
+    meaning = λ m v b r rs _. refused kind (atCr kind m v b r rs) s at (no-feed kind _ _ _ (seen _) h .0) refl refl;
   }
 
   pub record-tariff : at < length s → getD s at 0 ≡ 10 → AfterRead atCr Any Tariff s at (Record (at + 1))
@@ -186,7 +187,7 @@ module _ (s : List ℕ) (at : ℕ) where
   unfolding mayEnd
   cost-none kind h = record {
     ends = tt;
-    meaning = λ m v b r rs _. refused kind (atCost kind m v b r rs) s at (no-comma kind _ _ _ (seen _) h) refl;
+    meaning = λ m v b r rs _. refused kind (atCost kind m v b r rs) s at (no-comma kind _ _ _ (seen _) h) refl refl;
   }
 
   pub cost-comma : (kind : Kind) → at < length s → getD s at 0 ≡ 44 → AfterRead atCost Any kind s at (Field (at + 1))

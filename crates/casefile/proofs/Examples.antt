@@ -7,7 +7,7 @@ use Rattle.casefile.specs.declared.Kind.{Kind}
 use Rattle.casefile.specs.declared.Kind.the-variants.{Tariff, Production}
 use Rattle.casefile.specs.declared.table.Table.{Table}
 use Rattle.casefile.specs.declared.table.Table.the-variants.{Whole, Refused}
-use Rattle.casefile.specs.Form.{mark, step, more, mayEnd, isProduction, afterComma, afterLine, inTariff}
+use Rattle.casefile.specs.Form.{mark, step, more, mayEnd, isProduction, afterComma, afterLine, inTariff, leading}
 use Rattle.casefile.specs.Records.{run, absorb, recordsAtEnd, formOf, Form, whole}
 use Rattle.casefile.specs.Files.{wanted, oddFrom, judge, tableOf}
 
@@ -100,11 +100,41 @@ examples =
     -- a minus alone: -,3
     example Tariff (45 ∷ 44 ∷ 51 ∷ []) (Refused 21 1)
     ∷
+    -- a number with 0 in front, refused at the 0: 1,007
+    example Tariff (49 ∷ 44 ∷ 48 ∷ 48 ∷ 55 ∷ []) (Refused 21 2)
+    ∷
+    -- the same in quotes: "05"
+    example Tariff (34 ∷ 48 ∷ 53 ∷ 34 ∷ []) (Refused 21 1)
+    ∷
+    -- the same in the demands: 1,2CR LF 3,00412,
+    example Tariff (49 ∷ 44 ∷ 50 ∷ 13 ∷ 10 ∷ 51 ∷ 44 ∷ 48 ∷ 48 ∷ 52 ∷ 49 ∷ 50 ∷ 44 ∷ []) (Refused 21 7)
+    ∷
+    -- a single 0 is a number, bare and in quotes: 0,"0"CR LF 0,
+    example Tariff (48 ∷ 44 ∷ 34 ∷ 48 ∷ 34 ∷ 13 ∷ 10 ∷ 48 ∷ 44 ∷ []) (Whole 2 2)
+    ∷
+    -- 0 further on in a number: 100,3CR LF 20,
+    example Tariff (49 ∷ 48 ∷ 48 ∷ 44 ∷ 51 ∷ 13 ∷ 10 ∷ 50 ∷ 48 ∷ 44 ∷ []) (Whole 2 2)
+    ∷
+    -- 0 after a minus, refused at the 0: -0,3
+    example Tariff (45 ∷ 48 ∷ 44 ∷ 51 ∷ []) (Refused 21 1)
+    ∷
+    -- the same with a digit after it, and in quotes: "-05"
+    example Tariff (34 ∷ 45 ∷ 48 ∷ 53 ∷ 34 ∷ []) (Refused 21 2)
+    ∷
+    -- another byte after a 0 is refused at its own offset: 0x
+    example Tariff (48 ∷ 120 ∷ []) (Refused 21 1)
+    ∷
     -- case A's table: 99CR LF 20CR LF 24CR LF 20
     example Production (57 ∷ 57 ∷ 13 ∷ 10 ∷ 50 ∷ 48 ∷ 13 ∷ 10 ∷ 50 ∷ 52 ∷ 13 ∷ 10 ∷ 50 ∷ 48 ∷ []) (Whole 4 1)
     ∷
     -- ten digits in quotes, and a line end: "9999999999"CR LF
     example Production (34 ∷ 57 ∷ 57 ∷ 57 ∷ 57 ∷ 57 ∷ 57 ∷ 57 ∷ 57 ∷ 57 ∷ 57 ∷ 34 ∷ 13 ∷ 10 ∷ []) (Whole 1 1)
+    ∷
+    -- a number with 0 in front: 9CR LF 00
+    example Production (57 ∷ 13 ∷ 10 ∷ 48 ∷ 48 ∷ []) (Refused 21 3)
+    ∷
+    -- a single 0: 0
+    example Production (48 ∷ []) (Whole 1 1)
     ∷
     -- an empty file: nothing
     example Production ([]) (Refused 21 0)
@@ -142,17 +172,17 @@ examples =
     []
 
 pub all-right : map (λ (e : Example). tableOf (e .kind) (e .bytes)) examples ≡ map (λ (e : Example). e .table) examples
-unfolding examples example mark step more mayEnd isProduction afterComma afterLine inTariff run absorb recordsAtEnd formOf wanted oddFrom judge tableOf
+unfolding examples example mark step more mayEnd isProduction afterComma afterLine inTariff leading run absorb recordsAtEnd formOf wanted oddFrom judge tableOf
 all-right = refl
 
 -- the records of case A's tariff
 pub tariff-A :
     formOf Tariff (50 ∷ 44 ∷ 54 ∷ 44 ∷ 51 ∷ 13 ∷ 10 ∷ 53 ∷ 44 ∷ 51 ∷ 44 ∷ 51 ∷ 13 ∷ 10 ∷ 49 ∷ 44 ∷ 52 ∷ 44 ∷ 49 ∷ 13 ∷ 10 ∷ 51 ∷ 44 ∷ 50 ∷ 44 ∷ 13 ∷ 10 ∷ [])
     ≡ whole (map (λ (l : List ℕ). map pos l) ((2 ∷ 6 ∷ 3 ∷ []) ∷ (5 ∷ 3 ∷ 3 ∷ []) ∷ (1 ∷ 4 ∷ 1 ∷ []) ∷ (3 ∷ 2 ∷ 0 ∷ []) ∷ []))
-unfolding mark step more mayEnd isProduction afterComma afterLine inTariff run absorb recordsAtEnd formOf
+unfolding mark step more mayEnd isProduction afterComma afterLine inTariff leading run absorb recordsAtEnd formOf
 tariff-A = refl
 
 -- the records of -5,3CR LF 2,
 pub rebate-5 : formOf Tariff (45 ∷ 53 ∷ 44 ∷ 51 ∷ 13 ∷ 10 ∷ 50 ∷ 44 ∷ []) ≡ whole ((negsuc 4 ∷ pos 3 ∷ []) ∷ (pos 2 ∷ pos 0 ∷ []) ∷ [])
-unfolding mark step more mayEnd isProduction afterComma afterLine inTariff run absorb recordsAtEnd formOf
+unfolding mark step more mayEnd isProduction afterComma afterLine inTariff leading run absorb recordsAtEnd formOf
 rebate-5 = refl

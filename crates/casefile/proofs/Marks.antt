@@ -151,3 +151,26 @@ no-minus Tariff s at h = rw (List·getD-eq-default s 0 h) (minus-byte 0)
 pub minus-inside : (kind : Kind) (s : List ℕ) (at : ℕ) → isMinus kind (mark (getD s at 0)) ≡ true → at < length s
 minus-inside kind s at e =
     elim (decLt at (length s)) [ yes k ↦ k | no k ↦ absurd (false≢true (no-minus kind s at (omega arith) ∙ e)) ]
+
+-- ---- a 0
+
+pub mark-zero : (b : ℕ) → mark b ≡ digit 0 → b ≡ 48
+mark-zero b e =
+    elim (decLe 48 b) [
+      | yes lo ↦ elim (decLe b 57) [
+        | yes hi ↦ (let k : b - 48 ≡ 0 = ap digitOr10 (sym (mark-digit b lo hi) ∙ e) in omega arith)
+        | no hi ↦ absurd (subst (λ (m : Mark). NotDigit m) e (above-digit b (omega arith)))
+      ]
+      | no lo ↦ absurd (subst (λ (m : Mark). NotDigit m) e (below-digit b (omega arith)))
+    ]
+
+-- a digit is at most 9
+pub digit-small : (b d : ℕ) → mark b ≡ digit d → digitOr10 (mark b) ≤ 9
+digit-small b d e =
+    elim (decLe 48 b) [
+      | yes lo ↦ elim (decLe b 57) [
+        | yes hi ↦ (let k : digitOr10 (mark b) ≡ b - 48 = ap digitOr10 (mark-digit b lo hi) in omega arith)
+        | no hi ↦ absurd (subst (λ (m : Mark). NotDigit m) e (above-digit b (omega arith)))
+      ]
+      | no lo ↦ absurd (subst (λ (m : Mark). NotDigit m) e (below-digit b (omega arith)))
+    ]

@@ -27,6 +27,8 @@ use Rattle.casefile.specs.Form.{
   opened,
   bare,
   quoted,
+  zeroBare,
+  zeroQuoted,
   closed,
   minusBare,
   minusQuoted,
@@ -36,8 +38,11 @@ use Rattle.casefile.specs.Form.{
   lineEnd,
   lastLineEnd,
   inTariff,
+  leading,
   step,
   more,
+  afterZero,
+  placeOf,
   mayEnd,
 }
 use Rattle.casefile.specs.Records.{Reading, reading, run, absorb, recordsAtEnd, isFirst, isSource, Form, whole, broken}
@@ -47,7 +52,7 @@ use Rattle.casefile.proofs.Marks.{NotDigit, Seen}
 -- after a byte of the mark m
 abbrev pub onward : Kind → Reading → Mark → List ℕ → ℕ → ℕ → Form
 onward kind r m s at next =
-    elim (step kind (isSource r) (r .state) m) [ none ↦ broken at | some t ↦ run kind next (absorb m t r) (drop next s) ]
+    elim (step kind (isSource r) (r .state) m) [ none ↦ broken (placeOf (r .state) m at) | some t ↦ run kind next (absorb m t r) (drop next s) ]
 
 -- where the file ends
 abbrev pub ended : Kind → Reading → ℕ → Form
@@ -65,11 +70,12 @@ at-end kind r s at h = rw (drop-of-length-le s h) refl
 pub refused :
     (kind : Kind) (r : Reading) (s : List ℕ) (at : ℕ) →
     step kind (isSource r) (r .state) (mark (getD s at 0)) ≡ none →
+    placeOf (r .state) (mark (getD s at 0)) at ≡ at →
     mayEnd kind (r .state) ≡ false →
     run kind at r (drop at s) ≡ broken at
-refused kind r s at no-step no-end =
+refused kind r s at no-step clear no-end =
     elim (decLt at (length s)) [
-      | yes h ↦ here kind r s at (mark (getD s at 0)) h refl ∙ rw (no-step, onward)
+      | yes h ↦ here kind r s at (mark (getD s at 0)) h refl ∙ rw (no-step, onward) (ap broken clear)
       | no h ↦ at-end kind r s at (omega arith) ∙ rw (no-end, ended)
     ]
 
@@ -123,6 +129,12 @@ module _ (kind : Kind) (source : Bool) where
   no-signed false cr h = refl
   no-signed false lf h = refl
   no-signed false other h = refl
+
+  -- no number after a minus begins with a 0
+  pub no-zero : (q : Bool) → step kind source (start q true) (digit 0) ≡ none
+  unfolding step leading
+  no-zero true = refl
+  no-zero false = refl
 
   pub no-quote : (n : Bool) (b : ℕ) (m : Mark) → Seen b m → (b ≡ 34 → ⊥) → step kind source (within true n 0) m ≡ none
   unfolding step more
@@ -178,6 +190,16 @@ start-on kind true true = refl
 start-on kind true false = refl
 start-on kind false true = refl
 start-on kind false false = refl
+
+pub start-clear : (q m : Bool) (k : Mark) (at : ℕ) → placeOf (start q m) k at ≡ at
+start-clear true true k at = refl
+start-clear true false k at = refl
+start-clear false true k at = refl
+start-clear false false k at = refl
+
+pub quoted-clear : (m : Bool) (k : Mark) (at : ℕ) → placeOf (within true m 0) k at ≡ at
+quoted-clear true k at = refl
+quoted-clear false k at = refl
 
 pub quoted-on : (kind : Kind) (m : Bool) → mayEnd kind (within true m 0) ≡ false
 unfolding mayEnd
@@ -250,17 +272,88 @@ module _ (kind : Kind) (q m b : Bool) (r : List ℤ) (rs : List (List ℤ)) (s :
         go false true = refl
         go false false = refl
 
-    -- a number that begins with a digit
-    pub begins : run kind at (reading (start q m) 0 m b r rs) (drop at s) ≡ run kind at (reading (within q m 10) 0 m b r rs) (drop at s)
-    unfolding step more absorb
-    begins = here kind (reading (start q m) 0 m b r rs) s at (digit d) h e ∙ go q m ∙ sym (here kind (reading (within q m 10) 0 m b r rs) s at (digit d) h e)
-      where
-        go : (q m : Bool) →
-            onward kind (reading (start q m) 0 m b r rs) (digit d) s at (at + 1) ≡ onward kind (reading (within q m 10) 0 m b r rs) (digit d) s at (at + 1)
-        go true true = refl
-        go true false = refl
-        go false true = refl
-        go false false = refl
+  -- a number that begins with another digit than 0
+  pub begins : (d : ℕ) → at < length s → mark (getD s at 0) ≡ digit (suc d) →
+      run kind at (reading (start q m) 0 m b r rs) (drop at s) ≡ run kind at (reading (within q m 10) 0 m b r rs) (drop at s)
+  unfolding step leading more absorb
+  begins d h e =
+      here kind (reading (start q m) 0 m b r rs) s at (digit (suc d)) h e ∙ go q m
+      ∙ sym (here kind (reading (within q m 10) 0 m b r rs) s at (digit (suc d)) h e)
+    where
+      go : (q m : Bool) →
+          onward kind (reading (start q m) 0 m b r rs) (digit (suc d)) s at (at + 1) ≡ onward kind (reading (within q m 10) 0 m b r rs) (digit (suc d)) s at (at + 1)
+      go true true = refl
+      go true false = refl
+      go false true = refl
+      go false false = refl
+
+-- a number that begins with a 0, after no minus
+abbrev zeroAt : Bool → State
+zeroAt true = zeroQuoted
+zeroAt false = zeroBare
+
+module _ (kind : Kind) (q b : Bool) (r : List ℤ) (rs : List (List ℤ)) (s : List ℕ) where
+  zero-on : (at : ℕ) → at < length s → mark (getD s at 0) ≡ digit 0 →
+      run kind at (reading (start q false) 0 false b r rs) (drop at s) ≡ run kind (at + 1) (reading (zeroAt q) 0 false b r rs) (drop (at + 1) s)
+  unfolding step leading absorb
+  zero-on at h e = here kind (reading (start q false) 0 false b r rs) s at (digit 0) h e ∙ go q
+    where
+      go : (q : Bool) → onward kind (reading (start q false) 0 false b r rs) (digit 0) s at (at + 1) ≡ run kind (at + 1) (reading (zeroAt q) 0 false b r rs) (drop (at + 1) s)
+      go true = refl
+      go false = refl
+
+  -- where no digit comes, it is as any other digit
+  zero-end : (at : ℕ) → NotDigit (mark (getD s at 0)) →
+      run kind at (reading (zeroAt q) 0 false b r rs) (drop at s) ≡ run kind at (reading (within q false 9) 0 false b r rs) (drop at s)
+  unfolding absorb step recordsAtEnd mayEnd
+  zero-end at h =
+      elim (decLt at (length s)) [
+        | yes k ↦
+            here kind (reading (zeroAt q) 0 false b r rs) s at (mark (getD s at 0)) k refl ∙ on q (mark (getD s at 0)) h
+            ∙ sym (here kind (reading (within q false 9) 0 false b r rs) s at (mark (getD s at 0)) k refl)
+        | no k ↦
+            at-end kind (reading (zeroAt q) 0 false b r rs) s at (omega arith) ∙ off q
+            ∙ sym (at-end kind (reading (within q false 9) 0 false b r rs) s at (omega arith))
+      ]
+    where
+      on : (q : Bool) (k : Mark) → NotDigit k →
+          onward kind (reading (zeroAt q) 0 false b r rs) k s at (at + 1) ≡ onward kind (reading (within q false 9) 0 false b r rs) k s at (at + 1)
+      on true (digit d) h = absurd h
+      on true minus h = refl
+      on true quote h = refl
+      on true comma h = refl
+      on true cr h = refl
+      on true lf h = refl
+      on true other h = refl
+      on false (digit d) h = absurd h
+      on false minus h = refl
+      on false quote h = refl
+      on false comma h = refl
+      on false cr h = refl
+      on false lf h = refl
+      on false other h = refl
+
+      off : (q : Bool) → ended kind (reading (zeroAt q) 0 false b r rs) at ≡ ended kind (reading (within q false 9) 0 false b r rs) at
+      off true = refl
+      off false = refl
+
+  -- a single 0
+  pub zero-alone : (at : ℕ) → at < length s → mark (getD s at 0) ≡ digit 0 → NotDigit (mark (getD s (at + 1) 0)) →
+      run kind at (reading (start q false) 0 false b r rs) (drop at s) ≡ run kind at (reading (within q false 10) 0 false b r rs) (drop at s)
+  zero-alone at h e k = zero-on at h e ∙ zero-end (at + 1) k ∙ sym (digits-more kind q false b r rs s at 0 h e 9 0)
+
+  -- a 0 in front of a digit is refused at the 0
+  pub zero-led : (at d : ℕ) → at + 1 < length s → mark (getD s at 0) ≡ digit 0 → mark (getD s (at + 1) 0) ≡ digit d →
+      run kind at (reading (start q false) 0 false b r rs) (drop at s) ≡ broken at
+  unfolding step
+  zero-led at d h e k = zero-on at (omega arith) e ∙ here kind (reading (zeroAt q) 0 false b r rs) s (at + 1) (digit d) h k ∙ go q
+    where
+      place : at + 1 - 1 ≡ at
+      place = omega arith
+
+      go : (q : Bool) → onward kind (reading (zeroAt q) 0 false b r rs) (digit d) s (at + 1) (at + 1 + 1) ≡ broken at
+      go true = ap broken place
+      go false = ap broken place
 
 module _ (kind : Kind) (m b : Bool) (v : ℕ) (r : List ℤ) (rs : List (List ℤ)) (s : List ℕ) (at : ℕ) where
   -- a bare field that has all its digits is as one that is closed

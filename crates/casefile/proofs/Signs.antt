@@ -26,6 +26,8 @@ use Rattle.casefile.specs.Form.{
   opened,
   bare,
   quoted,
+  zeroBare,
+  zeroQuoted,
   closed,
   minusBare,
   minusQuoted,
@@ -35,7 +37,9 @@ use Rattle.casefile.specs.Form.{
   lineEnd,
   lastLineEnd,
   done,
+  leading,
   step,
+  placeOf,
   more,
   mayEnd,
   isProduction,
@@ -95,6 +99,8 @@ Here kind recordOrEnd r = (r .negative ≡ false) × (isProduction kind ≡ true
 Here kind opened r = r .negative ≡ false
 Here kind (bare left) r = r .negative ≡ false
 Here kind (quoted left) r = r .negative ≡ false
+Here kind zeroBare r = r .negative ≡ false
+Here kind zeroQuoted r = r .negative ≡ false
 Here kind closed r = r .negative ≡ false
 Here kind minusBare r = r .rebate ≡ true
 Here kind minusQuoted r = r .rebate ≡ true
@@ -151,9 +157,16 @@ module _ (kind : Kind) (v : ℕ) (n b : Bool) (r : List ℤ) (rs : List (List �
   }
 
   -- a digit, a minus, a quote
-  digit-plain : (st s : State) (d : ℕ) → Here kind s (reading s (v * 10 + d) n b r rs) → Then kind (some s) (digit d) (reading st v n b r rs)
-  unfolding Then absorb
-  digit-plain st s d h = record { rows-fine = rows; row-fine = row; here = h }
+  first-digit : (st z s : State) (d : ℕ) → ((w : ℕ) → Here kind z (reading z w n b r rs)) → ((w : ℕ) → Here kind s (reading s w n b r rs)) →
+      Then kind (leading (some z) s d) (digit d) (reading st v n b r rs)
+  unfolding Then absorb leading
+  first-digit st z s zero hz hs = record { rows-fine = rows; row-fine = row; here = hz (v * 10 + 0) }
+  first-digit st z s (suc d) hz hs = record { rows-fine = rows; row-fine = row; here = hs (v * 10 + suc d) }
+
+  cost-digit : (st s : State) (d : ℕ) → ((w : ℕ) → Here kind s (reading s w n b r rs)) → Then kind (leading none s d) (digit d) (reading st v n b r rs)
+  unfolding Then absorb leading
+  cost-digit st s zero hs = tt
+  cost-digit st s (suc d) hs = record { rows-fine = rows; row-fine = row; here = hs (v * 10 + suc d) }
 
   quote-plain : (st s : State) → Here kind s (reading s v n b r rs) → Then kind (some s) quote (reading st v n b r rs)
   unfolding Then absorb
@@ -187,28 +200,28 @@ module _ (kind : Kind) (v : ℕ) (n b : Bool) (r : List ℤ) (rs : List (List �
 
   goes-on : (st : State) (m : Mark) → Here kind st (reading st v n b r rs) → Then kind (step kind (b || isFirst rs) st m) m (reading st v n b r rs)
   unfolding step Then
-  goes-on field (digit d) h = digit-plain field (bare 9) d h
+  goes-on field (digit d) h = first-digit field zeroBare (bare 9) d (λ w. h) (λ w. h)
   goes-on field minus h = minus-tariff field minusBare (λ k. refl)
   goes-on field quote h = quote-plain field opened h
   goes-on field comma h = tt
   goes-on field cr h = tt
   goes-on field lf h = tt
   goes-on field other h = tt
-  goes-on fieldOrEmpty (digit d) h = digit-plain fieldOrEmpty (bare 9) d (h .0)
+  goes-on fieldOrEmpty (digit d) h = first-digit fieldOrEmpty zeroBare (bare 9) d (λ w. h .0) (λ w. h .0)
   goes-on fieldOrEmpty minus h = minus-tariff fieldOrEmpty minusBare (λ k. refl)
   goes-on fieldOrEmpty quote h = quote-plain fieldOrEmpty opened (h .0)
   goes-on fieldOrEmpty comma h = tt
   goes-on fieldOrEmpty cr h = cr-demands fieldOrEmpty (h .0) (h .1)
   goes-on fieldOrEmpty lf h = tt
   goes-on fieldOrEmpty other h = tt
-  goes-on recordOrEnd (digit d) h = digit-plain recordOrEnd (bare 9) d (h .0)
+  goes-on recordOrEnd (digit d) h = first-digit recordOrEnd zeroBare (bare 9) d (λ w. h .0) (λ w. h .0)
   goes-on recordOrEnd minus h = tt
   goes-on recordOrEnd quote h = quote-plain recordOrEnd opened (h .0)
   goes-on recordOrEnd comma h = tt
   goes-on recordOrEnd cr h = tt
   goes-on recordOrEnd lf h = tt
   goes-on recordOrEnd other h = tt
-  goes-on opened (digit d) h = digit-plain opened (quoted 9) d h
+  goes-on opened (digit d) h = first-digit opened zeroQuoted (quoted 9) d (λ w. h) (λ w. h)
   goes-on opened minus h = minus-tariff opened minusQuoted (λ k. refl)
   goes-on opened quote h = tt
   goes-on opened comma h = tt
@@ -229,6 +242,20 @@ module _ (kind : Kind) (v : ℕ) (n b : Bool) (r : List ℤ) (rs : List (List �
   goes-on (quoted left) cr h = tt
   goes-on (quoted left) lf h = tt
   goes-on (quoted left) other h = tt
+  goes-on zeroBare (digit d) h = tt
+  goes-on zeroBare minus h = tt
+  goes-on zeroBare quote h = tt
+  goes-on zeroBare comma h = comma-plain zeroBare h
+  goes-on zeroBare cr h = cr-record zeroBare h
+  goes-on zeroBare lf h = tt
+  goes-on zeroBare other h = tt
+  goes-on zeroQuoted (digit d) h = tt
+  goes-on zeroQuoted minus h = tt
+  goes-on zeroQuoted quote h = quote-plain zeroQuoted closed h
+  goes-on zeroQuoted comma h = tt
+  goes-on zeroQuoted cr h = tt
+  goes-on zeroQuoted lf h = tt
+  goes-on zeroQuoted other h = tt
   goes-on closed (digit d) h = tt
   goes-on closed minus h = tt
   goes-on closed quote h = tt
@@ -236,14 +263,14 @@ module _ (kind : Kind) (v : ℕ) (n b : Bool) (r : List ℤ) (rs : List (List �
   goes-on closed cr h = cr-record closed h
   goes-on closed lf h = tt
   goes-on closed other h = tt
-  goes-on minusBare (digit d) h = digit-plain minusBare (bareCost 9) d h
+  goes-on minusBare (digit d) h = cost-digit minusBare (bareCost 9) d (λ w. h)
   goes-on minusBare minus h = tt
   goes-on minusBare quote h = tt
   goes-on minusBare comma h = tt
   goes-on minusBare cr h = tt
   goes-on minusBare lf h = tt
   goes-on minusBare other h = tt
-  goes-on minusQuoted (digit d) h = digit-plain minusQuoted (quotedCost 9) d h
+  goes-on minusQuoted (digit d) h = cost-digit minusQuoted (quotedCost 9) d (λ w. h)
   goes-on minusQuoted minus h = tt
   goes-on minusQuoted quote h = tt
   goes-on minusQuoted comma h = tt
@@ -315,6 +342,9 @@ ends kind r f e = go kind (r .state) (r .value) (r .negative) (r .rebate) (r .ro
     go Production (bare left) v n b r rs rows row h e = record { last-fields = by n v r rs rows h; last-record = λ k. absurd (true≢false k) }
     go Tariff (bare left) v n b r rs rows row h e = absurd (false≢true e)
     go kind (quoted left) v n b r rs rows row h e = absurd (false≢true e)
+    go Production zeroBare v n b r rs rows row h e = record { last-fields = by n v r rs rows h; last-record = λ k. absurd (true≢false k) }
+    go Tariff zeroBare v n b r rs rows row h e = absurd (false≢true e)
+    go kind zeroQuoted v n b r rs rows row h e = absurd (false≢true e)
     go Production closed v n b r rs rows row h e = record { last-fields = by n v r rs rows h; last-record = λ k. absurd (true≢false k) }
     go Tariff closed v n b r rs rows row h e = absurd (false≢true e)
     go kind minusBare v n b r rs rows row h e = absurd (false≢true e)
@@ -339,7 +369,7 @@ walks kind at r (b ∷ l) rs f e =
     (λ s g w. walks kind (suc at) (absorb (mark b) s r) l rs g w)
   where
     go : (o : Option State) → Then kind o (mark b) r →
-        elim o as (λ x. Form) [ none ↦ broken at | some s ↦ run kind (suc at) (absorb (mark b) s r) l ] ≡ whole rs →
+        elim o as (λ x. Form) [ none ↦ broken (placeOf (r .state) (mark b) at) | some s ↦ run kind (suc at) (absorb (mark b) s r) l ] ≡ whole rs →
         ((s : State) → Fine kind (absorb (mark b) s r) → run kind (suc at) (absorb (mark b) s r) l ≡ whole rs → Signs kind rs) → Signs kind rs
     go none g w ih = absurd (let z : _≡_ {A = ℕ} 0 1 = cc in omega arith)
     go (some s) g w ih = ih s g w

@@ -1,4 +1,4 @@
--- Every state can still end well, so that refusal 21's place is the first byte that no file of the form could have there. Assumes nothing.
+-- Every state can still end well, so that the byte that settles refusal 21 is the first that no file of the form could have there. Assumes nothing.
 use mathlib.Core.Path.{_≡_, refl, ap, sym, _∙_, subst}
 use mathlib.Core.Bool.{Bool, true, false, _||_}
 use lib.IntN.{ℤ}
@@ -18,6 +18,8 @@ use Rattle.casefile.specs.Form.{
   opened,
   bare,
   quoted,
+  zeroBare,
+  zeroQuoted,
   closed,
   minusBare,
   minusQuoted,
@@ -33,6 +35,7 @@ use Rattle.casefile.specs.Form.{
   afterComma,
   afterLine,
   inTariff,
+  leading,
 }
 use Rattle.casefile.specs.Records.{Reading, reading, run, absorb, recordsAtEnd, rowWith, rowsWith, isFirst, isSource, signed, Form, whole, broken, formOf}
 
@@ -62,14 +65,14 @@ module _ (kind : Kind) (at v : ℕ) (n b : Bool) (r : List ℤ) (rs : List (List
   unfolding run mayEnd
   done-ends = record { bytes = []; records = _; ends = refl }
 
--- the demands 0 after a source's record
+-- the demands 1 after a source's record
 demands-end : (at : ℕ) (q : List ℤ) (rs : List (List ℤ)) → EndsWell Tariff at (reading lineEnd 0 false false [] (rs ++ (q ∷ [])))
-unfolding run step mark absorb afterLine afterComma
+unfolding run step leading mark absorb afterLine afterComma
 demands-end at q rs =
     by-byte {r′ = reading field 0 false false [] (rs ++ (q ∷ []))} 10 (λ l. refl)
-    (by-byte {r′ = reading (bare 9) 0 false false [] (rs ++ (q ∷ []))} 48 (λ l. refl)
-    (by-byte {r′ = reading fieldOrEmpty 0 false false (signed false 0 ∷ []) (rs ++ (q ∷ []))} 44 (λ l. rw (not-first q rs) refl)
-    (empty-ends Tariff (suc (suc (suc at))) 0 false false (signed false 0 ∷ []) (rs ++ (q ∷ [])))))
+    (by-byte {r′ = reading (bare 9) 1 false false [] (rs ++ (q ∷ []))} 49 (λ l. refl)
+    (by-byte {r′ = reading fieldOrEmpty 0 false false (signed false 1 ∷ []) (rs ++ (q ∷ []))} 44 (λ l. rw (not-first q rs) refl)
+    (empty-ends Tariff (suc (suc (suc at))) 0 false false (signed false 1 ∷ []) (rs ++ (q ∷ [])))))
 
 module _ (v : ℕ) (n b : Bool) (r : List ℤ) (rs : List (List ℤ)) where
   -- after a whole field, bare or quoted
@@ -83,13 +86,22 @@ module _ (v : ℕ) (n b : Bool) (r : List ℤ) (rs : List (List ℤ)) where
   bare-ends Production left at = record { bytes = []; records = _; ends = refl }
   bare-ends Tariff left at = by-byte {r′ = reading lineEnd 0 false false [] (rs ++ (rowWith (signed n v) r ∷ []))} 13 (λ l. refl) (demands-end (suc at) _ rs)
 
+  zero-ends : (kind : Kind) (at : ℕ) → EndsWell kind at (reading zeroBare v n b r rs)
+  unfolding run step mark absorb mayEnd isProduction
+  zero-ends Production at = record { bytes = []; records = _; ends = refl }
+  zero-ends Tariff at = by-byte {r′ = reading lineEnd 0 false false [] (rs ++ (rowWith (signed n v) r ∷ []))} 13 (λ l. refl) (demands-end (suc at) _ rs)
+
+  zero-quoted-ends : (kind : Kind) (at : ℕ) → EndsWell kind at (reading zeroQuoted v n b r rs)
+  unfolding run step mark absorb
+  zero-quoted-ends kind at = by-byte {r′ = reading closed v n b r rs} 34 (λ l. refl) (closed-ends kind (suc at))
+
   quoted-ends : (kind : Kind) (left at : ℕ) → EndsWell kind at (reading (quoted left) v n b r rs)
   unfolding run step mark absorb
   quoted-ends kind left at = by-byte {r′ = reading closed v n b r rs} 34 (λ l. refl) (closed-ends kind (suc at))
 
 field-ends : (kind : Kind) (at v : ℕ) (n b : Bool) (r : List ℤ) (rs : List (List ℤ)) → EndsWell kind at (reading field v n b r rs)
-unfolding run step mark absorb
-field-ends kind at v n b r rs = by-byte {r′ = reading (bare 9) (v * 10 + 0) n b r rs} 48 (λ l. refl) (bare-ends (v * 10 + 0) n b r rs kind 9 (suc at))
+unfolding run step leading mark absorb
+field-ends kind at v n b r rs = by-byte {r′ = reading (bare 9) (v * 10 + 1) n b r rs} 49 (λ l. refl) (bare-ends (v * 10 + 1) n b r rs kind 9 (suc at))
 
 -- after a cost with a minus comes a comma and a further field
 module _ (kind : Kind) (v : ℕ) (n b : Bool) (r : List ℤ) (rs : List (List ℤ)) where
@@ -107,16 +119,18 @@ module _ (kind : Kind) (v : ℕ) (n b : Bool) (r : List ℤ) (rs : List (List �
 
 -- from each state there is a continuation that ends well
 pub viable : (kind : Kind) (at : ℕ) (s : State) (v : ℕ) (n b : Bool) (r : List ℤ) (rs : List (List ℤ)) → EndsWell kind at (reading s v n b r rs)
-unfolding run step mark absorb afterLine
+unfolding run step leading mark absorb afterLine
 viable kind at field v n b r rs = field-ends kind at v n b r rs
 viable kind at fieldOrEmpty v n b r rs = empty-ends kind at v n b r rs
 viable kind at recordOrEnd v n b r rs = record-ends kind at v n b r rs
-viable kind at opened v n b r rs = by-byte {r′ = reading (quoted 9) (v * 10 + 0) n b r rs} 48 (λ l. refl) (quoted-ends (v * 10 + 0) n b r rs kind 9 (suc at))
+viable kind at opened v n b r rs = by-byte {r′ = reading (quoted 9) (v * 10 + 1) n b r rs} 49 (λ l. refl) (quoted-ends (v * 10 + 1) n b r rs kind 9 (suc at))
 viable kind at (bare left) v n b r rs = bare-ends v n b r rs kind left at
 viable kind at (quoted left) v n b r rs = quoted-ends v n b r rs kind left at
+viable kind at zeroBare v n b r rs = zero-ends v n b r rs kind at
+viable kind at zeroQuoted v n b r rs = zero-quoted-ends v n b r rs kind at
 viable kind at closed v n b r rs = closed-ends v n b r rs kind at
-viable kind at minusBare v n b r rs = by-byte {r′ = reading (bareCost 9) (v * 10 + 0) n b r rs} 48 (λ l. refl) (cost-bare kind (v * 10 + 0) n b r rs 9 (suc at))
-viable kind at minusQuoted v n b r rs = by-byte {r′ = reading (quotedCost 9) (v * 10 + 0) n b r rs} 48 (λ l. refl) (cost-quoted kind (v * 10 + 0) n b r rs 9 (suc at))
+viable kind at minusBare v n b r rs = by-byte {r′ = reading (bareCost 9) (v * 10 + 1) n b r rs} 49 (λ l. refl) (cost-bare kind (v * 10 + 1) n b r rs 9 (suc at))
+viable kind at minusQuoted v n b r rs = by-byte {r′ = reading (quotedCost 9) (v * 10 + 1) n b r rs} 49 (λ l. refl) (cost-quoted kind (v * 10 + 1) n b r rs 9 (suc at))
 viable kind at (bareCost left) v n b r rs = cost-bare kind v n b r rs left at
 viable kind at (quotedCost left) v n b r rs = cost-quoted kind v n b r rs left at
 viable kind at closedCost v n b r rs = cost-closed kind v n b r rs at

@@ -34,6 +34,8 @@ pub data State : Type 0 where
   -- in a bare field, in a quoted field: how many digits more it may have
   bare : ℕ → State
   quoted : ℕ → State
+  -- after a 0 that a number begins with, bare or quoted: the number is 0, and a digit after it makes that 0 wrong
+  zeroBare zeroQuoted : State
   -- after the quote that closes a field
   closed : State
   -- after a minus, bare or behind the quote that opens a field
@@ -53,6 +55,15 @@ unfoldable pub more : (ℕ → State) → ℕ → Option State
 more within zero = none
 more within (suc left) = some (within left)
 
+-- the first digit of a number: a 0, or another
+unfoldable pub leading : Option State → State → ℕ → Option State
+leading zero′ other′ zero = zero′
+leading zero′ other′ (suc k) = some other′
+
+-- any digit, where none can stand
+abbrev pub noDigit : ℕ → Option State
+noDigit k = none
+
 -- the last record of a tariff is the demands'; the first is a source's, and so is one with a minus
 unfoldable pub afterComma : Kind → Bool → State
 afterComma Production source = field
@@ -69,8 +80,8 @@ inTariff Tariff s = some s
 inTariff Production s = none
 
 -- a line of the table below: the next state for each mark; no file has any other byte
-abbrev pub row : Option State → Option State → Option State → Option State → Option State → Option State → Mark → Option State
-row d m q c r l (digit k) = d
+abbrev pub row : (ℕ → Option State) → Option State → Option State → Option State → Option State → Option State → Mark → Option State
+row d m q c r l (digit k) = d k
 row d m q c r l minus = m
 row d m q c r l quote = q
 row d m q c r l comma = c
@@ -79,23 +90,55 @@ row d m q c r l lf = l
 row d m q c r l other = none
 
 -- the automaton; `source` says that this record is known to be a source's: no record stands before it, or it has a minus
---                               a digit                     a minus                     a quote          a comma                         CR                  LF
+-- a number of two or more digits has no 0 in front, and no number after a minus has one
+--                                 a digit                                  a minus                     a quote          a comma                             CR                  LF
 unfoldable pub step : Kind → Bool → State → Mark → Option State
-step kind source field = row (some (bare 9)) (inTariff kind minusBare) (some opened) none none none
-step kind source fieldOrEmpty = row (some (bare 9)) (inTariff kind minusBare) (some opened) none (some lastLineEnd) none
-step kind source recordOrEnd = row (some (bare 9)) none (some opened) none none none
-step kind source opened = row (some (quoted 9)) (inTariff kind minusQuoted) none none none none
-step kind source (bare left) = row (more bare left) none none (some (afterComma kind source)) (some lineEnd) none
-step kind source (quoted left) = row (more quoted left) none (some closed) none none none
-step kind source closed = row none none none (some (afterComma kind source)) (some lineEnd) none
-step kind source minusBare = row (some (bareCost 9)) none none none none none
-step kind source minusQuoted = row (some (quotedCost 9)) none none none none none
-step kind source (bareCost left) = row (more bareCost left) none none (some field) none none
-step kind source (quotedCost left) = row (more quotedCost left) none (some closedCost) none none none
-step kind source closedCost = row none none none (some field) none none
-step kind source lineEnd = row none none none none none (some (afterLine kind))
-step kind source lastLineEnd = row none none none none none (some done)
-step kind source done = row none none none none none none
+step kind source field = row (leading (some zeroBare) (bare 9)) (inTariff kind minusBare) (some opened) none none none
+step kind source fieldOrEmpty = row (leading (some zeroBare) (bare 9)) (inTariff kind minusBare) (some opened) none (some lastLineEnd) none
+step kind source recordOrEnd = row (leading (some zeroBare) (bare 9)) none (some opened) none none none
+step kind source opened = row (leading (some zeroQuoted) (quoted 9)) (inTariff kind minusQuoted) none none none none
+step kind source (bare left) = row (λ k. more bare left) none none (some (afterComma kind source)) (some lineEnd) none
+step kind source (quoted left) = row (λ k. more quoted left) none (some closed) none none none
+step kind source zeroBare = row noDigit none none (some (afterComma kind source)) (some lineEnd) none
+step kind source zeroQuoted = row noDigit none (some closed) none none none
+step kind source closed = row noDigit none none (some (afterComma kind source)) (some lineEnd) none
+step kind source minusBare = row (leading none (bareCost 9)) none none none none none
+step kind source minusQuoted = row (leading none (quotedCost 9)) none none none none none
+step kind source (bareCost left) = row (λ k. more bareCost left) none none (some field) none none
+step kind source (quotedCost left) = row (λ k. more quotedCost left) none (some closedCost) none none none
+step kind source closedCost = row noDigit none none (some field) none none
+step kind source lineEnd = row noDigit none none none none (some (afterLine kind))
+step kind source lastLineEnd = row noDigit none none none none (some done)
+step kind source done = row noDigit none none none none none
+
+-- the place of refusal 21 where a byte at an offset has no next state: that byte; but of a digit after a 0 that a number begins with, the 0
+abbrev pub afterZero : Mark → ℕ → ℕ
+afterZero (digit k) at = at - 1
+afterZero minus at = at
+afterZero quote at = at
+afterZero comma at = at
+afterZero cr at = at
+afterZero lf at = at
+afterZero other at = at
+
+abbrev pub placeOf : State → Mark → ℕ → ℕ
+placeOf field m at = at
+placeOf fieldOrEmpty m at = at
+placeOf recordOrEnd m at = at
+placeOf opened m at = at
+placeOf (bare left) m at = at
+placeOf (quoted left) m at = at
+placeOf zeroBare m at = afterZero m at
+placeOf zeroQuoted m at = afterZero m at
+placeOf closed m at = at
+placeOf minusBare m at = at
+placeOf minusQuoted m at = at
+placeOf (bareCost left) m at = at
+placeOf (quotedCost left) m at = at
+placeOf closedCost m at = at
+placeOf lineEnd m at = at
+placeOf lastLineEnd m at = at
+placeOf done m at = at
 
 unfoldable pub isProduction : Kind → Bool
 isProduction Production = true
@@ -109,6 +152,8 @@ mayEnd kind recordOrEnd = true
 mayEnd kind opened = false
 mayEnd kind (bare left) = isProduction kind
 mayEnd kind (quoted left) = false
+mayEnd kind zeroBare = isProduction kind
+mayEnd kind zeroQuoted = false
 mayEnd kind closed = isProduction kind
 mayEnd kind minusBare = false
 mayEnd kind minusQuoted = false

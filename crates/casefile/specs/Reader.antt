@@ -3,7 +3,7 @@ use mathlib.Core.Path.{_≡_}
 use mathlib.Core.Bool.{Bool, true, false, _||_}
 use mathlib.Core.List.{List, [], _∷_, _++_}
 use Prim.Native.Nat.{ℕ, _+_, _≤_, _<_, _^_}
-use lib.Dec.{eqb}
+use lib.Dec.{eqb, ltb}
 use lib.IntN.{ℤ, pos}
 use lib.ListN.{length, getD, drop}
 use Rattle.casefile.specs.declared.Kind.{Kind}
@@ -80,10 +80,22 @@ pub record DigitsRead (s : List ℕ) (at value next : ℕ) : Type 0 where
       (kind : Kind) (q m b : Bool) (r : List ℤ) (rs : List (List ℤ)) →
       run kind at (reading (within q m 10) 0 m b r rs) (drop at s) ≡ run kind next (reading (within q m 0) value m b r rs) (drop next s)
 
+-- whether a number begins there, after a minus or not: with a digit other than 0, or, after no minus, with a 0 that no digit follows. d and e are
+-- the digits at two offsets, or 10
+abbrev pub pickBool : Bool → Bool → Bool → Bool
+pickBool true a b = a
+pickBool false a b = b
+
+abbrev pub numberFrom : Bool → ℕ → ℕ → Bool
+numberFrom m d e = pickBool (ltb 9 d) false (pickBool (ltb 0 d) true (pickBool m false (ltb 9 e)))
+
+abbrev pub numberAt : Bool → List ℕ → ℕ → Bool
+numberAt m s at = numberFrom m (digitOr10 (mark (getD s at 0))) (digitOr10 (mark (getD s (at + 1) 0)))
+
 -- a number, after a minus or not: its digits are read, or there is none
 abbrev pub NumberRead : Bool → List ℕ → ℕ → field-answer.Field → Type 0
-NumberRead m s at (field-answers.Value value minus′ next) = (minus′ ≡ m) × (digitOr10 (mark (getD s at 0)) ≤ 9) × DigitsRead s at value next
-NumberRead m s at (field-answers.Refused place) = (place ≡ at) × (9 < digitOr10 (mark (getD s at 0)))
+NumberRead m s at (field-answers.Value value minus′ next) = (minus′ ≡ m) × (numberAt m s at ≡ true) × DigitsRead s at value next
+NumberRead m s at (field-answers.Refused place) = (place ≡ at) × (numberAt m s at ≡ false)
 
 -- a number and the quote that closes it
 abbrev pub pickField : Bool → field-answer.Field → field-answer.Field → field-answer.Field

@@ -22,6 +22,8 @@ use Rattle.casefile.specs.Form.{
   opened,
   bare,
   quoted,
+  zeroBare,
+  zeroQuoted,
   closed,
   minusBare,
   minusQuoted,
@@ -32,6 +34,7 @@ use Rattle.casefile.specs.Form.{
   lastLineEnd,
   done,
   step,
+  placeOf,
   mayEnd,
 }
 
@@ -82,6 +85,8 @@ recordsAtEnd recordOrEnd r = r .rows
 recordsAtEnd opened r = rowsWith (number r) (r .row) (r .rows)
 recordsAtEnd (bare left) r = rowsWith (number r) (r .row) (r .rows)
 recordsAtEnd (quoted left) r = rowsWith (number r) (r .row) (r .rows)
+recordsAtEnd zeroBare r = rowsWith (number r) (r .row) (r .rows)
+recordsAtEnd zeroQuoted r = rowsWith (number r) (r .row) (r .rows)
 recordsAtEnd closed r = rowsWith (number r) (r .row) (r .rows)
 recordsAtEnd minusBare r = rowsWith (number r) (r .row) (r .rows)
 recordsAtEnd minusQuoted r = rowsWith (number r) (r .row) (r .rows)
@@ -92,8 +97,8 @@ recordsAtEnd lineEnd r = rowsWith (number r) (r .row) (r .rows)
 recordsAtEnd lastLineEnd r = rowsWith (number r) (r .row) (r .rows)
 recordsAtEnd done r = r .rows
 
--- a file of the form with its records, or the offset of the first byte that no file of the form could have there after the bytes before it; the
--- file's length where it ends too soon
+-- a file of the form with its records, or the offset of the first byte that no file of the form could have there after the bytes before it, or of
+-- the 0 before that byte where this is a digit and the 0 begins a number; the file's length where it ends too soon
 pub data Form : Type 0 where
   whole : List (List ℤ) → Form
   broken : ℕ → Form
@@ -110,7 +115,7 @@ isSource r = r .rebate || isFirst (r .rows)
 unfoldable pub run : Kind → ℕ → Reading → List ℕ → Form
 run kind at r [] = elim (mayEnd kind (r .state)) [ true ↦ whole (recordsAtEnd (r .state) r) | false ↦ broken at ]
 run kind at r (b ∷ l) =
-    elim (step kind (isSource r) (r .state) (mark b)) [ none ↦ broken at | some s ↦ run kind (suc at) (absorb (mark b) s r) l ]
+    elim (step kind (isSource r) (r .state) (mark b)) [ none ↦ broken (placeOf (r .state) (mark b) at) | some s ↦ run kind (suc at) (absorb (mark b) s r) l ]
 
 unfoldable pub formOf : Kind → List ℕ → Form
 formOf kind l = run kind 0 (reading field 0 false false [] []) l

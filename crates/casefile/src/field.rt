@@ -1,10 +1,10 @@
-// A field: 1 to 10 digits, bare or in double quotes; in the tariff one minus may stand before them.
+// A field, bare or in double quotes: 0, or 1 to 10 digits of which the first is not 0; these may have one minus before them in the tariff.
 use crate::Kind;
 ghost use mathlib.Core.Path.{_≡_};
 ghost use Prim.Native.Nat.{ℕ, _+_, _≤_, _<_};
 ghost use lib.ListN.{length, getD};
 ghost use Rattle.casefile.specs.Form.{mark, field, opened};
-ghost use Rattle.casefile.specs.Reader.{digitOr10, isMinus, DigitsRead, NumberRead, closeQuote, FieldRead};
+ghost use Rattle.casefile.specs.Reader.{digitOr10, isMinus, numberAt, DigitsRead, NumberRead, closeQuote, FieldRead};
 
 // What is read at a field: its value, and whether a minus stands before it, with the next offset; or a refusal with its place.
 pub enum Field {
@@ -75,20 +75,37 @@ fn read_digits(s: &[u8], at: usize) -> Digits
     Digits { value, next }
 }
 
+// Does a number begin at an offset, after a minus or not? With a digit that is not 0, or after no minus with a 0 that no digit follows.
+fn number_at(minus: bool, s: &[u8], at: usize) -> bool
+    ensures { λ r. ⌜ r ≡ numberAt minus (now (s .entry)) at ⌝ }
+{
+    let d = digit_at(s, at);
+    if 9 < d {
+        return false;
+    }
+    if 0 < d {
+        return true;
+    }
+    if minus {
+        return false;
+    }
+    9 < digit_at(s, at + 1)
+}
+
 // The number whose digits begin at an offset, after a minus or not.
 fn read_number(minus: bool, s: &[u8], at: usize) -> Field
     requires { ⌜ at ≤ length (now s) ⌝ }
     ensures { λ r. ⌜ NumberRead minus (now (s .entry)) at r ⌝ }
 {
-    if 9 < digit_at(s, at) {
-        return Field::Refused { place: at };
+    if number_at(minus, s, at) {
+        let d = read_digits(s, at);
+        return Field::Value {
+            value: d.value,
+            minus,
+            next: d.next,
+        };
     }
-    let d = read_digits(s, at);
-    Field::Value {
-        value: d.value,
-        minus,
-        next: d.next,
-    }
+    Field::Refused { place: at }
 }
 
 // A number that was read, and the quote that closes it.

@@ -78,21 +78,73 @@ fn explain_case(number: u64, place: u64, m: u64, n: u64) {
     }
 }
 
-// Refusal 21: a byte by its offset, or the end of the file.
-fn explain_byte(place: u64, size: u64) {
-    if place < size {
+// The byte at an offset, or 0 where there is none.
+fn byte_at(bytes: &[u8], at: usize) -> u8 {
+    if at < bytes.len() { bytes[at] } else { 0 }
+}
+
+fn is_digit(b: u8) -> bool {
+    if b < 48 {
+        return false;
+    }
+    b < 58
+}
+
+// The byte so many bytes before an offset, or 0 where there is none.
+fn byte_before(bytes: &[u8], at: usize, back: usize) -> u8 {
+    if at < back {
+        return 0;
+    }
+    byte_at(bytes, at - back)
+}
+
+// Whether a number can begin at an offset, where the bytes before it are those of a file of the form: not after a quote that closes a
+// field, nor after the line end of the demands.
+fn begins(bytes: &[u8], at: usize) -> bool {
+    match byte_before(bytes, at, 1) {
+        0 | 44 | 45 => true,
+        34 => !is_digit(byte_before(bytes, at, 2)),
+        10 => byte_before(bytes, at, 3) != 44,
+        _ => false,
+    }
+}
+
+// Whether the byte at an offset is a 0 that stands first in a number of several digits.
+fn leads(bytes: &[u8], at: usize) -> bool {
+    if at < bytes.len() {
+        if bytes[at] == 48 {
+            if is_digit(byte_at(bytes, at + 1)) {
+                return begins(bytes, at);
+            }
+        }
+    }
+    false
+}
+
+// Refusal 21: a number with 0 in front or another byte by its offset, or the end of the file.
+fn explain_byte(place: u64, bytes: &[u8]) {
+    let at = place as usize;
+    if bytes.len() <= at {
+        say_with(b" ends too soon, after ", place, b" bytes.\n");
+        return;
+    }
+    if leads(bytes, at) {
         say_with(
-            b" has a byte at offset ",
+            b" has a number with 0 in front at offset ",
             place,
-            b", counted from 0, that cannot stand there.\n",
+            b", counted from 0, perhaps an item code.\n",
         );
         return;
     }
-    say_with(b" ends too soon, after ", place, b" bytes.\n");
+    say_with(
+        b" has a byte at offset ",
+        place,
+        b", counted from 0, that cannot stand there.\n",
+    );
 }
 
-// The refusals of a file, by its size and what is said of a record with a wrong count of fields.
-fn explain_file(number: u64, place: u64, file: &[u8], path: &[u8], size: u64, wrong: &[u8]) {
+// The refusals of a file, by its bytes and what is said of a record with a wrong count of fields.
+fn explain_file(number: u64, place: u64, file: &[u8], path: &[u8], bytes: &[u8], wrong: &[u8]) {
     if number == 22 {
         say_with(b"record ", place, b" of ");
     }
@@ -100,7 +152,7 @@ fn explain_file(number: u64, place: u64, file: &[u8], path: &[u8], size: u64, wr
     say(path);
     match number {
         20 => say(b" cannot be opened and read, or is longer than 65,536 bytes.\n"),
-        21 => explain_byte(place, size),
+        21 => explain_byte(place, bytes),
         _ => say(wrong),
     }
 }
@@ -115,21 +167,26 @@ fn explain_files(
     production_path: &[u8],
 ) {
     if tariff_stands(tariff) {
-        let size = production.len() as u64;
         let wrong = b" has more than one field.\n";
         explain_file(
             number,
             place,
             b"the production file ",
             production_path,
-            size,
+            production,
             wrong,
         );
         return;
     }
-    let size = tariff.len() as u64;
     let wrong = b" has another count of fields than record 1.\n";
-    explain_file(number, place, b"the tariff file ", tariff_path, size, wrong);
+    explain_file(
+        number,
+        place,
+        b"the tariff file ",
+        tariff_path,
+        tariff,
+        wrong,
+    );
 }
 
 // Says what a refusal means; nothing of a plan.

@@ -4,13 +4,10 @@ use crate::trial::tariff;
 
 // Bare fields.
 fn run_bare(tally: &mut [u64; 32]) {
-    tariff(tally, 2, 1, b"0000000006", 0, 0);
-    tariff(tally, 2, 1, b"00000000006", 21, 12);
     tariff(tally, 2, 1, b"12345678901", 21, 12);
     tariff(tally, 2, 1, b"+6", 21, 2);
     tariff(tally, 2, 1, b"6.0", 21, 3);
     tariff(tally, 2, 1, b"6e3", 21, 3);
-    tariff(tally, 2, 1, b"0x6", 21, 3);
     tariff(tally, 2, 1, b"six", 21, 2);
     tariff(tally, 2, 1, b" 6", 21, 2);
     tariff(tally, 2, 1, b"6 ", 21, 3);
@@ -31,8 +28,7 @@ fn run_bare(tally: &mut [u64; 32]) {
 // Quoted fields.
 fn run_quoted(tally: &mut [u64; 32]) {
     tariff(tally, 2, 1, b"\"6\"", 0, 0);
-    tariff(tally, 2, 1, b"\"0000000006\"", 0, 0);
-    tariff(tally, 2, 1, b"\"00000000006\"", 21, 13);
+    tariff(tally, 2, 1, b"\"12345678901\"", 21, 13);
     tariff(tally, 2, 1, b"\"\"", 21, 3);
     tariff(tally, 2, 1, b"6\"", 21, 3);
     tariff(tally, 2, 1, b"6\"6\"", 21, 3);

@@ -22,14 +22,14 @@ fn entries(tally: &mut [u64; 32], count: u64, number: u64) {
 // A tariff of so many digits.
 fn digits(tally: &mut [u64; 32], size: usize, production: &[u8], number: u64, place: u64) {
     let mut file = room();
-    add_times(&mut file, 0, b"0", 65_537);
+    add_times(&mut file, 0, b"1", 65_537);
     files(tally, first(&file, size), production, number, place);
 }
 
 // A production file of so many bytes, in records of ten digits.
 fn bytes(tally: &mut [u64; 32], tariff: &[u8], size: usize, number: u64, place: u64) {
     let mut file = room();
-    add_times(&mut file, 0, b"0000000000\r\n", 5_462);
+    add_times(&mut file, 0, b"1000000000\r\n", 5_462);
     files(tally, tariff, first(&file, size), number, place);
 }
 

@@ -1,5 +1,6 @@
 // Runs damaged files through the planner's file reader, and holds each answer to the refusal and place that the scope gives.
 mod cases;
+mod codes;
 mod fields;
 mod files;
 mod large;
@@ -11,6 +12,7 @@ mod report;
 mod trial;
 
 use crate::cases::run_cases;
+use crate::codes::run_codes;
 use crate::fields::run_fields;
 use crate::large::run_large;
 use crate::orders::run_orders;
@@ -24,6 +26,7 @@ fn run_trials(tally: &mut [u64; 32]) {
     run_fields(tally);
     run_production(tally);
     run_rebates(tally);
+    run_codes(tally);
     run_cases(tally);
     run_orders(tally);
     run_large(tally);

@@ -25,8 +25,7 @@ fn run_lines(tally: &mut [u64; 32]) {
 
 // The first field, at offset 0.
 fn run_fields(tally: &mut [u64; 32]) {
-    production(tally, 0, 2, b"0000000099", 0, 0);
-    production(tally, 0, 2, b"00000000099", 21, 10);
+    production(tally, 0, 2, b"12345678901", 21, 10);
     production(tally, 0, 2, b"9.9", 21, 1);
     production(tally, 0, 2, b"9 9", 21, 1);
     production(tally, 0, 0, b" ", 21, 0);
@@ -34,11 +33,12 @@ fn run_fields(tally: &mut [u64; 32]) {
     production(tally, 0, 2, b"9\0", 21, 1);
     production(tally, 4, 1, b"\xb2", 21, 4);
     production(tally, 0, 2, b"\"99\"", 0, 0);
+    production(tally, 0, 2, b"\"9999999999\"", 0, 0);
     production(tally, 0, 2, b"\"\"", 21, 1);
     production(tally, 0, 2, b"9\"9", 21, 1);
     production(tally, 0, 2, b"\"99", 21, 3);
     production(tally, 0, 2, b"\"99\"9", 21, 4);
-    production(tally, 0, 2, b"\"00000000099\"", 21, 11);
+    production(tally, 0, 2, b"\"12345678901\"", 21, 11);
 }
 
 // Commas: a record of more than one field.

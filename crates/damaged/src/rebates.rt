@@ -8,9 +8,6 @@ fn run_bare(tally: &mut [u64; 32]) {
     tariff(tally, 0, 1, b"-2", 0, 0);
     tariff(tally, 2, 1, b"-6", 0, 0);
     tariff(tally, 16, 1, b"-4", 0, 0);
-    tariff(tally, 2, 1, b"-0", 0, 0);
-    tariff(tally, 2, 1, b"-0000000006", 0, 0);
-    tariff(tally, 2, 1, b"-00000000006", 21, 13);
     tariff(tally, 2, 1, b"-12345678901", 21, 13);
     tariff(tally, 2, 1, b"--6", 21, 3);
     tariff(tally, 2, 1, b"-", 21, 3);
@@ -26,8 +23,8 @@ fn run_bare(tally: &mut [u64; 32]) {
 // Quoted unit costs: the minus stands behind the quote that opens the field.
 fn run_quoted(tally: &mut [u64; 32]) {
     tariff(tally, 2, 1, b"\"-6\"", 0, 0);
-    tariff(tally, 2, 1, b"\"-0000000006\"", 0, 0);
-    tariff(tally, 2, 1, b"\"-00000000006\"", 21, 14);
+    tariff(tally, 2, 1, b"\"-9999999999\"", 5, 2);
+    tariff(tally, 2, 1, b"\"-12345678901\"", 21, 14);
     tariff(tally, 2, 1, b"-\"6\"", 21, 3);
     tariff(tally, 2, 1, b"\"--6\"", 21, 4);
     tariff(tally, 2, 1, b"\"-\"", 21, 4);

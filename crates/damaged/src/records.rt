@@ -78,7 +78,7 @@ fn run_odd(tally: &mut [u64; 32]) {
     tariff(tally, 21, 2, b"", 22, 4);
     tariff(tally, 25, 0, b"5,", 22, 4);
     tariff(tally, 23, 2, b"", 22, 4);
-    tariff(tally, 2, 1, b"1,000", 22, 2);
+    tariff(tally, 2, 1, b"1,500", 22, 2);
     files(tally, b"1,2,3\r\n1,2\r\n1\r\n1,2,", b"7", 22, 2);
     files(tally, b"1,2\r\n1,2\r\n1,2,3\r\n1,2,", b"7", 22, 3);
     files(tally, b"1\r\n1\r\n1,", b"7", 22, 3);
