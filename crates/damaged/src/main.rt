@@ -1,39 +1,45 @@
-// Runs damaged files through the planner's file reader, and holds each answer to the refusal and place that the scope gives.
-mod cases;
-mod codes;
-mod fields;
-mod files;
-mod large;
-mod orders;
-mod production;
-mod rebates;
-mod records;
+// Runs pairs of files through the planner's file reader, and holds each answer to the refusal and place that the scope gives.
+// The pairs stand in the file `stdin`, a row each; its first lines say how a row is read.
+mod parts;
 mod report;
+mod text;
 mod trial;
 
-use crate::cases::run_cases;
-use crate::codes::run_codes;
-use crate::fields::run_fields;
-use crate::large::run_large;
-use crate::orders::run_orders;
-use crate::production::run_production;
-use crate::rebates::run_rebates;
-use crate::records::run_records;
+use crate::parts::after;
+use crate::parts::byte;
+use crate::parts::first;
 use crate::report::report;
+use crate::trial::trial;
 
-fn run_trials(tally: &mut [u64; 32]) {
-    run_records(tally);
-    run_fields(tally);
-    run_production(tally);
-    run_rebates(tally);
-    run_codes(tally);
-    run_cases(tally);
-    run_orders(tally);
-    run_large(tally);
-    report(tally);
+// The row between two offsets, if it is one: an empty line and a line that begins with # are none.
+fn run_line(tally: &mut [u64; 32], line: &[u8]) {
+    let b = byte(line, 0);
+    if b == 0 {
+        return;
+    }
+    if b == b'#' {
+        return;
+    }
+    trial(tally, line);
+}
+
+// Runs each line of the table.
+fn run_table(tally: &mut [u64; 32], table: &[u8]) {
+    let mut start: usize = 0;
+    let mut k: usize = 0;
+    while k < table.len() {
+        if table[k] == b'\n' {
+            run_line(tally, after(first(table, k), start));
+            start = k + 1;
+        }
+        k += 1;
+    }
 }
 
 fn main() {
+    let mut table = io::large_buffer();
+    let size = io::read_full(0, &mut table);
     let mut tally = [0u64; 32];
-    run_trials(&mut tally);
+    run_table(&mut tally, &table[..size]);
+    report(&tally);
 }

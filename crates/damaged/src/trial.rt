@@ -1,8 +1,10 @@
-// One trial: two files with the refusal and the place expected, 0 and 0 for a plan.
-use crate::files::add;
-use crate::files::add_number;
-use crate::files::edit;
-use crate::files::first;
+// One trial: the files of a row, and the answer expected.
+use crate::parts::after;
+use crate::parts::before;
+use crate::parts::field;
+use crate::parts::first;
+use crate::parts::number;
+use crate::text::add;
 use casefile::planned::plan_files;
 use check::same;
 
@@ -10,6 +12,113 @@ use check::same;
 pub const CASES: usize = 24;
 
 pub const DIFFERENCES: usize = 25;
+
+// Replaces `cut` bytes, from an offset on, by a field of the row.
+struct Edit {
+    at: usize,
+    cut: usize,
+    put: u64,
+}
+
+// What was answered, and whether it is what the row expects.
+struct Given {
+    number: u64,
+    place: u64,
+    right: bool,
+}
+
+// Room for the longest file that is read, and one byte more.
+fn room() -> [u8; 65537] {
+    [0; 65537]
+}
+
+// The edit of one of case A's files: the row's own, all of it by the field `own`, or none.
+fn edit_of(row: &[u8], name: &[u8], own: u64) -> Edit {
+    let kind = field(row, 1);
+    if same(kind, name) {
+        return Edit {
+            at: number(field(row, 2)) as usize,
+            cut: number(field(row, 3)) as usize,
+            put: 4,
+        };
+    }
+    if same(kind, b"files") {
+        return Edit {
+            at: 0,
+            cut: 65_537,
+            put: own,
+        };
+    }
+    Edit {
+        at: 0,
+        cut: 0,
+        put: 5,
+    }
+}
+
+// Writes a file with an edit, and gives its size.
+fn write_edited(file: &mut [u8], base: &[u8], row: &[u8], e: Edit) -> usize {
+    let at = e.at;
+    let put_at = add(file, 0, first(base, at));
+    let rest_at = add(file, put_at, field(row, e.put));
+    add(file, rest_at, after(after(base, at), e.cut))
+}
+
+// Whether a text is the header of a plan or, where the answer is a refusal, the whole text of it.
+fn reads(text: &[u8], answer: &[u8]) -> bool {
+    if same(answer, b"plan") {
+        return same(first(text, 29), b"source,terminal,amount,cost\r\n");
+    }
+    let record = after(text, 15);
+    if same(first(text, 15), b"refusal,place\r\n") {
+        if same(first(record, answer.len()), answer) {
+            return same(after(record, answer.len()), b"\r\n");
+        }
+    }
+    false
+}
+
+// Holds an answer to the one expected: number, place and text.
+fn held(answer: &[u8], text: &[u8], number_given: u64, place: u64) -> Given {
+    let mut right = false;
+    if number_given == number(answer) {
+        if place == number(after(after(answer, before(answer, b',')), 1)) {
+            right = reads(text, answer);
+        }
+    }
+    Given {
+        number: number_given,
+        place,
+        right,
+    }
+}
+
+// Runs the two files of a row.
+fn run_files(row: &[u8]) -> Given {
+    let mut tariff = room();
+    let mut production = room();
+    let mut text = io::buffer();
+    let m = write_edited(
+        &mut tariff,
+        b"2,6,3\r\n5,3,3\r\n1,4,1\r\n3,2,",
+        row,
+        edit_of(row, b"tariff", 2),
+    );
+    let n = write_edited(
+        &mut production,
+        b"99\r\n20\r\n24\r\n20\r\n",
+        row,
+        edit_of(row, b"production", 3),
+    );
+    let printed = plan_files(first(&tariff, m), first(&production, n), &mut text);
+    let length = printed.length;
+    held(
+        field(row, 0),
+        first(&text, length),
+        printed.number,
+        printed.place,
+    )
+}
 
 // The cell k, or 0 past the end.
 pub fn cell(tally: &[u64; 32], k: usize) -> u64 {
@@ -26,91 +135,25 @@ fn count(tally: &mut [u64; 32], k: usize) {
     }
 }
 
-// Writes the text of a refusal, and gives its length.
-fn add_refusal(text: &mut [u8], number: u64, place: u64) -> usize {
-    let number_at = add(text, 0, b"refusal,place\r\n");
-    let comma = add_number(text, number_at, number);
-    let place_at = add(text, comma, b",");
-    let end = add_number(text, place_at, place);
-    add(text, end, b"\r\n")
+// Writes a row that is answered otherwise.
+fn say_difference(row: &[u8], g: Given) {
+    io::write_all(1, b"difference: ");
+    io::write_all(1, row);
+    io::write_all(1, b" given ");
+    io::print_decimal(1, g.number);
+    io::write_all(1, b",");
+    io::print_decimal(1, g.place);
+    io::write_all(1, b"\n");
 }
 
-// Whether a text is the header of a plan or, where the number is not 0, the whole text of the refusal.
-fn reads(text: &[u8], number: u64, place: u64) -> bool {
-    if number == 0 {
-        return same(first(text, 29), b"source,terminal,amount,cost\r\n");
-    }
-    let mut wanted = io::buffer();
-    let length = add_refusal(&mut wanted, number, place);
-    same(text, first(&wanted, length))
-}
-
-fn say(text: &[u8], n: u64) {
-    io::write_all(1, text);
-    io::print_decimal(1, n);
-}
-
-// Counts a difference, and writes the first.
-fn differ(tally: &mut [u64; 32], number: u64, place: u64, given: u64, given_place: u64) {
-    if cell(tally, DIFFERENCES) == 0 {
-        say(b"first difference: case ", cell(tally, CASES));
-        say(b" expected ", number);
-        say(b",", place);
-        say(b" given ", given);
-        say(b",", given_place);
-        io::write_all(1, b"\n");
+// Runs a row, and counts it, its answer, and a difference, which it writes.
+pub fn trial(tally: &mut [u64; 32], row: &[u8]) {
+    let g = run_files(row);
+    count(tally, CASES);
+    count(tally, g.number as usize);
+    if g.right {
+        return;
     }
     count(tally, DIFFERENCES);
-}
-
-// Runs two files, and holds the answer and its text to what is expected.
-pub fn files(tally: &mut [u64; 32], tariff: &[u8], production: &[u8], number: u64, place: u64) {
-    let mut text = io::buffer();
-    let printed = plan_files(tariff, production, &mut text);
-    let given = printed.number;
-    let given_place = printed.place;
-    let length = printed.length;
-    count(tally, CASES);
-    count(tally, given as usize);
-    if given == number {
-        if given_place == place {
-            if reads(first(&text, length), number, place) {
-                return;
-            }
-        }
-    }
-    differ(tally, number, place, given, given_place);
-}
-
-// Case A with `cut` bytes of the tariff, from an offset on, replaced.
-pub fn tariff(tally: &mut [u64; 32], at: usize, cut: usize, put: &[u8], number: u64, place: u64) {
-    let mut file = io::buffer();
-    let size = edit(&mut file, b"2,6,3\r\n5,3,3\r\n1,4,1\r\n3,2,", at, cut, put);
-    files(
-        tally,
-        first(&file, size),
-        b"99\r\n20\r\n24\r\n20\r\n",
-        number,
-        place,
-    );
-}
-
-// Case A with `cut` bytes of the production file, from an offset on, replaced.
-pub fn production(
-    tally: &mut [u64; 32],
-    at: usize,
-    cut: usize,
-    put: &[u8],
-    number: u64,
-    place: u64,
-) {
-    let mut file = io::buffer();
-    let size = edit(&mut file, b"99\r\n20\r\n24\r\n20\r\n", at, cut, put);
-    files(
-        tally,
-        b"2,6,3\r\n5,3,3\r\n1,4,1\r\n3,2,",
-        first(&file, size),
-        number,
-        place,
-    );
+    say_difference(row, g);
 }

@@ -1,16 +1,16 @@
--- `damaged::files::add` is safe and ends. The room keeps its length; the measure is what is left of the bytes. Assumes nothing.
+-- `damaged::text::add` is safe and ends. The file keeps its length; the measure is what is left of the turns. Assumes nothing.
 use mathlib.Core.Path.{_≡_}
 use Prim.Native.Nat.{_-_}
 use borrow.Author.Needs.{needs}
 use lib.ListN.{length}
-use Rattle.damaged.proofs.files.add.Statement.{statement}
-use Rattle.damaged.proofs.files.add.Tie as tie
+use Rattle.damaged.proofs.text.add.Statement.{statement}
+use Rattle.damaged.proofs.text.add.Tie as tie
 
 abbrev Inv-loop : tie.InvT-loop
-Inv-loop file₀ at bytes next₀ k₀ file next k = length file ≡ length file₀
+Inv-loop file₀ start text next₀ r₀ turns₀ file next r turns = length file ≡ length file₀
 
 abbrev μ-loop : tie.MeasureT-loop
-μ-loop file₀ at bytes next₀ k₀ file next k = length bytes - k
+μ-loop file₀ start text next₀ r₀ turns₀ file next r turns = 200000 - turns
 
 pub add-spec : {M : Type 1} → statement M
 add-spec =
@@ -20,6 +20,8 @@ add-spec =
     μ-loop
     (λ c. search needs)
     (λ c. search needs)
+    (λ c. search needs)
+    (λ c κs. search needs)
     (λ c κs. search needs)
     (λ c. search needs)
     (λ c. search needs)
