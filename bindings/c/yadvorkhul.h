@@ -1,7 +1,7 @@
 /* The proved two-plant production and freight planner, for C and C++.
 
-   The archive target/staticlib/libffi.a, which `rt staticlib ffi` writes, defines the function. Nothing checks this
-   declaration against the Rattle source (crates/ffi/src/lib.rt): a slice there is a pointer and then a length here, and
+   The archive target/staticlib/libffi.a, which `rt staticlib ffi` writes, defines the functions. Nothing checks these
+   declarations against the Rattle source (crates/ffi/src): a slice there is a pointer and then a length here, and
    a usize is a size_t of 64 bits. */
 #ifndef YADVORKHUL_H
 #define YADVORKHUL_H
@@ -70,6 +70,13 @@ uint64_t yadvorkhul_plan(size_t m, size_t n, uint64_t run1, uint64_t run2,
                          int64_t *freights, size_t freights_cells,
                          uint64_t *report, size_t report_cells,
                          int64_t *worth, size_t worth_cells);
+
+/* Writes the square-root rates, a production table for a house that has none: for each y from 0 to most, 100 times the
+   square root of y, rounded down, in the first most + 1 cells of to, which is passed like the slices above.
+
+   Answers 0; or 4 where most is above YADVORKHUL_MOST_AMOUNT, or 11 where to has fewer cells, and then writes nothing. Later
+   cells keep their contents. It needs about 32 kB of stack. */
+uint64_t yadvorkhul_rates(uint64_t most, uint64_t *to, size_t to_cells);
 
 #ifdef __cplusplus
 }

@@ -1,6 +1,6 @@
 """The proved two-plant production and freight planner, for Python.
 
-    >>> from yadvorkhul import plan
+    >>> from yadvorkhul import plan, rates
     >>> p = plan(costs=[[2, 6], [5, 3], [1, 4]], supplies=[3, 3, 1], demands=[3, 2], table=[99, 20, 24, 20])
     >>> p.split, p.total, p.freight
     (3, 33, 13)
@@ -25,6 +25,11 @@ A case that fails a test is refused by an exception that has the number and the 
     Traceback (most recent call last):
     yadvorkhul.Refusal: refusal 7: the terminals take less than the depots hold and the least runs make
 
+A house without a production table starts from the square-root rates, one for each output of plant 1 up to its supply:
+
+    >>> rates(3)
+    [0, 100, 141, 173]
+
 The shared object is made from the proved archive by `bindings/python/build`. Nothing checks the declaration here against
 the Rattle source.
 """
@@ -33,7 +38,7 @@ import ctypes
 import os
 from typing import List, NamedTuple, Tuple
 
-__all__ = ["plan", "plan_into", "Plan", "Refusal", "SHORT_REPORT"]
+__all__ = ["plan", "plan_into", "rates", "rates_into", "Plan", "Refusal", "SHORT_REPORT"]
 
 MOST_SOURCES = 32
 MOST_TERMINALS = 64
@@ -85,17 +90,19 @@ def _load():
     path = os.environ.get("YADVORKHUL_SO") or os.path.join(os.path.dirname(os.path.abspath(__file__)), "libyadvorkhul.so")
     if not os.path.exists(path):
         raise ImportError("libyadvorkhul.so is not there: run bindings/python/build, or name it in YADVORKHUL_SO")
-    function = ctypes.CDLL(path).yadvorkhul_plan
+    library = ctypes.CDLL(path)
     # m, n and the least runs, then the slices, each a pointer and then a length
     slices = [part for kind in _READ + _WRITTEN for part in (ctypes.POINTER(kind), ctypes.c_size_t)]
-    function.argtypes = [ctypes.c_size_t] * 2 + [ctypes.c_uint64] * 2 + slices
-    function.restype = ctypes.c_uint64
-    return function
+    library.yadvorkhul_plan.argtypes = [ctypes.c_size_t] * 2 + [ctypes.c_uint64] * 2 + slices
+    library.yadvorkhul_plan.restype = ctypes.c_uint64
+    library.yadvorkhul_rates.argtypes = [ctypes.c_uint64, ctypes.POINTER(ctypes.c_uint64), ctypes.c_size_t]
+    library.yadvorkhul_rates.restype = ctypes.c_uint64
+    return library
 
 
 _READ = [ctypes.c_int64] + [ctypes.c_uint64] * 4  # costs; supplies, demands, ceilings, table
 _WRITTEN = [ctypes.c_uint64] * 2 + [ctypes.c_int64, ctypes.c_uint64, ctypes.c_int64]  # plan, splits; freights; report; worth
-_function = _load()
+_library = _load()
 
 
 def _cells(kind, numbers):
@@ -115,7 +122,7 @@ def plan_into(m, n, run1, run2, costs, supplies, demands, ceilings, table, plan,
     lent = [plan, splits, freights, report, worth]
     written = [_cells(kind, numbers) for kind, numbers in zip(_WRITTEN, lent)]
     _cells(ctypes.c_uint64, [m, n, run1, run2])
-    answer = _function(m, n, run1, run2, *(part for pair in read + written for part in pair))
+    answer = _library.yadvorkhul_plan(m, n, run1, run2, *(part for pair in read + written for part in pair))
     for numbers, (cells, length) in zip(lent, written):
         numbers[:] = cells[:length]
     return answer
@@ -154,3 +161,22 @@ def plan(costs, supplies, demands, table, runs=(0, 0), ceilings=None) -> Plan:
     (split, count), (total, freight) = report, worth
     by_source = [amounts[i * n : (i + 1) * n] for i in range(m)]
     return Plan(split, total, freight, by_source, list(zip(splits[:count], freights[:count])))
+
+
+def rates_into(most, to):
+    """Writes 100 times the square root of y, rounded down, for y from 0 to most, into the first items of a list. Answers 0; or 4
+    where most is above 4,000, or 11 where the list is too short, and then writes nothing."""
+    cells, length = _cells(ctypes.c_uint64, to)
+    _cells(ctypes.c_uint64, [most])
+    answer = _library.yadvorkhul_rates(most, cells, length)
+    to[:] = cells[:length]
+    return answer
+
+
+def rates(supply) -> List[int]:
+    """A production table for a plant 1 of this supply, at most 4,000: 100 times the square root of its output, rounded down."""
+    table = [0] * (min(supply, MOST_AMOUNT) + 1)
+    number = rates_into(supply, table)
+    if number != 0:
+        raise Refusal(number, 1)
+    return table

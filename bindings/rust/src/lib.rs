@@ -49,11 +49,15 @@
 //! println!("{refusal}");
 //! ```
 //!
-//! What is proved is the function behind [`plan_into`]. Nothing checks its declaration here against the Rattle source; the
-//! tests of this crate compare it with an independent planner on many cases.
+//! A house without a production table starts from the square-root rates, [`rates`].
+//!
+//! What is proved are the functions behind [`plan_into`] and [`rates_into`]. Nothing checks their declarations here against the
+//! Rattle source; the tests of this crate compare the planner with an independent one on many cases, and each rate with its rule.
 
+mod rates;
 mod refusal;
 
+pub use rates::{rates, rates_into};
 pub use refusal::Refusal;
 
 /// Most sources of a case: two plants and thirty depots.

@@ -1,4 +1,6 @@
 // Prints as CSV into a lent slice, as far as there is room.
+pub mod column;
+
 ghost use mathlib.Core.List.{[], _∷_};
 ghost use Prim.Native.Nat.{_+_, _*_, _≤_, _<_, _^_};
 ghost use mathlib.Core.Path.{_≡_};

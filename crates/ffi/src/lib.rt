@@ -1,4 +1,6 @@
 // The planner for callers outside Rattle: numbers and slices only.
+mod rates;
+
 ghost use mathlib.Core.Path.{_≡_};
 ghost use Prim.Native.Nat.{_≤_};
 ghost use lib.ListN.{length};

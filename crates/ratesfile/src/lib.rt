@@ -1,0 +1,64 @@
+// The production file of square-root rates, from the text of a number to the bytes of the file.
+ghost use mathlib.Core.Path.{_≡_};
+ghost use Rattle.csvtext.specs.Writing.{Written};
+ghost use Rattle.ratesfile.specs.File.{outputOf, ratesText, fileText};
+use csvtext::column::put_column;
+use ratetable::rates;
+
+// What a text says of plant 1's greatest output.
+pub enum Output {
+    // The number that one to four digits are.
+    UpTo(u64),
+    // It is no such number.
+    Unclear,
+}
+
+// Reads a number of one to four digits.
+pub fn read_output(text: &[u8]) -> Output
+    ensures { λ r. ⌜ r ≡ outputOf (now (text .entry)) ⌝ }
+{
+    let size = text.len();
+    if size == 0 {
+        return Output::Unclear;
+    }
+    if 4 < size {
+        return Output::Unclear;
+    }
+    let mut value: u64 = 0;
+    for k in 0..size {
+        let byte = text[k];
+        if byte < 48 {
+            return Output::Unclear;
+        }
+        if 57 < byte {
+            return Output::Unclear;
+        }
+        value = 10 * value + (byte - 48) as u64;
+    }
+    Output::UpTo(value)
+}
+
+// Writes the rates of the outputs 0 to `most`, each a record of its own. Gives the length of the text, at most 24,006; 0, and nothing is
+// written, where `most` is above 4,000.
+pub fn put_rates(out: &mut [u8], most: u64) -> usize
+    ensures { λ r. ⌜ Written (now (out .entry)) (now (out .exit)) 0 r (ratesText most) 24006 ⌝ }
+{
+    if 4_000 < most {
+        return 0;
+    }
+    let count = most as usize + 1;
+    let all = rates();
+    put_column(out, &all[..count])
+}
+
+// Writes the production file for an output of plant 1 that a text names. Gives its length; 0, and nothing is written, where the text is no
+// number from 0 to 4,000.
+pub fn put_file(out: &mut [u8], text: &[u8]) -> usize
+    ensures { λ r. ⌜ Written (now (out .entry)) (now (out .exit)) 0 r (fileText (now (text .entry))) 24006 ⌝ }
+{
+    let output = read_output(text);
+    match output {
+        Output::UpTo(most) => put_rates(out, most),
+        Output::Unclear => 0,
+    }
+}

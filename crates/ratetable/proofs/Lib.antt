@@ -1,0 +1,3 @@
+pub mod Squares
+pub mod Table
+pub mod Filling
