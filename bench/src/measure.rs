@@ -11,8 +11,6 @@ pub struct Times {
     pub all: f64,
     /// mean count of stops
     pub stops: f64,
-    /// cases in which the plain planner chose the same amounts among equally cheap ones
-    pub alike: u64,
 }
 
 extern "C" {
@@ -52,6 +50,7 @@ type Planner = fn(
 ) -> u64;
 
 /// The lent slices.
+#[derive(PartialEq)]
 struct Lent {
     plan: Vec<u64>,
     splits: Vec<u64>,
@@ -70,11 +69,6 @@ impl Lent {
             report: [0; 2],
             worth: [0; 2],
         }
-    }
-
-    /// The cells that the papers settle: all but the amounts among equally cheap plans.
-    fn settled(&self) -> (&[u64], &[i64], [u64; 2], [i64; 2]) {
-        (&self.splits, &self.freights, self.report, self.worth)
     }
 
     /// Clears the slices, then plans; the seconds of the planning alone.
@@ -118,7 +112,7 @@ impl Drop for Lemon {
 }
 
 pub fn times(shape: Shape, cases: u64, repeats: u32) -> Times {
-    let mut sum = Times { proved: 0.0, plain: 0.0, one: 0.0, all: 0.0, stops: 0.0, alike: 0 };
+    let mut sum = Times { proved: 0.0, plain: 0.0, one: 0.0, all: 0.0, stops: 0.0 };
     for seed in 0..cases {
         let case = case(shape, seed);
         let (mut proved, mut plain) = (Lent::of(&case), Lent::of(&case));
@@ -132,8 +126,7 @@ pub fn times(shape: Shape, cases: u64, repeats: u32) -> Times {
             least_one = least_one.min(time);
             assert_eq!(freight, proved.worth[1], "LEMON's freight at the split given");
         }
-        assert!(proved.settled() == plain.settled(), "all that the papers settle agrees in each cell");
-        sum.alike += u64::from(proved.plan == plain.plan);
+        assert!(proved == plain, "the answers agree in each cell");
         let (all, best) = clocked(|| every_split(&lemon, &case));
         assert_eq!(best, (proved.worth[0], proved.report[0]), "LEMON's least total and its smallest split");
         sum.proved += least_proved;
@@ -149,7 +142,6 @@ pub fn times(shape: Shape, cases: u64, repeats: u32) -> Times {
         one: mean(sum.one),
         all: mean(sum.all),
         stops: mean(sum.stops),
-        alike: sum.alike,
     }
 }
 

@@ -34,7 +34,8 @@ extern "C" {
                 YADVORKHUL_MOST_AMOUNT on every lane is no bound
    table        one entry more than the first supply: entry y is the cost of both plants together when plant 1 makes y;
                 of any shape, steps and fixed charges included
-   plan         gets the amounts in its first m × n cells, in the order of the costs
+   plan         gets the amounts in its first m × n cells, in the order of the costs: of the cheapest plans at the split
+                given, the one that has the smaller amount at the first lane where it differs from another
    splits       gets the stops of the freight curve, rising: l, u, and each split between where the slope changes, no others;
                 give it one cell for each split, YADVORKHUL_MOST_SPLITS at most
    freights     gets the least freight at each stop; as long as splits
@@ -58,7 +59,7 @@ extern "C" {
    Answers 0 where the case is planned, or the number of the first test that it fails (1 to 9, 11, 23, 26 and 27, see
    docs/USING.md), or YADVORKHUL_SHORT_REPORT where report or worth is too short for anything to be told. On a refusal plan,
    splits, freights and worth keep their contents. All cells that are not named here keep theirs always. It needs about
-   97 kB of stack, and no heap. */
+   105 kB of stack, and no heap. */
 uint64_t yadvorkhul_plan(size_t m, size_t n, uint64_t run1, uint64_t run2,
                          const int64_t *costs, size_t costs_cells,
                          const uint64_t *supplies, size_t supplies_cells,

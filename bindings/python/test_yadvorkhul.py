@@ -33,18 +33,21 @@ def fill(n, total, most):
 
 
 def listed(costs, supplies, demands, table, runs, ceilings):
-    """Split, total, and f at each split that has a plan, by a listing of all plans; None where no split has one."""
+    """Split, total, f at each split that has a plan, and the first cheapest plan at the split, by a listing of all plans, which
+    rises lane by lane; None where no split has one."""
     m, n = len(supplies), len(demands)
     d = sum(demands) - sum(supplies[2:])
-    curve = {}
+    curve, first = {}, {}
+    spent = lambda p: sum(c * x for cr, xr in zip(costs, p) for c, x in zip(cr, xr))
     for y in range(max(runs[0], d - supplies[1]), min(supplies[0], d - runs[1]) + 1):
         plans = list(rows(m, n, [y, d - y] + supplies[2:], demands, ceilings))
         if plans:
-            curve[y] = min(sum(c * x for cr, xr in zip(costs, p) for c, x in zip(cr, xr)) for p in plans)
+            first[y] = min(plans, key=spent)
+            curve[y] = spent(first[y])
     if not curve:
         return None
     total, split = min((f + table[y], y) for y, f in curve.items())
-    return split, total, curve
+    return split, total, curve, first[split]
 
 
 class Cases(unittest.TestCase):
@@ -106,6 +109,10 @@ class Cases(unittest.TestCase):
         self.refused(27, 0, ceilings=[[1, 1], [4000] * 2, [4000] * 2], runs=(3, 0))
         with self.assertRaises(TypeError):
             plan(**A, ceilings=[[-1, 4000], [4000] * 2, [4000] * 2])
+
+    def test_one_plan_for_everybody(self):
+        found = self.expect(2, 25, costs=[[5, 5]] * 3, table=[9, 9, 0, 9])
+        self.assertEqual(found.amounts, [[0, 2], [2, 0], [1, 0]])
 
     def test_rebates(self):
         found = self.expect(3, -11, costs=[[2, 6], [5, 3], [1, -40]])
@@ -200,18 +207,14 @@ class Listing(unittest.TestCase):
                 self.assertEqual((caught.exception.number, caught.exception.place), (number, 0))
                 without += number == 27
                 continue
-            self.check(plan(*case), d, *case)
+            self.check(plan(*case), *case)
             planned += 1
         self.assertGreater(without, 50)
 
-    def check(self, found, d, costs, supplies, demands, table, runs, ceilings):
-        split, total, curve = listed(costs, supplies, demands, table, runs, ceilings)
+    def check(self, found, costs, supplies, demands, table, runs, ceilings):
+        split, total, curve, due = listed(costs, supplies, demands, table, runs, ceilings)
         self.assertEqual((found.split, found.total, found.freight), (split, total, curve[split]))
-        self.assertEqual([sum(row) for row in found.amounts], [split, d - split] + supplies[2:])
-        self.assertEqual([sum(column) for column in zip(*found.amounts)], demands)
-        self.assertTrue(all(0 <= x <= u for xr, ur in zip(found.amounts, ceilings) for x, u in zip(xr, ur)))
-        spent = sum(c * x for cr, xr in zip(costs, found.amounts) for c, x in zip(cr, xr))
-        self.assertEqual(spent, found.freight)
+        self.assertEqual(found.amounts, due)
         ends = min(curve), max(curve)
         bends = [y for y in curve if y in ends or curve[y - 1] + curve[y + 1] != 2 * curve[y]]
         self.assertEqual(found.stops, [(y, curve[y]) for y in bends])

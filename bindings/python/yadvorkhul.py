@@ -77,7 +77,8 @@ class Refusal(ValueError):
 
 
 class Plan(NamedTuple):
-    """A cheapest plan."""
+    """The cheapest plan that is due: of those at the split the one that has the smaller amount at the first lane, in row order, where
+    it differs from another. Equal cases get equal plans."""
 
     split: int  # what plant 1 makes: the smallest of the splits with the least total
     total: int  # freight plus the table's entry at the split
@@ -136,7 +137,7 @@ def _lanes(rows, m, n):
 
 
 def plan(costs, supplies, demands, table, runs=(0, 0), ceilings=None) -> Plan:
-    """A cheapest plan, or a `Refusal`.
+    """The plan, or a `Refusal`.
 
     costs     a row for each source: its unit cost to each terminal, below 0 for a rebate
     supplies  the most each of the two plants can make, then each depot's stock, which must all leave

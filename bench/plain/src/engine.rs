@@ -1,5 +1,7 @@
-//! Search, send, step 1 and the climb, as in crates/{residual,paths,augment,range,stretch,sweep}.
+//! Search, send, step 1 and the climb, as in crates/{residual,paths,augment,reachability,canonical,range,stretch,sweep}.
 #![allow(clippy::too_many_arguments)]
+
+use super::canon::canonize;
 
 /// Above every label.
 const FAR: u32 = 2_000_000_000;
@@ -186,7 +188,7 @@ fn lower(gap: u32, dist: &Nodes, pot: &mut Nodes) {
     }
 }
 
-fn push(prev: &Nodes, count: u32, goal: usize, amount: u32, x: &mut Cells) {
+pub fn push(prev: &Nodes, count: u32, goal: usize, amount: u32, x: &mut Cells) {
     let mut v = goal;
     for _ in 0..count {
         let w = prev[v] as usize;
@@ -200,7 +202,7 @@ fn push(prev: &Nodes, count: u32, goal: usize, amount: u32, x: &mut Cells) {
 }
 
 /// Sets the bit of each lane that a path brings drums on.
-fn mark(prev: &Nodes, count: u32, goal: usize, serves: &mut Masks) {
+pub fn mark(prev: &Nodes, count: u32, goal: usize, serves: &mut Masks) {
     let mut v = goal;
     for _ in 0..count {
         let w = prev[v] as usize;
@@ -212,7 +214,7 @@ fn mark(prev: &Nodes, count: u32, goal: usize, serves: &mut Masks) {
 }
 
 /// The arcs of the path from start to goal, and how many drums can go along it.
-fn measure(prev: &Nodes, start: usize, goal: usize, limit: u32, x: &Cells, cap: &Cells) -> (u32, u32) {
+pub fn measure(prev: &Nodes, start: usize, goal: usize, limit: u32, x: &Cells, cap: &Cells) -> (u32, u32) {
     let (mut v, mut count, mut amount) = (goal, 0, limit);
     while v != start {
         let w = prev[v] as usize;
@@ -385,6 +387,7 @@ pub fn sweep(
     let freight: u64 = cost.iter().zip(x.iter()).map(|(&c, &x)| u64::from(c) * u64::from(x)).sum();
     let mut best = Incumbent { split: lo, total: freight + table[lo as usize], freight };
     *kept = *x;
+    let mut prices = *pot;
     let (mut y, mut value, mut count, mut rise, mut fall) = (lo, freight, 0, 0, 0);
     let mut note = |count: &mut usize, y: u64, value: u64| {
         splits[*count] = y;
@@ -407,6 +410,9 @@ pub fn sweep(
         push(&found.prev, hops, 1, amount, x);
         mark(&found.prev, hops, 1, serves);
         lower(gap, &found.dist, pot);
+        if y < held.split {
+            prices = *pot;
+        }
         if y == lo || gain + fall != loss + rise {
             note(&mut count, y, value);
         }
@@ -416,5 +422,6 @@ pub fn sweep(
         best = held;
     }
     note(&mut count, y, value);
+    canonize(m, n, cost, cap, &prices, kept);
     Curve { split: best.split, total: best.total, freight: best.freight, stops: count }
 }

@@ -1,6 +1,7 @@
 //! The proved planner's method in plain Rust: the same functions, arrays and widths, with Rust's own checks in place of the
 //! proofs. It answers as the proved one does, in the same cells.
 
+mod canon;
 mod engine;
 
 use self::engine::{begin, sweep, Cells, Curve};

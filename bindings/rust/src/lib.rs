@@ -197,7 +197,8 @@ pub struct Case {
     pub ceilings: Option<Vec<u64>>,
 }
 
-/// A cheapest plan.
+/// The cheapest plan that is due: of those at the split the one that has the smaller amount at the first lane, in row order, where
+/// it differs from another. Equal cases get equal plans.
 #[derive(Clone, Debug, PartialEq, Eq)]
 pub struct Plan {
     /// What plant 1 makes: the smallest of the splits with the least total.
@@ -222,7 +223,7 @@ pub struct Stop {
 }
 
 impl Case {
-    /// A cheapest plan, or the first refusal.
+    /// The plan, or the first refusal.
     pub fn plan(&self) -> Result<Plan, Refusal> {
         let (m, n) = (self.supplies.len(), self.demands.len());
         // Room for any case that is accepted: refusal 11 cannot arise.

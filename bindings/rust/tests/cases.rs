@@ -113,6 +113,26 @@ fn ceilings() {
     expect_refusal(&Lent { table: vec![99, 20, 1_000_000_001, 0], ..narrow }, 9, 2);
 }
 
+/// All lanes cost the same: of the many cheapest plans the one that has the smaller amount at the first lane where it differs.
+#[test]
+fn one_plan_for_everybody() {
+    let with = |costs: [i64; 6], table: [u64; 4]| Lent { costs: costs.to_vec(), table: table.to_vec(), ..Lent::a() };
+    let plan = |lent: &Lent| lent.call().plan[..6].to_vec();
+    // split 1, 2 and 3: plant 1 sends to terminal 2 what that takes, then plant 2 likewise
+    assert_eq!(plan(&with([5; 6], [9, 0, 9, 9])), [0, 1, 2, 1, 1, 0]);
+    assert_eq!(plan(&with([5; 6], [9, 9, 0, 9])), [0, 2, 2, 0, 1, 0]);
+    assert_eq!(plan(&with([5; 6], [9, 9, 9, 0])), [1, 2, 1, 0, 1, 0]);
+    // the depot costs the same everywhere, the plants do not
+    assert_eq!(plan(&with([1, 2, 1, 2, 7, 7], [9, 9, 0, 9])), [1, 1, 2, 0, 0, 1]);
+    assert_eq!(plan(&with([1, 2, 2, 1, 7, 7], [9, 9, 0, 9])), [2, 0, 0, 2, 1, 0]);
+    // a ceiling turns one drum another way
+    let narrow = Lent { ceilings: vec![4_000, 1, 4_000, 4_000, 4_000, 4_000], ..with([5; 6], [9, 9, 0, 9]) };
+    assert_eq!(plan(&narrow), [1, 1, 1, 1, 1, 0]);
+    for lent in [narrow, with([5; 6], [9, 0, 9, 9]), with([1, 2, 1, 2, 7, 7], [9, 9, 0, 9])] {
+        assert_eq!(expect_referee(&lent), 0);
+    }
+}
+
 /// Rebates: a curve that is negative throughout, and one that passes 0.
 #[test]
 fn rebates() {

@@ -10,14 +10,15 @@ use common::{expect_plan, expect_referee, referee, Lent};
 fn against_referee(name: &str, seed: u64, count: usize, limits: Limits) {
     let times = std::env::var("YADVORKHUL_CASES").ok().and_then(|t| t.parse().ok()).unwrap_or(1);
     let mut random = Random::new(seed);
-    let (mut splits, mut stops) = (0, 0);
+    let (mut splits, mut stops, mut lanes) = (0, 0, 0);
     for _ in 0..count * times {
         let (lent, least, curve) = accepted(&mut random, limits);
         expect_plan(&lent, least, &curve);
         splits += curve.len();
         stops += referee::stops(least, &curve).len();
+        lanes += lent.m * lent.n;
     }
-    println!("{name}: {} cases, {splits} splits, {stops} stops agree", count * times);
+    println!("{name}: {} cases, {splits} splits, {stops} stops, {lanes} lanes agree", count * times);
 }
 
 #[test]
@@ -53,6 +54,21 @@ fn two_plants_no_depot() {
 #[test]
 fn one_terminal() {
     against_referee("one terminal", 17, 500, Limits { sources: (2, 32), terminals: (1, 1), amount: 200 });
+}
+
+/// Few unit costs, so that most cases have many cheapest plans.
+#[test]
+fn ties() {
+    let mut random = Random::new(20);
+    for round in 0..3_000 {
+        let small = Limits { sources: (2, 5), terminals: (1, 6), amount: 9 };
+        let large = Limits { sources: (2, 32), terminals: (1, 64), amount: 400 };
+        let (mut lent, ..) = accepted(&mut random, if round % 10 > 0 { small } else { large });
+        let most = random.signed(0, 2);
+        lent.costs.iter_mut().for_each(|c| *c = random.signed(0, most));
+        lent.table.fill(random.within(0, 9));
+        assert_eq!(expect_referee(&lent), 0);
+    }
 }
 
 /// Ceilings drawn without a plan in mind: a plan is given or refused as the referee says.
@@ -92,6 +108,10 @@ fn against_listing(lent: &Lent, least: u64, curve: &[i64]) {
     let (_, l, u) = referee::splits(lent);
     for y in l..=u {
         let f = y.checked_sub(least).and_then(|k| curve.get(k as usize));
-        assert_eq!(referee::listed(lent, y).as_ref(), f, "split {y}; {lent:?}");
+        let listed = referee::listed(lent, y);
+        assert_eq!(listed.as_ref().map(|l| &l.0), f, "split {y}; {lent:?}");
+        if let Some((_, plan)) = listed {
+            assert_eq!(referee::foremost(lent, y), plan, "the plan due at split {y}; {lent:?}");
+        }
     }
 }

@@ -38,7 +38,7 @@ fn give(k: usize, amount: u32, x: &mut [u32; 2048])
 }
 
 // Carries amount over the arc from w to v.
-fn carry(v: usize, w: usize, amount: u32, x: &mut [u32; 2048])
+pub fn carry(v: usize, w: usize, amount: u32, x: &mut [u32; 2048])
     requires { ⌜ CarryReady v w amount (now x) ⌝ }
     ensures { λ _. ⌜ Carried v w amount (now (x .entry)) (now (x .exit)) ⌝ }
 {
@@ -65,7 +65,7 @@ pub fn push(prev: &[u32; 96], count: u32, goal: usize, amount: u32, x: &mut [u32
 }
 
 // Notes that source w serves terminal v - 32, where the arc from w to v leads to a terminal.
-fn serve(v: usize, w: usize, serves: &mut [u32; 64])
+pub fn serve(v: usize, w: usize, serves: &mut [u32; 64])
     requires { ⌜ (v < 96) × (32 ≤ v → w < 32) ⌝ }
     ensures { λ _. ⌜ Served v w (now (serves .entry)) (now (serves .exit)) ⌝ }
 {

@@ -15,4 +15,5 @@ pub mod CaseFiles
 pub mod Lengths
 pub mod Refusals
 pub mod Printing
+pub mod EqualCases
 pub mod Cuts

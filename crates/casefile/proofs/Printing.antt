@@ -8,18 +8,18 @@ use native.Mathlib.Omega.{arith}
 use borrow.Author.Tests.{ltb-false}
 use lib.IntN.{ℤ, pos, negsuc, natAbs}
 use lib.ListN.{length, getD, take, drop, length-append}
-use lib.Seq.{take-at}
 use Rattle.transport.specs.Plan.{byRow, col}
 use Rattle.transport.proofs.Sums.{sum-at}
 use Rattle.csvtext.specs.Text.{planText, refusalText}
 use Rattle.csvtext.specs.Writing.{Fits}
 use Rattle.planner.specs.Case.{Case}
 use Rattle.planner.specs.Range.{outside}
-use Rattle.planner.specs.Plans.{PlanAt}
+use Rattle.planner.specs.Plans.{PlanAt, planFor}
 use Rattle.planner.specs.Outcome.{Outcome, planned, refused, outcomeOf}
 use Rattle.planner.specs.Verdict.{lent}
 use Rattle.planner.specs.Answer.{Slices, Written, Answered}
 use Rattle.planner.proofs.Passed.{Formed}
+use Rattle.planner.proofs.OnePlan.{first-cells}
 use Rattle.casefile.specs.declared.planned.Printed.{Printed}
 use Rattle.casefile.specs.Printed.{filedCase, Told, PlanPrinted, OutcomePrinted, CasePrinted}
 use Rattle.casefile.proofs.Refusals.{planned-formed}
@@ -82,11 +82,11 @@ module _ {m n : ℕ} {costs : List ℤ} {supplies demands ceilings table : List 
     within = omega (arith, w .cheapest .own-split, w .cheapest .plan .plant1, form .table-long)
 
     -- the first m × n cells are the amounts
-    cut : take (m * n) (after .plan) ≡ w .amounts
-    cut = ap (λ (l : List ℕ). take (m * n) l) (w .cells) ∙ take-at (w .amounts) (drop (length (w .amounts)) (before .plan)) (m * n) (w .plan .plan .cells)
+    cut : take (m * n) (after .plan) ≡ planFor C s
+    cut = first-cells w
 
     room : m * n ≤ length (after .plan)
-    room = omega (arith, ap length (w .cells), length-append (w .amounts) (drop (length (w .amounts)) (before .plan)), w .plan .plan .cells)
+    room = omega (arith, ap length (w .cells), length-append (planFor C s) (drop (length (planFor C s)) (before .plan)), w .plan .plan .cells)
 
     fits : Fits m n costs (take (m * n) (after .plan))
     fits = rw cut (record {
@@ -95,7 +95,7 @@ module _ {m n : ℕ} {costs : List ℤ} {supplies demands ceilings table : List 
       narrow-costs = record { there = omega (arith, form .costs-long); below = λ k h. omega (arith, small-cost _ (form .cost-inside k h)) };
       narrow-plan = record {
         there = omega (arith, w .plan .plan .cells);
-        below = λ k h. omega (arith, small-amount C s (w .amounts) form (w .plan) k h);
+        below = λ k h. omega (arith, small-amount C s (planFor C s) form (w .plan) k h);
       };
     })
 
@@ -113,7 +113,7 @@ module _ {m n : ℕ} {costs : List ℤ} {supplies demands ceilings table : List 
           let et : t ≡ t′ = cc in
           subst (λ (x : ℕ). PlanPrinted C x t′ out out′ answer) es
           (subst (λ (y : ℤ). PlanPrinted C s y out out′ answer) et
-          (record { amounts = w .amounts; plan = w .plan; freight = w .freight; cheapest = w .cheapest; text = rw cut at told }));
+          (record { plan = w .plan; freight = w .freight; cheapest = w .cheapest; text = rw cut at told }));
     }
 
   refusal-lent : {number place : ℕ} → o ≡ refused number place → {out out′ : List ℕ} {answer : Printed} → Told number place m n (refusalText number place) out out′ answer

@@ -1,6 +1,5 @@
--- Where the outcome of a case is a plan, all tests pass; two cases alike in their outcome. Assumes nothing.
+-- Two cases alike in their outcome; which refusals no case of two files has. Assumes nothing.
 use mathlib.Core.Path.{_≡_, refl, sym, ap, _∙_}
-use mathlib.Core.Bool.{Bool, true, false}
 use mathlib.Core.Option.{Option, none, some}
 use mathlib.Core.List.{List, [], _∷_}
 use Prim.Native.Nat.{ℕ, _+_, _*_, _≤_, _<_}
@@ -10,10 +9,11 @@ use lib.IntN.{ℤ}
 use lib.ListN.{length, getD, replicate}
 use borrow.Author.Tests.{le-ltb}
 use Rattle.planner.specs.Case.{Case, steps}
-use Rattle.planner.specs.Outcome.{Outcome, planned, refused, refuseIf, refuseAt, _orElse_, formRefusal, refusalOf, planOf, outcomeOf}
-use Rattle.planner.specs.Outcome.{test1, test2, test3, test4, test23, test5, test26, test6, test7, test8, test27, test9, test11}
+use Rattle.planner.specs.Outcome.{Outcome, planned, refused, formRefusal, outcomeOf}
+use Rattle.planner.specs.Outcome.{test1, test2, test23, test26, test11}
 use Rattle.planner.specs.Verdict.{firstOutside, amountsRefusal, runsRefusal, ceilingsRefusal, AtMost}
 use Rattle.planner.proofs.Passed.{some≢none, Formed, formed, accepted}
+use Rattle.planner.proofs.Numbers.{planned-passes}
 use Rattle.planner.proofs.Promise.{refused-outcome}
 use Rattle.planner.proofs.Splits.{greatest-most}
 use Rattle.planner.proofs.Earlier as earlier
@@ -23,56 +23,10 @@ use Rattle.planner.proofs.TestLaws.{unmet, amounts-none, runs-pass}
 use Rattle.planner.proofs.FormLaws.{Limits, by-amounts, by-cost, by-table}
 use Rattle.casefile.specs.Printed.{filedCase, caseOf, fileCase}
 
--- ---- no test answers a plan
-
-abbrev Refuses : Option Outcome → Type 0
-Refuses o = (s : ℕ) (t f : ℤ) (k : ℕ) → o ≡ some (planned s t f k) → ⊥
-
-refuses-if : (k : ℕ) (b : Bool) → Refuses (refuseIf k b)
-unfolding refuseIf
-refuses-if k true s t f j e = let z : _≡_ {A = ℕ} 0 1 = cc in omega arith
-refuses-if k false s t f j e = let z : _≡_ {A = ℕ} 0 1 = cc in omega arith
-
-refuses-at : (k : ℕ) (o : Option ℕ) → Refuses (refuseAt k o)
-unfolding refuseAt
-refuses-at k none s t f j e = let z : _≡_ {A = ℕ} 0 1 = cc in omega arith
-refuses-at k (some p) s t f j e = let z : _≡_ {A = ℕ} 0 1 = cc in omega arith
-
-refuses-either : (a b : Option Outcome) → Refuses a → Refuses b → Refuses (a orElse b)
-unfolding _orElse_
-refuses-either none b h l = l
-refuses-either (some r) b h l = h
-
 module _ (c : Case) where
-  refuses-form : Refuses (formRefusal c)
-  unfolding formRefusal test1 test2 test3 test4 test23 test5 test26 test6
-  refuses-form =
-      refuses-either (test1 c) _ (refuses-if 1 _)
-      (refuses-either (test2 c) _ (refuses-if 2 _)
-      (refuses-either (test3 c) _ (refuses-if 3 _)
-      (refuses-either (test4 c) _ (refuses-at 4 _)
-      (refuses-either (test23 c) _ (refuses-at 23 _)
-      (refuses-either (test5 c) _ (refuses-at 5 _)
-      (refuses-either (test26 c) _ (refuses-either _ _ (refuses-if 26 _) (refuses-at 26 _)) (refuses-if 6 _)))))))
-
-  refuses-all : Refuses (refusalOf c)
-  unfolding refusalOf test7 test8 test27 test9 test11
-  refuses-all =
-      refuses-either (formRefusal c) _ refuses-form
-      (refuses-either (test7 c) _ (refuses-if 7 _)
-      (refuses-either (test8 c) _ (refuses-if 8 _)
-      (refuses-either (test27 c) _ (refuses-if 27 _) (refuses-either (test9 c) _ (refuses-at 9 _) (refuses-if 11 _)))))
-
-  pub planned-passes : (s : ℕ) (t f : ℤ) (k : ℕ) → outcomeOf c ≡ planned s t f k → refusalOf c ≡ none
-  unfolding outcomeOf
-  planned-passes s t f k e = step (refusalOf c) refuses-all e
-    where
-      step : (o : Option Outcome) → Refuses o → (elim o [ some r ↦ r | none ↦ planOf c ]) ≡ planned s t f k → o ≡ none
-      step none h q = refl
-      step (some r) h q = absurd (h s t f k (ap some q))
-
+  -- where the outcome is a plan, the case has passed the tests before the balance
   pub planned-formed : (s : ℕ) (t f : ℤ) (k : ℕ) → outcomeOf c ≡ planned s t f k → Formed c
-  planned-formed s t f k e = formed c (accepted c (planned-passes s t f k e) .form)
+  planned-formed s t f k e = formed c (accepted c (planned-passes c s t f k e) .form)
 
 -- ---- two cases with one outcome, which are one case where that is a plan
 

@@ -8,7 +8,7 @@ use lib.ListN.{length, replicate}
 use lib.Seq.{sets}
 use Rattle.csvtext.specs.Text.{planText, refusalText}
 use Rattle.planner.specs.Case as planner-case
-use Rattle.planner.specs.Plans.{PlanAt, freightOf, leastFreightAt}
+use Rattle.planner.specs.Plans.{PlanAt, freightOf, leastFreightAt, planFor}
 use Rattle.planner.specs.Outcome.{Outcome, planned, refused, outcomeOf}
 use Rattle.planner.specs.Promise.{Cheapest}
 use Rattle.planner.specs.Verdict.{lent}
@@ -64,13 +64,12 @@ pub record Told (number place sources terminals : ℕ) (text out out′ : List �
   pub sources-told : answer .sources ≡ sources
   pub terminals-told : answer .terminals ≡ terminals
 
--- a plan is printed: the lane amounts are left to the program, so they are named, with what holds of them
+-- the plan for everybody at this split is printed, with what holds of it
 pub record PlanPrinted (c : planner-case.Case) (split : ℕ) (total : ℤ) (out out′ : List ℕ) (answer : Printed) : Type 0 where
-  pub amounts : List ℕ
-  pub plan : PlanAt c split amounts
-  pub freight : freightOf c amounts ≡ leastFreightAt c split
-  pub cheapest : Cheapest c amounts split total
-  pub text : Told 0 0 (c .m) (c .n) (planText (c .m) (c .n) (c .costs) amounts split (planner-case.entry c split)) out out′ answer
+  pub plan : PlanAt c split (planFor c split)
+  pub freight : freightOf c (planFor c split) ≡ leastFreightAt c split
+  pub cheapest : Cheapest c (planFor c split) split total
+  pub text : Told 0 0 (c .m) (c .n) (planText (c .m) (c .n) (c .costs) (planFor c split) split (planner-case.entry c split)) out out′ answer
 
 -- what is printed of a case with the outcome o: the refusal's two numbers, or the plan
 pub record OutcomePrinted (c : planner-case.Case) (o : Outcome) (sources terminals : ℕ) (out out′ : List ℕ) (answer : Printed) : Type 0 where
@@ -85,6 +84,15 @@ CasePrinted c out out′ answer = OutcomePrinted c (outcomeOf c) (c .m) (c .n) o
 abbrev pub FilesPrinted : List ℕ → List ℕ → List ℕ → List ℕ → Printed → Type 0
 FilesPrinted t p out out′ answer =
     OutcomePrinted (fileCase t p) (fileOutcome t p) (sourcesTold (caseAnswer t p)) (terminalsTold (caseAnswer t p)) out out′ answer
+
+-- the bytes of an outcome: the plan for everybody, or the refusal
+unfoldable pub outcomeText : planner-case.Case → Outcome → List ℕ
+outcomeText c (planned split total freight stops) = planText (c .m) (c .n) (c .costs) (planFor c split) split (planner-case.entry c split)
+outcomeText c (refused number place) = refusalText number place
+
+-- the bytes that two files get, from the files alone
+abbrev pub filesText : List ℕ → List ℕ → List ℕ
+filesText t p = outcomeText (fileCase t p) (fileOutcome t p)
 
 -- a file is not refused by 20 to 22
 abbrev pub stands : Table → Bool

@@ -30,7 +30,8 @@ worthOf (refused k p) = []
 abbrev pub shortReport : ℕ
 shortReport = 34
 
--- both are long enough: the number, the report and the worth are those of the outcome, the lent slices are as the planner promises
+-- both are long enough: the number, the report and the worth are those of the outcome, the lent slices are as the planner promises, the plan's cells
+-- too (`Written.cells`), so nothing that is told is left to the program
 pub record Told (c : Case) (before after : Slices) (report reported : List ℕ) (worth valued : List ℤ) (r : ℕ) : Type 0 where
   pub number : r ≡ numberOf (outcomeOf c)
   pub cells : reported ≡ written (reportOf (outcomeOf c)) report

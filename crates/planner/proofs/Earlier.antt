@@ -1,4 +1,4 @@
--- The definitions as they were before lanes had ceilings: splits, freights, stops, refusals and outcome of a case whose ceilings are not looked at.
+-- The definitions without lane ceilings: splits, freights, the plan for everybody, stops, refusals and outcome of a case whose ceilings are not looked at.
 -- Assumes nothing.
 use mathlib.Core.Path.{_≡_}
 use mathlib.Core.Bool.{_||_}
@@ -9,9 +9,10 @@ use lib.Dec.{ltb}
 use lib.IntN.{ℤ, pos, _+ℤ_}
 use lib.ListN.{length}
 use Rattle.transport.specs.Plan.{byRow}
-use Rattle.transport.specs.Listing.{listing}
+use Rattle.transport.specs.Listing.{listing, select}
 use Rattle.transport.specs.Curve.{amountsAt}
-use Rattle.planner.specs.Integer.{leastℤ}
+use Rattle.transport.specs.Canonical.{first}
+use Rattle.planner.specs.Integer.{eqZ, leastℤ}
 use Rattle.planner.specs.Freight.{ratesByRow, freightℤ, stopsOfℤ, bestFromℤ}
 use Rattle.planner.specs.Case.{Case, supply, demand, entry, made}
 use Rattle.planner.specs.Plans.{rowSum, columnSum}
@@ -42,6 +43,13 @@ unfoldable pub leastFreightAt : Case → ℕ → ℤ
 leastFreightAt c y =
     leastℤ
     (map (λ x. freightℤ (c .m) (c .n) (ratesByRow (c .n) (c .costs)) (byRow (c .n) x)) (listing (c .m) (c .n) (amountsAt (made c) (λ i. supply c i) y) (λ j. demand c j)))
+
+-- the first plan of that freight in the listing of all plans at split y
+unfoldable pub planFor : Case → ℕ → List ℕ
+planFor c y =
+    first
+    (select (λ x. eqZ (freightℤ (c .m) (c .n) (ratesByRow (c .n) (c .costs)) (byRow (c .n) x)) (leastFreightAt c y))
+    (listing (c .m) (c .n) (amountsAt (made c) (λ i. supply c i) y) (λ j. demand c j)))
 
 unfoldable pub totalAt : Case → ℕ → ℤ
 totalAt c y = leastFreightAt c y +ℤ pos (entry c y)

@@ -11,13 +11,14 @@ use lib.IntN.{ℤ, pos, negsuc}
 use Rattle.planner.specs.Integer.{eqZ}
 use borrow.Author.Tests.{eqb-true}
 use Rattle.planner.specs.Case.{Case}
-use Rattle.planner.specs.Plans.{stops, stopFreights}
+use Rattle.planner.specs.Plans.{planFor, bestSplit, stops, stopFreights}
 use Rattle.planner.specs.Outcome.{Outcome, planned, refused, refusalOf, outcomeOf}
 
--- a case, its outcome, its stops and f at each (none where it is refused)
+-- a case, its outcome, the amounts of the plan given, the stops and f at each (none where it is refused)
 pub record Example : Type 0 where
   pub given : Case
   pub outcome : Outcome
+  pub amounts : List ℕ
   pub splits : List ℕ
   pub freights : List ℤ
 
@@ -25,9 +26,14 @@ pub record Example : Type 0 where
 unfoldable pub whereAccepted : {A : Type 0} → (Case → List A) → Case → List A
 whereAccepted g c = elim (refusalOf c) [ some r ↦ [] | none ↦ g c ]
 
+-- the plan given: the one for everybody at the best split
+unfoldable pub planGiven : Case → List ℕ
+planGiven c = planFor c (bestSplit c)
+
 -- the definitions give the example what it says
 pub record Right (e : Example) : Type 0 where
   pub outcome-is : outcomeOf (e .given) ≡ e .outcome
+  pub amounts-are : whereAccepted planGiven (e .given) ≡ e .amounts
   pub splits-are : whereAccepted stops (e .given) ≡ e .splits
   pub freights-are : whereAccepted stopFreights (e .given) ≡ e .freights
 
@@ -54,7 +60,8 @@ sameOutcome (refused n p) (refused n' p') = eqb n n' && eqb p p'
 unfoldable pub right : Example → Bool
 right e =
     sameOutcome (outcomeOf (e .given)) (e .outcome)
-    && (sameList (whereAccepted stops (e .given)) (e .splits) && sameIntegers (whereAccepted stopFreights (e .given)) (e .freights))
+    && (sameList (whereAccepted planGiven (e .given)) (e .amounts)
+    && (sameList (whereAccepted stops (e .given)) (e .splits) && sameIntegers (whereAccepted stopFreights (e .given)) (e .freights)))
 
 -- each example of the table passes
 unfoldable pub allRight : List Example → Bool
@@ -119,10 +126,12 @@ right-is : (e : Example) → right e ≡ true → Right e
 unfolding right
 right-is e t =
     let t' = both-right (sameOutcome (outcomeOf (e .given)) (e .outcome)) _ t in
+    let t'' = both-right (sameList (whereAccepted planGiven (e .given)) (e .amounts)) _ t' in
     record {
       outcome-is = sameOutcome-is (outcomeOf (e .given)) (e .outcome) (both-left (sameOutcome (outcomeOf (e .given)) (e .outcome)) _ t);
-      splits-are = sameList-is (whereAccepted stops (e .given)) (e .splits) (both-left (sameList (whereAccepted stops (e .given)) (e .splits)) _ t');
-      freights-are = sameIntegers-is (whereAccepted stopFreights (e .given)) (e .freights) (both-right (sameList (whereAccepted stops (e .given)) (e .splits)) _ t');
+      amounts-are = sameList-is (whereAccepted planGiven (e .given)) (e .amounts) (both-left (sameList (whereAccepted planGiven (e .given)) (e .amounts)) _ t');
+      splits-are = sameList-is (whereAccepted stops (e .given)) (e .splits) (both-left (sameList (whereAccepted stops (e .given)) (e .splits)) _ t'');
+      freights-are = sameIntegers-is (whereAccepted stopFreights (e .given)) (e .freights) (both-right (sameList (whereAccepted stops (e .given)) (e .splits)) _ t'');
     }
 
 -- the test of a whole table, at each example of it

@@ -3,10 +3,11 @@ use mathlib.Core.Path.{_≡_, sym, ap, ap₂, _∙_, subst, subst₂}
 use mathlib.Core.Bool.{Bool, true, false, not, cond}
 use Prim.Native.Nat.{ℕ, zero, suc, _+_, _*_, _-_, _≤_, _<_}
 use native.Mathlib.Omega.{arith}
+use native.Mathlib.Nat.{le-antisymm, mul-le-mul-right, suc-mul}
 use native.Mathlib.Decide.{decLt, ℕ-discrete}
 use lib.Dec.{T, ltb, leb, eqb, ltb→lt, nltb→le, lt→ltb, le→leb, leb→le}
-use lib.IntN.{ℤ, pos, negsuc, negℤ, subℕ, _+ℤ_, _-ℤ_, _*ℤ_}
-use lib.Signed.{ltZ, leZ, _≤ℤ_, _<ℤ_, leZ-yes, ltZ-yes}
+use lib.IntN.{ℤ, pos, negsuc, negℤ, subℕ, natAbs, _+ℤ_, _-ℤ_, _*ℤ_}
+use lib.Signed.{ltZ, leZ, _≤ℤ_, _<ℤ_, leZ-yes, ltZ-yes, ≤ℤ-refl}
 use borrow.Author.Tests.{lt-ltb, le-ltb, le-leb, lt-leb, eq-eqb, ne-eqb}
 use Rattle.planner.specs.Integer.{eqZ, Above}
 
@@ -171,6 +172,11 @@ above-pos {k} {z} {n} m e = record { is = above-add e (above-zero m) .is ∙ ap 
 -- a multiple
 pub above-scale : {k : ℕ} {z : ℤ} {n : ℕ} (m : ℕ) → Above k z n → Above (k * m) (z *ℤ pos m) (n * m)
 above-scale {k} {z} {n} m e = record { is = ap (λ (a : ℤ). a *ℤ pos m) (e .is) ∙ sub-scale n k m }
+
+-- one integer stands one number above -k
+pub above-one : {k : ℕ} {z w : ℤ} {n m : ℕ} → Above k z n → Above k w m → z ≡ w → n ≡ m
+above-one {z = z} e d q =
+    le-antisymm (at-most-above e d (subst (λ (w : ℤ). z ≤ℤ w) q (≤ℤ-refl z))) (at-most-above d e (subst (λ (w : ℤ). w ≤ℤ z) q (≤ℤ-refl z)))
 
 -- as far above -k, so the same
 pub above-same : {k : ℕ} {z w : ℤ} {n : ℕ} → Above k z n → Above k w n → z ≡ w

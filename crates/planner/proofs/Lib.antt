@@ -19,5 +19,6 @@ pub mod FormLaws
 pub mod Copies
 pub mod Solution
 pub mod Decide
+pub mod OnePlan
 pub mod Earlier
 pub mod Unchanged

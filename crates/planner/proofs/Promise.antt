@@ -47,6 +47,11 @@ module _ (c : Case) where
       step none q = let z : _≡_ {A = ℕ} 0 1 = cc in absurd (omega arith)
       step (some r) q = ap some q
 
+  -- and a plan where none does
+  pub planned-outcome : refusalOf c ≡ none → outcomeOf c ≡ planOf c
+  unfolding outcomeOf
+  planned-outcome e = rw (e, outcomeOf) refl
+
 -- refused by 7, 8 or 27
 abbrev pub RefusedForBalance : Case → Type 0
 RefusedForBalance c = (refusalOf c ≡ some (refused 7 0)) ⊎ ((refusalOf c ≡ some (refused 8 0)) ⊎ (refusalOf c ≡ some (refused 27 0)))

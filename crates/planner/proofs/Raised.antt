@@ -11,19 +11,20 @@ use lib.Signed.{_≤ℤ_}
 use lib.ListN.{getD}
 use Rattle.transport.specs.Plan.{byRow, freight}
 use Rattle.transport.specs.Curve.{amountsAt, leastIn, stopsOf, bestFrom}
+use Rattle.transport.specs.Canonical.{canonicalAt}
 use Rattle.transport.proofs.WithinCeilings.{least-in-low, least-in-met}
 use Rattle.transport.proofs.BestSplit.{Best, bestFrom-best}
 use Rattle.planner.specs.Integer.{Above}
 use Rattle.planner.specs.Freight.{ratesByRow, leastAtℤ}
 use Rattle.planner.specs.Range.{outside, raisedOf, lower}
 use Rattle.planner.specs.Case.{Case, supply, demand, ceiling, entry, allDemand, made, leastSplit, greatestSplit, steps}
-use Rattle.planner.specs.Plans.{PlanAt, freightOf, leastFreightAt, totalAt, bestSplit, stops, stopFreights}
+use Rattle.planner.specs.Plans.{PlanAt, freightOf, leastFreightAt, planFor, totalAt, bestSplit, stops, stopFreights}
 use Rattle.planner.proofs.Passed.{Formed}
 use Rattle.planner.proofs.Splits.{Fitting, last-split, plan-exists}
 use Rattle.planner.proofs.Integers.{above-pos, above-at-most}
 use Rattle.planner.proofs.Machine.{raised-is, raised-above}
 use Rattle.planner.proofs.Raises.{map-at}
-use Rattle.planner.proofs.Shift.{Raised, plan-above, least-freight-above, best-above, stops-above, freights-above}
+use Rattle.planner.proofs.Shift.{Raised, plan-above, least-freight-above, canonical-above, best-above, stops-above, freights-above}
 
 -- ---- the raised case
 
@@ -84,12 +85,20 @@ module _ {c : Case} (f : Formed c) where
   unfolding freightOf raisedFreight added allDemand
   freight-above y x p = plan-above costs-raised (amountsAt (made c) (λ i. supply c i) y) (λ j. demand c j) x (p .plan)
 
+  -- f where there is a plan
+  pub least-at-above : (y : ℕ) (x : List ℕ) → PlanAt c y x → Above (added c) (leastFreightAt c y) (raisedAt c y)
+  unfolding leastFreightAt leastAtℤ raisedAt leastIn added allDemand
+  least-at-above y x p = least-freight-above costs-raised (ceiling c) (amountsAt (made c) (λ i. supply c i) y) (λ j. demand c j) x p
+
+  -- the plan for everybody is that of the raised costs
+  pub plan-for-is : (y : ℕ)
+      → planFor c y ≡ canonicalAt (c .m) (c .n) (byRow (c .n) (raisedCosts c)) (ceiling c) (made c) (λ i. supply c i) (λ j. demand c j) y
+  unfolding planFor
+  plan-for-is y = canonical-above costs-raised (ceiling c) (amountsAt (made c) (λ i. supply c i) y) (λ j. demand c j)
+
   module _ (t : Fitting c) where
     pub least-above : (y : ℕ) → leastSplit c ≤ y → y ≤ greatestSplit c → Above (added c) (leastFreightAt c y) (raisedAt c y)
-    unfolding leastFreightAt leastAtℤ raisedAt leastIn added allDemand
-    least-above y h g =
-        let p = plan-exists f t y h g in
-        least-freight-above costs-raised (ceiling c) (amountsAt (made c) (λ i. supply c i) y) (λ j. demand c j) (p .0) (p .1)
+    least-above y h g = let p = plan-exists f t y h g in least-at-above y (p .0) (p .1)
 
     pub total-above : (y : ℕ) → leastSplit c ≤ y → y ≤ greatestSplit c → Above (added c) (totalAt c y) (raisedTotal c y)
     unfolding totalAt raisedTotal

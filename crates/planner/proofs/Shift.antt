@@ -1,5 +1,5 @@
--- Freight at signed unit costs is freight at costs raised by k, less k for each drum; so every least, best and stop is that of the raised curve.
--- Assumes nothing.
+-- Freight at signed unit costs is freight at costs raised by k, less k for each drum; so every least, best and stop is that of the raised curve,
+-- and so is the first plan of least freight. Assumes nothing.
 use mathlib.Core.Path.{_≡_, refl, sym, ap, ap₂, _∙_, subst, subst₂}
 use mathlib.Core.Bool.{Bool, true, false, not, cond, _||_}
 use mathlib.Core.List.{List, [], _∷_, map, List·Memᴰ, List·Memᴰ·head, List·Memᴰ·tail, List·Memᴰ·not-nil}
@@ -14,14 +14,15 @@ use Rattle.transport.specs.Sum.{sum}
 use Rattle.transport.specs.Plan.{Table, byRow, col, total, freight, Plan, Fits}
 use Rattle.transport.specs.Listing.{listingIn, least, leastFreightIn}
 use Rattle.transport.specs.Curve.{bends, isStop, stopsOf, bestFrom}
+use Rattle.transport.specs.Canonical.{first, firstLeast, canonical}
 use Rattle.transport.proofs.Sums.{sum-ext, sum-scale, sum-swap}
 use Rattle.transport.proofs.ListMembers.{select-ext, upFrom-out}
 use Rattle.transport.proofs.WithinCeilings.{sound-in, complete-in}
 use Rattle.transport.proofs.BestSplit.{bestFrom-best}
 use Rattle.transport.proofs.Stops.{Stop, stops-out}
-use Rattle.planner.specs.Integer.{minℤ, sumℤ, leastℤ, Above}
+use Rattle.planner.specs.Integer.{minℤ, sumℤ, leastℤ, Above, eqZ}
 use Rattle.planner.specs.Range.{lower}
-use Rattle.planner.specs.Freight.{Rates, freightℤ, leastFreightℤ, bendsℤ, isStopℤ, stopsOfℤ, bestFromℤ}
+use Rattle.planner.specs.Freight.{Rates, freightℤ, leastFreightℤ, canonicalℤ, bendsℤ, isStopℤ, stopsOfℤ, bestFromℤ}
 use Rattle.planner.proofs.Integers.{above-lt, above-le, above-eq, above-add, above-zero, above-scale}
 
 -- ---- sums and freights
@@ -79,6 +80,15 @@ least-freight-above {k} {m} {n} {c} {c'} raised u r b x p =
         → Above (k * sum n b) (leastℤ (map (λ x. freightℤ m n c (byRow n x)) l)) (least (map (λ x. freight m n c' (byRow n x)) l))
     step [] q h = absurd (List·Memᴰ·not-nil q)
     step (a ∷ l) q h = least-above (k * sum n b) _ _ a l (λ z i. plan-above raised r b z (h z i))
+
+-- the plans keep their order, so the first of least freight is the first of least raised freight
+pub canonical-above : {k m n : ℕ} {c : Rates} {c' : Table} → Raised k m n c c' → (u : Table) (r b : ℕ → ℕ) → canonicalℤ m n c u r b ≡ canonical m n c' u r b
+unfolding canonicalℤ canonical firstLeast leastFreightIn
+canonical-above {k} {m} {n} {c} {c'} raised u r b =
+    ap first
+    (select-ext (λ x. eqZ (freightℤ m n c (byRow n x)) (leastFreightℤ m n c u r b)) (λ x. eqb (freight m n c' (byRow n x)) (leastFreightIn m n c' u r b))
+    (listingIn m n u r b)
+    (λ x q. let p = sound-in m n u r b x q in above-eq (plan-above raised r b x (p .plan)) (least-freight-above raised u r b x p)))
 
 -- ---- curves
 

@@ -14,15 +14,18 @@ use Rattle.transport.specs.Sum.{sum}
 use Rattle.transport.specs.Plan.{byRow, row, col, freight}
 use Rattle.transport.specs.Listing.{upFrom, select, least, greatest, some as any}
 use Rattle.transport.specs.Curve.{amountsAt, leastIn, hasPlan, splitsIn, bestFrom, stopsOf, written, splitsOf}
+use Rattle.transport.specs.Canonical.{canonicalAt}
 use Rattle.range.specs.Range.{BeginReady, Ranged, amountIn, demandIn}
 use Rattle.sweep.specs.Sweep.{SweepReady, Swept}
 use Rattle.transport.proofs.Sums.{sum-ext, total-ext}
 use Rattle.transport.proofs.WithinCeilings.{some-ext, leastFreightIn-ext}
 use Rattle.transport.proofs.Splits.{at-has, member-splits}
+use Rattle.transport.proofs.Canonical.{canonical-ext, canonical-plan}
+use Rattle.transport.proofs.Tables.{rows-ext}
 use Rattle.planner.specs.Case.{Case, supply, demand, ceiling, allDemand, made, lowestSplit, highestSplit, splits, hasSplit, leastSplit, greatestSplit, steps}
-use Rattle.planner.specs.Plans.{PlanAt, freightOf, leastFreightAt, totalAt, bestSplit, stops}
+use Rattle.planner.specs.Plans.{PlanAt, freightOf, leastFreightAt, planFor, totalAt, bestSplit, stops}
 use Rattle.planner.specs.Outcome.{Outcome, planned, refused, refusalOf, planOf, outcomeOf, test27, test9, test11}
-use Rattle.planner.specs.Promise.{BalanceRule}
+use Rattle.planner.specs.Promise.{Cheapest, BalanceRule}
 use Rattle.planner.specs.Answer.{Slices, slices, Written, Answered}
 use Rattle.planner.specs.Copy.{Narrow, RowsMoved, Supplied, Wanted}
 use Rattle.planner.specs.Ready.{OnBalance}
@@ -31,7 +34,7 @@ use Rattle.planner.proofs.TestLaws.{met, sum-under}
 use Rattle.planner.proofs.Splits.{Fitting, fitting, fits-split, sent-all, in-order, last-split, ends-within, most-made}
 use Rattle.planner.proofs.Promise.{from27, from9, refused-outcome, balance-rule, cheapest}
 use Rattle.planner.specs.Range.{AllInside, lower, Moderate}
-use Rattle.planner.proofs.Raised.{lane-in, raisedCosts, raisedFreight, raisedAt, raisedTotal, added, cost-most, freight-above, least-above, total-above, best-is, best-in, stops-are, stop-freights-are}
+use Rattle.planner.proofs.Raised.{lane-in, raisedCosts, raisedFreight, raisedAt, raisedTotal, added, cost-most, freight-above, plan-for-is, least-above, total-above, best-is, best-in, stops-are, stop-freights-are}
 use Rattle.planner.proofs.Bounds.{few-drums, raised-most, total-bounded}
 
 -- a list of values up to a limit
@@ -384,14 +387,29 @@ module _ {c : Case} {lo hi all : ℕ} (a : Accepts c lo hi all) {cost cap amount
           raised-worth =
               total-ext (c .m) (c .n) _ _ (λ i j h l. ap₂ (λ (x z : ℕ). x * z) (sym (p .costs .cells i j h l)) (lane i j h l)) ∙ w .plan .worth ∙ raised-freight
 
+      -- the engine's plan for everybody is that of the case
+      same-plan : canonicalAt (c .m) (c .n) (byRow 64 cost) (byRow 64 cap) all (amountIn amounts) (demandIn wants) y ≡ planFor c (bestSplit c)
+      same-plan =
+          canonical-ext (c .m) (c .n) (byRow 64 cost) (byRow (c .n) (raisedCosts c)) (byRow 64 cap) (ceiling c) _ _ (demandIn wants) (λ j. demand c j)
+          (p .costs .cells) (p .ceilings .cells) (sends (a .on .on) p y) (p .demands)
+          ∙ ap (λ (z : ℕ). canonicalAt (c .m) (c .n) (byRow (c .n) (raisedCosts c)) (ceiling c) (made c) (λ i. supply c i) (λ j. demand c j) z) is-split
+          ∙ sym (plan-for-is f (bestSplit c))
+
+      is-everybody : take (c .m * c .n) after ≡ planFor c (bestSplit c)
+      is-everybody =
+          rows-ext (c .m) (c .n) _ _ lanes-long
+          (ap length (plan-for-is f (bestSplit c)) ∙ canonical-plan (c .m) (c .n) _ _ _ _ is-plan .plan .cells)
+          (λ i j h l. lane i j h l ∙ w .first i j h l ∙ ap (λ (q : List ℕ). byRow (c .n) q i j) same-plan)
+
       module _ {freights freights' : List ℤ} (lows : freights' ≡ written (map (lower (added c)) (take k found')) freights) where
         pub given : Written c (bestSplit c) (totalAt c (bestSplit c)) (slices before splits freights) (slices after splits' freights')
         given = record {
-          amounts = take (c .m * c .n) after;
-          cells = wrote;
-          plan = is-plan;
-          freight = is-worth;
-          cheapest = cheapest c (take (c .m * c .n) after) accepted-all is-plan is-worth;
+          cells = subst (λ (l : List ℕ). after ≡ written l before) is-everybody wrote;
+          plan = subst (λ (l : List ℕ). PlanAt c (bestSplit c) l) is-everybody is-plan;
+          freight = subst (λ (l : List ℕ). freightOf c l ≡ leastFreightAt c (bestSplit c)) is-everybody is-worth;
+          cheapest =
+              subst (λ (l : List ℕ). Cheapest c l (bestSplit c) (totalAt c (bestSplit c))) is-everybody
+              (cheapest c (take (c .m * c .n) after) accepted-all is-plan is-worth);
           bounded = total-bounded f fit (a .t9);
           splits = w .stops-written ∙ ap (λ (l : List ℕ). written l splits) is-stops;
           freights = lows ∙ ap (λ (l : List ℤ). written l freights) (ap (map (lower (added c))) found-are ∙ sym (stop-freights-are f fit));

@@ -1,4 +1,5 @@
--- With 4,000 on every lane nothing changes: the outcome, the stops with f at each, and which plans count are those defined without ceilings.
+-- With 4,000 on every lane nothing changes: the outcome, the stops with f at each, the plan for everybody, and which plans count are those defined
+-- without ceilings.
 -- Assumes nothing.
 use mathlib.Core.Path.{_≡_, refl, ap, ap₂, _∙_, fun-ext}
 use mathlib.Core.Option.{Option, none, some}
@@ -10,14 +11,16 @@ use lib.IntN.{ℤ, pos, _+ℤ_}
 use lib.ListN.{length, getD, replicate, length-replicate, getD-replicate}
 use Rattle.transport.specs.Sum.{sum}
 use Rattle.transport.specs.Plan.{byRow}
+use Rattle.transport.specs.Listing.{select}
 use Rattle.transport.specs.Curve.{amountsAt}
+use Rattle.transport.specs.Canonical.{first}
 use Rattle.transport.proofs.WithinCeilings.{wide-under, listing-same}
 use Rattle.transport.proofs.Splits.{wide-has, member-splits}
 use Rattle.transport.proofs.WideCeilings.{wide-splits}
-use Rattle.planner.specs.Integer.{leastℤ}
-use Rattle.planner.specs.Freight.{ratesByRow, freightℤ, leastFreightℤ, leastAtℤ, stopsOfℤ, bestFromℤ}
+use Rattle.planner.specs.Integer.{eqZ, leastℤ}
+use Rattle.planner.specs.Freight.{ratesByRow, freightℤ, leastFreightℤ, leastAtℤ, canonicalℤ, stopsOfℤ, bestFromℤ}
 use Rattle.planner.specs.Case.{Case, supply, demand, ceiling, entry, allDemand, made, lowestSplit, highestSplit, splits, leastSplit, greatestSplit, steps}
-use Rattle.planner.specs.Plans.{columnSum, MeetsTP, leastFreightAt, totalAt, bestSplit, stops, stopFreights}
+use Rattle.planner.specs.Plans.{columnSum, MeetsTP, leastFreightAt, planFor, totalAt, bestSplit, stops, stopFreights}
 use Rattle.planner.specs.Outcome.{Outcome, planned, refuseAt, firstFrom, _orElse_, formRefusal, refusalOf, planOf, outcomeOf}
 use Rattle.planner.specs.Outcome.{test1, test2, test3, test4, test23, test5, test26, test6, test7, test8, test27, test9, test11}
 use Rattle.planner.specs.Verdict.{ceilingsRefusal}
@@ -64,6 +67,16 @@ module _ (c : Case) (free : Free c) where
     freight-same =
         fun-ext (λ y.
         ap (λ (l : List (List ℕ)). leastℤ (map (λ x. freightℤ (c .m) (c .n) (ratesByRow (c .n) (c .costs)) (byRow (c .n) x)) l))
+        (listing-same (c .m) (c .n) (ceiling c) (amountsAt (made c) (λ i. supply c i) y) (λ j. demand c j) wide))
+
+    lanes-same : planFor c ≡ earlier.planFor c
+    unfolding planFor canonicalℤ leastFreightℤ earlier.planFor earlier.leastFreightAt
+    lanes-same =
+        fun-ext (λ y.
+        ap (λ (l : List (List ℕ)).
+        first
+        (select (λ x. eqZ (freightℤ (c .m) (c .n) (ratesByRow (c .n) (c .costs)) (byRow (c .n) x)) (leastℤ (map (λ x. freightℤ (c .m) (c .n) (ratesByRow (c .n) (c .costs)) (byRow (c .n) x)) l)))
+        l))
         (listing-same (c .m) (c .n) (ceiling c) (amountsAt (made c) (λ i. supply c i) y) (λ j. demand c j) wide))
 
     total-same : totalAt c ≡ earlier.totalAt c
@@ -192,3 +205,7 @@ module _ (c : Case) (free : Free c) where
       let f = formed c (a .form) in
       let b = balanced c f (a .t7) (a .t8) in
       (stops-same f b, stop-freights-same f b)
+
+  -- and so is the plan for everybody, lane by lane
+  pub unchanged-lanes : refusalOf c ≡ none → planFor c ≡ earlier.planFor c
+  unchanged-lanes e = lanes-same (formed c (accepted c e .form))

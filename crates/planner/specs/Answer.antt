@@ -5,7 +5,7 @@ use Prim.Native.Nat.{ℕ}
 use lib.IntN.{ℤ}
 use Rattle.transport.specs.Curve.{written}
 use Rattle.planner.specs.Case.{Case}
-use Rattle.planner.specs.Plans.{PlanAt, freightOf, leastFreightAt, stops, stopFreights}
+use Rattle.planner.specs.Plans.{PlanAt, freightOf, leastFreightAt, planFor, stops, stopFreights}
 use Rattle.planner.specs.Outcome.{Outcome, planned, refused, outcomeOf}
 use Rattle.planner.specs.Promise.{Cheapest, Bounded, BalanceRule}
 use Rattle.planner.specs.declared.Answer.{Answer}
@@ -25,13 +25,12 @@ pub record Slices : Type 0 where
 abbrev pub slices : List ℕ → List ℕ → List ℤ → Slices
 slices p s f = record { plan = p; splits = s; freights = f }
 
--- a plan was written: the lane amounts are left to the program, so they are named, with what holds of them
+-- a plan was written: the one for everybody at this split, with what holds of it
 pub record Written (c : Case) (split : ℕ) (total : ℤ) (before after : Slices) : Type 0 where
-  pub amounts : List ℕ
-  pub cells : after .plan ≡ written amounts (before .plan)
-  pub plan : PlanAt c split amounts
-  pub freight : freightOf c amounts ≡ leastFreightAt c split
-  pub cheapest : Cheapest c amounts split total
+  pub cells : after .plan ≡ written (planFor c split) (before .plan)
+  pub plan : PlanAt c split (planFor c split)
+  pub freight : freightOf c (planFor c split) ≡ leastFreightAt c split
+  pub cheapest : Cheapest c (planFor c split) split total
   pub bounded : Bounded total
   pub splits : after .splits ≡ written (stops c) (before .splits)
   pub freights : after .freights ≡ written (stopFreights c) (before .freights)

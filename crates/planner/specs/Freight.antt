@@ -1,4 +1,5 @@
--- Freight at signed unit costs: of a plan, the least of any plan, as a curve over the splits, its stops, and the split of least total.
+-- Freight at signed unit costs: of a plan, the least of any plan, the first plan of least freight, the curve over the splits, its stops, and the
+-- split of least total.
 -- Plans and their listing are the engine's (crate transport). Assumes nothing.
 use mathlib.Core.Bool.{Bool, not, cond, _||_}
 use mathlib.Core.List.{List, map}
@@ -10,6 +11,7 @@ use lib.ListN.{getD}
 use Rattle.transport.specs.Plan.{Table, byRow}
 use Rattle.transport.specs.Listing.{listingIn, upFrom, select}
 use Rattle.transport.specs.Curve.{amountsAt}
+use Rattle.transport.specs.Canonical.{first}
 use Rattle.planner.specs.Integer.{eqZ, sumℤ, leastℤ}
 
 -- a unit cost for each lane (source i, terminal j), both counted from 0
@@ -27,6 +29,12 @@ freightℤ m n c x = sumℤ m (λ i. sumℤ n (λ j. c i j *ℤ pos (x i j)))
 -- the least freight of any plan within the ceilings u
 unfoldable pub leastFreightℤ : ℕ → ℕ → Rates → Table → (ℕ → ℕ) → (ℕ → ℕ) → ℤ
 leastFreightℤ m n c u r b = leastℤ (map (λ x. freightℤ m n c (byRow n x)) (listingIn m n u r b))
+
+-- the first plan of least freight in the listing of the plans within the ceilings u: the listing rises, so it has the smaller amount at the first
+-- lane, in row order, where it differs from another one of least freight
+unfoldable pub canonicalℤ : ℕ → ℕ → Rates → Table → (ℕ → ℕ) → (ℕ → ℕ) → List ℕ
+canonicalℤ m n c u r b =
+    first (select (λ x. eqZ (freightℤ m n c (byRow n x)) (leastFreightℤ m n c u r b)) (listingIn m n u r b))
 
 -- f(y): the least freight of any plan within the ceilings at split y
 unfoldable pub leastAtℤ : ℕ → ℕ → Rates → Table → ℕ → (ℕ → ℕ) → (ℕ → ℕ) → ℕ → ℤ

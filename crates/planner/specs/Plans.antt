@@ -1,4 +1,4 @@
--- Plans of a case, the freight curve f, the total, the best split and the stops. Assumes nothing.
+-- Plans of a case, the freight curve f, the plan for everybody, the total, the best split and the stops. Assumes nothing.
 use mathlib.Core.Path.{_≡_}
 use mathlib.Core.List.{List, map}
 use Prim.Native.Nat.{ℕ, _*_, _≤_, _<_}
@@ -6,7 +6,7 @@ use lib.IntN.{ℤ, pos, _+ℤ_}
 use lib.ListN.{length}
 use Rattle.transport.specs.Plan.{byRow, row, col, Under, Fits}
 use Rattle.transport.specs.Curve.{amountsAt}
-use Rattle.planner.specs.Freight.{ratesByRow, freightℤ, leastAtℤ, stopsOfℤ, bestFromℤ}
+use Rattle.planner.specs.Freight.{ratesByRow, freightℤ, leastAtℤ, canonicalℤ, stopsOfℤ, bestFromℤ}
 use Rattle.planner.specs.Case.{Case, supply, demand, ceiling, entry, made, leastSplit, greatestSplit, steps}
 
 -- what source i sends in the plan x, a list of m × n amounts in row order; of row 0 it is the plan's split
@@ -44,6 +44,12 @@ PlanAt c y x = Fits (c .m) (c .n) (ceiling c) (amountsAt (made c) (λ i. supply 
 unfoldable pub leastFreightAt : Case → ℕ → ℤ
 leastFreightAt c y =
     leastAtℤ (c .m) (c .n) (ratesByRow (c .n) (c .costs)) (ceiling c) (made c) (λ i. supply c i) (λ j. demand c j) y
+
+-- the plan for everybody at split y: of the plans of least freight there the one that has the smaller amount at the first lane, in row order, where
+-- it differs from another, which is the first of them in the listing
+unfoldable pub planFor : Case → ℕ → List ℕ
+planFor c y =
+    canonicalℤ (c .m) (c .n) (ratesByRow (c .n) (c .costs)) (ceiling c) (amountsAt (made c) (λ i. supply c i) y) (λ j. demand c j)
 
 -- F(y) of (2.6), the total at y
 unfoldable pub totalAt : Case → ℕ → ℤ

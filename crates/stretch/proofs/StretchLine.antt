@@ -11,12 +11,13 @@ use Rattle.transport.specs.Plan.{row, col, freight, Under}
 use Rattle.transport.specs.theory.Slackness.{Slack}
 use Rattle.transport.specs.theory.AtSplit.{At, Least}
 use Rattle.residual.specs.Cells.{cells}
-use Rattle.residual.specs.Network.{Net, get}
+use Rattle.residual.specs.Network.{Net, get, again}
 use Rattle.augment.specs.Potentials.{Lowered}
 use Rattle.augment.specs.PathWalk.{Walkable, Walked}
+use Rattle.canonical.specs.Canonize.{CanonReady}
 use Rattle.range.specs.engine.PlantShift.{Over}
 use Rattle.stretch.specs.Scan.{along, better, scanned, ScanReady}
-use Rattle.stretch.specs.Stretch.{Part, PathDone, KeepDone, StretchReady, Kept, StretchDone}
+use Rattle.stretch.specs.Stretch.{Part, PathDone, KeepDone, HoldDone, StretchReady, Kept, StretchDone}
 use Rattle.stretch.specs.declared.Incumbent.{Incumbent}
 use Rattle.transport.proofs.Optimality.{segment}
 use Rattle.transport.proofs.PathFlow.{Shifted, flow-shifted}
@@ -105,6 +106,18 @@ module _ {N : Net} {p x table : List ℕ} {y v limit : ℕ} {best : Incumbent} {
     value : (z : List ℕ) (t : ℕ) → Part N p' z t → freight (N .m) (N .n) (N .c) (cells z) ≡ along v (get p 1) (get p 0 - gap) t
     value z t k = rw (up, down, ← (r .value)) (part-value two k (over .old) (r .shift .swinging .under))
 
+    -- what the plan for everybody asks
+    part-ready : (z : List ℕ) (t : ℕ) → Part N p' z t → CanonReady (again N z) p'
+    part-ready z t k = record {
+      sources = over .swinging .sound .sources;
+      terminals = over .swinging .sound .terminals;
+      costs = over .swinging .sound .costs;
+      high = over .swinging .sound .high;
+      slack = k .slack;
+      under = k .under;
+      ceilings = over .swinging .ceilings;
+    }
+
     -- the least freight at each split on the way, as an equation
     on-line : (a b : ℕ → ℕ) (z : ℕ) → At (N .m) (N .n) a b y z (N .x) → (t : ℕ) → t ≤ d
         → (w : ℕ) × (Least (N .m) (N .n) (N .c) (N .u) a b (y + t) (z - t) w) × (w + (get p 0 - gap) * t ≡ freight (N .m) (N .n) (N .c) (N .x) + get p 1 * t)
@@ -160,9 +173,9 @@ module _ {N : Net} {p x table : List ℕ} {y v limit : ℕ} {best : Incumbent} {
     pub keep-ready : Walkable prev (held .split - y) count 1 x
     keep-ready = s .able (held .split - y) within
 
-    pub stretch-done : {kept kept' p' x' : List ℕ} → KeepDone prev count (held .split) y x kept kept' → Walked prev d count 1 x x' → Lowered gap dist p 96 p'
-        → StretchDone N p table y v limit best kept p' x' kept' d (get p 1) (get p 0 - gap) held
-    stretch-done {kept} {kept'} {p'} {x'} k w lo = record {
+    pub stretch-done : {kept kept' p' x' pots pots' : List ℕ} → KeepDone prev count (held .split) y x kept kept' → Walked prev d count 1 x x' → Lowered gap dist p 96 p'
+        → HoldDone (held .split) y p' pots pots' → StretchDone N p table y v limit best kept pots p' x' kept' pots' d (get p 1) (get p 0 - gap) held
+    stretch-done {kept} {kept'} {p'} {x'} {pots} {pots'} k w lo o = record {
       some = s .some;
       over = over x' lo w;
       up = up x' lo w;
@@ -171,11 +184,11 @@ module _ {N : Net} {p x table : List ℕ} {y v limit : ℕ} {best : Incumbent} {
       next = next x' lo w;
       value = value x' lo w x' d (whole x' lo w);
       look = look;
-      same = λ h. (seen .old h, k .same h);
+      same = λ h. (seen .old h, k .same h, o .same h);
       new = λ h. (seen .new h .0, new h (s .part p' lo (held .split - y) within kept' (k .walked h)));
     }
       where
-        new : y < held .split → Part N p' kept' (held .split - y) → Kept N y held kept'
+        new : y < held .split → Part N p' kept' (held .split - y) → Kept N y held kept' pots'
         new h t =
             let e : y + (held .split - y) ≡ held .split = omega arith in
             record {
@@ -183,4 +196,5 @@ module _ {N : Net} {p x table : List ℕ} {y v limit : ℕ} {best : Incumbent} {
               under = t .under;
               at = λ a b z q. rw e at (part-at two t a b y z q);
               value = value x' lo w kept' (held .split - y) t ∙ sym (seen .new h .1);
+              ready = rw (o .new h) (part-ready x' lo w kept' (held .split - y) t);
             }

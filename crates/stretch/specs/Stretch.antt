@@ -9,10 +9,11 @@ use Rattle.transport.specs.theory.Slackness.{Slack}
 use Rattle.transport.specs.theory.AtSplit.{At, Least}
 use Rattle.transport.specs.theory.PathFlow.{Flow}
 use Rattle.residual.specs.Cells.{cells}
-use Rattle.residual.specs.Network.{Net, get}
+use Rattle.residual.specs.Network.{Net, get, again}
 use Rattle.augment.specs.LaneMarks.{Trail}
 use Rattle.augment.specs.Potentials.{LowerReady, Lowered}
 use Rattle.augment.specs.PathWalk.{Walkable, Walked}
+use Rattle.canonical.specs.Canonize.{CanonReady}
 use Rattle.range.specs.engine.PlantShift.{Swinging, Over}
 use Rattle.range.specs.Begun.{Some}
 use Rattle.stretch.specs.Scan.{along, scanned}
@@ -51,6 +52,11 @@ pub record KeepDone (prev : List ℕ) (count split y : ℕ) (x kept kept' : List
   pub same : split ≤ y → kept' ≡ kept
   pub walked : y < split → Walked prev (split - y) count 1 x kept'
 
+-- the potentials are kept with it
+pub record HoldDone (split y : ℕ) (p held held' : List ℕ) : Type 0 where
+  pub same : split ≤ y → held' ≡ held
+  pub new : y < split → held' ≡ p
+
 -- ---- the whole stretch, from split y of freight v
 
 pub record StretchReady (N : Net) (p x table : List ℕ) (y v limit : ℕ) (best : Incumbent) : Type 0 where
@@ -63,15 +69,16 @@ pub record StretchReady (N : Net) (p x table : List ℕ) (y v limit : ℕ) (best
   pub small : (t : ℕ) → t ≤ limit → getD table (y + t) 0 ≤ 1000000000
   pub behind : best .split ≤ y
 
--- the plan that is kept for an incumbent of this stretch
-pub record Kept (N : Net) (y : ℕ) (best : Incumbent) (kept : List ℕ) : Type 0 where
+-- the plan that is kept for an incumbent of this stretch, with its potentials
+pub record Kept (N : Net) (y : ℕ) (best : Incumbent) (kept held : List ℕ) : Type 0 where
   pub long : length kept ≡ 2048
   pub under : Under (N .m) (N .n) (cells kept) (N .u)
   pub at : (a b : ℕ → ℕ) (z : ℕ) → At (N .m) (N .n) a b y z (N .x) → At (N .m) (N .n) a b (best .split) (z - (best .split - y)) (cells kept)
   pub value : freight (N .m) (N .n) (N .c) (cells kept) ≡ best .freight
+  pub ready : CanonReady (again N kept) held
 
 -- d drums went over, each of which adds gain and takes off loss: the plan is x', the potentials p'; the incumbent best became best'
-pub record StretchDone (N : Net) (p table : List ℕ) (y v limit : ℕ) (best : Incumbent) (kept p' x' kept' : List ℕ) (d gain loss : ℕ) (best' : Incumbent)
+pub record StretchDone (N : Net) (p table : List ℕ) (y v limit : ℕ) (best : Incumbent) (kept held p' x' kept' held' : List ℕ) (d gain loss : ℕ) (best' : Incumbent)
     : Type 0 where
   pub some : 0 < d
   pub over : Over N (get p 1) limit p' x' d
@@ -82,5 +89,5 @@ pub record StretchDone (N : Net) (p table : List ℕ) (y v limit : ℕ) (best : 
   pub next : (a b : ℕ → ℕ) (z : ℕ) → At (N .m) (N .n) a b y z (N .x) → At (N .m) (N .n) a b (y + d) (z - d) (cells x')
   pub value : freight (N .m) (N .n) (N .c) (cells x') ≡ along v gain loss d
   pub look : best' ≡ scanned table y v gain loss best d
-  pub same : best' .split ≤ y → (best' ≡ best) × (kept' ≡ kept)
-  pub new : y < best' .split → (best' .split ≤ y + d) × Kept N y best' kept'
+  pub same : best' .split ≤ y → (best' ≡ best) × (kept' ≡ kept) × (held' ≡ held)
+  pub new : y < best' .split → (best' .split ≤ y + d) × Kept N y best' kept' held'

@@ -4,7 +4,7 @@ ghost use Rattle.residual.specs.Network.{net};
 ghost use Rattle.residual.specs.LanesInUse.{Covers};
 ghost use Rattle.paths.specs.Search.{Wanted};
 ghost use Rattle.augment.specs.PathWalk.{Walkable};
-ghost use Rattle.stretch.specs.Stretch.{ShiftReady, PathDone, KeepDone, StretchReady, StretchDone};
+ghost use Rattle.stretch.specs.Stretch.{ShiftReady, PathDone, KeepDone, HoldDone, StretchReady, StretchDone};
 use super::scan::scan;
 use crate::Incumbent;
 use augment::send::lower;
@@ -69,6 +69,15 @@ fn keep(prev: &[u32; 96], count: u32, split: u64, y: u64, x: &[u32; 2048], kept:
     push(prev, count, 1, (split - y) as u32, kept);
 }
 
+// Keeps the potentials of the plan that is kept for a split beyond y.
+fn hold(split: u64, y: u64, pot: &[u32; 96], prices: &mut [u32; 96])
+    ensures { λ _. ⌜ HoldDone split y (now (pot .entry)) (now (prices .entry)) (now (prices .exit)) ⌝ }
+{
+    if y < split {
+        *prices = *pot;
+    }
+}
+
 // How far a stretch went, what each of its drums adds to the freight and takes off it, and the incumbent after it.
 pub struct Moved {
     pub amount: u64,
@@ -77,7 +86,7 @@ pub struct Moved {
     pub best: Incumbent,
 }
 
-// One stretch from split y, whose plan x has the given freight, at most limit drums further; the incumbent's plan is kept.
+// One stretch from split y, whose plan x has the given freight, at most limit drums further; the incumbent's plan is kept, and its potentials.
 // The plan is copied only where the incumbent is new.
 pub fn stretch(
     m: usize,
@@ -94,11 +103,12 @@ pub fn stretch(
     serves: &mut [u32; 64],
     pot: &mut [u32; 96],
     kept: &mut [u32; 2048],
+    prices: &mut [u32; 96],
 ) -> Moved
     requires { ⌜ StretchReady (net m n (now cost) (now cap) (now x)) (now pot) (now x) (now table) y freight limit best ⌝ }
     requires { ⌜ Wanted (net m n (now cost) (now cap) (now x)) (now demand) ⌝ }
     requires { ⌜ Covers m n (now x) (now serves) ⌝ }
-    ensures { λ r. ⌜ StretchDone (net m n (now (cost .entry)) (now (cap .entry)) (now (x .entry))) (now (pot .entry)) (now (table .entry)) y freight limit best (now (kept .entry)) (now (pot .exit)) (now (x .exit)) (now (kept .exit)) (r .amount) (r .gain) (r .loss) (r .best) ⌝ }
+    ensures { λ r. ⌜ StretchDone (net m n (now (cost .entry)) (now (cap .entry)) (now (x .entry))) (now (pot .entry)) (now (table .entry)) y freight limit best (now (kept .entry)) (now (prices .entry)) (now (pot .exit)) (now (x .exit)) (now (kept .exit)) (now (prices .exit)) (r .amount) (r .gain) (r .loss) (r .best) ⌝ }
     ensures { λ r. ⌜ Covers m n (now (x .exit)) (now (serves .exit)) ⌝ }
 {
     let path = find_path(m, n, cost, cap, limit, demand, x, serves, pot);
@@ -116,6 +126,7 @@ pub fn stretch(
     push(&prev, count, 1, amount, x);
     mark(&prev, count, 1, serves);
     lower(gap, &dist, pot);
+    hold(split, y, pot, prices);
     Moved {
         amount: drums,
         gain,

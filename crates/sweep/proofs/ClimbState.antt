@@ -10,6 +10,7 @@ use Rattle.transport.specs.Plan.{Table, row, col, freight, Under}
 use Rattle.transport.specs.theory.AtSplit.{At}
 use Rattle.residual.specs.Cells.{cells}
 use Rattle.residual.specs.Network.{net, get}
+use Rattle.canonical.specs.Canonize.{CanonReady}
 use Rattle.range.specs.engine.PlantShift.{Swinging}
 use Rattle.stretch.specs.Stretch.{StretchReady, StretchDone}
 use Rattle.stretch.specs.declared.Incumbent.{Incumbent}
@@ -41,7 +42,7 @@ module _ {m n : ℕ} {cost cap x₀ p₀ : List ℕ} {lo hi v : ℕ} {table spli
   pub both : (y : ℕ) → y ≤ hi → y ≤ bothIn n x₀
   both y h = omega (arith, r .first, r .within, r .order)
 
-  pub stand-start : Standing m n cost cap x₀ x₀ p₀ x₀ lo v (record { split = lo; total = v + getD table lo 0; freight = v })
+  pub stand-start : Standing m n cost cap x₀ x₀ p₀ x₀ p₀ lo v (record { split = lo; total = v + getD table lo 0; freight = v })
   stand-start =
       let t : At m n (row n (cells x₀)) (col m (cells x₀)) lo (bothIn n x₀ - lo) (cells x₀) =
       record { plant0 = r .first; plant1 = omega (arith, r .first); depots = λ i h l. refl; demands = λ j h l. refl } in
@@ -52,10 +53,19 @@ module _ {m n : ℕ} {cost cap x₀ p₀ : List ℕ} {lo hi v : ℕ} {table spli
         plan =
             plan-at (bothIn n x₀ - lo) two t (omega (arith, both lo (r .order))) (r .swinging .long-x)
             (r .swinging .under) (r .worth);
+        ready = record {
+          sources = r .swinging .sound .sources;
+          terminals = r .swinging .sound .terminals;
+          costs = r .swinging .sound .costs;
+          high = r .swinging .sound .high;
+          slack = r .swinging .sound .slack;
+          under = r .swinging .under;
+          ceilings = r .swinging .ceilings;
+        };
         behind = omega arith;
       }
 
-  module _ {x p kept : List ℕ} {y value : ℕ} {b : Incumbent} (s : Standing m n cost cap x₀ x p kept y value b) where
+  module _ {x p kept held : List ℕ} {y value : ℕ} {b : Incumbent} (s : Standing m n cost cap x₀ x p kept held y value b) where
     -- the least freight at y
     pub here : y ≤ hi → curveFrom m n cost cap x₀ y ≡ value
     here h =
@@ -106,8 +116,8 @@ module _ {m n : ℕ} {cost cap x₀ p₀ : List ℕ} {lo hi v : ℕ} {table spli
     }
 
     -- the stretch is a straight line of the curve
-    module _ {kept' p' x' : List ℕ} {d gain loss : ℕ} {b' : Incumbent} (low : lo ≤ y) (top : y < hi)
-        (q : StretchDone (net m n cost cap x) p table y value (hi - y) b kept p' x' kept' d gain loss b') where
+    module _ {kept' held' p' x' : List ℕ} {d gain loss : ℕ} {b' : Incumbent} (low : lo ≤ y) (top : y < hi)
+        (q : StretchDone (net m n cost cap x) p table y value (hi - y) b kept held p' x' kept' held' d gain loss b') where
       pub most : y + d ≤ hi
       most = omega (arith, q .over .most)
 
@@ -142,7 +152,14 @@ module _ {m n : ℕ} {cost cap x₀ p₀ : List ℕ} {lo hi v : ℕ} {table spli
         | no h ↦ let o = q .same (omega arith) in rw (o .0, o .1) (s .plan)
       ]
 
-      pub stand-next : {value' : ℕ} → value' + loss * d ≡ value + gain * d → Standing m n cost cap x₀ x' p' kept' (y + d) value' b'
+      -- with its potentials
+      ready-next : CanonReady (net m n cost cap kept') held'
+      ready-next = elim (decLt y (b' .split)) [
+        | yes h ↦ q .new h .1 .ready
+        | no h ↦ let o = q .same (omega arith) in rw (o .1, o .2) (s .ready)
+      ]
+
+      pub stand-next : {value' : ℕ} → value' + loss * d ≡ value + gain * d → Standing m n cost cap x₀ x' p' kept' held' (y + d) value' b'
       stand-next {value'} e =
           let sw = q .over .swinging in
           let z : bothIn n x₀ - y - d ≡ bothIn n x₀ - (y + d) = omega arith in
@@ -151,6 +168,7 @@ module _ {m n : ℕ} {cost cap x₀ p₀ : List ℕ} {lo hi v : ℕ} {table spli
             at = subst (λ (w : ℕ). At m n (row n (cells x₀)) (col m (cells x₀)) (y + d) w (cells x')) z next-at;
             worth = q .value ∙ sym (along-is value gain loss d value' e);
             plan = plan-next;
+            ready = ready-next;
             behind = behind-next;
           }
 

@@ -5,15 +5,18 @@ use mathlib.Core.List.{List}
 use Prim.Native.Nat.{ℕ, _+_, _-_, _*_, _≤_, _<_}
 use native.Mathlib.Omega.{arith}
 use lib.ListN.{length, getD}
-use Rattle.transport.specs.Plan.{row, col}
-use Rattle.transport.specs.Curve.{bestFrom}
+use Rattle.transport.specs.Plan.{row, col, freight}
+use Rattle.transport.specs.Listing.{leastFreightIn}
+use Rattle.transport.specs.Curve.{amountsAt, leastIn, bestFrom}
 use Rattle.residual.specs.Cells.{cells}
 use Rattle.residual.specs.Network.{net}
+use Rattle.canonical.specs.Canonize.{Canonized}
 use Rattle.stretch.specs.Stretch.{StretchDone}
 use Rattle.stretch.specs.declared.Incumbent.{Incumbent}
 use Rattle.sweep.specs.Sweep.{Swept}
 use Rattle.sweep.specs.engine.StopsPassed.{turned, NoteReady, Noted, Marked, Climbing}
 use Rattle.sweep.specs.engine.Climb.{bothIn, curveFrom, ClimbReady, Standing}
+use Rattle.canonical.proofs.CanonicalPlan.{settled-least, settled-cells}
 use Rattle.sweep.proofs.SweptCurve.{climb-start, climb-splits, climb-freights, climb-room, climb-next, climb-end}
 use Rattle.sweep.proofs.ClimbState.{stand-start, here, stretch-line, most, value-next}
 
@@ -24,7 +27,7 @@ module _ {m n : ℕ} {cost cap x₀ p₀ : List ℕ} {lo hi v : ℕ} {table spli
       let h = here r (stand-start r) (r .order) in
       climb-start (curveFrom m n cost cap x₀) table splits freights lo hi v (v + getD table lo 0) (r .order) (sym h) (ap (λ z. z + getD table lo 0) (sym h))
 
-  module _ {x p kept splits' freights' : List ℕ} {y value count rise fall : ℕ} {b : Incumbent} (s : Standing m n cost cap x₀ x p kept y value b)
+  module _ {x p kept held splits' freights' : List ℕ} {y value count rise fall : ℕ} {b : Incumbent} (s : Standing m n cost cap x₀ x p kept held y value b)
       (c : Climbing (curveFrom m n cost cap x₀) table splits freights lo hi splits' freights' y value count rise fall b) where
     pub ascend-room : NoteReady count splits' freights'
     ascend-room = climb-room (curveFrom m n cost cap x₀) table splits freights lo hi c (r .splits-room) (r .freights-room)
@@ -35,17 +38,23 @@ module _ {m n : ℕ} {cost cap x₀ p₀ : List ℕ} {lo hi v : ℕ} {table spli
     pub ascend-freights : length freights' ≡ length freights
     ascend-freights = climb-freights (curveFrom m n cost cap x₀) table splits freights lo hi c (r .splits-room) (r .freights-room)
 
-    pub ascend-next : {kept' p' x' splits'' freights'' : List ℕ} {d gain loss count' : ℕ} {b' : Incumbent} {stop : Bool} → y < hi
-        → StretchDone (net m n cost cap x) p table y value (hi - y) b kept p' x' kept' d gain loss b' → stop ≡ turned y lo gain loss rise fall
+    pub ascend-next : {kept' held' p' x' splits'' freights'' : List ℕ} {d gain loss count' : ℕ} {b' : Incumbent} {stop : Bool} → y < hi
+        → StretchDone (net m n cost cap x) p table y value (hi - y) b kept held p' x' kept' held' d gain loss b' → stop ≡ turned y lo gain loss rise fall
         → Marked stop count y value splits' freights' splits'' freights'' count'
         → Climbing (curveFrom m n cost cap x₀) table splits freights lo hi splits'' freights'' (y + d) (value + gain * d - loss * d) count' gain loss b'
     ascend-next {d = d} {gain = gain} {loss = loss} h q e k =
         climb-next (curveFrom m n cost cap x₀) table splits freights lo hi c (r .splits-room) (r .freights-room) d gain loss (q .some) (most r s (c .low) h q)
         (stretch-line r s (c .low) h q) e k (value-next r s (c .low) h q) (q .look)
 
-    pub ascend-end : {splits'' freights'' : List ℕ} {count' : ℕ} → hi ≤ y → Noted count y value splits' freights' splits'' freights'' count'
-        → Swept m n (cells cost) (cells cap) (bothIn n x₀) (row n (cells x₀)) (col m (cells x₀)) lo hi table splits freights splits'' freights'' kept (b .split) (b .total) (b .freight) count'
-    ascend-end h k =
+    -- the plan that is kept has the least freight at its split
+    kept-least : freight m n (cells cost) (cells kept) ≡ leastFreightIn m n (cells cost) (cells cap) (amountsAt (bothIn n x₀) (row n (cells x₀)) (b .split)) (col m (cells x₀))
+    unfolding leastIn
+    kept-least = s .plan .worth ∙ c .best .freight
+
+    pub ascend-end : {splits'' freights'' kept' : List ℕ} {count' : ℕ} → hi ≤ y → Noted count y value splits' freights' splits'' freights'' count'
+        → Canonized (net m n cost cap kept) kept'
+        → Swept m n (cells cost) (cells cap) (bothIn n x₀) (row n (cells x₀)) (col m (cells x₀)) lo hi table splits freights splits'' freights'' kept' (b .split) (b .total) (b .freight) count'
+    ascend-end {kept' = kept'} h k o =
         let e : y ≡ hi = omega (arith, c .high) in
         let w = climb-end (curveFrom m n cost cap x₀) table splits freights lo hi c (r .splits-room) (r .freights-room) e k in
         record {
@@ -55,5 +64,12 @@ module _ {m n : ℕ} {cost cap x₀ p₀ : List ℕ} {lo hi v : ℕ} {table spli
           count = w .2;
           stops-written = w .0;
           freights-written = w .1;
-          plan = s .plan;
+          plan = record {
+            long = o .long;
+            rows = λ i l. o .settled .rival .rows i l ∙ s .plan .rows i l;
+            columns = λ j l. o .settled .rival .cols j l ∙ s .plan .columns j l;
+            under = o .settled .rival .under;
+            worth = settled-least (s .ready .terminals) (o .settled) (s .plan .rows) (s .plan .columns) kept-least ∙ sym kept-least ∙ s .plan .worth;
+          };
+          first = settled-cells (s .ready .terminals) (o .settled) (s .plan .rows) (s .plan .columns) kept-least;
         }

@@ -4,7 +4,7 @@ use mathlib.Core.List.{List, map}
 use Prim.Native.Nat.{ℕ, zero, suc, _+_, _-_, _≤_, _<_}
 use native.Mathlib.Omega.{arith}
 use lib.ListN.{length, getD}
-use Rattle.transport.specs.Plan.{Table, col, freight}
+use Rattle.transport.specs.Plan.{Table, byRow, col, freight}
 use Rattle.transport.specs.Curve.{amountsAt, leastIn, bestFrom, stopsOf, written}
 use Rattle.residual.specs.Cells.{cells}
 use Rattle.range.specs.Begun.{Begun}
@@ -15,6 +15,7 @@ use Rattle.sweep.specs.engine.Climb.{bothIn, ClimbReady}
 use Rattle.transport.proofs.Sums.{sum-ext}
 use Rattle.transport.proofs.Tables.{rows-cols, Below}
 use Rattle.transport.proofs.WithinCeilings.{leastFreightIn-ext}
+use Rattle.transport.proofs.Canonical.{canonical-ext}
 
 -- ---- two ways to say what the sources send and what the terminals get
 
@@ -47,6 +48,9 @@ module _ {m n : ℕ} (c u : Table) {d d' : ℕ} {a a' b b' : ℕ → ℕ} (e : d
       under = s .plan .under;
       worth = s .plan .worth;
     };
+    first = λ i j p q.
+        s .first i j p q
+        ∙ ap (λ w. byRow n w i j) (canonical-ext m n c c u u (amountsAt d a y) (amountsAt d' a' y) b b' (λ i j p q. refl) (λ i j p q. refl) (sends y) l);
   }
 
 -- ---- the sweep

@@ -7,6 +7,7 @@ use lib.ListN.{length, getD}
 use Rattle.transport.specs.Sum.{sum}
 use Rattle.transport.specs.Plan.{Table, byRow, row, col, freight, Under}
 use Rattle.transport.specs.Curve.{amountsAt, leastIn, bestFrom, stopsOf, written}
+use Rattle.transport.specs.Canonical.{canonicalAt}
 use Rattle.range.specs.Range.{demandIn}
 
 pub record SweepReady (m n : ℕ) (demand : List ℕ) (lo hi : ℕ) (table splits freights : List ℕ) : Type 0 where
@@ -25,7 +26,7 @@ pub record PlanAt (m n : ℕ) (c u : Table) (d : ℕ) (a b : ℕ → ℕ) (y v :
   pub under : Under m n (byRow 64 x) u
   pub worth : freight m n c (byRow 64 x) ≡ v
 
--- y is the split of least total t and of freight v; the stops stand in the slices, a plan at y in kept
+-- y is the split of least total t and of freight v; the stops stand in the slices, the plan for everybody at y in kept
 pub record Swept (m n : ℕ) (c u : Table) (d : ℕ) (a b : ℕ → ℕ) (lo hi : ℕ) (table splits freights splits' freights' kept : List ℕ) (y t v stops : ℕ) : Type 0 where
   pub split : y ≡ bestFrom (λ z. leastIn m n c u d a b z + getD table z 0) lo (hi - lo)
   pub least : v ≡ leastIn m n c u d a b y
@@ -34,3 +35,4 @@ pub record Swept (m n : ℕ) (c u : Table) (d : ℕ) (a b : ℕ → ℕ) (lo hi 
   pub stops-written : splits' ≡ written (stopsOf (leastIn m n c u d a b) lo hi) splits
   pub freights-written : freights' ≡ written (map (leastIn m n c u d a b) (stopsOf (leastIn m n c u d a b) lo hi)) freights
   pub plan : PlanAt m n c u d a b y v kept
+  pub first : (i j : ℕ) → i < m → j < n → byRow 64 kept i j ≡ byRow n (canonicalAt m n c u d a b y) i j

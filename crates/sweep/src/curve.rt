@@ -12,6 +12,7 @@ ghost use Rattle.sweep.specs.Sweep.{SweepReady, Swept};
 ghost use Rattle.sweep.specs.engine.StopsPassed.{NoteReady, Noted, Marked, turned};
 ghost use Rattle.sweep.specs.engine.Climb.{bothIn, ClimbReady};
 use super::freight::freight_of;
+use canonical::canon::canonize;
 use stretch::Incumbent;
 use stretch::stretch::stretch;
 
@@ -89,6 +90,7 @@ fn climb(
         freight,
     };
     *kept = *x;
+    let mut prices = *pot;
     let mut y = lo;
     let mut value = freight;
     let mut count: usize = 0;
@@ -111,6 +113,7 @@ fn climb(
             serves,
             pot,
             kept,
+            &mut prices,
         );
         let stop = turn(y, lo, moved.gain, moved.loss, rise, fall);
         count = mark(stop, count, y, value, splits, freights);
@@ -121,6 +124,7 @@ fn climb(
         best = moved.best;
     }
     count = note(count, y, value, splits, freights);
+    canonize(m, n, cost, cap, &prices, kept);
     Curve {
         split: best.split,
         total: best.total,
@@ -130,7 +134,7 @@ fn climb(
 }
 
 // The sweep from split lo to split hi of a prepared case, of which x holds a cheapest plan at lo: the stops and their freights go into the
-// slices, a cheapest plan at the best split into kept.
+// slices, the plan for everybody at the best split into kept.
 pub fn sweep(
     m: usize,
     n: usize,

@@ -146,7 +146,7 @@ module _ (m n : ℕ) (u : Table) (r b : ℕ → ℕ) (w : Wide m n u b) where
 -- ---- what the least freight within ceilings depends on
 
 module _ (m n : ℕ) where
-  fits-ext : (u u' : Table) (r r' b b' : ℕ → ℕ) → Alike m n u u' → Below m r r' → Below n b b' → (x : List ℕ) → Fits m n u r b x → Fits m n u' r' b' x
+  pub fits-ext : (u u' : Table) (r r' b b' : ℕ → ℕ) → Alike m n u u' → Below m r r' → Below n b b' → (x : List ℕ) → Fits m n u r b x → Fits m n u' r' b' x
   fits-ext u u' r r' b b' e h l x f = record {
     plan = record { cells = f .plan .cells; rows = λ i k. f .plan .rows i k ∙ h i k; columns = λ j k. f .plan .columns j k ∙ l j k };
     under = λ i j a k. omega (arith, f .under i j a k, e i j a k);

@@ -1,8 +1,7 @@
-// All that a trial works on lies in one slice, the bench: the case, what is expected, what the planner gave.
+// All that a trial works on lies in one slice, the bench: the case, the plans listed, the tally.
 use crate::cells::at;
-use crate::cells::part;
 
-// The case: its sizes, the lengths of the lent slices, and the four slices that are read.
+// The sizes of the case, the lengths of the lent slices, the least runs of the plants.
 pub const SOURCES: u64 = 0;
 
 pub const TERMINALS: u64 = 1;
@@ -20,78 +19,82 @@ pub const PLAN_LEN: u64 = 6;
 pub const SPLITS_LEN: u64 = 7;
 
 pub const FREIGHTS_LEN: u64 = 8;
+
+pub const CEILINGS_LEN: u64 = 9;
+
+pub const RUN1: u64 = 10;
+
+pub const RUN2: u64 = 11;
+// 1 where the least freight at each split is given, and the answer that the scope gives to a fixed case.
+pub const KNOWN: u64 = 12;
+
+pub const ANSWER: u64 = 13;
 // A cell that nothing reads.
-pub const SPARE: u64 = 9;
-// The number that the generator goes on from.
-pub const SEED: u64 = 10;
-// d, ℓ, u and how many splits there are.
-pub const MADE: u64 = 11;
+pub const SPARE: u64 = 19;
+// The slices that are read.
+pub const SUPPLIES: u64 = 20;
 
-pub const FIRST: u64 = 12;
+pub const DEMANDS: u64 = 60;
 
-pub const LAST: u64 = 13;
+pub const TABLE: u64 = 200;
 
-pub const WIDTH: u64 = 14;
-// The least runs of the plants.
-pub const RUN1: u64 = 15;
+pub const CEILINGS: u64 = 4_400;
 
-pub const RUN2: u64 = 16;
+pub const COSTS: u64 = 6_500;
+// The listing: the amounts at hand, then of each split the least freight (NONE where there is no plan), how many plans
+// have it, and the first of them, whose lanes have 12 cells.
+pub const AMOUNTS: u64 = 130;
 
-pub const CEILINGS_LEN: u64 = 17;
-// The answer expected and the answer got: number (0 for a plan), place, split, total, freight, stops.
-pub const WANT: u64 = 20;
+pub const BEST: u64 = 9_200;
 
-pub const GOT: u64 = 30;
-// How many splits share the least total.
-pub const SPLIT_TIES: u64 = 40;
+pub const TIES: u64 = 150;
 
-pub const TALLY: u64 = 50;
-// The row sums expected of a plan.
-pub const WANT_ROWS: u64 = 23_000;
+pub const FIRSTS: u64 = 8_700;
 
-pub const COSTS: u64 = 100;
+// How many cells all that has, a second room for it, the ways to spoil a case, and the tally.
+pub const CASE: u64 = 13_300;
 
-pub const SUPPLIES: u64 = 2_300;
+pub const BASE: u64 = 13_300;
 
-pub const DEMANDS: u64 = 2_400;
+pub const WAYS: u64 = 26_600;
 
-pub const TABLE: u64 = 2_500;
-// The least freight at each split; NONE where there is no plan.
-pub const BEST: u64 = 6_600;
-// What the planner wrote: three slices with room for any case.
-pub const PLAN: u64 = 10_700;
+pub const TALLY: u64 = 26_700;
 
-pub const SPLITS: u64 = 14_800;
-
-pub const FREIGHTS: u64 = 18_900;
-
+// How many splits, and cells of a slice lent to the planner, there is room for.
 pub const ROOM: u64 = 4_100;
-// The ceilings of the lanes.
-pub const CEILINGS: u64 = 24_000;
-
-pub const NONE: u64 = u64::MAX;
-// What every cell that the planner may write holds before.
-pub const MARK: u64 = 7_000_000_000_000;
 
 // Signed numbers lie in the bench as their distance above -ZERO: a unit cost, a freight or a total v is the cell ZERO + v.
 pub const ZERO: u64 = 500_000_000_000;
 
-pub fn costs(b: &[u64]) -> &[u64] {
-    part(b, COSTS, at(b, COSTS_LEN))
+// The sizes of a case, the lengths of its slices and its least runs.
+pub struct Sizes {
+    pub m: u64,
+    pub n: u64,
+    pub costs: u64,
+    pub supplies: u64,
+    pub demands: u64,
+    pub table: u64,
+    pub plan: u64,
+    pub splits: u64,
+    pub freights: u64,
+    pub ceilings: u64,
+    pub run1: u64,
+    pub run2: u64,
 }
 
-pub fn ceilings(b: &[u64]) -> &[u64] {
-    part(b, CEILINGS, at(b, CEILINGS_LEN))
-}
-
-pub fn supplies(b: &[u64]) -> &[u64] {
-    part(b, SUPPLIES, at(b, SUPPLIES_LEN))
-}
-
-pub fn demands(b: &[u64]) -> &[u64] {
-    part(b, DEMANDS, at(b, DEMANDS_LEN))
-}
-
-pub fn table(b: &[u64]) -> &[u64] {
-    part(b, TABLE, at(b, TABLE_LEN))
+pub fn sizes_of(b: &[u64]) -> Sizes {
+    Sizes {
+        m: at(b, SOURCES),
+        n: at(b, TERMINALS),
+        costs: at(b, COSTS_LEN),
+        supplies: at(b, SUPPLIES_LEN),
+        demands: at(b, DEMANDS_LEN),
+        table: at(b, TABLE_LEN),
+        plan: at(b, PLAN_LEN),
+        splits: at(b, SPLITS_LEN),
+        freights: at(b, FREIGHTS_LEN),
+        ceilings: at(b, CEILINGS_LEN),
+        run1: at(b, RUN1),
+        run2: at(b, RUN2),
+    }
 }

@@ -1,6 +1,8 @@
 // Cells of a slice, read and written within its bounds, and sums that stay within 64 bits.
-ghost use Prim.Native.Nat.{_≤_};
 use crate::bench::ZERO;
+
+// No number.
+pub const NONE: u64 = u64::MAX;
 
 // The cell k, or 0 past the end.
 pub fn at(s: &[u64], k: u64) -> u64 {
@@ -44,32 +46,9 @@ pub fn smaller(a: u64, b: u64) -> u64 {
     if a < b { a } else { b }
 }
 
-// The cell k of those from base on.
-pub fn get(s: &[u64], base: u64, k: u64) -> u64 {
-    at(s, plus(base, k))
-}
-
-pub fn set(s: &mut [u64], base: u64, k: u64, v: u64) {
-    put(s, plus(base, k), v);
-}
-
-// Adds to the cell k of those from base on.
-pub fn raise(s: &mut [u64], base: u64, k: u64, by: u64) {
-    let v = get(s, base, k);
-    set(s, base, k, plus(v, by));
-}
-
-// Takes from the cell k of those from base on.
-pub fn lower(s: &mut [u64], base: u64, k: u64, by: u64) {
-    let v = get(s, base, k);
-    set(s, base, k, minus(v, by));
-}
-
-// Adds one to the cell k of those from base on, where `on`.
-pub fn count(s: &mut [u64], base: u64, k: u64, on: bool) {
-    if on {
-        raise(s, base, k, 1);
-    }
+// v where `on`, else 0.
+pub fn given(on: bool, v: u64) -> u64 {
+    if on { v } else { 0 }
 }
 
 // The cells from start on, as many as `cells`; none where they do not all lie in s.
@@ -89,7 +68,7 @@ pub fn part(s: &[u64], start: u64, cells: u64) -> &[u64] {
 pub fn copy(from: &[u64], to: &mut [u64], start: u64) {
     let mut k: usize = 0;
     while k < from.len() {
-        set(to, start, k as u64, from[k]);
+        put(to, plus(start, k as u64), from[k]);
         k += 1;
     }
 }
@@ -98,43 +77,32 @@ pub fn copy(from: &[u64], to: &mut [u64], start: u64) {
 pub fn transfer(s: &mut [u64], from: u64, cells: u64, to: u64) {
     let mut k: u64 = 0;
     while k < cells {
-        let v = get(s, from, k);
-        set(s, to, k, v);
+        let v = at(s, plus(from, k));
+        put(s, plus(to, k), v);
         k += 1;
     }
 }
 
-// Writes one number into as many cells as `cells`, from start on.
-pub fn repeat(s: &mut [u64], start: u64, cells: u64, v: u64) {
+// Writes as many cells as `cells`, from start on: the first number, and each `fall` less than the one before.
+pub fn fill(s: &mut [u64], start: u64, cells: u64, first: u64, fall: u64) {
+    let mut v = first;
     let mut k: u64 = 0;
     while k < cells {
-        set(s, start, k, v);
+        put(s, plus(start, k), v);
+        v = minus(v, fall);
         k += 1;
     }
 }
 
-// How many cells are not v.
-pub fn others(s: &[u64], v: u64) -> u64 {
+// How many cells from the cell `from` on are not v.
+pub fn others(s: &[u64], from: u64, v: u64) -> u64 {
     let mut found: u64 = 0;
-    let mut k: usize = 0;
+    let mut k = from as usize;
     while k < s.len() {
-        let one = if s[k] == v { 0 } else { 1 };
-        found = plus(found, one);
+        found = plus(found, given(s[k] != v, 1));
         k += 1;
     }
     found
-}
-
-// The place, from 1, of the first cell that differs; 0 where all are alike.
-pub fn first_other(s: &[u64], t: &[u64]) -> u64 {
-    let mut k: usize = 0;
-    while k < s.len() {
-        if s[k] != at(t, k as u64) {
-            return plus(k as u64, 1);
-        }
-        k += 1;
-    }
-    0
 }
 
 // The sum of as many cells as `cells`, from start on, each a step after the one before.
@@ -148,31 +116,6 @@ pub fn line(s: &[u64], start: u64, step: u64, cells: u64) -> u64 {
         k += 1;
     }
     sum
-}
-
-// The cell of a signed number.
-pub fn cell_of(v: i64) -> u64 {
-    let size = csvtext::magnitude(v);
-    if v < 0 {
-        minus(ZERO, size)
-    } else {
-        plus(ZERO, size)
-    }
-}
-
-// The signed number of a cell up to 10^12.
-fn lowered(cell: u64) -> i64
-    requires { ⌜ cell ≤ 1000000000000 ⌝ }
-{
-    cell as i64 - ZERO as i64
-}
-
-// The signed number of a cell; past 10^12 the largest.
-pub fn signed(cell: u64) -> i64 {
-    if 1_000_000_000_000 < cell {
-        return i64::MAX;
-    }
-    lowered(cell)
 }
 
 // A freight with amount times unit cost added, both signed as cells are.
@@ -192,13 +135,4 @@ pub fn freight(amounts: &[u64], costs: &[u64]) -> u64 {
         k += 1;
     }
     sum
-}
-
-// Makes cells of signed numbers out of as many cells as `cells` that hold plain ones.
-pub fn lift(s: &mut [u64], start: u64, cells: u64) {
-    let mut k: u64 = 0;
-    while k < cells {
-        raise(s, start, k, ZERO);
-        k += 1;
-    }
 }

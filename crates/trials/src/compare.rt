@@ -1,39 +1,39 @@
 // The planner's answer against what is expected, by the least freight at each split. Each check has a number:
 // 1 to 5 number, place, split, total, freight; 6 a cell changed by a refusal; 7 rows; 8 columns; 9 the amounts'
-// freight; 10 stops; 11 a cell changed after a result; 12 the listing; 13 the answer that the scope gives.
+// freight; 10 stops; 11 a cell changed after a result; 12 the listing; 13 the answer that the scope gives; 14 a ceiling;
+// 15 the lanes of the first cheapest plan.
 use crate::bench::BEST;
-use crate::bench::COSTS_LEN;
-use crate::bench::FIRST;
-use crate::bench::FREIGHTS;
-use crate::bench::GOT;
-use crate::bench::LAST;
-use crate::bench::MADE;
-use crate::bench::MARK;
-use crate::bench::NONE;
-use crate::bench::PLAN;
+use crate::bench::CEILINGS;
+use crate::bench::COSTS;
+use crate::bench::DEMANDS;
+use crate::bench::FIRSTS;
 use crate::bench::ROOM;
-use crate::bench::SOURCES;
-use crate::bench::SPLIT_TIES;
-use crate::bench::SPLITS;
 use crate::bench::SUPPLIES;
-use crate::bench::TERMINALS;
-use crate::bench::WANT;
-use crate::bench::WANT_ROWS;
-use crate::bench::WIDTH;
-use crate::bench::costs;
-use crate::bench::demands;
-use crate::bench::table;
+use crate::bench::Sizes;
+use crate::bench::TABLE;
+use crate::cells::NONE;
 use crate::cells::at;
-use crate::cells::first_other;
 use crate::cells::freight;
-use crate::cells::get;
+use crate::cells::given;
 use crate::cells::line;
 use crate::cells::minus;
-use crate::cells::others;
 use crate::cells::part;
 use crate::cells::plus;
-use crate::cells::put;
-use crate::cells::transfer;
+use crate::cells::times;
+use crate::money::signed_at;
+use crate::paper::Span;
+use crate::paper::Verdict;
+
+// An answer, number 0 for a plan, and how many splits share the least total, which the planner does not say.
+pub struct Told {
+    pub number: u64,
+    pub place: u64,
+    pub split: u64,
+    pub total: u64,
+    pub freight: u64,
+    pub stops: u64,
+    pub ties: u64,
+}
 
 // The smallest split of least total, and how many splits have that total.
 struct Choice {
@@ -50,12 +50,10 @@ fn better(c: Choice, split: u64, total: u64) -> Choice {
             ties: 1,
         };
     }
-    let more = if total == c.total { 1 } else { 0 };
-    let ties = plus(c.ties, more);
     Choice {
         split: c.split,
         total: c.total,
-        ties,
+        ties: plus(c.ties, given(total == c.total, 1)),
     }
 }
 
@@ -73,126 +71,62 @@ fn choose(best: &[u64], table: &[u64]) -> Choice {
     c
 }
 
-// Sets the split, the total and the freight expected of a plan.
-pub fn expect_plan(b: &mut [u64]) {
-    let c = choose(part(b, BEST, ROOM), table(b));
-    let f = get(b, BEST, c.split);
-    put(b, WANT + 2, c.split);
-    put(b, WANT + 3, c.total);
-    put(b, WANT + 4, f);
-    put(b, SPLIT_TIES, c.ties);
-}
-
-// Sets the row sums expected of a plan.
-pub fn expect_rows(b: &mut [u64]) {
-    let split = at(b, WANT + 2);
-    let rest = minus(at(b, MADE), split);
-    let m = at(b, SOURCES);
-    transfer(b, SUPPLIES, m, WANT_ROWS);
-    put(b, WANT_ROWS, split);
-    put(b, WANT_ROWS + 1, rest);
-}
-
-// How many cells of a slice with room for any case are not v, from cell k on.
-fn others_from(b: &[u64], base: u64, k: u64, v: u64) -> u64 {
-    others(part(b, plus(base, k), minus(ROOM, k)), v)
-}
-
-// The first split from y on that has a plan; past the last where none has.
-fn next_with_plan(b: &[u64], y: u64) -> u64 {
-    let mut k = y;
-    while k < ROOM {
-        if get(b, BEST, k) != NONE {
-            return k;
-        }
-        k += 1;
-    }
-    k
-}
-
-// Takes ℓ, u and the number of splits from the listing. False where a split between two with a plan has none, or one lies outside supplies and runs.
-pub fn spans(b: &mut [u64]) -> bool {
-    let low = at(b, FIRST);
-    let high = at(b, LAST);
-    let width = others_from(b, BEST, 0, NONE);
-    let first = next_with_plan(b, 0);
-    put(b, WIDTH, width);
-    if width == 0 {
-        return true;
-    }
-    let last = minus(plus(first, width), 1);
-    put(b, FIRST, first);
-    put(b, LAST, last);
-    if first < low || high < last {
-        return false;
-    }
-    others_from(b, BEST, plus(first, width), NONE) == 0
-}
-
-// Whether the lines of the plan have the sums wanted: cells of a line are `step` apart, lines `apart`.
-fn sums_hold(b: &[u64], wanted: &[u64], apart: u64, step: u64, cells: u64) -> bool {
-    let mut start = PLAN;
-    let mut k: usize = 0;
-    while k < wanted.len() {
-        if line(b, start, step, cells) != wanted[k] {
-            return false;
-        }
-        start = plus(start, apart);
-        k += 1;
-    }
-    true
-}
-
-fn check_amounts(b: &[u64]) -> u64 {
-    let m = at(b, SOURCES);
-    let n = at(b, TERMINALS);
-    if !sums_hold(b, part(b, WANT_ROWS, m), n, 1, n) {
-        return 7;
-    }
-    if !sums_hold(b, demands(b), 1, n, m) {
-        return 8;
-    }
-    if freight(part(b, PLAN, ROOM), costs(b)) != at(b, WANT + 4) {
-        return 9;
-    }
-    if others_from(b, PLAN, at(b, COSTS_LEN), MARK) == 0 {
-        0
-    } else {
-        11
+// The answer to a judged case whose least freights are known, but for the stops.
+pub fn expect(v: Verdict, z: Sizes, b: &[u64]) -> Told {
+    let planned = v.number == 0;
+    let c = choose(part(b, BEST, ROOM), part(b, TABLE, z.table));
+    Told {
+        number: v.number,
+        place: v.place,
+        split: given(planned, c.split),
+        total: given(planned, c.total),
+        freight: given(planned, at(b, plus(BEST, c.split))),
+        stops: 0,
+        ties: c.ties,
     }
 }
 
-// Whether a split between two others is one where the slope changes.
-fn bends(b: &[u64], y: u64) -> bool {
-    let f = get(b, BEST, y);
-    let around = plus(get(b, BEST, minus(y, 1)), get(b, BEST, plus(y, 1)));
-    around != plus(f, f)
+// The number of the first check that fails, 0 where none does.
+pub fn failed(before: u64, wrong: bool, check: u64) -> u64 {
+    if before != 0 {
+        return before;
+    }
+    given(wrong, check)
+}
+
+// Checks 1 to 5.
+pub fn check_told(want: Told, got: Told) -> u64 {
+    let f = failed(0, got.number != want.number, 1);
+    let f = failed(f, got.place != want.place, 2);
+    let f = failed(f, got.split != want.split, 3);
+    let f = failed(f, got.total != want.total, 4);
+    failed(f, got.freight != want.freight, 5)
 }
 
 // Whether a split is the first, the last, or one where the slope changes.
-pub fn is_stop(b: &[u64], y: u64) -> bool {
-    if y == at(b, FIRST) {
+pub fn is_stop(s: Span, b: &[u64], y: u64) -> bool {
+    if y == s.first {
         return true;
     }
-    if y == at(b, LAST) {
+    if y == s.last {
         return true;
     }
-    bends(b, y)
+    let f = at(b, plus(BEST, y));
+    let around = plus(at(b, plus(BEST - 1, y)), at(b, plus(BEST + 1, y)));
+    around != plus(f, f)
 }
 
-// Whether stop k is split y, with its freight.
-fn stands(b: &[u64], k: u64, y: u64) -> bool {
-    get(b, SPLITS, k) == y && get(b, FREIGHTS, k) == get(b, BEST, y)
-}
-
-// How many stops there are; NONE where one does not stand in its place.
-fn stops_of(b: &[u64]) -> u64 {
-    let end = plus(at(b, LAST), 1);
+// How many stops there are; NONE where one does not stand in its place with its freight.
+pub fn stops_of(s: Span, b: &[u64], splits: &[u64], freights: &[i64]) -> u64 {
+    let end = plus(s.last, 1);
     let mut stops: u64 = 0;
-    let mut y = at(b, FIRST);
+    let mut y = s.first;
     while y < end {
-        if is_stop(b, y) {
-            if !stands(b, stops, y) {
+        if is_stop(s, b, y) {
+            if at(splits, stops) != y {
+                return NONE;
+            }
+            if signed_at(freights, stops) != at(b, plus(BEST, y)) {
                 return NONE;
             }
             stops = plus(stops, 1);
@@ -202,41 +136,54 @@ fn stops_of(b: &[u64]) -> u64 {
     stops
 }
 
-fn check_stops(b: &[u64]) -> u64 {
-    let stops = stops_of(b);
-    if stops != at(b, GOT + 5) {
-        return 10;
+// Whether the lines of a plan from line k on have the sums wanted: cells of a line are `step` apart, lines `apart`.
+fn lines_hold(
+    plan: &[u64],
+    wanted: &[u64],
+    from: usize,
+    apart: u64,
+    step: u64,
+    cells: u64,
+) -> bool {
+    let mut k = from;
+    while k < wanted.len() {
+        if line(plan, times(k as u64, apart), step, cells) != wanted[k] {
+            return false;
+        }
+        k += 1;
     }
-    if others_from(b, SPLITS, stops, MARK) != 0 {
-        return 11;
-    }
-    if others_from(b, FREIGHTS, stops, MARK) != 0 {
-        return 11;
-    }
-    0
+    true
 }
 
-// Check 6: a refusal changes no cell of the three slices.
-fn check_refusal(b: &[u64]) -> u64 {
-    if others(part(b, PLAN, 3 * ROOM), MARK) == 0 {
-        0
-    } else {
-        6
+// Whether an amount is above what stands in its place in the other slice.
+fn any_above(amounts: &[u64], limits: &[u64]) -> bool {
+    let mut k: usize = 0;
+    while k < limits.len() {
+        if limits[k] < at(amounts, k as u64) {
+            return true;
+        }
+        k += 1;
     }
+    false
 }
 
-// All checks of the answer: the number of the first that fails, or 0.
-pub fn check(b: &[u64]) -> u64 {
-    let other = first_other(part(b, WANT, 5), part(b, GOT, 5));
-    if other != 0 {
-        return other;
-    }
-    if at(b, WANT) != 0 {
-        return check_refusal(b);
-    }
-    let amounts = check_amounts(b);
-    if amounts != 0 {
-        return amounts;
-    }
-    check_stops(b)
+// Checks 7 to 9 and 14: the plan's sums, its freight, and its ceilings.
+pub fn check_amounts(z: Sizes, s: Span, want: Told, b: &[u64], plan: &[u64]) -> u64 {
+    let f = failed(0, line(plan, 0, 1, z.n) != want.split, 7);
+    let rest = minus(s.made, want.split);
+    let f = failed(f, line(plan, z.n, 1, z.n) != rest, 7);
+    let stock = part(b, SUPPLIES, z.m);
+    let f = failed(f, !lines_hold(plan, stock, 2, z.n, 1, z.n), 7);
+    let demands = part(b, DEMANDS, z.n);
+    let f = failed(f, !lines_hold(plan, demands, 0, 1, z.n, z.m), 8);
+    let cost = freight(plan, part(b, COSTS, z.costs));
+    let f = failed(f, cost != want.freight, 9);
+    failed(f, any_above(plan, part(b, CEILINGS, z.ceilings)), 14)
+}
+
+// Check 15: of a listed case, the lanes are those of the first cheapest plan. The sums of both plans are alike, so
+// none of the lanes may be above the other's.
+pub fn check_lanes(z: Sizes, split: u64, listed: bool, b: &[u64], plan: &[u64]) -> u64 {
+    let first_cheapest = part(b, plus(FIRSTS, times(12, split)), given(listed, z.costs));
+    given(any_above(plan, first_cheapest), 15)
 }

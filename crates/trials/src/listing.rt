@@ -1,191 +1,141 @@
-// A listing of all plans of a small case, judged from the input: row 1 sums to a_1 or less, row 2 to a_2 or less,
-// each to its least run or more, each depot row to its stock, each column to its demand. Lanes are gone through in row order; at each lane every
-// amount that rows, columns and the lane's ceiling leave room for is tried.
+// A listing of all plans of a small case, judged from the input: row 1 sums to r_1 up to a_1, row 2 to r_2 up to a_2,
+// each depot row to its stock, each column to its demand, no lane above its ceiling. Lanes are gone through in row
+// order; at each lane every amount that rows, columns and ceilings leave room for is tried, the smallest first. So of
+// the cheapest plans at a split the first listed has the smaller amount at the first lane where it differs from another.
+use crate::bench::AMOUNTS;
 use crate::bench::BEST;
 use crate::bench::CEILINGS;
-use crate::bench::COSTS_LEN;
+use crate::bench::COSTS;
 use crate::bench::DEMANDS;
-use crate::bench::NONE;
+use crate::bench::FIRSTS;
 use crate::bench::ROOM;
-use crate::bench::RUN1;
-use crate::bench::RUN2;
-use crate::bench::SOURCES;
 use crate::bench::SUPPLIES;
-use crate::bench::TERMINALS;
-use crate::bench::costs;
+use crate::bench::Sizes;
+use crate::bench::TIES;
+use crate::cells::NONE;
 use crate::cells::at;
-use crate::cells::count;
+use crate::cells::fill;
 use crate::cells::freight;
-use crate::cells::get;
+use crate::cells::given;
 use crate::cells::larger;
 use crate::cells::line;
-use crate::cells::lower;
+use crate::cells::minus;
 use crate::cells::part;
 use crate::cells::plus;
 use crate::cells::put;
-use crate::cells::raise;
-use crate::cells::repeat;
-use crate::cells::set;
 use crate::cells::smaller;
+use crate::cells::times;
 use crate::cells::transfer;
 
-// The amounts, the next amount to try at each lane, what each row and each column has left, how many cheapest
-// plans each split has, and how many plans there are.
-const AMOUNTS: u64 = 23_100;
+// The least and the most that a lane can carry beside the lanes before it.
+struct Reach {
+    least: u64,
+    most: u64,
+}
 
-const NEXT: u64 = 23_200;
+// Where the listing is: the lane to look at (NONE where all is tried), the least amount to try there, and how many
+// plans were found.
+struct Turn {
+    lane: u64,
+    low: u64,
+    plans: u64,
+}
 
-const ROWS: u64 = 23_300;
-
-const COLUMNS: u64 = 23_400;
-
-pub const CHEAPEST: u64 = 23_500;
-
-pub const LISTED: u64 = 23_600;
 // More turns than any case of the trials needs.
 const TURNS: u64 = 100_000_000;
 
-// Keeps the least freight at a split, and counts the plans that have it.
-fn keep_least(b: &mut [u64], y: u64, cost: u64) {
-    let known = get(b, BEST, y);
-    if cost < known {
-        set(b, BEST, y, cost);
-        set(b, CHEAPEST, y, 1);
-    } else {
-        count(b, CHEAPEST, y, cost == known);
+// What row i must sum to at least.
+fn row_least(z: Sizes, b: &[u64], i: u64) -> u64 {
+    match i {
+        0 => z.run1,
+        1 => z.run2,
+        _ => at(b, plus(SUPPLIES, i)),
     }
 }
 
-// Keeps the freight of a full table that sends y from plant 1.
-fn keep_plan(b: &mut [u64], y: u64) {
-    let cost = freight(part(b, AMOUNTS, at(b, COSTS_LEN)), costs(b));
-    raise(b, LISTED, 0, 1);
-    keep_least(b, y, cost);
-}
-
-// Keeps a full table where both plants make their least run.
-fn keep(b: &mut [u64]) {
-    let n = at(b, TERMINALS);
-    let y = line(b, AMOUNTS, 1, n);
-    let z = line(b, plus(AMOUNTS, n), 1, n);
-    if y < at(b, RUN1) {
-        return;
-    }
-    if z < at(b, RUN2) {
-        return;
-    }
-    keep_plan(b, y);
-}
-
-// Gives a lane an amount out of what its row and its column have left.
-fn give(b: &mut [u64], lane: u64, row: u64, column: u64, amount: u64) {
-    set(b, AMOUNTS, lane, amount);
-    set(b, NEXT, lane, plus(amount, 1));
-    lower(b, ROWS, row, amount);
-    lower(b, COLUMNS, column, amount);
-}
-
-// Takes the amount of a lane back.
-fn take(b: &mut [u64], lane: u64, row: u64, column: u64) {
-    let amount = get(b, AMOUNTS, lane);
-    raise(b, ROWS, row, amount);
-    raise(b, COLUMNS, column, amount);
-}
-
-// What a depot's last lane must take: the rest of its stock.
-fn least_of_row(b: &[u64], row: u64, column: u64) -> u64 {
-    if row < 2 {
-        return 0;
-    }
-    if plus(column, 1) == at(b, TERMINALS) {
-        get(b, ROWS, row)
-    } else {
-        0
+// A row's last lane must take what the row still lacks, the last source's lane all that the terminal still lacks.
+fn reach_of(z: Sizes, b: &[u64], lane: u64, row: u64, column: u64) -> Reach {
+    let sent = line(b, plus(AMOUNTS, minus(lane, column)), 1, column);
+    let got = line(b, plus(AMOUNTS, column), z.n, row);
+    let row_left = minus(at(b, plus(SUPPLIES, row)), sent);
+    let column_left = minus(at(b, plus(DEMANDS, column)), got);
+    let of_row = given(plus(column, 1) == z.n, minus(row_least(z, b, row), sent));
+    let of_column = given(plus(row, 1) == z.m, column_left);
+    Reach {
+        least: larger(of_row, of_column),
+        most: smaller(smaller(row_left, column_left), at(b, plus(CEILINGS, lane))),
     }
 }
 
-// What the last source's lane must take: all that the terminal still lacks.
-fn least_of_column(b: &[u64], row: u64, column: u64) -> u64 {
-    if plus(row, 1) == at(b, SOURCES) {
-        get(b, COLUMNS, column)
-    } else {
-        0
-    }
-}
-
-// The least amount left to try at a lane.
-fn least(b: &[u64], lane: u64, row: u64, column: u64) -> u64 {
-    let must = larger(
-        least_of_row(b, row, column),
-        least_of_column(b, row, column),
-    );
-    larger(must, get(b, NEXT, lane))
-}
-
-// Goes back to the lane before; NONE from the first.
-fn back(b: &mut [u64], n: u64, lane: u64) -> u64 {
-    set(b, NEXT, lane, 0);
+// Goes back to the lane before, to try one drum more there.
+fn back(b: &[u64], lane: u64, plans: u64) -> Turn {
     if lane == 0 {
-        return NONE;
+        return Turn {
+            lane: NONE,
+            low: 0,
+            plans,
+        };
+    }
+    Turn {
+        lane: lane - 1,
+        low: plus(at(b, plus(AMOUNTS, lane - 1)), 1),
+        plans,
+    }
+}
+
+// Keeps the least freight at the split of a full plan, how many plans have it, and the first of them.
+fn keep(z: Sizes, b: &mut [u64]) {
+    let y = line(b, AMOUNTS, 1, z.n);
+    let cost = freight(part(b, AMOUNTS, z.costs), part(b, COSTS, z.costs));
+    let known = at(b, plus(BEST, y));
+    if known < cost {
+        return;
+    }
+    let ties = given(known == cost, at(b, plus(TIES, y)));
+    put(b, plus(BEST, y), cost);
+    put(b, plus(TIES, y), plus(ties, 1));
+    let lanes = given(ties == 0, z.costs);
+    transfer(b, AMOUNTS, lanes, plus(FIRSTS, times(12, y)));
+}
+
+// One turn of the listing, at a lane or past the last.
+fn next(z: Sizes, b: &mut [u64], t: Turn) -> Turn {
+    let n = z.n;
+    if t.lane == z.costs {
+        keep(z, b);
+        return back(b, t.lane, plus(t.plans, 1));
     }
     if n == 0 {
-        return NONE;
+        return back(b, 0, 0);
     }
-    let before = lane - 1;
-    take(b, before, before / n, before % n);
-    before
-}
-
-// The most that a lane can take: what its row, its column and its ceiling leave.
-fn most(b: &[u64], lane: u64, row: u64, column: u64) -> u64 {
-    let left = smaller(get(b, ROWS, row), get(b, COLUMNS, column));
-    smaller(left, get(b, CEILINGS, lane))
-}
-
-// Tries the least amount left at a lane. The lane to look at next, or NONE where all is tried.
-fn try_lane(b: &mut [u64], n: u64, lane: u64, row: u64, column: u64) -> u64 {
-    let amount = least(b, lane, row, column);
-    if most(b, lane, row, column) < amount {
-        return back(b, n, lane);
+    let r = reach_of(z, b, t.lane, t.lane / n, t.lane % n);
+    let amount = larger(r.least, t.low);
+    if r.most < amount {
+        return back(b, t.lane, t.plans);
     }
-    give(b, lane, row, column, amount);
-    plus(lane, 1)
-}
-
-// One step of the listing, at a lane or past the last.
-fn step(b: &mut [u64], lane: u64) -> u64 {
-    let n = at(b, TERMINALS);
-    if n == 0 {
-        return NONE;
+    put(b, plus(AMOUNTS, t.lane), amount);
+    Turn {
+        lane: plus(t.lane, 1),
+        low: 0,
+        plans: t.plans,
     }
-    if lane == at(b, COSTS_LEN) {
-        keep(b);
-        return back(b, n, lane);
-    }
-    try_lane(b, n, lane, lane / n, lane % n)
 }
 
-// Clears the desk and the least freights.
-fn clear(b: &mut [u64]) {
-    repeat(b, AMOUNTS, 600, 0);
-    repeat(b, BEST, ROOM, NONE);
-    let m = at(b, SOURCES);
-    transfer(b, SUPPLIES, m, ROWS);
-    let n = at(b, TERMINALS);
-    transfer(b, DEMANDS, n, COLUMNS);
-}
-
-// Finds the least freight at each split. Answers whether every plan was looked at.
-pub fn list(b: &mut [u64]) -> bool {
-    clear(b);
-    let mut lane: u64 = 0;
+// Finds the least freight at each split. Answers how many plans there are, or NONE where not all were looked at.
+pub fn list(z: Sizes, b: &mut [u64]) -> u64 {
+    fill(b, BEST, ROOM, NONE, 0);
+    let mut t = Turn {
+        lane: 0,
+        low: 0,
+        plans: 0,
+    };
     let mut turns: u64 = 0;
     while turns < TURNS {
-        lane = step(b, lane);
-        if lane == NONE {
-            return true;
+        t = next(z, b, t);
+        if t.lane == NONE {
+            return t.plans;
         }
         turns += 1;
     }
-    false
+    NONE
 }

@@ -8,54 +8,55 @@ mod cells;
 mod compare;
 mod fixed;
 mod listing;
+mod money;
 mod paper;
 mod planned;
 mod random;
 mod report;
+mod rows;
 mod trial;
 
-use crate::bench::SEED;
 use crate::bench::TALLY;
-use crate::cells::put;
-use crate::cells::repeat;
+use crate::cells::fill;
 use crate::fixed::run_fixed;
 use crate::random::next_case;
-use crate::report::FROM_CASES;
 use crate::report::report;
 use crate::trial::close;
 use crate::trial::run_small;
 
 const RANDOM_CASES: u64 = 10_000;
 
-fn new_bench() -> [u64; 26200]
-    ensures { λ r. ⌜ 26200 ≡ length r ⌝ }
+fn new_bench() -> [u64; 26900]
+    ensures { λ r. ⌜ 26900 ≡ length r ⌝ }
 {
-    [0; 26200]
+    [0; 26900]
 }
 
 // Runs the random cases, from a fixed seed.
 fn run_random(b: &mut [u64]) {
-    put(b, SEED, 20_260_101);
+    let mut seed: u64 = 20_260_101;
     let mut k: u64 = 0;
     while k < RANDOM_CASES {
-        next_case(b);
-        let failed = run_small(b);
-        close(b, failed);
+        seed = next_case(b, seed);
+        let o = run_small(b);
+        close(b, o.failed);
         k += 1;
     }
 }
 
-fn run_trials(b: &mut [u64]) {
-    run_fixed(b);
+fn run_trials(b: &mut [u64], table: &[u8]) {
+    run_fixed(b, table);
     io::write_all(1, b"fixed\n");
-    report(b, FROM_CASES);
-    repeat(b, TALLY, 50, 0);
+    report(b, 25);
+    fill(b, TALLY, 50, 0, 0);
     run_random(b);
     io::write_all(1, b"random\n");
     report(b, 0);
 }
 
 fn main() {
+    let mut table = io::large_buffer();
+    let size = io::read_full(0, &mut table);
     let mut b = new_bench();
-    run_trials(&mut b);
+    run_trials(&mut b, &table[..size]);
 }

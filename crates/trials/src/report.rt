@@ -1,14 +1,14 @@
 // What the trials found, a line for each count of the tally.
 use crate::bench::TALLY;
 use crate::cells::at;
-use crate::cells::get;
+use crate::cells::plus;
 
 // How many lines there are, how wide a name is, and the cell of the tally that each line shows.
 const LINES: usize = 29;
 
 const WIDTH: usize = 25;
 
-const SHOWN: [u64; 29] = [
+const SHOWN: [u64; LINES] = [
     0,
     1,
     2,
@@ -31,32 +31,23 @@ const SHOWN: [u64; 29] = [
     33,
     34,
     35,
-    36,
     37,
     38,
+    36,
     39,
     40,
     41,
     42,
 ];
 
-// The line from which on the cases are counted.
-pub const FROM_CASES: usize = 25;
-
-// The count that line k shows.
-fn count_of(b: &[u64], k: u64) -> u64 {
-    let cells: &[u64] = &SHOWN;
-    get(b, TALLY, at(cells, k))
-}
-
-// Writes line k of the names and a number.
-fn say(names: &[u8], k: usize, number: u64) {
+// Writes line k of the names and its count.
+fn say(names: &[u8], b: &[u64], k: usize) {
     if k < LINES {
         let start = k * WIDTH;
         let end = start + WIDTH;
         if end <= names.len() {
             io::write_all(1, &names[start..end]);
-            io::print_decimal(1, number);
+            io::print_decimal(1, at(b, plus(TALLY, SHOWN[k])));
             io::write_all(1, b"\n");
         }
     }
@@ -66,7 +57,7 @@ fn say(names: &[u8], k: usize, number: u64) {
 fn say_from(names: &[u8], b: &[u64], first: usize) {
     let mut k = first;
     while k < LINES {
-        say(names, k, count_of(b, k as u64));
+        say(names, b, k);
         k += 1;
     }
 }

@@ -1,192 +1,146 @@
 // One trial: the planner runs on the case of the bench, and its answer is checked and counted.
-use crate::bench::SOURCES;
-use crate::bench::SPLIT_TIES;
+use crate::bench::DEMANDS;
+use crate::bench::SUPPLIES;
+use crate::bench::Sizes;
 use crate::bench::TALLY;
-use crate::bench::TERMINALS;
-use crate::bench::WANT;
-use crate::bench::WIDTH;
-use crate::bench::demands;
-use crate::bench::supplies;
+use crate::bench::TIES;
+use crate::bench::sizes_of;
+use crate::cells::NONE;
 use crate::cells::at;
-use crate::cells::count;
-use crate::cells::get;
+use crate::cells::given;
+use crate::cells::minus;
 use crate::cells::others;
+use crate::cells::part;
+use crate::cells::plus;
 use crate::cells::put;
-use crate::cells::raise;
-use crate::cells::repeat;
-use crate::cells::set;
-use crate::compare::check;
-use crate::compare::expect_plan;
-use crate::compare::expect_rows;
+use crate::compare::Told;
+use crate::compare::expect;
+use crate::compare::failed;
 use crate::compare::is_stop;
-use crate::compare::spans;
-use crate::listing::CHEAPEST;
-use crate::listing::LISTED;
 use crate::listing::list;
-use crate::paper::judge_balance;
+use crate::paper::Span;
+use crate::paper::Verdict;
+use crate::paper::judge;
 use crate::paper::judge_splits;
-use crate::planned::run;
+use crate::paper::listed_span;
+use crate::paper::span_of;
+use crate::planned::Outcome;
+use crate::planned::check;
 
-// The tally: the expected answers by number (0 for a plan), then these.
-const ONE_SPLIT: u64 = 28;
+// The tally: the expected answers by number (0 for a plan); what planned cases show; listed cases with plans and without;
+// cases, differences, the first case with one and its check.
+const FACTS: u64 = 28;
 
-const TIES: u64 = 29;
-
-const PLAN_TIES: u64 = 30;
-
-const PLANS: u64 = 31;
-
-const NO_DEPOTS: u64 = 32;
-
-const ONE_TERMINAL: u64 = 33;
-
-const NO_SUPPLY: u64 = 34;
-
-const NO_DEMAND: u64 = 35;
-
-const BALANCED: u64 = 36;
-
-const UNBALANCED: u64 = 37;
-
-const BETWEEN: u64 = 38;
+const LISTED: u64 = 37;
 
 const CASES: u64 = 39;
 
-const DIFFERENCES: u64 = 40;
+// Adds to a cell of the tally.
+fn raise(b: &mut [u64], k: u64, by: u64) {
+    let v = plus(at(b, plus(TALLY, k)), by);
+    put(b, plus(TALLY, k), v);
+}
 
-const FIRST_CASE: u64 = 41;
-
-const FIRST_CHECK: u64 = 42;
-
-// Keeps the first case with a difference.
-fn keep_first(b: &mut [u64], failed: u64) {
-    if get(b, TALLY, DIFFERENCES) == 0 {
-        let case_number = get(b, TALLY, CASES);
-        set(b, TALLY, FIRST_CASE, case_number);
-        set(b, TALLY, FIRST_CHECK, failed);
+// Adds counts to the tally from its cell `first` on.
+fn count(b: &mut [u64], counts: &[u64], first: u64) {
+    let mut k: usize = 0;
+    while k < counts.len() {
+        raise(b, plus(first, k as u64), counts[k]);
+        k += 1;
     }
 }
 
-// Counts a case and, where a check failed, a difference.
+// Counts a case and, where a check failed, a difference; keeps the first such case.
 pub fn close(b: &mut [u64], failed: u64) {
-    raise(b, TALLY, CASES, 1);
-    if failed != 0 {
-        keep_first(b, failed);
-        raise(b, TALLY, DIFFERENCES, 1);
+    let cases = plus(at(b, TALLY + CASES), 1);
+    let differences = at(b, TALLY + CASES + 1);
+    let one = given(failed != 0, 1);
+    let first = given(differences == 0, one);
+    let counts = [1, one, given(first == 1, cases), given(first == 1, failed)];
+    count(b, &counts, CASES);
+}
+
+// Counts what a planned case shows. What a refused one would show is counted where nothing reads it.
+fn count_plan(z: Sizes, s: Span, want: Told, plans: u64, b: &mut [u64]) {
+    let plan_ties = at(b, plus(TIES, want.split));
+    let supplied = others(part(b, SUPPLIES, z.m), 0, 0);
+    let demanded = others(part(b, DEMANDS, z.n), 0, 0);
+    let between = !is_stop(s, b, want.split);
+    let counts = [
+        given(s.width == 1, 1),
+        given(1 < want.ties, 1),
+        given(1 < plan_ties, 1),
+        plans,
+        given(z.m == 2, 1),
+        given(z.n == 1, 1),
+        given(supplied < z.m, 1),
+        given(demanded < z.n, 1),
+        given(between, 1),
+    ];
+    count(b, &counts, plus(FACTS, given(want.number != 0, 100)));
+}
+
+// Lists the plans of a case that passes the tests before the balance, and counts such cases with plans and without.
+fn list_case(v: Verdict, z: Sizes, b: &mut [u64]) -> u64 {
+    let number = v.number;
+    match number {
+        0 | 7 | 8 => {
+            let plans = list(z, b);
+            raise(b, plus(LISTED, given(plans == 0, 1)), 1);
+            plans
+        }
+        _ => 0,
     }
 }
 
-fn count_ties(b: &mut [u64]) {
-    let tie = 1 < at(b, SPLIT_TIES);
-    count(b, TALLY, TIES, tie);
-    let split = at(b, WANT + 2);
-    let plan_tie = 1 < get(b, CHEAPEST, split);
-    count(b, TALLY, PLAN_TIES, plan_tie);
-}
-
-// Counts the cases with a supply of 0 and with a demand of 0.
-fn count_zeros(b: &mut [u64]) {
-    let no_supply = others(supplies(b), 0) < at(b, SOURCES);
-    count(b, TALLY, NO_SUPPLY, no_supply);
-    let no_demand = others(demands(b), 0) < at(b, TERMINALS);
-    count(b, TALLY, NO_DEMAND, no_demand);
-}
-
-fn count_sizes(b: &mut [u64]) {
-    let no_depots = at(b, SOURCES) == 2;
-    count(b, TALLY, NO_DEPOTS, no_depots);
-    let one_terminal = at(b, TERMINALS) == 1;
-    count(b, TALLY, ONE_TERMINAL, one_terminal);
-}
-
-// Counts the cases whose best split lies strictly between two stops.
-fn count_between(b: &mut [u64]) {
-    let between = !is_stop(b, at(b, WANT + 2));
-    count(b, TALLY, BETWEEN, between);
-}
-
-// Counts what a planned case shows.
-fn count_plan(b: &mut [u64]) {
-    let one_split = at(b, WIDTH) == 1;
-    count(b, TALLY, ONE_SPLIT, one_split);
-    let plans = at(b, LISTED);
-    raise(b, TALLY, PLANS, plans);
-    count_ties(b);
-    count_between(b);
-    count_sizes(b);
-    count_zeros(b);
-}
-
-// Whether a test before the balance refuses: 1 to 6, 23 or 26.
-fn ill_formed(number: u64) -> bool {
-    if number == 23 || number == 26 {
+// Whether the listing agrees with the tests up to 8: of a refused case no plan; else plans at each split of one
+// stretch within supplies and runs.
+fn sound(v: Verdict, all: Span, s: Span, plans: u64) -> bool {
+    if v.number != 0 {
+        return plans == 0;
+    }
+    if plans == NONE {
+        return false;
+    }
+    if s.width == 0 {
         return true;
     }
-    0 < number && number < 7
+    if s.first < all.first {
+        return false;
+    }
+    if all.last < s.last {
+        return false;
+    }
+    minus(plus(s.last, 1), s.first) == s.width
 }
 
-// What the listing says of balance: 27 where tests 7 and 8 pass and there is no plan. False where it contradicts them.
-fn balance_holds(b: &mut [u64]) -> bool {
-    let balanced = at(b, WIDTH) != 0;
-    count(b, TALLY, BALANCED, balanced);
-    count(b, TALLY, UNBALANCED, !balanced);
-    if at(b, WANT) != 0 {
-        return !balanced;
-    }
-    if !balanced {
-        put(b, WANT, 27);
-    }
-    true
-}
-
-// Lists the plans of a case that passes the tests before the balance, and takes ℓ, u and 27 from there.
-fn list_case(b: &mut [u64]) -> u64 {
-    let number = at(b, WANT);
-    if ill_formed(number) {
-        return 0;
-    }
-    if !list(b) {
-        return 12;
-    }
-    if !spans(b) {
-        return 12;
-    }
-    if balance_holds(b) { 0 } else { 12 }
-}
-
-fn expect(b: &mut [u64]) {
-    repeat(b, WANT + 2, 4, 0);
-    if at(b, WANT) == 0 {
-        expect_plan(b);
-        expect_rows(b);
-    }
-}
-
-// Runs the planner on a judged case whose least freights are known, and checks its answer.
-pub fn run_known(b: &mut [u64]) -> u64 {
-    expect(b);
-    run(b);
-    check(b)
-}
-
-// Runs and checks a judged case whose plans are listed.
-fn run_listed(b: &mut [u64]) -> u64 {
-    let failed = run_known(b);
-    if at(b, WANT) == 0 {
-        count_plan(b);
-    }
-    failed
+// Counts and checks a judged case whose plans are listed.
+fn run_listed(b: &mut [u64], z: Sizes, s: Span, want: Told, plans: u64) -> Outcome {
+    raise(b, want.number, 1);
+    count_plan(z, s, want, plans, b);
+    check(z, s, want, true, b)
 }
 
 // Runs and checks a case small enough for the listing.
-pub fn run_small(b: &mut [u64]) -> u64 {
-    judge_balance(b);
-    let failed = list_case(b);
-    judge_splits(b);
-    let number = at(b, WANT);
-    raise(b, TALLY, number, 1);
-    if failed != 0 {
-        return failed;
+pub fn run_small(b: &mut [u64]) -> Outcome {
+    let z = sizes_of(b);
+    let all = span_of(z, b);
+    let v = judge(z, all, b);
+    let plans = list_case(v, z, b);
+    let s = listed_span(all, b);
+    let want = expect(judge_splits(v, z, s, b), z, b);
+    let o = run_listed(b, z, s, want, plans);
+    let got = o.got;
+    Outcome {
+        failed: failed(o.failed, !sound(v, all, s, plans), 12),
+        got,
     }
-    run_listed(b)
+}
+
+// Runs and checks a case whose least freights are known.
+pub fn run_known(b: &[u64]) -> Outcome {
+    let z = sizes_of(b);
+    let s = span_of(z, b);
+    let v = judge_splits(judge(z, s, b), z, s, b);
+    check(z, s, expect(v, z, b), false, b)
 }

@@ -146,7 +146,8 @@ pub fn expect_plan(lent: &Lent, least: u64, curve: &[i64]) {
     let amounts = &answer.plan[..cells];
     assert_eq!(referee::faults(lent, split, amounts), Vec::<String>::new(), "{lent:?}");
     assert_eq!(referee::freight(lent, amounts), freight, "freight of the amounts; {lent:?}");
-    assert_eq!(answer.plan, then_untouched(amounts, 1, lent.plan_cells), "plan; {lent:?}");
+    let due = referee::foremost(lent, split);
+    assert_eq!(answer.plan, then_untouched(&due, 1, lent.plan_cells), "plan; {lent:?}");
 }
 
 /// The answer is what the referee says, be it a plan or a refusal. Answers the refusal's number, or 0.

@@ -6,6 +6,9 @@
 //! return arcs, until there is none: the plan is a cheapest one at that split. No shortest path between the plants is looked for
 //! and nothing is assumed about the curve or about which splits have a plan. The next split starts from this plan with one drum
 //! moved from plant 2 to plant 1.
+//!
+//! Of the cheapest plans at a split the one that is due is found by prices: each lane in turn is made dearer by less than any
+//! difference of freights, negative cycles are cancelled again, and the lane is then held at what it carries.
 
 use super::Lent;
 
@@ -130,6 +133,15 @@ pub fn curve(lent: &Lent) -> (u64, Vec<i64>) {
     (least, curve)
 }
 
+/// The amounts that are due at split y, which has a plan.
+pub fn foremost(lent: &Lent, y: u64) -> Vec<u64> {
+    let mut network = Network::empty(lent, y);
+    assert!(network.deliver(), "a split that has a plan; {lent:?}");
+    network.cheapen();
+    network.settle();
+    network.amounts
+}
+
 /// Each split within the supplies and the least runs, with what `at` says of a plan there, if there is one.
 fn over_splits(lent: &Lent, mut at: impl FnMut(&mut Network) -> i64) -> Vec<(u64, Option<i64>)> {
     let (_, l, u) = splits(lent);
@@ -169,6 +181,8 @@ struct Network {
     n: usize,
     costs: Vec<i64>,
     ceilings: Vec<u64>,
+    /// what a lane carries at least
+    floors: Vec<u64>,
     amounts: Vec<u64>,
     left: Vec<u64>,
     wanted: Vec<u64>,
@@ -191,6 +205,7 @@ impl Network {
             n,
             costs: lent.costs.clone(),
             ceilings: lent.ceilings.clone(),
+            floors: vec![0; m * n],
             amounts: vec![0; m * n],
             left,
             wanted: lent.demands.clone(),
@@ -251,13 +266,14 @@ impl Network {
         None
     }
 
-    /// What the arc from v to w can carry: what a lane has room for, or what it carries, backwards.
+    /// What the arc from v to w can carry: what a lane has room for, or what it carries above its floor, backwards.
     fn residual(&self, v: usize, w: usize) -> u64 {
         if v < self.m {
             let k = v * self.n + (w - self.m);
             self.ceilings[k] - self.amounts[k]
         } else {
-            self.amounts[w * self.n + (v - self.m)]
+            let k = w * self.n + (v - self.m);
+            self.amounts[k] - self.floors[k]
         }
     }
 
@@ -296,6 +312,21 @@ impl Network {
         }
     }
 
+    /// From a cheapest plan to the one of those as cheap that has the smaller amount at the first lane, in row order, where it
+    /// differs from another. A cycle's cost is a whole number: doubled, it outweighs 1 on a lane.
+    fn settle(&mut self) {
+        self.costs.iter_mut().for_each(|c| *c *= 2);
+        self.label.iter_mut().for_each(|d| *d *= 2);
+        for k in 0..self.amounts.len() {
+            if self.amounts[k] > 0 {
+                self.costs[k] += 1;
+                self.cheapen();
+            }
+            self.floors[k] = self.amounts[k];
+            self.ceilings[k] = self.amounts[k];
+        }
+    }
+
     /// Lowers labels along each arc once; answers whether one fell. Where none falls, no cycle is negative.
     fn pass(&mut self) -> bool {
         let (m, n) = (self.m, self.n);
@@ -310,7 +341,7 @@ impl Network {
                     fell = true;
                 }
                 let back = self.label[m + j] - self.costs[k];
-                if self.amounts[k] > 0 && back < self.label[i] {
+                if self.amounts[k] > self.floors[k] && back < self.label[i] {
                     self.label[i] = back;
                     self.previous[i] = m + j;
                     fell = true;
@@ -346,35 +377,46 @@ impl Network {
     }
 }
 
-/// f at split y by listing every plan within the ceilings, if there is one: for tiny cases, to test the referee itself.
-pub fn listed(lent: &Lent, y: u64) -> Option<i64> {
+/// f at split y by listing every plan within the ceilings, if there is one, and the first plan of that freight in the listing,
+/// which rises lane by lane: for tiny cases, to test the referee itself.
+pub fn listed(lent: &Lent, y: u64) -> Option<(i64, Vec<u64>)> {
     let (d, _, _) = splits(lent);
     let mut rows = lent.supplies.clone();
     rows[0] = y;
     rows[1] = d - y;
-    fill(lent, &rows, &mut lent.demands.clone(), 0, rows[0])
+    let mut first = None;
+    fill(lent, &rows, &mut lent.demands.clone(), &mut Vec::new(), rows[0], &mut first);
+    first
 }
 
-/// Least freight of the lanes from k on, with `left` still to leave the lane's source.
-fn fill(lent: &Lent, rows: &[u64], wanted: &mut [u64], k: usize, left: u64) -> Option<i64> {
+/// Lists the amounts of the lanes behind those in `plan`, with `left` still to leave the lane's source.
+fn fill(
+    lent: &Lent,
+    rows: &[u64],
+    wanted: &mut [u64],
+    plan: &mut Vec<u64>,
+    left: u64,
+    first: &mut Option<(i64, Vec<u64>)>,
+) {
+    let k = plan.len();
     let (i, j) = (k / lent.n, k % lent.n);
     if i == lent.m {
-        return wanted.iter().all(|&w| w == 0).then_some(0);
+        let cost = freight(lent, plan);
+        if wanted.iter().all(|&w| w == 0) && first.as_ref().is_none_or(|f| cost < f.0) {
+            *first = Some((cost, plan.clone()));
+        }
+        return;
     }
     let last = j + 1 == lent.n;
-    let mut least = None;
     for x in if last { left } else { 0 }..=left {
         if x > wanted[j] || x > lent.ceilings[k] {
             break;
         }
         wanted[j] -= x;
+        plan.push(x);
         let next = if last { rows.get(i + 1).copied().unwrap_or(0) } else { left - x };
-        let rest = fill(lent, rows, wanted, k + 1, next);
+        fill(lent, rows, wanted, plan, next, first);
+        plan.pop();
         wanted[j] += x;
-        if let Some(rest) = rest {
-            let all = rest + x as i64 * lent.costs[k];
-            least = Some(least.map_or(all, |l: i64| l.min(all)));
-        }
     }
-    least
 }

@@ -9,6 +9,7 @@ use Rattle.transport.specs.Curve.{leastIn}
 use Rattle.transport.specs.theory.AtSplit.{At}
 use Rattle.residual.specs.Cells.{cells}
 use Rattle.residual.specs.Network.{net, get}
+use Rattle.canonical.specs.Canonize.{CanonReady}
 use Rattle.range.specs.engine.PlantShift.{Swinging}
 use Rattle.range.specs.Begun.{Some}
 use Rattle.stretch.specs.declared.Incumbent.{Incumbent}
@@ -37,10 +38,11 @@ pub record ClimbReady (m n : ℕ) (cost cap x p : List ℕ) (lo hi v : ℕ) (tab
   pub splits-room : hi - lo < length splits
   pub freights-room : hi - lo < length freights
 
--- the climb from plan x₀ stands at y with plan x and potentials p
-pub record Standing (m n : ℕ) (cost cap x₀ x p kept : List ℕ) (y value : ℕ) (b : Incumbent) : Type 0 where
+-- the climb from plan x₀ stands at y with plan x and potentials p; held are the potentials of the plan that is kept
+pub record Standing (m n : ℕ) (cost cap x₀ x p kept held : List ℕ) (y value : ℕ) (b : Incumbent) : Type 0 where
   pub swinging : Swinging (net m n cost cap x) (get p 1) p x
   pub at : At m n (row n (cells x₀)) (col m (cells x₀)) y (bothIn n x₀ - y) (cells x)
   pub worth : freight m n (cells cost) (cells x) ≡ value
   pub plan : PlanAt m n (cells cost) (cells cap) (bothIn n x₀) (row n (cells x₀)) (col m (cells x₀)) (b .split) (b .freight) kept
+  pub ready : CanonReady (net m n cost cap kept) held
   pub behind : b .split ≤ y

@@ -1,5 +1,4 @@
--- `trials::run_random` is safe and ends. The slice keeps its length; the measure is what is left of the cases.
--- Assumes nothing.
+-- `trials::run_random` is safe and ends. The slice keeps its length; the measure is what is left of the cases. Assumes nothing.
 use mathlib.Core.Path.{_≡_}
 use Prim.Native.Nat.{_-_}
 use borrow.Author.Needs.{needs}
@@ -8,10 +7,10 @@ use Rattle.trials.proofs.run_random.Statement.{statement}
 use Rattle.trials.proofs.run_random.Tie as tie
 
 abbrev Inv-loop : tie.InvT-loop
-Inv-loop b₀ k₀ b k = length b ≡ length b₀
+Inv-loop b₀ seed₀ k₀ b seed k = length b ≡ length b₀
 
 abbrev μ-loop : tie.MeasureT-loop
-μ-loop b₀ k₀ b k = 10000 - k
+μ-loop b₀ seed₀ k₀ b seed k = 10000 - k
 
 pub run-random-spec : {M : Type 1} → statement M
 run-random-spec =
@@ -19,7 +18,6 @@ run-random-spec =
     (tie.spec
     Inv-loop
     μ-loop
-    (λ c κs. search needs)
     (λ c. search needs)
     (λ c κs. search needs)
     (λ c κs. search needs)

@@ -42,10 +42,13 @@ mark-requires c κs = trail-wide _ (c .before .before .before .before .before .b
 lower-requires : tie.Need-lower-requires
 lower-requires c κs = search needs
 
+hold-requires : tie.Need-hold-requires
+hold-requires c κs = search needs
+
 returns : tie.Need-returns
 returns c = (
-  stretch-done (c .before .before .before .before .before .before .before .before .before .before .before .before .before .before .before .before .before .before .before .before .before .before .before .pre .0) (c .before .before .before .before .before .before .before .before .before .before .before .before .before .before .before .before .before .before .find-path .ensures) (c .before .before .before .before .before .before .before .before .before .before .before .before .before .scan .ensures) (c .before .before .before .before .before .before .before .before .before .keep .ensures) (c .before .before .before .before .before .before .push .ensures) (c .lower .ensures),
-  cover-walk (c .before .before .before .before .before .before .before .before .before .before .before .before .before .before .before .before .before .before .before .before .before .before .before .pre .0 .shift .swinging .sound .terminals) _ _ _ _ _ _ (c .before .before .before .before .before .before .before .before .before .before .before .before .before .before .before .before .before .before .find-path .ensures .trail) (c .before .before .before .before .before .before .before .before .before .before .before .before .before .before .before .before .before .before .before .before .before .before .before .pre .1 .1) (c .before .before .before .before .before .before .push .ensures) (c .before .before .before .mark .ensures),
+  stretch-done (c .before .before .before .before .before .before .before .before .before .before .before .before .before .before .before .before .before .before .before .before .before .before .before .before .before .before .pre .0) (c .before .before .before .before .before .before .before .before .before .before .before .before .before .before .before .before .before .before .before .before .before .find-path .ensures) (c .before .before .before .before .before .before .before .before .before .before .before .before .before .before .before .before .scan .ensures) (c .before .before .before .before .before .before .before .before .before .before .before .before .keep .ensures) (c .before .before .before .before .before .before .before .before .before .push .ensures) (c .before .before .before .lower .ensures) (c .hold .ensures),
+  cover-walk (c .before .before .before .before .before .before .before .before .before .before .before .before .before .before .before .before .before .before .before .before .before .before .before .before .before .before .pre .0 .shift .swinging .sound .terminals) _ _ _ _ _ _ (c .before .before .before .before .before .before .before .before .before .before .before .before .before .before .before .before .before .before .before .before .before .find-path .ensures .trail) (c .before .before .before .before .before .before .before .before .before .before .before .before .before .before .before .before .before .before .before .before .before .before .before .before .before .before .pre .1 .1) (c .before .before .before .before .before .before .before .before .before .push .ensures) (c .before .before .before .before .before .before .mark .ensures),
 )
 
 pub stretch-spec : {M : Type 1} → statement M
@@ -64,4 +67,5 @@ stretch-spec =
     push-requires
     mark-requires
     lower-requires
+    hold-requires
     returns)

@@ -11,92 +11,92 @@ use Rattle.sweep.proofs.curve.climb.Statement.{statement}
 use Rattle.sweep.proofs.curve.climb.Tie as tie
 
 abbrev Inv-loop : tie.InvT-loop
-Inv-loop m n cost cap lo hi freight demand table splits₀ freights₀ x₀ serves₀ pot₀ kept₀ at best₀ y₀ value₀ count₀ rise₀ fall₀ splits freights x serves pot kept best y value count rise fall =
-    Standing m n cost cap x₀ x pot kept y value best
+Inv-loop m n cost cap lo hi freight demand table splits₀ freights₀ x₀ serves₀ pot₀ kept₀ at best₀ prices₀ y₀ value₀ count₀ rise₀ fall₀ splits freights x serves pot kept best prices y value count rise fall =
+    Standing m n cost cap x₀ x pot kept prices y value best
     × Climbing (curveFrom m n cost cap x₀) table splits₀ freights₀ lo hi splits freights y value count rise fall best
     × (rise ≤ 800000000)
     × (fall ≤ 800000000)
     × Covers m n x serves
 
 abbrev μ-loop : tie.MeasureT-loop
-μ-loop m n cost cap lo hi freight demand table splits₀ freights₀ x₀ serves₀ pot₀ kept₀ at best₀ y₀ value₀ count₀ rise₀ fall₀ splits freights x serves pot kept best y value count rise fall =
+μ-loop m n cost cap lo hi freight demand table splits₀ freights₀ x₀ serves₀ pot₀ kept₀ at best₀ prices₀ y₀ value₀ count₀ rise₀ fall₀ splits freights x serves pot kept best prices y value count rise fall =
     hi - y
 
-mul-t26 : tie.Need-mul-t26 Inv-loop μ-loop
-mul-t26 c = omega (arith, c .before .before .before .pre .0 .entries, c .before .before .before .pre .0 .order, c .before .before .before .good)
+mul-t27 : tie.Need-mul-t27 Inv-loop μ-loop
+mul-t27 c = omega (arith, c .before .before .before .pre .0 .entries, c .before .before .before .pre .0 .order, c .before .before .before .good)
 
-shared-slice-read-t28 : tie.Need-shared-slice-read-t28 Inv-loop μ-loop
-shared-slice-read-t28 c = omega (arith, c .before .before .before .before .pre .0 .entries, c .before .before .before .before .pre .0 .order)
+shared-slice-read-t29 : tie.Need-shared-slice-read-t29 Inv-loop μ-loop
+shared-slice-read-t29 c = omega (arith, c .before .before .before .before .pre .0 .entries, c .before .before .before .before .pre .0 .order)
 
-add-t29 : tie.Need-add-t29 Inv-loop μ-loop
-add-t29 c = let r = c .before .before .before .before .pre .0 in omega (arith, value-most r (stand-start r), r .small (c .before .before .before .before .args .lo) (omega arith) (r .order))
+add-t30 : tie.Need-add-t30 Inv-loop μ-loop
+add-t30 c = let r = c .before .before .before .before .pre .0 in omega (arith, value-most r (stand-start r), r .small (c .before .before .before .before .args .lo) (omega arith) (r .order))
 
 loop-holds : tie.Need-loop-holds Inv-loop μ-loop
-loop-holds c = let r = c .before .before .before .before .before .pre .0 in (stand-start r, ascend-start r, omega arith, omega arith, c .before .before .before .before .before .pre .1 .1)
+loop-holds c = let r = c .before .before .before .before .before .before .pre .0 in (stand-start r, ascend-start r, omega arith, omega arith, c .before .before .before .before .before .before .pre .1 .1)
 
 sub-left : tie.Need-sub-left Inv-loop μ-loop
 sub-left c = omega (arith, c .loop-test .taken)
 
 cast-left : tie.Need-cast-left Inv-loop μ-loop
-cast-left c = omega (arith, c .before .before .before .before .before .before .before .pre .0 .short, c .before .loop .inv .1 .low)
+cast-left c = omega (arith, c .before .before .before .before .before .before .before .before .pre .0 .short, c .before .loop .inv .1 .low)
 
 stretch-requires : tie.Need-stretch-requires Inv-loop μ-loop
-stretch-requires c κs = let i = c .before .before .before .before .before .loop .inv in (
-  stretch-ready (c .before .before .before .before .before .before .before .before .before .before .before .pre .0) (i .0) (i .1 .low) (c .before .before .before .before .loop-test .taken),
-  (λ j h. omega (arith, i .0 .at .demands j (omega arith) h, c .before .before .before .before .before .before .before .before .before .before .before .pre .1 .0 j h), i .4),
+stretch-requires c κs = let i = c .before .before .before .before .before .before .loop .inv in (
+  stretch-ready (c .before .before .before .before .before .before .before .before .before .before .before .before .before .pre .0) (i .0) (i .1 .low) (c .before .before .before .before .before .loop-test .taken),
+  (λ j h. omega (arith, i .0 .at .demands j (omega arith) h, c .before .before .before .before .before .before .before .before .before .before .before .before .before .pre .1 .0 j h), i .4),
 )
 
 turn-requires : tie.Need-turn-requires Inv-loop μ-loop
 turn-requires c κs =
-    let i = c .before .before .before .before .before .before .loop .inv in
-    let r = c .before .before .before .before .before .before .before .before .before .before .before .before .pre .0 in
-    let l = c .before .before .before .before .before .loop-test .taken in
+    let i = c .before .before .before .before .before .before .before .loop .inv in
+    let r = c .before .before .before .before .before .before .before .before .before .before .before .before .before .before .pre .0 in
+    let l = c .before .before .before .before .before .before .loop-test .taken in
     (omega (arith, gain-most r (i .0) (i .1 .low) l (c .stretch .ensures .0), i .3), omega (arith, loss-most r (i .0) (i .1 .low) l (c .stretch .ensures .0), i .2))
 
 mark-requires : tie.Need-mark-requires Inv-loop μ-loop
-mark-requires c κs = let i = c .before .before .before .before .before .before .before .before .before .loop .inv in ascend-room (c .before .before .before .before .before .before .before .before .before .before .before .before .before .before .before .pre .0) (i .0) (i .1)
+mark-requires c κs = let i = c .before .before .before .before .before .before .before .before .before .before .loop .inv in ascend-room (c .before .before .before .before .before .before .before .before .before .before .before .before .before .before .before .before .before .pre .0) (i .0) (i .1)
 
 mul-value : tie.Need-mul-value Inv-loop μ-loop
 mul-value c =
-    let i = c .before .before .before .before .before .before .before .before .before .before .before .before .before .before .before .loop .inv in
+    let i = c .before .before .before .before .before .before .before .before .before .before .before .before .before .before .before .before .loop .inv in
     let q = c .before .before .before .before .before .before .before .before .before .stretch .ensures .0 in
-    omega (arith, gains-most (c .before .before .before .before .before .before .before .before .before .before .before .before .before .before .before .before .before .before .before .before .before .pre .0) (i .0) (i .1 .low) (c .before .before .before .before .before .before .before .before .before .before .before .before .before .before .loop-test .taken) q)
+    omega (arith, gains-most (c .before .before .before .before .before .before .before .before .before .before .before .before .before .before .before .before .before .before .before .before .before .before .before .pre .0) (i .0) (i .1 .low) (c .before .before .before .before .before .before .before .before .before .before .before .before .before .before .before .loop-test .taken) q)
 
 add-value : tie.Need-add-value Inv-loop μ-loop
 add-value c =
-    let i = c .before .before .before .before .before .before .before .before .before .before .before .before .before .before .before .loop .inv in
+    let i = c .before .before .before .before .before .before .before .before .before .before .before .before .before .before .before .before .loop .inv in
     let q = c .before .before .before .before .before .before .before .before .before .stretch .ensures .0 in
-    omega (arith, gains-most (c .before .before .before .before .before .before .before .before .before .before .before .before .before .before .before .before .before .before .before .before .before .pre .0) (i .0) (i .1 .low) (c .before .before .before .before .before .before .before .before .before .before .before .before .before .before .loop-test .taken) q, value-most (c .before .before .before .before .before .before .before .before .before .before .before .before .before .before .before .before .before .before .before .before .before .pre .0) (i .0))
+    omega (arith, gains-most (c .before .before .before .before .before .before .before .before .before .before .before .before .before .before .before .before .before .before .before .before .before .before .before .pre .0) (i .0) (i .1 .low) (c .before .before .before .before .before .before .before .before .before .before .before .before .before .before .before .loop-test .taken) q, value-most (c .before .before .before .before .before .before .before .before .before .before .before .before .before .before .before .before .before .before .before .before .before .before .before .pre .0) (i .0))
 
 mul-value-2 : tie.Need-mul-value-2 Inv-loop μ-loop
 mul-value-2 c =
-    let i = c .before .before .before .before .before .before .before .before .before .before .before .before .before .before .before .before .loop .inv in
+    let i = c .before .before .before .before .before .before .before .before .before .before .before .before .before .before .before .before .before .loop .inv in
     let q = c .before .before .before .before .before .before .before .before .before .before .stretch .ensures .0 in
-    omega (arith, losses-most (c .before .before .before .before .before .before .before .before .before .before .before .before .before .before .before .before .before .before .before .before .before .before .pre .0) (i .0) (i .1 .low) (c .before .before .before .before .before .before .before .before .before .before .before .before .before .before .before .loop-test .taken) q)
+    omega (arith, losses-most (c .before .before .before .before .before .before .before .before .before .before .before .before .before .before .before .before .before .before .before .before .before .before .before .before .pre .0) (i .0) (i .1 .low) (c .before .before .before .before .before .before .before .before .before .before .before .before .before .before .before .before .loop-test .taken) q)
 
 sub-value : tie.Need-sub-value Inv-loop μ-loop
 sub-value c =
-    let i = c .before .before .before .before .before .before .before .before .before .before .before .before .before .before .before .before .loop .inv in
+    let i = c .before .before .before .before .before .before .before .before .before .before .before .before .before .before .before .before .before .loop .inv in
     let q = c .before .before .before .before .before .before .before .before .before .before .stretch .ensures .0 in
-    omega (arith, losses-short (c .before .before .before .before .before .before .before .before .before .before .before .before .before .before .before .before .before .before .before .before .before .before .pre .0) (i .0) (i .1 .low) (c .before .before .before .before .before .before .before .before .before .before .before .before .before .before .before .loop-test .taken) q)
+    omega (arith, losses-short (c .before .before .before .before .before .before .before .before .before .before .before .before .before .before .before .before .before .before .before .before .before .before .before .before .pre .0) (i .0) (i .1 .low) (c .before .before .before .before .before .before .before .before .before .before .before .before .before .before .before .before .loop-test .taken) q)
 
 add-y : tie.Need-add-y Inv-loop μ-loop
 add-y c =
-    let i = c .before .before .before .before .before .before .before .before .before .before .before .before .before .before .before .before .before .loop .inv in
+    let i = c .before .before .before .before .before .before .before .before .before .before .before .before .before .before .before .before .before .before .loop .inv in
     let q = c .before .before .before .before .before .before .before .before .before .before .before .stretch .ensures .0 in
-    omega (arith, most (c .before .before .before .before .before .before .before .before .before .before .before .before .before .before .before .before .before .before .before .before .before .before .before .pre .0) (i .0) (i .1 .low) (c .before .before .before .before .before .before .before .before .before .before .before .before .before .before .before .before .loop-test .taken) q, c .before .before .before .before .before .before .before .before .before .before .before .before .before .before .before .before .before .before .before .before .before .before .before .fits .hi)
+    omega (arith, most (c .before .before .before .before .before .before .before .before .before .before .before .before .before .before .before .before .before .before .before .before .before .before .before .before .before .pre .0) (i .0) (i .1 .low) (c .before .before .before .before .before .before .before .before .before .before .before .before .before .before .before .before .before .loop-test .taken) q, c .before .before .before .before .before .before .before .before .before .before .before .before .before .before .before .before .before .before .before .before .before .before .before .before .before .fits .hi)
 
 loop-less : tie.Need-loop-less Inv-loop μ-loop
 loop-less c =
-    let i = c .before .before .before .before .before .before .before .before .before .before .before .before .before .before .before .before .before .before .loop .inv in
+    let i = c .before .before .before .before .before .before .before .before .before .before .before .before .before .before .before .before .before .before .before .loop .inv in
     let q = c .before .before .before .before .before .before .before .before .before .before .before .before .stretch .ensures .0 in
-    omega (arith, most (c .before .before .before .before .before .before .before .before .before .before .before .before .before .before .before .before .before .before .before .before .before .before .before .before .pre .0) (i .0) (i .1 .low) (c .before .before .before .before .before .before .before .before .before .before .before .before .before .before .before .before .before .loop-test .taken) q, q .some, c .before .before .before .before .before .before .before .before .before .before .before .before .before .before .before .before .before .loop-test .taken)
+    omega (arith, most (c .before .before .before .before .before .before .before .before .before .before .before .before .before .before .before .before .before .before .before .before .before .before .before .before .before .before .pre .0) (i .0) (i .1 .low) (c .before .before .before .before .before .before .before .before .before .before .before .before .before .before .before .before .before .before .loop-test .taken) q, q .some, c .before .before .before .before .before .before .before .before .before .before .before .before .before .before .before .before .before .before .loop-test .taken)
 
 loop-again : tie.Need-loop-again Inv-loop μ-loop
 loop-again c =
-    let i = c .before .before .before .before .before .before .before .before .before .before .before .before .before .before .before .before .before .before .loop .inv in
-    let r = c .before .before .before .before .before .before .before .before .before .before .before .before .before .before .before .before .before .before .before .before .before .before .before .before .pre .0 in
-    let l = c .before .before .before .before .before .before .before .before .before .before .before .before .before .before .before .before .before .loop-test .taken in
+    let i = c .before .before .before .before .before .before .before .before .before .before .before .before .before .before .before .before .before .before .before .loop .inv in
+    let r = c .before .before .before .before .before .before .before .before .before .before .before .before .before .before .before .before .before .before .before .before .before .before .before .before .before .before .pre .0 in
+    let l = c .before .before .before .before .before .before .before .before .before .before .before .before .before .before .before .before .before .before .loop-test .taken in
     let q = c .before .before .before .before .before .before .before .before .before .before .before .before .stretch .ensures .0 in (
       stand-next r (i .0) (i .1 .low) l q (value-next r (i .0) (i .1 .low) l q),
       ascend-next r (i .0) (i .1) l q (c .before .before .before .before .before .before .before .before .before .before .before .turn .ensures) (c .before .before .before .before .before .before .before .before .mark .ensures),
@@ -106,22 +106,25 @@ loop-again c =
     )
 
 note-requires : tie.Need-note-requires Inv-loop μ-loop
-note-requires c κs = let i = c .before .before .before .loop .inv in ascend-room (c .before .before .before .before .before .before .before .before .before .pre .0) (i .0) (i .1)
+note-requires c κs = let i = c .before .before .before .loop .inv in ascend-room (c .before .before .before .before .before .before .before .before .before .before .pre .0) (i .0) (i .1)
+
+canonize-requires : tie.Need-canonize-requires Inv-loop μ-loop
+canonize-requires c κs = c .before .before .before .before .before .before .before .before .before .before .loop .inv .0 .ready
 
 same-length : tie.Need-same-length Inv-loop μ-loop
 same-length c =
-    let i = c .before .before .before .before .before .before .before .before .loop .inv in
-    c .before .before .before .before .note .kept .1 .1 .1 .0 ∙ ascend-splits (c .before .before .before .before .before .before .before .before .before .before .before .before .before .before .pre .0) (i .0) (i .1)
+    let i = c .before .before .before .before .before .before .before .before .before .before .before .loop .inv in
+    c .before .before .before .before .before .before .before .note .kept .1 .1 .1 .0 ∙ ascend-splits (c .before .before .before .before .before .before .before .before .before .before .before .before .before .before .before .before .before .before .pre .0) (i .0) (i .1)
 
 same-length-2 : tie.Need-same-length-2 Inv-loop μ-loop
 same-length-2 c =
-    let i = c .before .before .before .before .before .before .before .before .loop .inv in
-    c .before .before .before .before .note .kept .1 .1 .1 .1 .0 ∙ ascend-freights (c .before .before .before .before .before .before .before .before .before .before .before .before .before .before .pre .0) (i .0) (i .1)
+    let i = c .before .before .before .before .before .before .before .before .before .before .before .loop .inv in
+    c .before .before .before .before .before .before .before .note .kept .1 .1 .1 .1 .0 ∙ ascend-freights (c .before .before .before .before .before .before .before .before .before .before .before .before .before .before .before .before .before .before .pre .0) (i .0) (i .1)
 
 returns : tie.Need-returns Inv-loop μ-loop
 returns c =
-    let i = c .before .before .before .before .before .before .before .before .loop .inv in
-    ascend-end (c .before .before .before .before .before .before .before .before .before .before .before .before .before .before .pre .0) (i .0) (i .1) (c .before .before .before .before .before .before .before .loop-test .left) (c .before .before .before .before .note .ensures)
+    let i = c .before .before .before .before .before .before .before .before .before .before .before .loop .inv in
+    ascend-end (c .before .before .before .before .before .before .before .before .before .before .before .before .before .before .before .before .before .before .pre .0) (i .0) (i .1) (c .before .before .before .before .before .before .before .before .before .before .loop-test .left) (c .before .before .before .before .before .before .before .note .ensures) (c .canonize .ensures)
 
 pub climb-spec : {M : Type 1} → statement M
 climb-spec =
@@ -129,9 +132,9 @@ climb-spec =
     (tie.spec
     Inv-loop
     μ-loop
-    mul-t26
-    shared-slice-read-t28
-    add-t29
+    mul-t27
+    shared-slice-read-t29
+    add-t30
     loop-holds
     sub-left
     cast-left
@@ -146,6 +149,7 @@ climb-spec =
     loop-less
     loop-again
     note-requires
+    canonize-requires
     same-length
     same-length-2
     returns)

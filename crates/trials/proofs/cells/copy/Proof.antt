@@ -1,5 +1,4 @@
--- `trials::cells::copy` is safe and ends. The slice keeps its length; the measure is what is left of the cells copied.
--- Assumes nothing.
+-- `trials::cells::copy` is safe and ends. The slice written keeps its length; the measure is what is left of the slice read. Assumes nothing.
 use mathlib.Core.Path.{_≡_}
 use Prim.Native.Nat.{_-_}
 use borrow.Author.Needs.{needs}
@@ -20,6 +19,7 @@ copy-spec =
     Inv-loop
     μ-loop
     (λ c. search needs)
+    (λ c κs. search needs)
     (λ c. search needs)
     (λ c. search needs)
     (λ c κs. search needs)

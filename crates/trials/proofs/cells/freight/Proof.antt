@@ -1,5 +1,4 @@
--- `trials::cells::freight` is safe and ends. The measure is what is left of the slice.
--- Assumes nothing.
+-- `trials::cells::freight` is safe and ends. The measure is what is left of the unit costs. Assumes nothing.
 use Prim.Native.Nat.{_-_}
 use borrow.Author.Needs.{needs}
 use lib.ListN.{length}

@@ -1,5 +1,4 @@
--- `trials::cells::line` is safe and ends. The measure is what is left of the count.
--- Assumes nothing.
+-- `trials::cells::line` is safe and ends. The measure is what is left of the cells. Assumes nothing.
 use Prim.Native.Nat.{_-_}
 use borrow.Author.Needs.{needs}
 use Rattle.trials.proofs.cells.line.Statement.{statement}

@@ -1,5 +1,4 @@
--- `trials::cells::others` is safe and ends. The measure is what is left of the slice.
--- Assumes nothing.
+-- `trials::cells::others` is safe and ends. The measure is what is left of the slice. Assumes nothing.
 use Prim.Native.Nat.{_-_}
 use borrow.Author.Needs.{needs}
 use lib.ListN.{length}
@@ -7,10 +6,10 @@ use Rattle.trials.proofs.cells.others.Statement.{statement}
 use Rattle.trials.proofs.cells.others.Tie as tie
 
 abbrev Inv-loop : tie.InvT-loop
-Inv-loop s v found₀ k₀ found k = Unit {0}
+Inv-loop s from v found₀ k₀ found k = Unit {0}
 
 abbrev μ-loop : tie.MeasureT-loop
-μ-loop s v found₀ k₀ found k = length s - k
+μ-loop s from v found₀ k₀ found k = length s - k
 
 pub others-spec : {M : Type 1} → statement M
 others-spec =
@@ -21,6 +20,7 @@ others-spec =
     (λ c. search needs)
     (λ c. search needs)
     (λ c. search needs)
+    (λ c κs. search needs)
     (λ c κs. search needs)
     (λ c. search needs)
     (λ c. search needs)

@@ -1,5 +1,4 @@
--- `trials::compare::choose` is safe and ends. The measure is what is left of the table.
--- Assumes nothing.
+-- `trials::compare::choose` is safe and ends. The measure is what is left of the table. Assumes nothing.
 use Prim.Native.Nat.{_-_}
 use borrow.Author.Needs.{needs}
 use lib.ListN.{length}

@@ -1,5 +1,4 @@
--- `trials::fixed::run_fixed` is safe and ends. The slice keeps its length; the measure is what is left of the cases.
--- Assumes nothing.
+-- `trials::fixed::run_fixed` is safe and ends. The slice keeps its length; the measure is what is left of the table. Assumes nothing.
 use mathlib.Core.Path.{_≡_}
 use Prim.Native.Nat.{_-_}
 use borrow.Author.Needs.{needs}
@@ -8,10 +7,10 @@ use Rattle.trials.proofs.fixed.run_fixed.Statement.{statement}
 use Rattle.trials.proofs.fixed.run_fixed.Tie as tie
 
 abbrev Inv-loop : tie.InvT-loop
-Inv-loop b₀ k₀ b k = length b ≡ length b₀
+Inv-loop b₀ table next₀ turns₀ b next turns = length b ≡ length b₀
 
 abbrev μ-loop : tie.MeasureT-loop
-μ-loop b₀ k₀ b k = 60 - k
+μ-loop b₀ table next₀ turns₀ b next turns = length table - turns
 
 pub run-fixed-spec : {M : Type 1} → statement M
 run-fixed-spec =
@@ -20,6 +19,9 @@ run-fixed-spec =
     Inv-loop
     μ-loop
     (λ c. search needs)
+    (λ c κs. search needs)
+    (λ c κs. search needs)
+    (λ c κs. search needs)
     (λ c κs. search needs)
     (λ c κs. search needs)
     (λ c. search needs)

@@ -1,5 +1,4 @@
--- `trials::paper::first_outside` is safe and ends. The measure is what is left of the slice.
--- Assumes nothing.
+-- `trials::paper::first_outside` is safe and ends. The measure is what is left of the slice. Assumes nothing.
 use Prim.Native.Nat.{_-_}
 use borrow.Author.Needs.{needs}
 use lib.ListN.{length}
@@ -7,10 +6,10 @@ use Rattle.trials.proofs.paper.first_outside.Statement.{statement}
 use Rattle.trials.proofs.paper.first_outside.Tie as tie
 
 abbrev Inv-loop : tie.InvT-loop
-Inv-loop s k₀ k = Unit {0}
+Inv-loop s low high k₀ k = Unit {0}
 
 abbrev μ-loop : tie.MeasureT-loop
-μ-loop s k₀ k = length s - k
+μ-loop s low high k₀ k = length s - k
 
 pub first-outside-spec : {M : Type 1} → statement M
 first-outside-spec =
@@ -21,9 +20,7 @@ first-outside-spec =
     (λ c. search needs)
     (λ c. search needs)
     (λ c. search needs)
-    (λ c. search needs)
-    (λ c. search needs)
-    (λ c. search needs)
+    (λ c κs. search needs)
     (λ c. search needs)
     (λ c κs. search needs)
     (λ c. search needs)

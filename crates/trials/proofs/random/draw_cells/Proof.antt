@@ -1,5 +1,4 @@
--- `trials::random::draw_cells` is safe and ends. The slice keeps its length; the measure is what is left of the count.
--- Assumes nothing.
+-- `trials::random::draw_cells` is safe and ends. The slice keeps its length; the measure is what is left of the cells. Assumes nothing.
 use mathlib.Core.Path.{_≡_}
 use Prim.Native.Nat.{_-_}
 use borrow.Author.Needs.{needs}
@@ -8,10 +7,10 @@ use Rattle.trials.proofs.random.draw_cells.Statement.{statement}
 use Rattle.trials.proofs.random.draw_cells.Tie as tie
 
 abbrev Inv-loop : tie.InvT-loop
-Inv-loop b₀ start cells low most bound k₀ b k = length b ≡ length b₀
+Inv-loop b₀ from start cells low most bound seed₀ k₀ b seed k = length b ≡ length b₀
 
 abbrev μ-loop : tie.MeasureT-loop
-μ-loop b₀ start cells low most bound k₀ b k = cells - k
+μ-loop b₀ from start cells low most bound seed₀ k₀ b seed k = cells - k
 
 pub draw-cells-spec : {M : Type 1} → statement M
 draw-cells-spec =
@@ -21,7 +20,9 @@ draw-cells-spec =
     μ-loop
     (λ c κs. search needs)
     (λ c κs. search needs)
+    (λ c κs. search needs)
     (λ c. search needs)
+    (λ c κs. search needs)
     (λ c κs. search needs)
     (λ c κs. search needs)
     (λ c κs. search needs)

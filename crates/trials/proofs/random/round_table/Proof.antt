@@ -1,5 +1,4 @@
--- `trials::random::round_table` is safe and ends. The slice keeps its length; the measure is what is left of the cells.
--- Assumes nothing.
+-- `trials::random::round_table` is safe and ends. The slice keeps its length; the measure is what is left of the table. Assumes nothing.
 use mathlib.Core.Path.{_≡_}
 use Prim.Native.Nat.{_-_}
 use borrow.Author.Needs.{needs}
@@ -8,10 +7,10 @@ use Rattle.trials.proofs.random.round_table.Statement.{statement}
 use Rattle.trials.proofs.random.round_table.Tie as tie
 
 abbrev Inv-loop : tie.InvT-loop
-Inv-loop b₀ cells k₀ b k = length b ≡ length b₀
+Inv-loop b₀ from cells seed₀ y₀ b seed y = length b ≡ length b₀
 
 abbrev μ-loop : tie.MeasureT-loop
-μ-loop b₀ cells k₀ b k = cells - k
+μ-loop b₀ from cells seed₀ y₀ b seed y = cells - y
 
 pub round-table-spec : {M : Type 1} → statement M
 round-table-spec =
@@ -20,6 +19,10 @@ round-table-spec =
     Inv-loop
     μ-loop
     (λ c. search needs)
+    (λ c κs. search needs)
+    (λ c κs. search needs)
+    (λ c κs. search needs)
+    (λ c κs. search needs)
     (λ c κs. search needs)
     (λ c κs. search needs)
     (λ c. search needs)

@@ -1,5 +1,4 @@
--- `trials::report::say_from` is safe and ends. The measure is what is left of the lines.
--- Assumes nothing.
+-- `trials::report::say_from` is safe and ends. The measure is what is left of the lines. Assumes nothing.
 use Prim.Native.Nat.{_-_}
 use borrow.Author.Needs.{needs}
 use Rattle.trials.proofs.report.say_from.Statement.{statement}
@@ -18,7 +17,6 @@ say-from-spec =
     Inv-loop
     μ-loop
     (λ c. search needs)
-    (λ c κs. search needs)
     (λ c κs. search needs)
     (λ c. search needs)
     (λ c. search needs)

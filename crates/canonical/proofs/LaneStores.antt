@@ -1,0 +1,364 @@
+-- How the lanes are parted and settled, store by store. Assumes nothing.
+use mathlib.Core.Path.{_≡_, refl, sym, ap, _∙_}
+use mathlib.Core.Bool.{Bool, true, false, cond}
+use mathlib.Core.Logic.{_≢_}
+use mathlib.Core.List.{List}
+use Prim.Native.Nat.{ℕ, _+_, _-_, _*_, _^_, _≤_, _<_}
+use native.Mathlib.Decide.{ℕ-discrete, decLt}
+use native.Mathlib.Omega.{arith}
+use lib.ListN.{length, set, length-set, replicate, length-replicate, getD-replicate, List·getD-eq-default}
+use lib.Bits.{bitAnd, and-le-l}
+use lib.Count.{trailingZeros}
+use lib.Pow.{pow-mono}
+use lib.Seq.{getD-set-same, getD-set-other}
+use Rattle.transport.specs.Plan.{Table}
+use Rattle.residual.specs.Cells.{cells}
+use Rattle.residual.specs.Network.{Net, get}
+use Rattle.residual.specs.Bits.{bit, Left}
+use Rattle.residual.specs.LanesInUse.{Covers}
+use Rattle.augment.specs.LaneMarks.{Served}
+use Rattle.augment.specs.PathWalk.{Carried}
+use Rattle.reachability.specs.Reachability.{Opens, Supplied}
+use Rattle.canonical.specs.Canonize.{Unless, TightLane, PartedAt, free, aside, Settling, FreeReady, LaneSettled, Longs, CanonReady, Clear, LaneParted, PartedTo, Open, Onward, Canonized}
+use Rattle.residual.proofs.Bits.{bit-none, bit-place, low-set, rest-other, left-start, left-low, left-none, left-next}
+use Rattle.augment.proofs.LaneMarks.{cover-arc, cover-none, set-less}
+use Rattle.canonical.proofs.FreeLanes.{supplied-still}
+use Rattle.canonical.proofs.Rerouting.{cover-under}
+use Rattle.canonical.proofs.LaneByLane.{settle-start, settle-next, settle-end}
+
+-- ---- one lane is parted
+
+pub unless-most : {t : Bool} {a v : ℕ} → Unless t a v → v ≤ a
+unless-most {t} {a} {v} w = go t (w .same)
+  where
+    go : (b : Bool) → v ≡ cond b 0 a → v ≤ a
+    go true e = omega arith
+    go false e = omega arith
+
+module _ {N : Net} {p o f x : List ℕ} {i j : ℕ} (r : CanonReady N p) (hi : i < N .m) (hj : j < N .n) (w : Clear i j o f x) where
+  inside : i * 64 + j < 2048
+  inside = omega (arith, r .sources, r .terminals)
+
+  -- the lane with v drums
+  pub brought : (v : ℕ) → Carried (32 + j) i v x (set x (i * 64 + j) v)
+  brought v =
+      let e : 32 + j - 32 ≡ j = omega arith in
+      let z : get x (i * 64 + j) + v ≡ v = omega (arith, w .free-x) in
+      record { less = λ l. absurd (omega arith); more = λ l. rw (e, z) refl }
+
+  -- free where it is tight, else set aside
+  pub part-lane : {t : Bool} {v g : ℕ} → (t ≡ true → TightLane N p i j) → (t ≡ false → ¬ TightLane N p i j) → Unless t (N .x i j) v
+      → Unless t (N .u i j) g
+      → LaneParted N p i j o f x (set o (i * 64 + j) v) (set f (i * 64 + j) (N .u i j - g)) (set x (i * 64 + j) (N .x i j - v))
+  part-lane {t} {v} {g} is not ev eg = record {
+    longs = record {
+      long-o = length-set o (i * 64 + j) v ∙ w .longs .long-o;
+      long-f = length-set f (i * 64 + j) (N .u i j - g) ∙ w .longs .long-f;
+      long-x = length-set x (i * 64 + j) (N .x i j - v) ∙ w .longs .long-x;
+    };
+    own = each t refl;
+    off-o = λ k z. getD-set-other o (i * 64 + j) k v 0 z;
+    off-f = λ k z. getD-set-other f (i * 64 + j) k (N .u i j - g) 0 z;
+    off-x = λ k z. getD-set-other x (i * 64 + j) k (N .x i j - v) 0 z;
+  }
+    where
+      own-o : get (set o (i * 64 + j) v) (i * 64 + j) ≡ v
+      own-o = getD-set-same o (i * 64 + j) v 0 (omega (arith, inside, w .longs .long-o))
+
+      own-f : get (set f (i * 64 + j) (N .u i j - g)) (i * 64 + j) ≡ N .u i j - g
+      own-f = getD-set-same f (i * 64 + j) (N .u i j - g) 0 (omega (arith, inside, w .longs .long-f))
+
+      own-x : get (set x (i * 64 + j) (N .x i j - v)) (i * 64 + j) ≡ N .x i j - v
+      own-x = getD-set-same x (i * 64 + j) (N .x i j - v) 0 (omega (arith, inside, w .longs .long-x))
+
+      each : (b : Bool) → t ≡ b → PartedAt N p (cells (set o (i * 64 + j) v)) (cells (set f (i * 64 + j) (N .u i j - g))) (cells (set x (i * 64 + j) (N .x i j - v))) i j
+      each true e =
+          let y : v ≡ 0 = ev .same ∙ ap (λ b. cond b 0 (N .x i j)) e in
+          let z : g ≡ 0 = eg .same ∙ ap (λ b. cond b 0 (N .u i j)) e in
+          free (is e) (own-o ∙ y) (omega (arith, own-f)) (omega (arith, own-x))
+      each false e =
+          let y : v ≡ N .x i j = ev .same ∙ ap (λ b. cond b 0 (N .x i j)) e in
+          let z : g ≡ N .u i j = eg .same ∙ ap (λ b. cond b 0 (N .u i j)) e in
+          aside (not e) (own-o ∙ y) (omega (arith, own-f)) (omega (arith, own-x))
+
+  pub cover-brought : (v : ℕ) {s s' : List ℕ} → Covers (N .m) (N .n) x s → Served (32 + j) i s s' → Covers (N .m) (N .n) (set x (i * 64 + j) v) s'
+  cover-brought v c l = cover-arc (r .terminals) (omega (arith, r .terminals)) (λ o. hi) c (brought v) l
+
+  -- no drums
+  pub cover-still : (v : ℕ) {s : List ℕ} → Covers (N .m) (N .n) x s → v ≤ 0 → Covers (N .m) (N .n) (set x (i * 64 + j) v) s
+  cover-still v c l = cover-under c (λ a b ha hb. set-less x (i * 64 + j) (a * 64 + b) v (omega arith))
+
+-- ---- lane by lane
+
+module _ {N : Net} {p o f x s : List ℕ} {i j : ℕ} (small : N .n ≤ 64) (hi : i < N .m) (hj : j < N .n) (q : PartedTo N p (i * 64 + j) o f x s) where
+  pub clear-at : Clear i j o f x
+  clear-at = let w = q .parting .rest i j hi hj (omega arith) in record { longs = q .longs; free-o = w .0; free-f = w .1; free-x = w .2 }
+
+  pub part-next : {o' f' x' s' : List ℕ} → LaneParted N p i j o f x o' f' x' → Covers (N .m) (N .n) x' s' → PartedTo N p (i * 64 + (j + 1)) o' f' x' s'
+  part-next {o'} {f'} {x'} {s'} d c = record {
+    longs = d .longs;
+    parting = record {
+      done = λ a b ha hb l. elim (ℕ-discrete (a * 64 + b) (i * 64 + j)) [
+        | yes z ↦ here a b (omega arith) (omega arith)
+        | no z ↦ rw (d .off-o (a * 64 + b) z, d .off-f (a * 64 + b) z, d .off-x (a * 64 + b) z) (q .parting .done a b ha hb (omega arith))
+      ];
+      rest = λ a b ha hb l.
+          let z : a * 64 + b ≢ i * 64 + j = omega arith in
+          rw (d .off-o (a * 64 + b) z, d .off-f (a * 64 + b) z, d .off-x (a * 64 + b) z) (q .parting .rest a b ha hb (omega arith));
+    };
+    covers = c;
+  }
+    where
+      here : (a b : ℕ) → a ≡ i → b ≡ j → PartedAt N p (cells o') (cells f') (cells x') a b
+      here a b ea eb = rw (ea, eb) (d .own)
+
+-- places between which no lane lies
+pub part-skip : {N : Net} {p o f x s : List ℕ} {k k' : ℕ} → PartedTo N p k o f x s
+    → ((i j : ℕ) → i < N .m → j < N .n → i * 64 + j < k' → i * 64 + j < k) → k ≤ k' → PartedTo N p k' o f x s
+part-skip q h l = record {
+  longs = q .longs;
+  parting = record {
+    done = λ i j a b g. q .parting .done i j a b (h i j a b g);
+    rest = λ i j a b g. q .parting .rest i j a b (omega arith);
+  };
+  covers = q .covers;
+}
+
+-- ---- settled, lane by lane
+
+pub free-ready : {m n i j : ℕ} {o f x s w : List ℕ} → i < m → j < n → Open m n o f x s w → FreeReady m n i j f x
+free-ready hi hj q = record {
+  source = hi;
+  terminal = hj;
+  sources = q .sources;
+  terminals = q .terminals;
+  under = q .under;
+  ceilings = λ i j a b. omega (arith, q .ceilings i j a b);
+  long-x = q .longs .long-x;
+}
+
+pub longs-closed : {o f x : List ℕ} (k : ℕ) → Longs o f x → Longs o (set f k 0) x
+longs-closed {f = f} k l = record { long-o = l .long-o; long-f = length-set f k 0 ∙ l .long-f; long-x = l .long-x }
+
+pub longs-settled : {o f x x' : List ℕ} (k v : ℕ) → Longs o f x → length x' ≡ 2048 → Longs (set o k v) (set f k 0) x'
+longs-settled {o = o} {f = f} k v l e = record { long-o = length-set o k v ∙ l .long-o; long-f = length-set f k 0 ∙ l .long-f; long-x = e }
+
+-- fewer lanes are free
+opens-under : {m n : ℕ} {f f' w : List ℕ} → Opens m n f w → ((a b : ℕ) → a < m → b < n → cells f' a b ≤ cells f a b) → Opens m n f' w
+opens-under q h = record { long = q .long; within = q .within; has = λ a b ha hb o. q .has a b ha hb (omega (arith, h a b ha hb)) }
+
+pub opens-closed : {m n : ℕ} {f w : List ℕ} (k : ℕ) → Opens m n f w → Opens m n (set f k 0) w
+opens-closed {f = f} k q = opens-under q (λ a b ha hb. set-less f k (a * 64 + b) 0 (omega arith))
+
+-- the first lane left of source i is closed, and taken from the mask
+pub open-less : {m n i : ℕ} {o f x s w : List ℕ} {r : ℕ} → i < m → Open m n o f x s w → get w i ≡ r → 0 < r → r < 2 ^ 64 → cells f i (trailingZeros 64 r) ≡ 0
+    → Open m n o f x s (set w i (bitAnd r (r - 1)))
+open-less {m} {n} {i} {o} {f} {x} {s} {w} {r} hi q e p l h = record {
+  sources = q .sources;
+  terminals = q .terminals;
+  longs = q .longs;
+  under = q .under;
+  ceilings = q .ceilings;
+  covers = q .covers;
+  opens = record {
+    long = length-set w i (bitAnd r (r - 1)) ∙ q .opens .long;
+    within = λ a ha. elim (ℕ-discrete a i) [
+      | yes z ↦ rw z (omega (arith, own, and-le-l r (r - 1), q .opens .within i hi))
+      | no z ↦ omega (arith, getD-set-other w i a (bitAnd r (r - 1)) 0 z, q .opens .within a ha)
+    ];
+    has = λ a b ha hb o. elim (ℕ-discrete a i) [
+      | yes z ↦ rw (z, own) (rest-other 64 r b p l (λ y. absurd (omega (arith, h, ap (λ v. cells f i v) y, ap (λ v. cells f v b) z))) ∙ was b hb (rw z at o))
+      | no z ↦ rw (getD-set-other w i a (bitAnd r (r - 1)) 0 z) (q .opens .has a b ha hb o)
+    ];
+  };
+}
+  where
+    own : get (set w i (bitAnd r (r - 1))) i ≡ bitAnd r (r - 1)
+    own = getD-set-same w i (bitAnd r (r - 1)) 0 (omega (arith, q .opens .long, q .sources))
+
+    was : (b : ℕ) → b < n → 0 < cells f i b → bit r b ≡ 1
+    was b hb o = ap (λ y. bit y b) (sym e) ∙ q .opens .has i b hi hb o
+
+pub open-next : {m n i j : ℕ} {o f x s w o' f' x' s' : List ℕ} → i < m → j < n → Open m n o f x s w → LaneSettled m n i j o f x o' f' x'
+    → Longs o' f' x' → Covers m n x' s' → Open m n o' f' x' s' w
+open-next {m} {n} {i} {j} {o} {f} {x} {s} {w} {o'} {f'} {x'} hi hj q d l c = record {
+  sources = q .sources;
+  terminals = q .terminals;
+  longs = l;
+  under = d .under;
+  ceilings = λ a b ha hb. elim (ℕ-discrete (a * 64 + b) (i * 64 + j)) [
+    | yes z ↦ omega (
+      arith,
+      ap (λ v. get o' v) z,
+      ap (λ v. get f' v) z,
+      d .own-o,
+      d .own-f,
+      d .least (cells x) (q .under) (λ l a b. refl) (λ l a b. refl),
+      q .under i j hi hj,
+      q .ceilings i j hi hj,
+    )
+    | no z ↦ omega (arith, d .off-o (a * 64 + b) z, d .off-f (a * 64 + b) z, q .ceilings a b ha hb)
+  ];
+  covers = c;
+  opens = opens-under (q .opens) (λ a b ha hb. elim (ℕ-discrete (a * 64 + b) (i * 64 + j)) [
+    | yes z ↦ omega (arith, ap (λ v. get f' v) z, d .own-f)
+    | no z ↦ omega (arith, d .off-f (a * 64 + b) z)
+  ]);
+}
+
+pub settle-skip : {N : Net} {p : List ℕ} {k k' : ℕ} {o f x : Table} → ((i j : ℕ) → i < N .m → j < N .n → i * 64 + j < k' → i * 64 + j < k) → k ≤ k'
+    → Settling N p k o f x → Settling N p k' o f x
+settle-skip h l s = record {
+  rows = s .rows;
+  cols = s .cols;
+  under = s .under;
+  within = s .within;
+  done = λ i j a b g. s .done i j a b (h i j a b g);
+  aside = s .aside;
+  box = λ z r e. s .box z r (λ i j a b g. e i j a b (omega arith));
+  leads = λ z r i j a b g e. s .leads z r i j a b (h i j a b g) e;
+}
+
+-- places between which no lane is free
+settle-over : {N : Net} {p : List ℕ} {k k' : ℕ} {o f x : Table}
+    → ((i j : ℕ) → i < N .m → j < N .n → k ≤ i * 64 + j → i * 64 + j < k' → f i j ≡ 0) → k ≤ k' → Settling N p k o f x → Settling N p k' o f x
+settle-over {N} {p} {k} {k'} {o} {f} {x} h l s = record {
+  rows = s .rows;
+  cols = s .cols;
+  under = s .under;
+  within = s .within;
+  done = λ i j a b g. elim (decLt (i * 64 + j) k) [ yes y ↦ s .done i j a b y | no y ↦ h i j a b (omega arith) g ];
+  aside = s .aside;
+  box = λ z r e. s .box z r (λ i j a b g. e i j a b (omega arith));
+  leads = λ z r i j a b g e. elim (decLt (i * 64 + j) k) [
+    | yes y ↦ s .leads z r i j a b y e
+    | no y ↦ omega (arith, s .box z r (λ v w c d q. e v w c d (omega arith)) i j a b .0, s .under i j a b, h i j a b (omega arith) g)
+  ];
+}
+
+pub onward-none : {m n k : ℕ} {o f x : List ℕ} → Onward m n k k o f x o f x
+onward-none = record { each = λ c u y p s. s }
+
+pub onward-lane : {m n k i j : ℕ} {o₀ f₀ x₀ o f x o' f' x' : List ℕ} → n ≤ 64 → i < m → j < n → Onward m n k (i * 64 + j) o₀ f₀ x₀ o f x
+    → LaneSettled m n i j o f x o' f' x' → Onward m n k (i * 64 + (j + 1)) o₀ f₀ x₀ o' f' x'
+onward-lane {m} {n} {k} {i} {j} small hi hj q d = record {
+  each = λ c u y p s. settle-skip (λ a b ha hb l. omega arith) (omega arith) (settle-next small hi hj (q .each c u y p s) d);
+}
+
+pub onward-skip : {m n k k' k'' : ℕ} {o₀ f₀ x₀ o f x : List ℕ} → ((i j : ℕ) → i < m → j < n → i * 64 + j < k'' → i * 64 + j < k') → k' ≤ k''
+    → Onward m n k k' o₀ f₀ x₀ o f x → Onward m n k k'' o₀ f₀ x₀ o f x
+onward-skip h l q = record { each = λ c u y p s. settle-skip h l (q .each c u y p s) }
+
+pub onward-over : {m n k k' k'' : ℕ} {o₀ f₀ x₀ o f x : List ℕ}
+    → ((i j : ℕ) → i < m → j < n → k' ≤ i * 64 + j → i * 64 + j < k'' → cells f i j ≡ 0) → k' ≤ k'' → Onward m n k k' o₀ f₀ x₀ o f x
+    → Onward m n k k'' o₀ f₀ x₀ o f x
+onward-over h l q = record { each = λ c u y p s. settle-over h l (q .each c u y p s) }
+
+pub onward-both : {m n k k' k'' : ℕ} {o₀ f₀ x₀ o f x o' f' x' : List ℕ} → Onward m n k k' o₀ f₀ x₀ o f x → Onward m n k' k'' o f x o' f' x'
+    → Onward m n k k'' o₀ f₀ x₀ o' f' x'
+onward-both q d = record { each = λ c u y p s. d .each c u y p (q .each c u y p s) }
+
+-- ---- the free lanes of a source, bit by bit
+
+-- those left in rest are to be settled
+pub record RowTo (m n i : ℕ) (o₀ f₀ x₀ o f x s w : List ℕ) (t all rest : ℕ) : Type 0 where
+  pub hi : ℕ
+  pub most : hi ≤ 64
+  pub past : Left all rest hi
+  pub onward : Onward m n (i * 64) (i * 64 + hi) o₀ f₀ x₀ o f x
+  pub state : Open m n o f x s w
+  pub left : get w i ≡ rest
+  pub supplied : Supplied m n x t
+
+module _ {m n i : ℕ} {o₀ f₀ x₀ o f x s w : List ℕ} {t all rest : ℕ} (ha : i < m) (q : RowTo m n i o₀ f₀ x₀ o f x s w t all rest) where
+  pub row-fits : rest < 2 ^ 64
+  row-fits = omega (arith, q .left, q .state .opens .within i ha, pow-mono {i = n} {j = 64} (q .state .terminals))
+
+  -- a lane whose bit is not set is closed
+  closed : (b : ℕ) → b < n → bit rest b ≡ 0 → cells f i b ≡ 0
+  closed b hb e = elim (decLt 0 (cells f i b)) [
+    | yes l ↦ absurd (omega (arith, q .state .opens .has i b ha hb l, ap (λ y. bit y b) (q .left)))
+    | no l ↦ omega arith
+  ]
+
+  pub row-end : rest ≤ 0 → Onward m n (i * 64) (i * 64 + 64) o₀ f₀ x₀ o f x
+  row-end e = onward-over (λ a b c d l g. lane a b c d (omega (arith, q .state .terminals))) (omega (arith, q .most)) (q .onward)
+    where
+      lane : (a b : ℕ) → a < m → b < n → a ≡ i → cells f a b ≡ 0
+      lane a b c d z = let y : rest ≡ 0 = omega arith in rw z (closed b d (ap (λ v. bit v b) y ∙ bit-none b))
+
+  module _ (p : 0 < rest) where
+    pub row-terminal : trailingZeros 64 rest < n
+    row-terminal =
+        bit-place n rest (trailingZeros 64 rest) (omega (arith, q .left, q .state .opens .within i ha)) (low-set 64 rest p row-fits)
+
+    pub row-next : {o' f' x' s' : List ℕ} → LaneSettled m n i (trailingZeros 64 rest) o f x o' f' x' → Open m n o' f' x' s' w
+        → RowTo m n i o₀ f₀ x₀ o' f' x' s' (set w i (bitAnd rest (rest - 1))) t all (bitAnd rest (rest - 1))
+    row-next {o'} {f'} {x'} {s'} d r = record {
+      hi = trailingZeros 64 rest + 1;
+      most = omega (arith, row-terminal, r .terminals);
+      past = left-next 64 (q .past) p row-fits;
+      onward = onward-lane (r .terminals) ha row-terminal here d;
+      state = open-less ha r (q .left) p row-fits (d .own-f);
+      left = getD-set-same w i (bitAnd rest (rest - 1)) 0 (omega (arith, r .opens .long, r .sources));
+      supplied = supplied-still (q .supplied) (λ b hb e. omega (arith, d .cols b hb));
+    }
+      where
+        lane : (a b : ℕ) → a < m → b < n → a ≡ i → q .hi ≤ b → b < trailingZeros 64 rest → cells f a b ≡ 0
+        lane a b c e z l u = rw z (closed b e (q .past .from b l ∙ left-none 64 (q .past) p row-fits b l u))
+
+        here : Onward m n (i * 64) (i * 64 + trailingZeros 64 rest) o₀ f₀ x₀ o f x
+        here =
+            onward-over (λ a b c e g h. lane a b c e (omega (arith, r .terminals, row-terminal, q .most)) (omega (arith, r .terminals, row-terminal, q .most)) (omega (arith, r .terminals, row-terminal, q .most)))
+            (omega (arith, left-low 64 (q .past) p row-fits)) (q .onward)
+
+pub row-start : {m n i : ℕ} {o f x s w : List ℕ} {t : ℕ} → Open m n o f x s w → Supplied m n x t → RowTo m n i o f x o f x s w t (get w i) (get w i)
+row-start q u = record {
+  hi = 0;
+  most = omega arith;
+  past = left-start;
+  onward = onward-skip (λ a b ha hb l. omega arith) (omega arith) onward-none;
+  state = q;
+  left = refl;
+  supplied = u;
+}
+
+-- ---- the whole
+
+blank : (k : ℕ) → get (replicate 2048 0) k ≡ 0
+blank k = elim (decLt k 2048) [
+  | yes l ↦ getD-replicate {A = ℕ} 2048 k 0 0 l
+  | no l ↦ List·getD-eq-default (replicate 2048 0) 0 {n = k} (omega (arith, length-replicate {A = ℕ} 2048 0))
+]
+
+pub part-begin : {N : Net} {p : List ℕ} → CanonReady N p → PartedTo N p 0 (replicate 2048 0) (replicate 2048 0) (replicate 2048 0) (replicate 64 0)
+part-begin r = record {
+  longs = record { long-o = length-replicate {A = ℕ} 2048 0; long-f = length-replicate {A = ℕ} 2048 0; long-x = length-replicate {A = ℕ} 2048 0 };
+  parting = record {
+    done = λ i j a b l. absurd (omega arith);
+    rest = λ i j a b l. (blank (i * 64 + j), blank (i * 64 + j), blank (i * 64 + j));
+  };
+  covers =
+      cover-none (length-replicate {A = ℕ} 64 0) (λ i j a b. blank (i * 64 + j)) (λ j h. getD-replicate {A = ℕ} 64 j 0 0 h) (r .terminals);
+}
+
+module _ {N : Net} {p o f x s : List ℕ} (r : CanonReady N p) (q : PartedTo N p (N .m * 64) o f x s) where
+  begun : Settling N p 0 (cells o) (cells f) (cells x)
+  begun = settle-start (r .terminals) (r .slack) (r .under) (q .parting)
+
+  pub open-start : {w : List ℕ} → Opens (N .m) (N .n) f w → Open (N .m) (N .n) o f x s w
+  open-start w = record {
+    sources = r .sources;
+    terminals = r .terminals;
+    longs = q .longs;
+    under = begun .under;
+    ceilings = λ i j a b. omega (arith, begun .within i j a b, r .ceilings i j a b);
+    covers = q .covers;
+    opens = w;
+  }
+
+  pub canonized : {o' f' x' : List ℕ} → Onward (N .m) (N .n) 0 (N .m * 64) o f x o' f' x' → length o' ≡ 2048 → Canonized N o'
+  canonized d l = record {
+    long = l;
+    settled = settle-end (r .terminals) (r .slack) (r .under) (d .each (N .c) (N .u) (N .x) p begun);
+  }

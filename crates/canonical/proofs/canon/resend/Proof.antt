@@ -1,0 +1,22 @@
+-- `canonical::canon::resend` meets its contract. Assumes nothing.
+use Rattle.canonical.proofs.Rerouting.{stays-col, resent}
+use borrow.Author.Needs.{needs}
+use Rattle.canonical.proofs.canon.resend.Statement.{statement}
+use Rattle.canonical.proofs.canon.resend.Tie as tie
+
+column-full-requires : tie.Need-column-full-requires
+column-full-requires c κs = search needs
+
+returns : tie.Need-returns
+returns c = let s = c .before .before .before .pre in (stays-col (s .0) (s .1 .0) (c .before .column-full .ensures .full (c .if1 .taken)), s .1 .1 .1 .1 .1)
+
+reroute-requires : tie.Need-reroute-requires
+reroute-requires c κs = search needs
+
+returns-2 : tie.Need-returns-2
+returns-2 c = let s = c .before .before .before .before .before .before .pre in (resent (s .0) (s .1 .0) (c .reroute .ensures .0), c .reroute .ensures .1)
+
+pub resend-spec : {M : Type 1} → statement M
+resend-spec =
+    tie.close
+    (tie.spec column-full-requires returns reroute-requires returns-2)

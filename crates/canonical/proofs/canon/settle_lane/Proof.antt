@@ -1,0 +1,88 @@
+-- `canonical::canon::settle_lane` meets its contract. Assumes nothing.
+use Prim.Native.Nat.{_+_, _*_}
+use native.Mathlib.Omega.{arith}
+use Rattle.canonical.proofs.FreeLanes.{supplied-under}
+use Rattle.canonical.proofs.LaneStores.{free-ready, opens-closed, open-next, longs-closed, longs-settled}
+use Rattle.canonical.proofs.Rerouting.{lane-empty, out-ready, out-shut, out-under, out-covers, lane-settled}
+use borrow.Author.Needs.{needs}
+use Rattle.canonical.proofs.canon.settle_lane.Statement.{statement}
+use Rattle.canonical.proofs.canon.settle_lane.Tie as tie
+
+mul-k : tie.Need-mul-k
+mul-k c = search needs
+
+add-k : tie.Need-add-k
+add-k c = search needs
+
+mul-amount : tie.Need-mul-amount
+mul-amount c = search needs
+
+element-copy-out-amount : tie.Need-element-copy-out-amount
+element-copy-out-amount c = search needs
+
+mul-free : tie.Need-mul-free
+mul-free c = search needs
+
+element-write-free : tie.Need-element-write-free
+element-write-free c = search needs
+
+returns : tie.Need-returns
+returns c =
+    let s = c .before .before in let q = s .pre .1 .1 in let l = q .longs in
+    let d = lane-empty (free-ready (s .pre .0 .0) (s .pre .0 .1) q) (l .long-f) (omega (arith, c .if1 .taken)) in
+    (d, open-next (s .pre .0 .0) (s .pre .0 .1) q d (longs-closed (s .args .i * 64 + s .args .j) l) (q .covers))
+
+mul-x : tie.Need-mul-x
+mul-x c = search needs
+
+element-write-x : tie.Need-element-write-x
+element-write-x c = search needs
+
+resend-requires : tie.Need-resend-requires
+resend-requires c κs =
+    let s = c .before .before .before .before .before in let q = s .pre .1 .1 in let r = free-ready (s .pre .0 .0) (s .pre .0 .1) q in let l = q .longs .long-f in
+    (out-ready r l, (out-shut r l, (s .pre .1 .0 .has (s .args .i) (s .args .j) (s .pre .0 .0) (s .pre .0 .1) (omega (arith, c .before .before .before .if1 .left)), (supplied-under (s .pre .1 .0) (out-under r l), (opens-closed (s .args .i * 64 + s .args .j) (q .opens), out-covers r l (q .covers))))))
+
+mul-aside : tie.Need-mul-aside
+mul-aside c = search needs
+
+element-copy-out-aside : tie.Need-element-copy-out-aside
+element-copy-out-aside c = search needs
+
+add-aside : tie.Need-add-aside
+add-aside c =
+    let s = c .before .before .before .before .before .before .before in let q = s .pre .1 .1 in
+    omega (arith, c .before .resend .ensures .0 .most, q .under (s .args .i) (s .args .j) (s .pre .0 .0) (s .pre .0 .1), q .ceilings (s .args .i) (s .args .j) (s .pre .0 .0) (s .pre .0 .1))
+
+mul-aside-2 : tie.Need-mul-aside-2
+mul-aside-2 c = search needs
+
+element-write-aside : tie.Need-element-write-aside
+element-write-aside c = search needs
+
+returns-2 : tie.Need-returns-2
+returns-2 c =
+    let s = c .before .before .before .before .before .before .before in let q = s .pre .1 .1 in let l = q .longs in let w = c .before .resend .ensures in
+    let d = lane-settled (free-ready (s .pre .0 .0) (s .pre .0 .1) q) (l .long-f) (l .long-o) (w .0) in
+    (d, open-next (s .pre .0 .0) (s .pre .0 .1) q d (longs-settled (s .args .i * 64 + s .args .j) _ l (w .0 .long-x)) (w .1))
+
+pub settle-lane-spec : {M : Type 1} → statement M
+settle-lane-spec =
+    tie.close
+    (tie.spec
+    mul-k
+    add-k
+    mul-amount
+    element-copy-out-amount
+    mul-free
+    element-write-free
+    returns
+    mul-x
+    element-write-x
+    resend-requires
+    mul-aside
+    element-copy-out-aside
+    add-aside
+    mul-aside-2
+    element-write-aside
+    returns-2)

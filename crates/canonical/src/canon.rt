@@ -1,0 +1,356 @@
+// One plan for everybody: of the plans as cheap as a slack plan, the one that has the smaller amount at the first lane, in row order, where it
+// differs from another. Such plans differ on tight lanes only. There each lane in turn keeps what cannot go another way, and is closed.
+ghost use mathlib.Core.Path.{_≡_};
+ghost use Prim.Native.Nat.{_+_, _*_, _≤_, _<_};
+ghost use lib.ListN.{length, getD};
+ghost use Rattle.residual.specs.Cells.{cells};
+ghost use Rattle.residual.specs.Network.{net, get};
+ghost use Rattle.residual.specs.Bits.{bit};
+ghost use Rattle.residual.specs.LanesInUse.{Covers};
+ghost use Rattle.reachability.specs.Reachability.{Opens, Supplied, Trodden};
+ghost use Rattle.canonical.specs.Canonize.{Mask, Unless, FreeReady, Followed, Rerouted, ColFull, Resent, LaneSettled, CanonReady, Clear, LaneParted, PartedTo, Open, Onward, Canonized};
+use augment::send::mark;
+use augment::send::measure;
+use augment::send::push;
+use augment::send::serve;
+use reachability::roam::roam;
+
+// 0 where the test holds, else a.
+fn unless(test: bool, a: u32) -> u32
+    ensures { λ r. ⌜ Unless test a r ⌝ }
+{
+    if test { 0 } else { a }
+}
+
+// A tight lane is free, with its ceiling and its drums; what another lane carries is set aside. There is no branch on what cannot be foreseen.
+fn part_lane(
+    m: usize,
+    n: usize,
+    i: usize,
+    j: usize,
+    cost: &[u32; 2048],
+    cap: &[u32; 2048],
+    pot: &[u32; 96],
+    plan: &[u32; 2048],
+    aside: &mut [u32; 2048],
+    free: &mut [u32; 2048],
+    x: &mut [u32; 2048],
+    serves: &mut [u32; 64],
+)
+    requires { ⌜ (i < m) × (j < n) ⌝ }
+    requires { ⌜ CanonReady (net m n (now cost) (now cap) (now plan)) (now pot) ⌝ }
+    requires { ⌜ Clear i j (now aside) (now free) (now x) ⌝ }
+    requires { ⌜ Covers m n (now x) (now serves) ⌝ }
+    ensures { λ _. ⌜ LaneParted (net m n (now (cost .entry)) (now (cap .entry)) (now (plan .entry))) (now (pot .entry)) i j (now (aside .entry)) (now (free .entry)) (now (x .entry)) (now (aside .exit)) (now (free .exit)) (now (x .exit)) ⌝ }
+    ensures { λ _. ⌜ Covers m n (now (x .exit)) (now (serves .exit)) ⌝ }
+{
+    let k = i * 64 + j;
+    let t = 32 + j;
+    let tight = cost[k] + pot[i] == pot[t];
+    let amount = plan[k];
+    let ceiling = cap[k];
+    let kept = unless(tight, amount);
+    aside[k] = kept;
+    free[k] = ceiling - unless(tight, ceiling);
+    x[k] = amount - kept;
+    if kept < amount {
+        serve(t, i, serves);
+    }
+}
+
+// The lanes of source i are parted.
+fn part_row(
+    m: usize,
+    n: usize,
+    i: usize,
+    cost: &[u32; 2048],
+    cap: &[u32; 2048],
+    pot: &[u32; 96],
+    plan: &[u32; 2048],
+    aside: &mut [u32; 2048],
+    free: &mut [u32; 2048],
+    x: &mut [u32; 2048],
+    serves: &mut [u32; 64],
+)
+    requires { ⌜ i < m ⌝ }
+    requires { ⌜ CanonReady (net m n (now cost) (now cap) (now plan)) (now pot) ⌝ }
+    requires { ⌜ PartedTo (net m n (now cost) (now cap) (now plan)) (now pot) (i * 64) (now aside) (now free) (now x) (now serves) ⌝ }
+    ensures { λ _. ⌜ PartedTo (net m n (now (cost .entry)) (now (cap .entry)) (now (plan .entry))) (now (pot .entry)) (i * 64 + 64) (now (aside .exit)) (now (free .exit)) (now (x .exit)) (now (serves .exit)) ⌝ }
+{
+    for j in 0..n {
+        part_lane(m, n, i, j, cost, cap, pot, plan, aside, free, x, serves);
+    }
+}
+
+// All lanes are parted.
+fn part(
+    m: usize,
+    n: usize,
+    cost: &[u32; 2048],
+    cap: &[u32; 2048],
+    pot: &[u32; 96],
+    plan: &[u32; 2048],
+    aside: &mut [u32; 2048],
+    free: &mut [u32; 2048],
+    x: &mut [u32; 2048],
+    serves: &mut [u32; 64],
+)
+    requires { ⌜ CanonReady (net m n (now cost) (now cap) (now plan)) (now pot) ⌝ }
+    requires { ⌜ PartedTo (net m n (now cost) (now cap) (now plan)) (now pot) 0 (now aside) (now free) (now x) (now serves) ⌝ }
+    ensures { λ _. ⌜ PartedTo (net m n (now (cost .entry)) (now (cap .entry)) (now (plan .entry))) (now (pot .entry)) (m * 64) (now (aside .exit)) (now (free .exit)) (now (x .exit)) (now (serves .exit)) ⌝ }
+{
+    for i in 0..m {
+        part_row(m, n, i, cost, cap, pot, plan, aside, free, x, serves);
+    }
+}
+
+// The terminals to which source i has a free lane, a bit for each.
+fn row_ways(n: usize, i: usize, free: &[u32; 2048]) -> u64
+    requires { ⌜ (n ≤ 64) × (i < 32) ⌝ }
+    ensures { λ r. ⌜ Mask n (λ j. cells (now (free .entry)) i j) r ⌝ }
+{
+    let mut mask: u64 = 0;
+    for j in 0..n {
+        if 0 < free[i * 64 + j] {
+            mask = mask | (1 << j);
+        }
+    }
+    mask
+}
+
+// The same of each source.
+fn all_ways(m: usize, n: usize, free: &[u32; 2048], ways: &mut [u64; 32])
+    requires { ⌜ (m ≤ 32) × (n ≤ 64) × (length (now ways) ≡ 32) ⌝ }
+    ensures { λ _. ⌜ Opens m n (now (free .entry)) (now (ways .exit)) ⌝ }
+{
+    for i in 0..m {
+        ways[i] = row_ways(n, i, free);
+    }
+}
+
+// The terminals that a source serves, or did, a bit for each.
+fn served(n: usize, serves: &[u32; 64]) -> u64
+    requires { ⌜ n ≤ 64 ⌝ }
+    ensures { λ r. ⌜ Mask n (λ j. get (now (serves .entry)) j) r ⌝ }
+{
+    let mut mask: u64 = 0;
+    for j in 0..n {
+        if 0 < serves[j] {
+            mask = mask | (1 << j);
+        }
+    }
+    mask
+}
+
+// Sends what can go, limit drums at most, along the way from source i to terminal j that was found.
+fn follow(
+    m: usize,
+    n: usize,
+    i: usize,
+    j: usize,
+    limit: u32,
+    prev: &[u32; 96],
+    free: &[u32; 2048],
+    x: &mut [u32; 2048],
+    serves: &mut [u32; 64],
+) -> u32
+    requires { ⌜ FreeReady m n i j (now free) (now x) ⌝ }
+    requires { ⌜ 0 < limit ⌝ }
+    requires { ⌜ Trodden m n i j limit (now free) (now x) (now prev) ⌝ }
+    requires { ⌜ Covers m n (now x) (now serves) ⌝ }
+    ensures { λ r. ⌜ Followed m n i j limit (now (free .entry)) (now (x .entry)) (now (x .exit)) r ⌝ }
+    ensures { λ r. ⌜ Covers m n (now (x .exit)) (now (serves .exit)) ⌝ }
+{
+    let goal = 32 + j;
+    let way = measure(prev, i, goal, limit, x, free);
+    push(prev, way.count, goal, way.amount, x);
+    mark(prev, way.count, goal, serves);
+    way.amount
+}
+
+// Sends amount from source i to terminal j on free lanes, which cost nothing; what is left.
+fn reroute(
+    m: usize,
+    n: usize,
+    ways: &[u64; 32],
+    supplied: u64,
+    free: &[u32; 2048],
+    i: usize,
+    j: usize,
+    amount: u32,
+    x: &mut [u32; 2048],
+    serves: &mut [u32; 64],
+) -> u32
+    requires { ⌜ FreeReady m n i j (now free) (now x) ⌝ }
+    requires { ⌜ getD (now free) (i * 64 + j) 0 ≡ 0 ⌝ }
+    requires { ⌜ bit supplied j ≡ 1 ⌝ }
+    requires { ⌜ Supplied m n (now x) supplied ⌝ }
+    requires { ⌜ Opens m n (now free) (now ways) ⌝ }
+    requires { ⌜ Covers m n (now x) (now serves) ⌝ }
+    ensures { λ r. ⌜ Rerouted m n i j amount (now (free .entry)) (now (x .entry)) (now (x .exit)) r ⌝ }
+    ensures { λ r. ⌜ Covers m n (now (x .exit)) (now (serves .exit)) ⌝ }
+{
+    let mut prev = [0u32; 96];
+    let mut left = amount;
+    while 0 < left {
+        if roam(m, n, i, j, left, ways, supplied, free, x, serves, &mut prev) {
+            left = left - follow(m, n, i, j, left, &prev, free, x, serves);
+        } else {
+            return left;
+        }
+    }
+    left
+}
+
+// Has no lane to terminal j room? The last source is looked at first, as the first are closed.
+fn column_full(m: usize, j: usize, free: &[u32; 2048], x: &[u32; 2048]) -> bool
+    requires { ⌜ (m ≤ 32) × (j < 64) ⌝ }
+    ensures { λ r. ⌜ ColFull m j (now (free .entry)) (now (x .entry)) r ⌝ }
+{
+    let mut i = m;
+    while 0 < i {
+        i = i - 1;
+        let k = i * 64 + j;
+        if x[k] < free[k] {
+            return false;
+        }
+    }
+    true
+}
+
+// Sends amount round the closed lane (i, j), as far as it can go; what is left. No search is made where no lane to terminal j has room.
+fn resend(
+    m: usize,
+    n: usize,
+    ways: &[u64; 32],
+    supplied: u64,
+    free: &[u32; 2048],
+    i: usize,
+    j: usize,
+    amount: u32,
+    x: &mut [u32; 2048],
+    serves: &mut [u32; 64],
+) -> u32
+    requires { ⌜ FreeReady m n i j (now free) (now x) ⌝ }
+    requires { ⌜ getD (now free) (i * 64 + j) 0 ≡ 0 ⌝ }
+    requires { ⌜ bit supplied j ≡ 1 ⌝ }
+    requires { ⌜ Supplied m n (now x) supplied ⌝ }
+    requires { ⌜ Opens m n (now free) (now ways) ⌝ }
+    requires { ⌜ Covers m n (now x) (now serves) ⌝ }
+    ensures { λ r. ⌜ Resent m n i j amount (now (free .entry)) (now (x .entry)) (now (x .exit)) r ⌝ }
+    ensures { λ r. ⌜ Covers m n (now (x .exit)) (now (serves .exit)) ⌝ }
+{
+    if column_full(m, j, free, x) {
+        return amount;
+    }
+    reroute(m, n, ways, supplied, free, i, j, amount, x, serves)
+}
+
+// Lane (i, j) keeps what cannot go another way, and is closed.
+fn settle_lane(
+    m: usize,
+    n: usize,
+    i: usize,
+    j: usize,
+    ways: &[u64; 32],
+    supplied: u64,
+    aside: &mut [u32; 2048],
+    free: &mut [u32; 2048],
+    x: &mut [u32; 2048],
+    serves: &mut [u32; 64],
+)
+    requires { ⌜ (i < m) × (j < n) ⌝ }
+    requires { ⌜ Supplied m n (now x) supplied ⌝ }
+    requires { ⌜ Open m n (now aside) (now free) (now x) (now serves) (now ways) ⌝ }
+    ensures { λ _. ⌜ LaneSettled m n i j (now (aside .entry)) (now (free .entry)) (now (x .entry)) (now (aside .exit)) (now (free .exit)) (now (x .exit)) ⌝ }
+    ensures { λ _. ⌜ Open m n (now (aside .exit)) (now (free .exit)) (now (x .exit)) (now (serves .exit)) (now (ways .entry)) ⌝ }
+{
+    let k = i * 64 + j;
+    let amount = x[k];
+    free[k] = 0;
+    if amount == 0 {
+        return;
+    }
+    x[k] = 0;
+    let left = resend(m, n, ways, supplied, free, i, j, amount, x, serves);
+    aside[k] = aside[k] + left;
+}
+
+// The free lanes of source i are settled.
+fn settle_row(
+    m: usize,
+    n: usize,
+    i: usize,
+    ways: &mut [u64; 32],
+    aside: &mut [u32; 2048],
+    free: &mut [u32; 2048],
+    x: &mut [u32; 2048],
+    serves: &mut [u32; 64],
+)
+    requires { ⌜ i < m ⌝ }
+    requires { ⌜ Open m n (now aside) (now free) (now x) (now serves) (now ways) ⌝ }
+    ensures { λ _. ⌜ Onward m n (i * 64) (i * 64 + 64) (now (aside .entry)) (now (free .entry)) (now (x .entry)) (now (aside .exit)) (now (free .exit)) (now (x .exit)) ⌝ }
+    ensures { λ _. ⌜ Open m n (now (aside .exit)) (now (free .exit)) (now (x .exit)) (now (serves .exit)) (now (ways .exit)) ⌝ }
+{
+    let supplied = served(n, serves);
+    let mut rest = ways[i];
+    while 0 < rest {
+        let j = u64::trailing_zeros(rest) as usize;
+        settle_lane(m, n, i, j, ways, supplied, aside, free, x, serves);
+        rest = rest & (rest - 1);
+        ways[i] = rest;
+    }
+}
+
+// All lanes are settled.
+fn settle(
+    m: usize,
+    n: usize,
+    ways: &mut [u64; 32],
+    aside: &mut [u32; 2048],
+    free: &mut [u32; 2048],
+    x: &mut [u32; 2048],
+    serves: &mut [u32; 64],
+)
+    requires { ⌜ Open m n (now aside) (now free) (now x) (now serves) (now ways) ⌝ }
+    ensures { λ _. ⌜ Onward m n 0 (m * 64) (now (aside .entry)) (now (free .entry)) (now (x .entry)) (now (aside .exit)) (now (free .exit)) (now (x .exit)) ⌝ }
+    ensures { λ _. ⌜ Open m n (now (aside .exit)) (now (free .exit)) (now (x .exit)) (now (serves .exit)) (now (ways .exit)) ⌝ }
+{
+    for i in 0..m {
+        settle_row(m, n, i, ways, aside, free, x, serves);
+    }
+}
+
+// Puts the plan for everybody in the place of a plan that is slack with the given potentials.
+pub fn canonize(
+    m: usize,
+    n: usize,
+    cost: &[u32; 2048],
+    cap: &[u32; 2048],
+    pot: &[u32; 96],
+    plan: &mut [u32; 2048],
+)
+    requires { ⌜ CanonReady (net m n (now cost) (now cap) (now plan)) (now pot) ⌝ }
+    ensures { λ _. ⌜ Canonized (net m n (now (cost .entry)) (now (cap .entry)) (now (plan .entry))) (now (plan .exit)) ⌝ }
+{
+    let mut aside = [0u32; 2048];
+    let mut free = [0u32; 2048];
+    let mut x = [0u32; 2048];
+    let mut serves = [0u32; 64];
+    part(
+        m,
+        n,
+        cost,
+        cap,
+        pot,
+        plan,
+        &mut aside,
+        &mut free,
+        &mut x,
+        &mut serves,
+    );
+    let mut ways = [0u64; 32];
+    all_ways(m, n, &free, &mut ways);
+    settle(m, n, &mut ways, &mut aside, &mut free, &mut x, &mut serves);
+    *plan = aside;
+}

@@ -1,0 +1,2 @@
+// Ways over free lanes, which cost nothing.
+pub mod roam;
