@@ -201,6 +201,20 @@ pub fn push(prev: &Nodes, count: u32, goal: usize, amount: u32, x: &mut Cells) {
     }
 }
 
+/// Takes amount back from the last count arcs of the path to goal.
+pub fn undo(prev: &Nodes, count: u32, goal: usize, amount: u32, x: &mut Cells) {
+    let mut v = goal;
+    for _ in 0..count {
+        let w = prev[v] as usize;
+        if v < 32 {
+            x[v * 64 + (w - 32)] += amount;
+        } else {
+            x[w * 64 + (v - 32)] -= amount;
+        }
+        v = w;
+    }
+}
+
 /// Sets the bit of each lane that a path brings drums on.
 pub fn mark(prev: &Nodes, count: u32, goal: usize, serves: &mut Masks) {
     let mut v = goal;
@@ -398,16 +412,22 @@ pub fn sweep(
         let limit = (hi - y) as u32;
         let mut room = [0u32; NODES];
         room[1] = limit;
+        // 1° A cheapest path from plant 1 to plant 2, and how many drums go along it.
         let found = search(m, n, cost, x, cap, serves, pot, &room, demand, 0);
-        let (hops, amount) = measure(&found.prev, 0, 1, limit, x, cap);
+        let (hops, delta) = measure(&found.prev, 0, 1, limit, x, cap);
         let gap = found.dist[1] - pot[1];
-        let (gain, loss) = (u64::from(pot[1]), u64::from(pot[0] - gap));
-        let held = scan(table, y, u64::from(amount), value, gain, loss, best);
+        let (gain, loss, drums) = (u64::from(pot[1]), u64::from(pot[0] - gap), u64::from(delta));
+        // 2° The next split, the amounts and the freight there.
+        let next = y + drums;
+        push(&found.prev, hops, 1, delta, x);
+        let there = value + gain * drums - loss * drums;
+        // 3° The incumbent, and its plan: that of the next split with the drums beyond its own taken back.
+        let held = scan(table, y, drums, value, gain, loss, best);
         if y < held.split {
             *kept = *x;
-            push(&found.prev, hops, 1, (held.split - y) as u32, kept);
+            undo(&found.prev, hops, 1, (next - held.split) as u32, kept);
         }
-        push(&found.prev, hops, 1, amount, x);
+        // 4° The lanes in use and the potentials for the next stretch.
         mark(&found.prev, hops, 1, serves);
         lower(gap, &found.dist, pot);
         if y < held.split {
@@ -417,8 +437,8 @@ pub fn sweep(
             note(&mut count, y, value);
         }
         (rise, fall) = (gain, loss);
-        value = value + rise * u64::from(amount) - fall * u64::from(amount);
-        y += u64::from(amount);
+        value = there;
+        y = next;
         best = held;
     }
     note(&mut count, y, value);

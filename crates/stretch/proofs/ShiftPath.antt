@@ -9,10 +9,13 @@ use Rattle.residual.specs.Network.{Net, get}
 use Rattle.residual.specs.Labels.{Book, far}
 use Rattle.paths.specs.Search.{Sound, Near, Label, Stuck, Searched}
 use Rattle.augment.specs.Send.{SendReady}
+use Rattle.augment.specs.PathWalk.{WalkReady}
 use Rattle.stretch.specs.Stretch.{ShiftReady, PathDone}
 use Rattle.paths.proofs.SearchCut.{cut-greatest}
-use Rattle.augment.proofs.Delivery.{lower-ready, push-ready, mark-ready, pushed, delivered, after}
+use Rattle.augment.proofs.Delivery.{lower-ready, stroll-ready, push-ready, mark-ready, pushed, delivered, after}
 use Rattle.range.proofs.PlantShift.{Only, swing-ready, swing-over}
+use Rattle.stretch.proofs.PathLanes.{lanes}
+use Rattle.stretch.proofs.PathArcs.{route}
 
 module _ {N : Net} {p room x : List ℕ} {limit : ℕ} {B : Book} {g : ℕ}
     (k : ShiftReady N p x limit) (o : Only room limit) (q : Searched N p room 0 limit B g) where
@@ -56,7 +59,9 @@ module _ {N : Net} {p room x : List ℕ} {limit : ℕ} {B : Book} {g : ℕ}
     ends = omega (arith, path-low);
     starts = q .root-dist;
     ready = lower-ready ready reached one eD;
-    able = λ t l. push-ready ready reached one e eh (omega arith);
+    able = push-ready ready reached one e eh (omega arith);
+    route = route walk (q .root-hops) (q .root-width) eh ed;
+    lanes = lanes walk (q .root-hops) h 1 one (reached .found one .goal) (sym eh) (omega arith);
     trail = mark-ready ready reached one {d = d} e eh (omega arith);
     part = λ p' lo t l z v.
         let w = pushed ready reached one e eh (omega arith) v in
@@ -68,6 +73,9 @@ module _ {N : Net} {p room x : List ℕ} {limit : ℕ} {B : Book} {g : ℕ}
     where
       one : 1 < 96
       one = omega arith
+
+      walk : WalkReady N p 0 limit B 1 d x
+      walk = stroll-ready ready reached one e (omega arith)
 
       label : Label N 0 (Near p (B .dist) 1) p 96 limit B 1
       label = reached .found one .label 1 one (reached .found one .goal)

@@ -1,23 +1,28 @@
 -- What a stretch says of the least freights, of the incumbent and of the plan that is kept for it. Assumes nothing.
-use mathlib.Core.Path.{_≡_, refl, sym, ap, _∙_}
+use mathlib.Core.Path.{_≡_, refl, sym, ap, subst, _∙_}
 use mathlib.Core.Bool.{Bool, true, false, cond}
 use mathlib.Core.List.{List}
 use Prim.Native.Nat.{ℕ, zero, suc, _+_, _-_, _*_, _≤_, _<_}
+use native.Mathlib.Nat.{mul-le-mul}
 use native.Mathlib.Decide.{decLt}
 use native.Mathlib.Omega.{arith}
 use lib.Dec.{ltb}
+use lib.IntN.{ℤ, pos, _-ℤ_}
 use lib.ListN.{getD}
+use lib.Signed.{_≤ℤ_}
 use Rattle.transport.specs.Plan.{row, col, freight, Under}
 use Rattle.transport.specs.theory.Slackness.{Slack}
 use Rattle.transport.specs.theory.AtSplit.{At, Least}
 use Rattle.residual.specs.Cells.{cells}
 use Rattle.residual.specs.Network.{Net, get, again}
 use Rattle.augment.specs.Potentials.{Lowered}
-use Rattle.augment.specs.PathWalk.{Walkable, Walked}
+use Rattle.augment.specs.PathWalk.{Walked}
 use Rattle.canonical.specs.Canonize.{CanonReady}
 use Rattle.range.specs.engine.PlantShift.{Over}
 use Rattle.stretch.specs.Scan.{along, better, scanned, ScanReady}
-use Rattle.stretch.specs.Stretch.{Part, PathDone, KeepDone, HoldDone, StretchReady, Kept, StretchDone}
+use Rattle.stretch.specs.ResidualPath.{Arc, PathIn, pathCost, StretchPath}
+use Rattle.stretch.specs.PathUndone.{Undoing}
+use Rattle.stretch.specs.Stretch.{Part, PathDone, KeepReady, KeepDone, HoldDone, StretchReady, Kept, StretchDone}
 use Rattle.stretch.specs.declared.Incumbent.{Incumbent}
 use Rattle.transport.proofs.Optimality.{segment}
 use Rattle.transport.proofs.PathFlow.{Shifted, flow-shifted}
@@ -25,6 +30,8 @@ use Rattle.transport.proofs.LeastFreight.{line}
 use Rattle.augment.proofs.Potentials.{lowers}
 use Rattle.augment.proofs.PathWalk.{walks}
 use Rattle.stretch.proofs.IncumbentScan.{along-is}
+use Rattle.stretch.proofs.Differences.{diff-same}
+use Rattle.stretch.proofs.PathArcs.{no-less, rises}
 
 -- ---- the incumbent
 
@@ -160,6 +167,37 @@ module _ {N : Net} {p x table : List ℕ} {y v limit : ℕ} {best : Incumbent} {
       most : d ≤ limit
       most = over (left .0) (low .1) (left .1) .most
 
+  -- the path as its arcs, with what it costs
+  module _ {p' : List ℕ} (x' : List ℕ) (lo : Lowered gap dist p 96 p') (w : Walked prev d count 1 x x') where
+    cost : pathCost N (s .route .path) ≡ pos (get p 1) -ℤ pos (get p 0 - gap)
+    cost =
+        s .route .cost
+        ∙ diff-same (get dist 1) (get dist 0) (get p 1) (get p 0 - gap) (omega (arith, s .ends, s .starts, loss-ready))
+
+    cheapest : (l : List Arc) → PathIn N 0 l 1 → pathCost N (s .route .path) ≤ℤ pathCost N l
+    cheapest l h =
+        subst (λ (z : ℤ). z ≤ℤ pathCost N l) (sym (rw (up x' lo w, down x' lo w) at cost)) (no-less N p' (over x' lo w .old) l 0 1 h)
+
+    stretch-path : StretchPath N v limit d (get p 1) (get p 0 - gap)
+    stretch-path = record {
+      path = s .route .path;
+      arcs = s .route .arcs;
+      cheapest = cheapest;
+      drums = s .route .drums;
+      cost = cost;
+      rise = rises v (get p 1) (get p 0 - gap) d (pathCost N (s .route .path)) cost (scan-ready .above);
+    }
+
+  -- the freight there is within range
+  pub gains : get p 1 * d ≤ 4000000000000
+  gains = mul-le-mul {n₂ = 1000000000} {m₂ = 4000} (scan-ready .rise) (scan-ready .few)
+
+  pub losses : (get p 0 - gap) * d ≤ 4000000000000
+  losses = mul-le-mul {n₂ = 1000000000} {m₂ = 4000} (scan-ready .fall) (scan-ready .few)
+
+  pub losses-short : (get p 0 - gap) * d ≤ v + get p 1 * d
+  losses-short = scan-ready .above d (omega arith)
+
   module _ {held : Incumbent} (look : held ≡ scanned table y v (get p 1) (get p 0 - gap) best d) where
     seen : Looked y v (get p 1) (get p 0 - gap) best d held
     seen = rw look (looked table y v (get p 1) (get p 0 - gap) best (r .behind) d)
@@ -167,16 +205,29 @@ module _ {N : Net} {p x table : List ℕ} {y v limit : ℕ} {best : Incumbent} {
     within : held .split - y ≤ d
     within = elim (decLt y (held .split)) [ yes h ↦ omega (arith, seen .new h .0) | no h ↦ omega arith ]
 
-    pub keep-near : held .split ≤ y + 4000
-    keep-near = omega (arith, within, scan-ready .few)
+    taken : (x' : List ℕ) → Walked prev d count 1 x x' → y < held .split → Undoing prev (y + d - held .split) count 1 x'
+    taken x' w h = record {
+      plan = x;
+      drums = d;
+      most = omega arith;
+      long = r .shift .swinging .long-x;
+      lanes = s .lanes;
+      walked = w;
+    }
 
-    pub keep-ready : Walkable prev (held .split - y) count 1 x
-    keep-ready = s .able (held .split - y) within
+    pub keep-ready : (x' : List ℕ) → Walked prev d count 1 x x' → KeepReady prev count (held .split) y (y + d) x'
+    keep-ready x' w = record { undoing = taken x' w; most = omega (arith, within); near = omega (arith, scan-ready .few) }
 
-    pub stretch-done : {kept kept' p' x' pots pots' : List ℕ} → KeepDone prev count (held .split) y x kept kept' → Walked prev d count 1 x x' → Lowered gap dist p 96 p'
-        → HoldDone (held .split) y p' pots pots' → StretchDone N p table y v limit best kept pots p' x' kept' pots' d (get p 1) (get p 0 - gap) held
+    pub stretch-done : {kept kept' p' x' pots pots' : List ℕ} → KeepDone prev count (held .split) y (y + d) x' kept kept' → Walked prev d count 1 x x'
+        → Lowered gap dist p 96 p' → HoldDone (held .split) y p' pots pots'
+        → StretchDone N p table y v limit best kept pots p' x' kept' pots' d (y + d) (v + get p 1 * d - (get p 0 - gap) * d) (get p 1) (get p 0 - gap) held
+    unfolding along taken stretch-path
     stretch-done {kept} {kept'} {p'} {x'} {pots} {pots'} k w lo o = record {
       some = s .some;
+      path = stretch-path x' lo w;
+      split = refl;
+      reached = refl;
+      moves = s .route .amounts d x' w;
       over = over x' lo w;
       up = up x' lo w;
       down = down x' lo w;
@@ -185,7 +236,10 @@ module _ {N : Net} {p x table : List ℕ} {y v limit : ℕ} {best : Incumbent} {
       value = value x' lo w x' d (whole x' lo w);
       look = look;
       same = λ h. (seen .old h, k .same h, o .same h);
-      new = λ h. (seen .new h .0, new h (s .part p' lo (held .split - y) within kept' (k .walked h)));
+      new = λ h.
+          let e : d - (y + d - held .split) ≡ held .split - y = omega (arith, within) in
+          let t = rw e at (k .walked h (taken x' w h)) in
+          (seen .new h .0, new h (s .part p' lo (held .split - y) within kept' t), s .route .amounts (held .split - y) kept' t);
     }
       where
         new : y < held .split → Part N p' kept' (held .split - y) → Kept N y held kept' pots'

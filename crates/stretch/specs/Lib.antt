@@ -1,2 +1,4 @@
 pub mod Scan
+pub mod ResidualPath
+pub mod PathUndone
 pub mod Stretch

@@ -1,5 +1,5 @@
--- What one stretch of the freight curve asks and does: the shift of the drums, the incumbent, the plan that is kept for it.
--- Assumes nothing.
+-- What one stretch of the freight curve asks and does: the path, the shift of the drums, the incumbent, the plan that is kept for it.
+-- The report's sources 1 and 2 are plants 0 and 1. Assumes nothing.
 use mathlib.Core.Path.{_≡_}
 use mathlib.Core.List.{List}
 use Prim.Native.Nat.{ℕ, _+_, _-_, _≤_, _<_}
@@ -17,6 +17,8 @@ use Rattle.canonical.specs.Canonize.{CanonReady}
 use Rattle.range.specs.engine.PlantShift.{Swinging, Over}
 use Rattle.range.specs.Begun.{Some}
 use Rattle.stretch.specs.Scan.{along, scanned}
+use Rattle.stretch.specs.ResidualPath.{Amounts, Route, StretchPath}
+use Rattle.stretch.specs.PathUndone.{Lanes, Undoing}
 use Rattle.stretch.specs.declared.Incumbent.{Incumbent}
 
 -- ---- the path
@@ -35,22 +37,29 @@ pub record Part (N : Net) (p' z : List ℕ) (t : ℕ) : Type 0 where
   pub under : Under (N .m) (N .n) (cells z) (N .u)
   pub long : length z ≡ 2048
 
--- a path of count arcs: up to d drums can go over along it, and what that leaves is slack under the lowered potentials
+-- a path of count arcs: d drums can go over along it, and what any part of them leaves is slack under the lowered potentials
 pub record PathDone (N : Net) (p x : List ℕ) (limit : ℕ) (dist prev : List ℕ) (count gap d : ℕ) : Type 0 where
   pub some : 0 < d
+  pub route : Route N 0 1 limit x dist prev count d
   pub ends : get dist 1 ≡ get p 1 + gap
   pub starts : get dist 0 ≡ get p 0
   pub ready : LowerReady gap dist p
-  pub able : (t : ℕ) → t ≤ d → Walkable prev t count 1 x
+  pub able : Walkable prev d count 1 x
   pub trail : Trail (N .m) prev count 1
+  pub lanes : Lanes prev d count 1 x
   pub part : (p' : List ℕ) → Lowered gap dist p 96 p' → (t : ℕ) → t ≤ d → (z : List ℕ) → Walked prev t count 1 x z → Part N p' z t
   pub over : (p' : List ℕ) → Lowered gap dist p 96 p' → (x' : List ℕ) → Walked prev d count 1 x x' → Over N (get p 1) limit p' x' d
 
--- ---- the plan that is kept
+-- ---- the plan that is kept: that of the next split, with the drums beyond the incumbent's split taken back
 
-pub record KeepDone (prev : List ℕ) (count split y : ℕ) (x kept kept' : List ℕ) : Type 0 where
+pub record KeepReady (prev : List ℕ) (count split y next : ℕ) (x : List ℕ) : Type 0 where
+  pub undoing : y < split → Undoing prev (next - split) count 1 x
+  pub most : split ≤ next
+  pub near : next ≤ y + 4000
+
+pub record KeepDone (prev : List ℕ) (count split y next : ℕ) (x kept kept' : List ℕ) : Type 0 where
   pub same : split ≤ y → kept' ≡ kept
-  pub walked : y < split → Walked prev (split - y) count 1 x kept'
+  pub walked : y < split → (u : Undoing prev (next - split) count 1 x) → Walked prev (u .drums - (next - split)) count 1 (u .plan) kept'
 
 -- the potentials are kept with it
 pub record HoldDone (split y : ℕ) (p held held' : List ℕ) : Type 0 where
@@ -77,10 +86,15 @@ pub record Kept (N : Net) (y : ℕ) (best : Incumbent) (kept held : List ℕ) : 
   pub value : freight (N .m) (N .n) (N .c) (cells kept) ≡ best .freight
   pub ready : CanonReady (again N kept) held
 
--- d drums went over, each of which adds gain and takes off loss: the plan is x', the potentials p'; the incumbent best became best'
-pub record StretchDone (N : Net) (p table : List ℕ) (y v limit : ℕ) (best : Incumbent) (kept held p' x' kept' held' : List ℕ) (d gain loss : ℕ) (best' : Incumbent)
-    : Type 0 where
+-- report 4.1: (1°) a cheapest path, along which δ = d drums go, each of which adds gain and takes off loss; (2°) the next split y', its freight v'
+-- and its plan x'; (3°) the incumbent best' in place of best, with its plan kept' and its potentials held'; (4°) the potentials p'
+pub record StretchDone (N : Net) (p table : List ℕ) (y v limit : ℕ) (best : Incumbent) (kept held p' x' kept' held' : List ℕ) (d y' v' gain loss : ℕ)
+    (best' : Incumbent) : Type 0 where
   pub some : 0 < d
+  pub path : StretchPath N v limit d gain loss
+  pub split : y' ≡ y + d
+  pub reached : v' ≡ along v gain loss d
+  pub moves : Amounts N d (path .path) x'
   pub over : Over N (get p 1) limit p' x' d
   pub up : gain ≡ get p' 1
   pub down : loss ≡ get p' 0
@@ -90,4 +104,4 @@ pub record StretchDone (N : Net) (p table : List ℕ) (y v limit : ℕ) (best : 
   pub value : freight (N .m) (N .n) (N .c) (cells x') ≡ along v gain loss d
   pub look : best' ≡ scanned table y v gain loss best d
   pub same : best' .split ≤ y → (best' ≡ best) × (kept' ≡ kept) × (held' ≡ held)
-  pub new : y < best' .split → (best' .split ≤ y + d) × Kept N y best' kept' held'
+  pub new : y < best' .split → (best' .split ≤ y + d) × Kept N y best' kept' held' × Amounts N (best' .split - y) (path .path) kept'

@@ -1,6 +1,7 @@
-// One stretch of the freight curve: the path from plant 0 to plant 1, the drums that go over, the best split so far.
+// One stretch of the freight curve: the path from plant 1 to plant 2, the drums that go along it, the best split so far.
 mod scan;
 pub mod stretch;
+mod undo;
 
 // The best split seen so far, with its total and its freight.
 pub struct Incumbent {

@@ -1,11 +1,10 @@
-// Step 3: one stretch of the freight curve, from a split to the next stop (substeps 1° to 3° of report 4.1).
-ghost use Prim.Native.Nat.{_+_, _-_, _≤_};
+// Step 3 of report 4.1, from one split to the next: substeps 1° to 4° as they stand there. Its sources 1 and 2 are the plants, nodes 0 and 1 here.
 ghost use Rattle.residual.specs.Network.{net};
 ghost use Rattle.residual.specs.LanesInUse.{Covers};
 ghost use Rattle.paths.specs.Search.{Wanted};
-ghost use Rattle.augment.specs.PathWalk.{Walkable};
-ghost use Rattle.stretch.specs.Stretch.{ShiftReady, PathDone, KeepDone, HoldDone, StretchReady, StretchDone};
+ghost use Rattle.stretch.specs.Stretch.{ShiftReady, PathDone, KeepReady, KeepDone, HoldDone, StretchReady, StretchDone};
 use super::scan::scan;
+use super::undo::undo;
 use crate::Incumbent;
 use augment::send::lower;
 use augment::send::mark;
@@ -13,17 +12,17 @@ use augment::send::measure;
 use augment::send::push;
 use paths::search::search;
 
-// A path from plant 0 to plant 1: how many drums can go along it, its arcs, its reduced cost, and for each node
+// A path from plant 1 to plant 2: δ, how many drums can go along it, its arcs, its reduced cost, and for each node
 // the distance and the node before it.
 pub struct Path {
-    pub amount: u32,
+    pub delta: u32,
     pub count: u32,
     pub gap: u32,
     pub dist: [u32; 96],
     pub prev: [u32; 96],
 }
 
-// 1° A cheapest path from plant 0 to plant 1. 2° As many drums as its smallest ceiling, and limit at most, can go along it.
+// A cheapest path from plant 1 to plant 2 in the residual network, and δ: its smallest ceiling, or limit if that is less.
 fn find_path(
     m: usize,
     n: usize,
@@ -38,7 +37,7 @@ fn find_path(
     requires { ⌜ ShiftReady (net m n (now cost) (now cap) (now x)) (now pot) (now x) limit ⌝ }
     requires { ⌜ Wanted (net m n (now cost) (now cap) (now x)) (now demand) ⌝ }
     requires { ⌜ Covers m n (now x) (now serves) ⌝ }
-    ensures { λ r. ⌜ PathDone (net m n (now (cost .entry)) (now (cap .entry)) (now (x .entry))) (now (pot .entry)) (now (x .entry)) limit (r .dist) (r .prev) (r .count) (r .gap) (r .amount) ⌝ }
+    ensures { λ r. ⌜ PathDone (net m n (now (cost .entry)) (now (cap .entry)) (now (x .entry))) (now (pot .entry)) (now (x .entry)) limit (r .dist) (r .prev) (r .count) (r .gap) (r .delta) ⌝ }
 {
     let mut room = [0u32; 96];
     room[1] = limit;
@@ -48,7 +47,7 @@ fn find_path(
     let way = measure(&prev, 0, 1, limit, x, cap);
     let gap = dist[1] - pot[1];
     Path {
-        amount: way.amount,
+        delta: way.amount,
         count: way.count,
         gap,
         dist,
@@ -56,17 +55,24 @@ fn find_path(
     }
 }
 
-// Keeps the plan at a split beyond y: x with split - y drums moved along the path.
-fn keep(prev: &[u32; 96], count: u32, split: u64, y: u64, x: &[u32; 2048], kept: &mut [u32; 2048])
-    requires { ⌜ Walkable (now prev) (split - y) count 1 (now x) ⌝ }
-    requires { ⌜ split ≤ y + 4000 ⌝ }
-    ensures { λ _. ⌜ KeepDone (now (prev .entry)) count split y (now (x .entry)) (now (kept .entry)) (now (kept .exit)) ⌝ }
+// Keeps the plan at a split beyond y: x, the plan at next, with the drums beyond that split taken back along the path.
+fn keep(
+    prev: &[u32; 96],
+    count: u32,
+    split: u64,
+    y: u64,
+    next: u64,
+    x: &[u32; 2048],
+    kept: &mut [u32; 2048],
+)
+    requires { ⌜ KeepReady (now prev) count split y next (now x) ⌝ }
+    ensures { λ _. ⌜ KeepDone (now (prev .entry)) count split y next (now (x .entry)) (now (kept .entry)) (now (kept .exit)) ⌝ }
 {
     if split <= y {
         return;
     }
     *kept = *x;
-    push(prev, count, 1, (split - y) as u32, kept);
+    undo(prev, count, 1, (next - split) as u32, kept);
 }
 
 // Keeps the potentials of the plan that is kept for a split beyond y.
@@ -78,16 +84,18 @@ fn hold(split: u64, y: u64, pot: &[u32; 96], prices: &mut [u32; 96])
     }
 }
 
-// How far a stretch went, what each of its drums adds to the freight and takes off it, and the incumbent after it.
+// What a stretch found: δ, the next split y + δ with f there, what each drum adds to f and takes off it, and the incumbent.
 pub struct Moved {
-    pub amount: u64,
+    pub delta: u64,
+    pub split: u64,
+    pub freight: u64,
     pub gain: u64,
     pub loss: u64,
     pub best: Incumbent,
 }
 
-// One stretch from split y, whose plan x has the given freight, at most limit drums further; the incumbent's plan is kept, and its potentials.
-// The plan is copied only where the incumbent is new.
+// One stretch from split y, whose plan x has the given freight, at most limit drums further, which are left to u. The incumbent's plan is kept,
+// with its potentials.
 pub fn stretch(
     m: usize,
     n: usize,
@@ -108,27 +116,38 @@ pub fn stretch(
     requires { ⌜ StretchReady (net m n (now cost) (now cap) (now x)) (now pot) (now x) (now table) y freight limit best ⌝ }
     requires { ⌜ Wanted (net m n (now cost) (now cap) (now x)) (now demand) ⌝ }
     requires { ⌜ Covers m n (now x) (now serves) ⌝ }
-    ensures { λ r. ⌜ StretchDone (net m n (now (cost .entry)) (now (cap .entry)) (now (x .entry))) (now (pot .entry)) (now (table .entry)) y freight limit best (now (kept .entry)) (now (prices .entry)) (now (pot .exit)) (now (x .exit)) (now (kept .exit)) (now (prices .exit)) (r .amount) (r .gain) (r .loss) (r .best) ⌝ }
+    ensures { λ r. ⌜ StretchDone (net m n (now (cost .entry)) (now (cap .entry)) (now (x .entry))) (now (pot .entry)) (now (table .entry)) y freight limit best (now (kept .entry)) (now (prices .entry)) (now (pot .exit)) (now (x .exit)) (now (kept .exit)) (now (prices .exit)) (r .delta) (r .split) (r .freight) (r .gain) (r .loss) (r .best) ⌝ }
     ensures { λ r. ⌜ Covers m n (now (x .exit)) (now (serves .exit)) ⌝ }
 {
+    // 1° A cheapest path from plant 1 to plant 2 in the residual network, and δ: the smallest ceiling on it, or what is left to u if that is less.
+    // The cost of the path is what the potentials say: gain less loss.
     let path = find_path(m, n, cost, cap, limit, demand, x, serves, pot);
-    let amount = path.amount;
+    let delta = path.delta;
     let count = path.count;
     let gap = path.gap;
     let dist = path.dist;
     let prev = path.prev;
     let gain = pot[1] as u64;
     let loss = (pot[0] - gap) as u64;
-    let drums = amount as u64;
+    // 2° The next split y + δ, the amounts after moving δ along the path, and f there: f + δ · (cost of the path).
+    let drums = delta as u64;
+    let next = y + drums;
+    push(&prev, count, 1, delta, x);
+    let value = freight + gain * drums - loss * drums;
+    // 3° The incumbent, revised where a total on the way is smaller: every split of the stretch is looked at. Its plan is that of the next split
+    // with the drums beyond its own taken back; it is copied only where the incumbent is new.
     let held = scan(table, y, drums, freight, gain, loss, best);
     let split = held.split;
-    keep(&prev, count, split, y, x, kept);
-    push(&prev, count, 1, amount, x);
+    keep(&prev, count, split, y, next, x, kept);
+    // 4° The end, where the split is u, is the test of the loop around this. The residual network and the potentials for the next stretch: the
+    // potentials are lowered at the end too, since the plan that is kept needs them.
     mark(&prev, count, 1, serves);
     lower(gap, &dist, pot);
     hold(split, y, pot, prices);
     Moved {
-        amount: drums,
+        delta: drums,
+        split: next,
+        freight: value,
         gain,
         loss,
         best: held,

@@ -2,7 +2,6 @@
 use mathlib.Core.Path.{_≡_, refl, sym, ap, subst, _∙_}
 use mathlib.Core.List.{List}
 use Prim.Native.Nat.{ℕ, _+_, _-_, _*_, _≤_, _<_}
-use native.Mathlib.Nat.{mul-le-mul}
 use native.Mathlib.Decide.{decLt}
 use native.Mathlib.Omega.{arith}
 use lib.ListN.{length, getD}
@@ -12,6 +11,7 @@ use Rattle.residual.specs.Cells.{cells}
 use Rattle.residual.specs.Network.{net, get}
 use Rattle.canonical.specs.Canonize.{CanonReady}
 use Rattle.range.specs.engine.PlantShift.{Swinging}
+use Rattle.stretch.specs.Scan.{along}
 use Rattle.stretch.specs.Stretch.{StretchReady, StretchDone}
 use Rattle.stretch.specs.declared.Incumbent.{Incumbent}
 use Rattle.sweep.specs.Sweep.{PlanAt}
@@ -21,7 +21,6 @@ use Rattle.transport.proofs.Sums.{sum-ext}
 use Rattle.transport.proofs.LeastFreight.{slack-least, line}
 use Rattle.transport.proofs.Tables.{rows-cols, sends, freight-bound}
 use Rattle.transport.proofs.Splits.{least-in-at}
-use Rattle.stretch.proofs.IncumbentScan.{along-is}
 
 -- a plan of the two plants' split as the contract has it
 pub plan-at : {m n : ℕ} {c u : Table} {d : ℕ} {a b : ℕ → ℕ} {y v : ℕ} {x : List ℕ} (z : ℕ) → 2 ≤ m → At m n a b y z (cells x) → y + z ≡ d
@@ -116,8 +115,8 @@ module _ {m n : ℕ} {cost cap x₀ p₀ : List ℕ} {lo hi v : ℕ} {table spli
     }
 
     -- the stretch is a straight line of the curve
-    module _ {kept' held' p' x' : List ℕ} {d gain loss : ℕ} {b' : Incumbent} (low : lo ≤ y) (top : y < hi)
-        (q : StretchDone (net m n cost cap x) p table y value (hi - y) b kept held p' x' kept' held' d gain loss b') where
+    module _ {kept' held' p' x' : List ℕ} {d y' v' gain loss : ℕ} {b' : Incumbent} (low : lo ≤ y) (top : y < hi)
+        (q : StretchDone (net m n cost cap x) p table y value (hi - y) b kept held p' x' kept' held' d y' v' gain loss b') where
       pub most : y + d ≤ hi
       most = omega (arith, q .over .most)
 
@@ -136,6 +135,11 @@ module _ {m n : ℕ} {cost cap x₀ p₀ : List ℕ} {lo hi v : ℕ} {table spli
           let e' : loss * t ≡ get p' 0 * t = ap (λ k. k * t) (q .down) in
           let e'' : gain * t ≡ get p' 1 * t = ap (λ k. k * t) (q .up) in
           omega (arith, w .2, s .worth, here (omega arith))
+
+      -- its value at the end
+      pub value-next : v' + loss * d ≡ value + gain * d
+      unfolding along
+      value-next = omega (arith, q .reached, stretch-line d (omega arith), here (omega arith))
 
       -- the incumbent is of a split up to y + d
       pub behind-next : b' .split ≤ y + d
@@ -159,37 +163,21 @@ module _ {m n : ℕ} {cost cap x₀ p₀ : List ℕ} {lo hi v : ℕ} {table spli
         | no h ↦ let o = q .same (omega arith) in rw (o .1, o .2) (s .ready)
       ]
 
-      pub stand-next : {value' : ℕ} → value' + loss * d ≡ value + gain * d → Standing m n cost cap x₀ x' p' kept' held' (y + d) value' b'
-      stand-next {value'} e =
+      pub stand-next : Standing m n cost cap x₀ x' p' kept' held' y' v' b'
+      stand-next =
           let sw = q .over .swinging in
           let z : bothIn n x₀ - y - d ≡ bothIn n x₀ - (y + d) = omega arith in
-          record {
+          rw (q .split) (record {
             swinging = subst (λ (P : ℕ). Swinging (net m n cost cap x') P p' x') (sym (sw .one)) sw;
             at = subst (λ (w : ℕ). At m n (row n (cells x₀)) (col m (cells x₀)) (y + d) w (cells x')) z next-at;
-            worth = q .value ∙ sym (along-is value gain loss d value' e);
+            worth = q .value ∙ sym (q .reached);
             plan = plan-next;
             ready = ready-next;
             behind = behind-next;
-          }
+          })
 
       pub gain-most : gain ≤ 800000000
       gain-most = omega (arith, q .up, q .over .swinging .sound .high 1 (omega arith))
 
       pub loss-most : loss ≤ 800000000
       loss-most = omega (arith, q .down, q .over .swinging .sound .high 0 (omega arith))
-
-      drums : d ≤ 4000
-      drums = omega (arith, most, r .short)
-
-      -- what the drums add, and what they take off
-      pub gains-most : gain * d ≤ 3200000000000
-      gains-most = mul-le-mul {n₂ = 800000000} {m₂ = 4000} gain-most drums
-
-      pub losses-most : loss * d ≤ 3200000000000
-      losses-most = mul-le-mul {n₂ = 800000000} {m₂ = 4000} loss-most drums
-
-      pub losses-short : loss * d ≤ value + gain * d
-      losses-short = omega (arith, stretch-line d (omega arith), here (omega arith))
-
-      pub value-next : value + gain * d - loss * d + loss * d ≡ value + gain * d
-      value-next = omega (arith, losses-short)

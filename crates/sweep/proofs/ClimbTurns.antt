@@ -2,7 +2,7 @@
 use mathlib.Core.Path.{_≡_, sym, ap, _∙_}
 use mathlib.Core.Bool.{Bool}
 use mathlib.Core.List.{List}
-use Prim.Native.Nat.{ℕ, _+_, _-_, _*_, _≤_, _<_}
+use Prim.Native.Nat.{ℕ, _+_, _-_, _≤_, _<_}
 use native.Mathlib.Omega.{arith}
 use lib.ListN.{length, getD}
 use Rattle.transport.specs.Plan.{row, col, freight}
@@ -38,13 +38,14 @@ module _ {m n : ℕ} {cost cap x₀ p₀ : List ℕ} {lo hi v : ℕ} {table spli
     pub ascend-freights : length freights' ≡ length freights
     ascend-freights = climb-freights (curveFrom m n cost cap x₀) table splits freights lo hi c (r .splits-room) (r .freights-room)
 
-    pub ascend-next : {kept' held' p' x' splits'' freights'' : List ℕ} {d gain loss count' : ℕ} {b' : Incumbent} {stop : Bool} → y < hi
-        → StretchDone (net m n cost cap x) p table y value (hi - y) b kept held p' x' kept' held' d gain loss b' → stop ≡ turned y lo gain loss rise fall
+    pub ascend-next : {kept' held' p' x' splits'' freights'' : List ℕ} {d y' v' gain loss count' : ℕ} {b' : Incumbent} {stop : Bool} → y < hi
+        → StretchDone (net m n cost cap x) p table y value (hi - y) b kept held p' x' kept' held' d y' v' gain loss b' → stop ≡ turned y lo gain loss rise fall
         → Marked stop count y value splits' freights' splits'' freights'' count'
-        → Climbing (curveFrom m n cost cap x₀) table splits freights lo hi splits'' freights'' (y + d) (value + gain * d - loss * d) count' gain loss b'
+        → Climbing (curveFrom m n cost cap x₀) table splits freights lo hi splits'' freights'' y' v' count' gain loss b'
     ascend-next {d = d} {gain = gain} {loss = loss} h q e k =
-        climb-next (curveFrom m n cost cap x₀) table splits freights lo hi c (r .splits-room) (r .freights-room) d gain loss (q .some) (most r s (c .low) h q)
-        (stretch-line r s (c .low) h q) e k (value-next r s (c .low) h q) (q .look)
+        rw (q .split)
+        (climb-next (curveFrom m n cost cap x₀) table splits freights lo hi c (r .splits-room) (r .freights-room) d gain loss (q .some) (most r s (c .low) h q)
+        (stretch-line r s (c .low) h q) e k (value-next r s (c .low) h q) (q .look))
 
     -- the plan that is kept has the least freight at its split
     kept-least : freight m n (cells cost) (cells kept) ≡ leastFreightIn m n (cells cost) (cells cap) (amountsAt (bothIn n x₀) (row n (cells x₀)) (b .split)) (col m (cells x₀))

@@ -60,7 +60,7 @@ pub struct Curve {
     pub stops: usize,
 }
 
-// From a cheapest plan x at lo, with its potentials and its freight, stretch by stretch up to hi.
+// Step 3 of report 4.1: from a cheapest plan x at lo, with its potentials and its freight, stretch by stretch up to hi.
 fn climb(
     m: usize,
     n: usize,
@@ -83,6 +83,7 @@ fn climb(
     requires { ⌜ Covers m n (now x) (now serves) ⌝ }
     ensures { λ r. ⌜ Swept m n (cells (now (cost .entry))) (cells (now (cap .entry))) (bothIn n (now (x .entry))) (row n (cells (now (x .entry)))) (col m (cells (now (x .entry)))) lo hi (now (table .entry)) (now (splits .entry)) (now (freights .entry)) (now (splits .exit)) (now (freights .exit)) (now (kept .exit)) (r .split) (r .total) (r .freight) (r .stops) ⌝ }
 {
+    // The end of step 1: the incumbent is the plan at lo.
     let at = lo as usize;
     let mut best = Incumbent {
         split: lo,
@@ -96,6 +97,7 @@ fn climb(
     let mut count: usize = 0;
     let mut rise: u64 = 0;
     let mut fall: u64 = 0;
+    // Step 3, which ends where the split is hi.
     while y < hi {
         let left = (hi - y) as u32;
         let moved = stretch(
@@ -119,8 +121,8 @@ fn climb(
         count = mark(stop, count, y, value, splits, freights);
         rise = moved.gain;
         fall = moved.loss;
-        value = value + rise * moved.amount - fall * moved.amount;
-        y = y + moved.amount;
+        value = moved.freight;
+        y = moved.split;
         best = moved.best;
     }
     count = note(count, y, value, splits, freights);

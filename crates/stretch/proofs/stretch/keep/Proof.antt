@@ -8,17 +8,17 @@ use Rattle.stretch.proofs.stretch.keep.Tie as tie
 returns : tie.Need-returns
 returns c = record { same = λ h. refl; walked = λ h. absurd (omega (arith, c .if1 .taken)) }
 
-sub-push : tie.Need-sub-push
-sub-push c = search needs
+sub-undo : tie.Need-sub-undo
+sub-undo c = search needs
 
-cast-push : tie.Need-cast-push
-cast-push c = search needs
+cast-undo : tie.Need-cast-undo
+cast-undo c = search needs
 
-push-requires : tie.Need-push-requires
-push-requires c κs = search needs
+undo-requires : tie.Need-undo-requires
+undo-requires c κs = c .before .before .before .pre .undoing (omega (arith, c .before .before .if1 .left))
 
 returns-2 : tie.Need-returns-2
-returns-2 c = record { same = λ h. absurd (omega (arith, c .before .before .before .if1 .left)); walked = λ h. c .push .ensures }
+returns-2 c = record { same = λ h. absurd (omega (arith, c .before .before .before .if1 .left)); walked = λ h. c .undo .ensures .rest }
 
 pub keep-spec : {M : Type 1} → statement M
-keep-spec = tie.close (tie.spec returns sub-push cast-push push-requires returns-2)
+keep-spec = tie.close (tie.spec returns sub-undo cast-undo undo-requires returns-2)

@@ -1,6 +1,6 @@
 -- `stretch::stretch::stretch` meets its contract. Assumes nothing.
 use native.Mathlib.Omega.{arith}
-use Rattle.stretch.proofs.StretchLine.{loss-ready, scan-ready, keep-ready, keep-near, stretch-done}
+use Rattle.stretch.proofs.StretchLine.{loss-ready, scan-ready, gains, losses, losses-short, keep-ready, stretch-done}
 use Rattle.augment.proofs.LaneMarks.{trail-wide, cover-walk}
 use borrow.Author.Needs.{needs}
 use Rattle.stretch.proofs.stretch.stretch.Statement.{statement}
@@ -27,28 +27,43 @@ cast-loss c = omega (arith, scan-ready (c .before .before .before .before .befor
 cast-drums : tie.Need-cast-drums
 cast-drums c = omega (arith, scan-ready (c .before .before .before .before .before .before .before .before .before .pre .0) (c .before .before .before .before .find-path .ensures) .few)
 
-scan-requires : tie.Need-scan-requires
-scan-requires c κs = scan-ready (c .before .before .before .before .before .before .before .before .before .pre .0) (c .before .before .before .before .find-path .ensures)
-
-keep-requires : tie.Need-keep-requires
-keep-requires c κs = (keep-ready (c .before .before .before .before .before .before .before .before .before .before .before .before .before .pre .0) (c .before .before .before .before .before .before .before .before .find-path .ensures) (c .before .before .before .scan .ensures), keep-near (c .before .before .before .before .before .before .before .before .before .before .before .before .before .pre .0) (c .before .before .before .before .before .before .before .before .find-path .ensures) (c .before .before .before .scan .ensures))
+add-next : tie.Need-add-next
+add-next c = search needs
 
 push-requires : tie.Need-push-requires
-push-requires c κs = c .before .before .before .before .before .before .before .before .before .before .before .find-path .ensures .able _ (omega arith)
+push-requires c κs = c .before .before .before .before .before .before .find-path .ensures .able
+
+mul-value : tie.Need-mul-value
+mul-value c = omega (arith, gains (c .before .before .before .before .before .before .before .before .before .before .before .before .pre .0) (c .before .before .before .before .before .before .before .find-path .ensures))
+
+add-value : tie.Need-add-value
+add-value c = omega (arith, gains (c .before .before .before .before .before .before .before .before .before .before .before .before .pre .0) (c .before .before .before .before .before .before .before .find-path .ensures), c .before .before .before .before .before .before .before .before .before .before .before .before .pre .0 .start)
+
+mul-value-2 : tie.Need-mul-value-2
+mul-value-2 c = omega (arith, losses (c .before .before .before .before .before .before .before .before .before .before .before .before .pre .0) (c .before .before .before .before .before .before .before .find-path .ensures))
+
+sub-value : tie.Need-sub-value
+sub-value c = losses-short (c .before .before .before .before .before .before .before .before .before .before .before .before .pre .0) (c .before .before .before .before .before .before .before .find-path .ensures)
+
+scan-requires : tie.Need-scan-requires
+scan-requires c κs = scan-ready (c .before .before .before .before .before .before .before .before .before .before .before .before .pre .0) (c .before .before .before .before .before .before .before .find-path .ensures)
+
+keep-requires : tie.Need-keep-requires
+keep-requires c κs = keep-ready (c .before .before .before .before .before .before .before .before .before .before .before .before .before .before .before .before .pre .0) (c .before .before .before .before .before .before .before .before .before .before .before .find-path .ensures) (c .before .before .before .scan .ensures) _ (c .before .before .before .before .push .ensures)
 
 mark-requires : tie.Need-mark-requires
 mark-requires c κs = trail-wide _ (c .before .before .before .before .before .before .before .before .before .before .before .before .before .before .before .before .before .before .before .pre .0 .shift .swinging .sound .sources) _ _ (c .before .before .before .before .before .before .before .before .before .before .before .before .before .before .find-path .ensures .trail)
 
 lower-requires : tie.Need-lower-requires
-lower-requires c κs = search needs
+lower-requires c κs = c .before .before .before .before .before .before .before .before .before .before .before .before .before .before .before .before .before .find-path .ensures .ready
 
 hold-requires : tie.Need-hold-requires
 hold-requires c κs = search needs
 
 returns : tie.Need-returns
 returns c = (
-  stretch-done (c .before .before .before .before .before .before .before .before .before .before .before .before .before .before .before .before .before .before .before .before .before .before .before .before .before .before .pre .0) (c .before .before .before .before .before .before .before .before .before .before .before .before .before .before .before .before .before .before .before .before .before .find-path .ensures) (c .before .before .before .before .before .before .before .before .before .before .before .before .before .before .before .before .scan .ensures) (c .before .before .before .before .before .before .before .before .before .before .before .before .keep .ensures) (c .before .before .before .before .before .before .before .before .before .push .ensures) (c .before .before .before .lower .ensures) (c .hold .ensures),
-  cover-walk (c .before .before .before .before .before .before .before .before .before .before .before .before .before .before .before .before .before .before .before .before .before .before .before .before .before .before .pre .0 .shift .swinging .sound .terminals) _ _ _ _ _ _ (c .before .before .before .before .before .before .before .before .before .before .before .before .before .before .before .before .before .before .before .before .before .find-path .ensures .trail) (c .before .before .before .before .before .before .before .before .before .before .before .before .before .before .before .before .before .before .before .before .before .before .before .before .before .before .pre .1 .1) (c .before .before .before .before .before .before .before .before .before .push .ensures) (c .before .before .before .before .before .before .mark .ensures),
+  stretch-done (c .before .before .before .before .before .before .before .before .before .before .before .before .before .before .before .before .before .before .before .before .before .before .before .before .before .before .pre .0) (c .before .before .before .before .before .before .before .before .before .before .before .before .before .before .before .before .before .before .before .before .before .find-path .ensures) (c .before .before .before .before .before .before .before .before .before .before .before .before .before .scan .ensures) (c .before .before .before .before .before .before .before .before .before .keep .ensures) (c .before .before .before .before .before .before .before .before .before .before .before .before .before .before .push .ensures) (c .before .before .before .lower .ensures) (c .hold .ensures),
+  cover-walk (c .before .before .before .before .before .before .before .before .before .before .before .before .before .before .before .before .before .before .before .before .before .before .before .before .before .before .pre .0 .shift .swinging .sound .terminals) _ _ _ _ _ _ (c .before .before .before .before .before .before .before .before .before .before .before .before .before .before .before .before .before .before .before .before .before .find-path .ensures .trail) (c .before .before .before .before .before .before .before .before .before .before .before .before .before .before .before .before .before .before .before .before .before .before .before .before .before .before .pre .1 .1) (c .before .before .before .before .before .before .before .before .before .before .before .before .before .before .push .ensures) (c .before .before .before .before .before .before .mark .ensures),
 )
 
 pub stretch-spec : {M : Type 1} → statement M
@@ -62,9 +77,14 @@ stretch-spec =
     sub-loss
     cast-loss
     cast-drums
+    add-next
+    push-requires
+    mul-value
+    add-value
+    mul-value-2
+    sub-value
     scan-requires
     keep-requires
-    push-requires
     mark-requires
     lower-requires
     hold-requires

@@ -6,7 +6,7 @@ use Rattle.sweep.specs.engine.StopsPassed.{Climbing}
 use Rattle.sweep.specs.engine.Climb.{curveFrom, Standing}
 use Rattle.residual.specs.LanesInUse.{Covers}
 use Rattle.sweep.proofs.ClimbTurns.{ascend-start, ascend-splits, ascend-freights, ascend-room, ascend-next, ascend-end}
-use Rattle.sweep.proofs.ClimbState.{stand-start, value-most, stretch-ready, stand-next, most, gain-most, loss-most, gains-most, losses-most, losses-short, value-next}
+use Rattle.sweep.proofs.ClimbState.{stand-start, value-most, stretch-ready, stand-next, most, gain-most, loss-most}
 use Rattle.sweep.proofs.curve.climb.Statement.{statement}
 use Rattle.sweep.proofs.curve.climb.Tie as tie
 
@@ -56,53 +56,23 @@ turn-requires c κs =
 mark-requires : tie.Need-mark-requires Inv-loop μ-loop
 mark-requires c κs = let i = c .before .before .before .before .before .before .before .before .before .before .loop .inv in ascend-room (c .before .before .before .before .before .before .before .before .before .before .before .before .before .before .before .before .before .pre .0) (i .0) (i .1)
 
-mul-value : tie.Need-mul-value Inv-loop μ-loop
-mul-value c =
-    let i = c .before .before .before .before .before .before .before .before .before .before .before .before .before .before .before .before .loop .inv in
-    let q = c .before .before .before .before .before .before .before .before .before .stretch .ensures .0 in
-    omega (arith, gains-most (c .before .before .before .before .before .before .before .before .before .before .before .before .before .before .before .before .before .before .before .before .before .before .before .pre .0) (i .0) (i .1 .low) (c .before .before .before .before .before .before .before .before .before .before .before .before .before .before .before .loop-test .taken) q)
-
-add-value : tie.Need-add-value Inv-loop μ-loop
-add-value c =
-    let i = c .before .before .before .before .before .before .before .before .before .before .before .before .before .before .before .before .loop .inv in
-    let q = c .before .before .before .before .before .before .before .before .before .stretch .ensures .0 in
-    omega (arith, gains-most (c .before .before .before .before .before .before .before .before .before .before .before .before .before .before .before .before .before .before .before .before .before .before .before .pre .0) (i .0) (i .1 .low) (c .before .before .before .before .before .before .before .before .before .before .before .before .before .before .before .loop-test .taken) q, value-most (c .before .before .before .before .before .before .before .before .before .before .before .before .before .before .before .before .before .before .before .before .before .before .before .pre .0) (i .0))
-
-mul-value-2 : tie.Need-mul-value-2 Inv-loop μ-loop
-mul-value-2 c =
-    let i = c .before .before .before .before .before .before .before .before .before .before .before .before .before .before .before .before .before .loop .inv in
-    let q = c .before .before .before .before .before .before .before .before .before .before .stretch .ensures .0 in
-    omega (arith, losses-most (c .before .before .before .before .before .before .before .before .before .before .before .before .before .before .before .before .before .before .before .before .before .before .before .before .pre .0) (i .0) (i .1 .low) (c .before .before .before .before .before .before .before .before .before .before .before .before .before .before .before .before .loop-test .taken) q)
-
-sub-value : tie.Need-sub-value Inv-loop μ-loop
-sub-value c =
-    let i = c .before .before .before .before .before .before .before .before .before .before .before .before .before .before .before .before .before .loop .inv in
-    let q = c .before .before .before .before .before .before .before .before .before .before .stretch .ensures .0 in
-    omega (arith, losses-short (c .before .before .before .before .before .before .before .before .before .before .before .before .before .before .before .before .before .before .before .before .before .before .before .before .pre .0) (i .0) (i .1 .low) (c .before .before .before .before .before .before .before .before .before .before .before .before .before .before .before .before .loop-test .taken) q)
-
-add-y : tie.Need-add-y Inv-loop μ-loop
-add-y c =
-    let i = c .before .before .before .before .before .before .before .before .before .before .before .before .before .before .before .before .before .before .loop .inv in
-    let q = c .before .before .before .before .before .before .before .before .before .before .before .stretch .ensures .0 in
-    omega (arith, most (c .before .before .before .before .before .before .before .before .before .before .before .before .before .before .before .before .before .before .before .before .before .before .before .before .before .pre .0) (i .0) (i .1 .low) (c .before .before .before .before .before .before .before .before .before .before .before .before .before .before .before .before .before .loop-test .taken) q, c .before .before .before .before .before .before .before .before .before .before .before .before .before .before .before .before .before .before .before .before .before .before .before .before .before .fits .hi)
-
 loop-less : tie.Need-loop-less Inv-loop μ-loop
 loop-less c =
-    let i = c .before .before .before .before .before .before .before .before .before .before .before .before .before .before .before .before .before .before .before .loop .inv in
-    let q = c .before .before .before .before .before .before .before .before .before .before .before .before .stretch .ensures .0 in
-    omega (arith, most (c .before .before .before .before .before .before .before .before .before .before .before .before .before .before .before .before .before .before .before .before .before .before .before .before .before .before .pre .0) (i .0) (i .1 .low) (c .before .before .before .before .before .before .before .before .before .before .before .before .before .before .before .before .before .before .loop-test .taken) q, q .some, c .before .before .before .before .before .before .before .before .before .before .before .before .before .before .before .before .before .before .loop-test .taken)
+    let i = c .before .before .before .before .before .before .before .before .before .before .before .before .before .before .before .before .loop .inv in
+    let q = c .before .before .before .before .before .before .before .before .before .stretch .ensures .0 in
+    omega (arith, most (c .before .before .before .before .before .before .before .before .before .before .before .before .before .before .before .before .before .before .before .before .before .before .before .pre .0) (i .0) (i .1 .low) (c .before .before .before .before .before .before .before .before .before .before .before .before .before .before .before .loop-test .taken) q, q .some, q .split, c .before .before .before .before .before .before .before .before .before .before .before .before .before .before .before .loop-test .taken)
 
 loop-again : tie.Need-loop-again Inv-loop μ-loop
 loop-again c =
-    let i = c .before .before .before .before .before .before .before .before .before .before .before .before .before .before .before .before .before .before .before .loop .inv in
-    let r = c .before .before .before .before .before .before .before .before .before .before .before .before .before .before .before .before .before .before .before .before .before .before .before .before .before .before .pre .0 in
-    let l = c .before .before .before .before .before .before .before .before .before .before .before .before .before .before .before .before .before .before .loop-test .taken in
-    let q = c .before .before .before .before .before .before .before .before .before .before .before .before .stretch .ensures .0 in (
-      stand-next r (i .0) (i .1 .low) l q (value-next r (i .0) (i .1 .low) l q),
-      ascend-next r (i .0) (i .1) l q (c .before .before .before .before .before .before .before .before .before .before .before .turn .ensures) (c .before .before .before .before .before .before .before .before .mark .ensures),
+    let i = c .before .before .before .before .before .before .before .before .before .before .before .before .before .before .before .before .loop .inv in
+    let r = c .before .before .before .before .before .before .before .before .before .before .before .before .before .before .before .before .before .before .before .before .before .before .before .pre .0 in
+    let l = c .before .before .before .before .before .before .before .before .before .before .before .before .before .before .before .loop-test .taken in
+    let q = c .before .before .before .before .before .before .before .before .before .stretch .ensures .0 in (
+      stand-next r (i .0) (i .1 .low) l q,
+      ascend-next r (i .0) (i .1) l q (c .before .before .before .before .before .before .before .before .turn .ensures) (c .before .before .before .before .before .mark .ensures),
       gain-most r (i .0) (i .1 .low) l q,
       loss-most r (i .0) (i .1 .low) l q,
-      c .before .before .before .before .before .before .before .before .before .before .before .before .stretch .ensures .1,
+      c .before .before .before .before .before .before .before .before .before .stretch .ensures .1,
     )
 
 note-requires : tie.Need-note-requires Inv-loop μ-loop
@@ -141,11 +111,6 @@ climb-spec =
     stretch-requires
     turn-requires
     mark-requires
-    mul-value
-    add-value
-    mul-value-2
-    sub-value
-    add-y
     loop-less
     loop-again
     note-requires
