@@ -6,7 +6,7 @@ use native.Mathlib.Nat.{min-eq-left, mul-le-mul}
 use native.Mathlib.Decide.{decLt}
 use native.Mathlib.Omega.{arith}
 use lib.IntN.{ℤ}
-use lib.ListN.{length, take, drop, replicate, length-replicate, replicate-append-replicate}
+use lib.ListN.{length, take, drop, replicate, length-replicate}
 use lib.Seq.{sets, sets-eq, take-at, take-all, length-sets, length-take-le}
 use Rattle.csvtext.specs.Text.{refusalText}
 use Rattle.planner.specs.Case.{Case}
@@ -15,6 +15,7 @@ use Rattle.planner.specs.Size.{checkedOf}
 use Rattle.planner.specs.declared.limits.Checked.{Checked}
 use Rattle.planner.specs.declared.limits.Checked.the-variants as checks
 use Rattle.planner.proofs.FormLaws.{Limits, lanes, in-limits, by-size}
+use Rattle.planner.proofs.Judging.{cut-ceilings}
 use Rattle.casefile.specs.declared.case.CaseAnswer.{CaseAnswer}
 use Rattle.casefile.specs.declared.case.CaseAnswer.the-variants as answers
 use Rattle.casefile.specs.declared.planned.Printed.{Printed}
@@ -29,15 +30,9 @@ use Rattle.casefile.proofs.Refusals.{Alike, alike-equal, alike-refused,
 pub few-lanes : (m n : ℕ) → min m 32 * min n 64 ≤ 2048
 few-lanes m n = mul-le-mul {n₁ = min m 32} {m₁ = min n 64} {n₂ = 32} {m₂ = 64} (omega arith) (omega arith)
 
--- the ceilings that are lent, and as many of them as there are lanes
+-- the ceilings that are lent
 pub ceilings-long : (l : List ℕ) → l ≡ replicate {A = ℕ} 2048 4000 → length l ≡ 2048
 ceilings-long l e = ap length e ∙ length-replicate {A = ℕ} 2048 4000
-
-cut-ceilings : (k : ℕ) → k ≤ 2048 → take k (replicate {A = ℕ} 2048 4000) ≡ replicate {A = ℕ} k 4000
-cut-ceilings k h =
-    let e : k + (2048 - k) ≡ 2048 = omega arith in
-    ap (λ (l : List ℕ). take k l) (sym (replicate-append-replicate {A = ℕ} k (2048 - k) 4000 ∙ ap (λ (j : ℕ). replicate {A = ℕ} j 4000) e))
-    ∙ take-at (replicate {A = ℕ} k 4000) (replicate {A = ℕ} (2048 - k) 4000) k (length-replicate {A = ℕ} k 4000)
 
 -- a case lent in parts that have these lengths is the cut case
 pub cut-printed :
@@ -123,6 +118,12 @@ module _ (t p : List ℕ) (costs : List ℤ) (supplies demands table : List ℕ)
         go : (x : Checked) → checkedOf m n ≡ x → Alike (cutCase m n entries costs′ supplies′ demands′ table′) full
         go (checks.Fits z) e = alike-within (in-limits m n z e)
         go (checks.Refused k) e = alike-refused _ _ (refused k 0) (by-size _ k e) (by-size _ k e)
+
+  -- the stored case, cut to what it has, and the case of the two files
+  pub cut-alike : Alike (cutCase m n entries costs′ supplies′ demands′ table′) (fileCase t p)
+  cut-alike =
+      let b = both-stand t p m n entries (sym (stored .answered) ∙ told) in
+      rw (file-case b) (alike-cut b)
 
   -- a case is read
   pub case-files :

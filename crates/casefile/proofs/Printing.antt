@@ -36,7 +36,7 @@ small-amount c s x f p k h =
     omega (arith, cell, sum-at (c .m) i (λ a. byRow (c .n) x a j) li, p .plan .columns j lj, f .small-demand j lj)
 
 -- a unit cost in range
-small-cost : (z : ℤ) → outside z ≡ false → natAbs z ≤ 1000000
+pub small-cost : (z : ℤ) → outside z ≡ false → natAbs z ≤ 1000000
 unfolding outside
 small-cost (pos n) e = omega (arith, ltb-false 1000000 n e)
 small-cost (negsuc n) e = omega (arith, ltb-false 999999 n (first _ e))

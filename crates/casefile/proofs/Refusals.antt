@@ -1,5 +1,6 @@
 -- Two cases alike in their outcome; which refusals no case of two files has. Assumes nothing.
 use mathlib.Core.Path.{_≡_, refl, sym, ap, _∙_}
+use mathlib.Core.Logic.{_⊎_, inl, inr}
 use mathlib.Core.Option.{Option, none, some}
 use mathlib.Core.List.{List, [], _∷_}
 use Prim.Native.Nat.{ℕ, _+_, _*_, _≤_, _<_}
@@ -10,7 +11,7 @@ use lib.ListN.{length, getD, replicate}
 use borrow.Author.Tests.{le-ltb}
 use Rattle.planner.specs.Case.{Case, steps}
 use Rattle.planner.specs.Outcome.{Outcome, planned, refused, formRefusal, outcomeOf}
-use Rattle.planner.specs.Outcome.{test1, test2, test23, test26, test11}
+use Rattle.planner.specs.Outcome.{test23, test26, test11}
 use Rattle.planner.specs.Verdict.{firstOutside, amountsRefusal, runsRefusal, ceilingsRefusal, AtMost}
 use Rattle.planner.proofs.Passed.{some≢none, Formed, formed, accepted}
 use Rattle.planner.proofs.Numbers.{planned-passes}
@@ -28,20 +29,22 @@ module _ (c : Case) where
   pub planned-formed : (s : ℕ) (t f : ℤ) (k : ℕ) → outcomeOf c ≡ planned s t f k → Formed c
   planned-formed s t f k e = formed c (accepted c (planned-passes c s t f k e) .form)
 
--- ---- two cases with one outcome, which are one case where that is a plan
+-- ---- two cases with one outcome, which are one case where that is a plan: they are one, or the tests before the balance refuse both alike
 
 pub record Alike (c c′ : Case) : Type 0 where
   pub same : outcomeOf c ≡ outcomeOf c′
   pub one : (s : ℕ) (t f : ℤ) (k : ℕ) → outcomeOf c′ ≡ planned s t f k → c ≡ c′
+  pub either : (c ≡ c′) ⊎ ((r : Outcome) × (formRefusal c ≡ some r) × (formRefusal c′ ≡ some r))
 
 pub alike-equal : (c c′ : Case) → c ≡ c′ → Alike c c′
-alike-equal c c′ e = record { same = ap outcomeOf e; one = λ s t f k h. e }
+alike-equal c c′ e = record { same = ap outcomeOf e; one = λ s t f k h. e; either = inl e }
 
 -- the tests before the balance refuse both alike
 pub alike-refused : (c c′ : Case) (r : Outcome) → formRefusal c ≡ some r → formRefusal c′ ≡ some r → Alike c c′
 alike-refused c c′ r e e′ = record {
   same = refused-outcome c r (form-decides c r e) ∙ sym (refused-outcome c′ r (form-decides c′ r e′));
   one = λ s t f k h. absurd (some≢none r (sym (form-decides c′ r e′) ∙ planned-passes c′ s t f k h));
+  either = inr (r, e, e′);
 }
 
 first-small : (s : List ℕ) → AtMost 4000 s → getD s 0 0 ≤ 4000

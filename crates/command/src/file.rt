@@ -6,7 +6,7 @@ ghost use mathlib.Core.Path.{_≡_};
 ghost use lib.ListN.{length};
 
 // Room for the longest file that is read, and one byte more.
-fn file_room() -> [u8; 65537]
+pub fn file_room() -> [u8; 65537]
     ensures { λ r. ⌜ 65537 ≡ length r ⌝ }
 {
     [0; 65537]
@@ -48,7 +48,7 @@ fn read_all(fd: i32, room: &mut [u8]) -> usize {
 }
 
 // Reads a file, and gives how many bytes of the room it takes: the whole room where it is not opened, not read or too long.
-fn read_file(path: &[u8], room: &mut [u8]) -> usize {
+pub fn read_file(path: &[u8], room: &mut [u8]) -> usize {
     let fd = os::open_read(path);
     if fd < 0 {
         return room.len();
@@ -59,7 +59,7 @@ fn read_file(path: &[u8], room: &mut [u8]) -> usize {
 }
 
 // Plans two files' bytes, and writes the answer.
-fn answer(tariff: &[u8], production: &[u8], tariff_path: &[u8], production_path: &[u8]) {
+pub fn answer(tariff: &[u8], production: &[u8], tariff_path: &[u8], production_path: &[u8]) {
     let mut text = text_room();
     let printed = plan_files(tariff, production, &mut text);
     let length = printed.length;

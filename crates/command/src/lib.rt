@@ -1,13 +1,18 @@
 // The command `plan`: reads the two files, writes the printed plan or refusal to standard output, and says what a refusal means on
-// standard error.
+// standard error. The command `tidy`: reads two files, and writes their case as two new ones.
 mod arguments;
 mod file;
 mod message;
 mod refusal;
+mod rewriting;
 
 use crate::arguments::usage;
 use crate::arguments::with_arguments;
+use crate::file::first;
 use crate::file::plan_paths;
+use crate::rewriting::show_path;
+use crate::rewriting::tidy_usage;
+use crate::rewriting::tidy_with_arguments;
 
 // Plans the files that two arguments name or, without arguments, those of the current folder.
 pub fn run() {
@@ -17,4 +22,20 @@ pub fn run() {
         3 => with_arguments(),
         _ => usage(),
     }
+}
+
+// Writes the case of the files that the first two arguments name as two new files, of the names that the other two give.
+pub fn tidy() {
+    let arguments = os::arg_count();
+    match arguments {
+        5 => tidy_with_arguments(),
+        _ => tidy_usage(),
+    }
+}
+
+// Writes the file that an argument names to standard output.
+pub fn show(i: usize) {
+    let mut path = io::buffer();
+    let length = os::arg(i, &mut path);
+    show_path(first(&path, length));
 }

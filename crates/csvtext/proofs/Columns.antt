@@ -28,6 +28,11 @@ pub column-end :
 unfolding columnPrinted columnText
 column-end l k h a b w = rw (le-ltb 4294967295 (length l) h) (each-end (line l) 22 k (length l) a b w)
 
+-- of fewer than 2^32 numbers the whole column is printed
+pub column-whole : (l : List ℕ) {out₀ out : List ℕ} {next k : ℕ} → length l ≤ 4294967295 → Written out₀ out 0 next (columnPrinted l) k → Written out₀ out 0 next (columnText l) k
+unfolding columnPrinted
+column-whole l h w = rw (le-ltb 4294967295 (length l) h) at w
+
 -- texts of at most k bytes each
 each-short : (f : ℕ → List ℕ) (k n : ℕ) → ((j : ℕ) → j < n → length (f j) ≤ k) → length (each n f) ≤ k * n
 unfolding each

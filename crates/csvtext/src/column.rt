@@ -10,7 +10,7 @@ use crate::put_byte;
 use crate::put_field;
 
 // Writes a record of one number.
-fn put_line(out: &mut [u8], at: usize, n: u64) -> usize
+pub fn put_line(out: &mut [u8], at: usize, n: u64) -> usize
     requires { ⌜ at < 2 ^ 61 ⌝ }
     ensures { λ r. ⌜ Written (now (out .entry)) (now (out .exit)) at r (recordText (pos n ∷ [])) 22 ⌝ }
 {

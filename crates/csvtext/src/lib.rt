@@ -10,7 +10,7 @@ ghost use Rattle.csvtext.specs.Text.{decimal, signedText, fieldText, rec
 ghost use Rattle.csvtext.specs.Writing.{Written, Printable, Narrow, NarrowCosts, Fits, Says, PlanWritten};
 
 // Writes a byte, and gives the next offset.
-fn put_byte(out: &mut [u8], at: usize, b: u8) -> usize
+pub fn put_byte(out: &mut [u8], at: usize, b: u8) -> usize
     requires { ⌜ at < 2 ^ 63 ⌝ }
     ensures { λ r. ⌜ Written (now (out .entry)) (now (out .exit)) at r (b ∷ []) 1 ⌝ }
 {
@@ -57,7 +57,7 @@ fn put_signed(out: &mut [u8], at: usize, v: i64) -> usize
 }
 
 // Writes a number and the byte after it.
-fn put_field(out: &mut [u8], at: usize, n: u64, b: u8) -> usize
+pub fn put_field(out: &mut [u8], at: usize, n: u64, b: u8) -> usize
     requires { ⌜ at < 2 ^ 62 ⌝ }
     ensures { λ r. ⌜ Written (now (out .entry)) (now (out .exit)) at r (fieldText (pos n) b) 21 ⌝ }
 {
@@ -66,7 +66,7 @@ fn put_field(out: &mut [u8], at: usize, n: u64, b: u8) -> usize
 }
 
 // Writes an integer and the byte after it.
-fn put_signed_field(out: &mut [u8], at: usize, v: i64, b: u8) -> usize
+pub fn put_signed_field(out: &mut [u8], at: usize, v: i64, b: u8) -> usize
     requires { ⌜ at < 2 ^ 61 ⌝ }
     ensures { λ r. ⌜ Written (now (out .entry)) (now (out .exit)) at r (fieldText v b) 21 ⌝ }
 {

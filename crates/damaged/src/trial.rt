@@ -6,6 +6,8 @@ use crate::parts::first;
 use crate::parts::number;
 use crate::text::add;
 use casefile::planned::plan_files;
+use casetext::Texts;
+use casetext::rewrite::rewrite_files;
 use check::same;
 
 // The tally: the answers by number, then these.
@@ -93,11 +95,73 @@ fn held(answer: &[u8], text: &[u8], number_given: u64, place: u64) -> Given {
     }
 }
 
+// Whether two files are written again as they are.
+fn stays(tariff: &[u8], production: &[u8]) -> bool {
+    let mut t = room();
+    let mut p = room();
+    let texts = rewrite_files(tariff, production, &mut t, &mut p);
+    let Texts::Written {
+        tariff: a,
+        production: b,
+    } = texts
+    else {
+        return false;
+    };
+    if same(first(&t, a), tariff) {
+        return same(first(&p, b), production);
+    }
+    false
+}
+
+// Whether two files that stand are written anew as two of the same plan, which are then written again as they are.
+fn rewritten(tariff: &[u8], production: &[u8], plan: &[u8]) -> bool {
+    let mut t = room();
+    let mut p = room();
+    let texts = rewrite_files(tariff, production, &mut t, &mut p);
+    let Texts::Written {
+        tariff: a,
+        production: b,
+    } = texts
+    else {
+        return false;
+    };
+    let mut text = io::buffer();
+    let length = plan_files(first(&t, a), first(&p, b), &mut text).length;
+    if same(first(&text, length), plan) {
+        return stays(first(&t, a), first(&p, b));
+    }
+    false
+}
+
+// The answer, held too to the case of two files with a plan written out; any others have none.
+fn comes_back(g: Given, tariff: &[u8], production: &[u8], plan: &[u8]) -> Given {
+    if g.number != 0 {
+        return g;
+    }
+    if rewritten(tariff, production, plan) {
+        return g;
+    }
+    Given {
+        number: g.number,
+        place: g.place,
+        right: false,
+    }
+}
+
+// Plans two files, and holds the answer to the row's.
+fn plan_both(row: &[u8], tariff: &[u8], production: &[u8]) -> Given {
+    let mut text = io::buffer();
+    let printed = plan_files(tariff, production, &mut text);
+    let length = printed.length;
+    let plan = first(&text, length);
+    let given = held(field(row, 0), plan, printed.number, printed.place);
+    comes_back(given, tariff, production, plan)
+}
+
 // Runs the two files of a row.
 fn run_files(row: &[u8]) -> Given {
     let mut tariff = room();
     let mut production = room();
-    let mut text = io::buffer();
     let m = write_edited(
         &mut tariff,
         b"2,6,3\r\n5,3,3\r\n1,4,1\r\n3,2,",
@@ -110,14 +174,7 @@ fn run_files(row: &[u8]) -> Given {
         row,
         edit_of(row, b"production", 3),
     );
-    let printed = plan_files(first(&tariff, m), first(&production, n), &mut text);
-    let length = printed.length;
-    held(
-        field(row, 0),
-        first(&text, length),
-        printed.number,
-        printed.place,
-    )
+    plan_both(row, first(&tariff, m), first(&production, n))
 }
 
 // The cell k, or 0 past the end.

@@ -22,3 +22,4 @@ pub mod Decide
 pub mod OnePlan
 pub mod Earlier
 pub mod Unchanged
+pub mod Judging

@@ -11,3 +11,4 @@ pub mod Copy
 pub mod Answer
 pub mod Bends
 pub mod Ready
+pub mod Judge

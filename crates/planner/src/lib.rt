@@ -8,6 +8,7 @@ use crate::tests::Verdict;
 use crate::tests::form_test;
 use crate::tests::made_of;
 
+pub mod judge;
 pub mod limits;
 mod solve;
 mod tests;
