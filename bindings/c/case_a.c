@@ -1,4 +1,5 @@
-/* Plans case A and cases made from it, and prints each plan with its freight curve, or the refusal. */
+/* Plans case A and cases made from it, and prints each plan with its freight curve, or the refusal; then which splits can be the
+   cheapest where an entry is known between two bounds. */
 #include "yadvorkhul.h"
 
 #include <inttypes.h>
@@ -39,6 +40,27 @@ static void print_plan(struct change c) {
         printf("  stop %" PRIu64 ": freight %" PRId64 "\n", splits[k], freights[k]);
 }
 
+/* Case A with its last entry known between 20 and this number, and so many cells for the answers. */
+static void print_bounds(const char *name, uint64_t high3, size_t cells) {
+    const int64_t costs[] = {2, 6, 5, 3, 1, 4};
+    const uint64_t ceilings[] = {4000, 4000, 4000, 4000, 4000, 4000};
+    const uint64_t low[] = {99, 20, 24, 20}, high[] = {99, 20, 24, high3};
+    uint64_t answers[4] = {7, 7, 7, 7}, report[YADVORKHUL_REPORT_CELLS];
+    int64_t worth[YADVORKHUL_WORTH_CELLS];
+    uint64_t answer = yadvorkhul_bounds(3, 2, 0, 0, costs, CELLS(costs), supplies, CELLS(supplies),
+                                        demands, CELLS(demands), ceilings, CELLS(ceilings), low, CELLS(low),
+                                        high, CELLS(high), answers, cells, report, CELLS(report), worth, CELLS(worth));
+    printf("%s\n", name);
+    if (answer != 0) {
+        printf("  refusal %" PRIu64 " at place %" PRIu64 "\n", answer, report[0]);
+        return;
+    }
+    printf("  least total from %" PRId64 " to %" PRId64 "\n", worth[0], worth[1]);
+    for (size_t k = 0; k < report[1]; k++)
+        printf("  split %" PRIu64 ": %" PRIu64 "\n", report[0] + k, answers[k]);
+    printf("  cell after them: %" PRIu64 "\n", answers[3]);
+}
+
 int main(void) {
     const struct change changes[] = {
         {"case A", 0, 0, 4, 4000, 4000, 24, 20},
@@ -51,5 +73,8 @@ int main(void) {
         {"4,001 at most from source 3 to terminal 2", 0, 0, 4, 4000, 4001, 24, 20},
     };
     for (size_t k = 0; k < CELLS(changes); k++) print_plan(changes[k]);
+    print_bounds("entry 3 between 20 and 21", 21, 4);
+    print_bounds("entry 3 between 20 and 19", 19, 4);
+    print_bounds("two cells for the answers", 21, 2);
     return 0;
 }

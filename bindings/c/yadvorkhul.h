@@ -79,6 +79,36 @@ uint64_t yadvorkhul_plan(size_t m, size_t n, uint64_t run1, uint64_t run2,
    cells keep their contents. It needs about 32 kB of stack. */
 uint64_t yadvorkhul_rates(uint64_t most, uint64_t *to, size_t to_cells);
 
+/* Tells which splits can be the cheapest where each production entry is known between a low and a high one only: a split can
+   if some table of whole entries, between the bounds at every split, makes its total no greater than that of any other.
+
+   m .. ceilings   as for yadvorkhul_plan
+   low             one entry more than the first supply; it stands as the case's own table in tests 6 and 9
+   high            as long as low; at each split from its low entry to 1,000,000,000
+   answers         gets 1 or 0 for each split, from the first split up; give it one cell for each split,
+                   YADVORKHUL_MOST_SPLITS at most
+   report          at least YADVORKHUL_REPORT_CELLS cells; gets in its first cells
+                     first split, count of splits   where the answer is 0
+                     the place of the refusal       where it is another
+   worth           at least YADVORKHUL_WORTH_CELLS cells; gets in its first cells, where the answer is 0, the smallest and the
+                   largest that the least total can be
+
+   Answers 0, or the number of the first test that fails: those of yadvorkhul_plan with low as the table, 11 aside; then 28
+   where high is not as long as low (place 0), or its entry at split y is below the low one or above 1,000,000,000 (place y);
+   then 11 where answers has fewer cells than there are splits; or YADVORKHUL_SHORT_REPORT, before all else. On a refusal answers
+   and worth keep their contents. All cells that are not named here keep theirs always. What is said above of pointers holds
+   here too; it needs about 250 kB of stack, and no heap. */
+uint64_t yadvorkhul_bounds(size_t m, size_t n, uint64_t run1, uint64_t run2,
+                           const int64_t *costs, size_t costs_cells,
+                           const uint64_t *supplies, size_t supplies_cells,
+                           const uint64_t *demands, size_t demands_cells,
+                           const uint64_t *ceilings, size_t ceilings_cells,
+                           const uint64_t *low, size_t low_cells,
+                           const uint64_t *high, size_t high_cells,
+                           uint64_t *answers, size_t answers_cells,
+                           uint64_t *report, size_t report_cells,
+                           int64_t *worth, size_t worth_cells);
+
 #ifdef __cplusplus
 }
 #endif

@@ -1,11 +1,12 @@
 """Tests of the Python module: the paper's cases, refusals, lent lists cell by cell, and a listing of all plans."""
 
 import doctest
+import itertools
 import random
 import unittest
 
 import yadvorkhul
-from yadvorkhul import Refusal, plan, plan_into
+from yadvorkhul import Refusal, bounds, bounds_into, plan, plan_into
 
 A = dict(costs=[[2, 6], [5, 3], [1, 4]], supplies=[3, 3, 1], demands=[3, 2], table=[99, 20, 24, 20])
 
@@ -181,6 +182,59 @@ class Lent(unittest.TestCase):
             self.assertEqual(number, yadvorkhul.SHORT_REPORT)
             self.assertTrue(all(cell == 7 for cells in lent for cell in cells))
         self.assertEqual(self.call(report_cells=2, worth_cells=2)[1][3:], [[3, 3], [33, 13]])
+
+
+class Bounds(unittest.TestCase):
+    def case(self, **changes):
+        case = {**A, "low": A["table"], "high": [99, 20, 24, 21], **changes}
+        del case["table"]
+        return bounds(**case)
+
+    def refused(self, number, place, **changes):
+        with self.assertRaises(Refusal) as caught:
+            self.case(**changes)
+        self.assertEqual((caught.exception.number, caught.exception.place), (number, place))
+
+    def test_case_a(self):
+        self.assertEqual(self.case(), (1, [True, False, True], 33, 34))
+        self.assertEqual(self.case(high=[0, 20, 24, 20]), (1, [False, False, True], 33, 33))
+        self.assertEqual(self.case(runs=(2, 1), high=[99, 20, 24, 22]), (2, [True, True], 33, 35))
+        self.assertEqual(self.case(costs=[[-9, 6], [5, 3], [1, 4]], low=[0, 0, 0, 9], high=[0, 0, 1, 11]), (1, [False, True, True], -11, -10))
+
+    def test_refusals(self):
+        self.refused(28, 0, high=[99, 20, 24])
+        self.refused(28, 2, high=[99, 20, 23, 19])
+        self.refused(28, 3, high=[99, 20, 24, 1_000_000_001])
+        self.refused(9, 2, low=[99, 20, 1_000_000_001, 20], high=[0] * 4)
+        self.refused(6, 0, low=[99, 20, 24], high=[0] * 3)
+        self.refused(26, 0, ceilings=[])
+        answers, report, worth = [7, 7], [7, 7, 7], [7, 7]
+        number = bounds_into(3, 2, 0, 0, [2, 6, 5, 3, 1, 4], [3, 3, 1], [3, 2], [4000] * 6, [99, 20, 24, 20], [99, 20, 24, 21], answers, report, worth)
+        self.assertEqual((number, answers, report, worth), (11, [7, 7], [0, 7, 7], [7, 7]))
+
+    def test_all_tables(self):
+        draw = random.Random(209)
+        answered = 0
+        while answered < 200:
+            m, n = draw.randint(2, 3), draw.randint(1, 2)
+            costs = [[draw.randint(-9, 9) for _ in range(n)] for _ in range(m)]
+            supplies = [draw.randint(0, 4) for _ in range(m)]
+            demands = [draw.randint(0, 4) for _ in range(n)]
+            low = [draw.randint(0, 9) for _ in range(supplies[0] + 1)]
+            high = [entry + draw.randint(0, 2) for entry in low]
+            ceilings = [[draw.randint(2, 4) for _ in range(n)] for _ in range(m)]
+            found = listed(costs, supplies, demands, low, (0, 0), ceilings)
+            if found is None:
+                continue
+            curve = found[2]
+            leasts, cheapest = [], set()
+            for table in itertools.product(*(range(low[y], high[y] + 1) for y in curve)):
+                totals = {y: f + entry for (y, f), entry in zip(curve.items(), table)}
+                leasts.append(min(totals.values()))
+                cheapest.update(y for y in curve if totals[y] == leasts[-1])
+            want = min(curve), [y in cheapest for y in curve], min(leasts), max(leasts)
+            self.assertEqual(bounds(costs, supplies, demands, low, high, ceilings=ceilings), want)
+            answered += 1
 
 
 class Listing(unittest.TestCase):

@@ -1,6 +1,6 @@
 """The proved two-plant production and freight planner, for Python.
 
-    >>> from yadvorkhul import plan, rates
+    >>> from yadvorkhul import bounds, plan, rates
     >>> p = plan(costs=[[2, 6], [5, 3], [1, 4]], supplies=[3, 3, 1], demands=[3, 2], table=[99, 20, 24, 20])
     >>> p.split, p.total, p.freight
     (3, 33, 13)
@@ -30,7 +30,13 @@ A house without a production table starts from the square-root rates, one for ea
     >>> rates(3)
     [0, 100, 141, 173]
 
-The shared object is made from the proved archive by `bindings/python/build`. Nothing checks the declaration here against
+Where each production entry is known between a low and a high one only, `bounds` tells which splits can be the cheapest:
+
+    >>> b = bounds([[2, 6], [5, 3], [1, 4]], [3, 3, 1], [3, 2], low=[99, 20, 24, 20], high=[99, 20, 24, 21])
+    >>> b.first, b.possible, b.smallest, b.largest
+    (1, [True, False, True], 33, 34)
+
+The shared object is made from the proved archive by `bindings/python/build`. Nothing checks the declarations here against
 the Rattle source.
 """
 
@@ -38,7 +44,7 @@ import ctypes
 import os
 from typing import List, NamedTuple, Tuple
 
-__all__ = ["plan", "plan_into", "rates", "rates_into", "Plan", "Refusal", "SHORT_REPORT"]
+__all__ = ["bounds", "bounds_into", "plan", "plan_into", "rates", "rates_into", "Bounds", "Plan", "Refusal", "SHORT_REPORT"]
 
 MOST_SOURCES = 32
 MOST_TERMINALS = 64
@@ -62,6 +68,7 @@ _MEANINGS = {
     23: "a least run is above its plant's supply",
     26: "the ceilings are not one for each lane, or a ceiling is above 4,000",
     27: "no plan is within both the ceilings and the least runs",
+    28: "the high table is not as long as the low one, or an entry is below its low one or above 1,000,000,000",
     SHORT_REPORT: "the report or the worth has fewer than two cells",
 }
 
@@ -72,7 +79,7 @@ class Refusal(ValueError):
     def __init__(self, number: int, place: int):
         self.number = number
         self.place = place
-        at = f" at place {place}" if place or number == 9 else ""
+        at = f" at place {place}" if place or number in (9, 28) else ""
         super().__init__(f"refusal {number}{at}: {_MEANINGS.get(number, 'unknown')}")
 
 
@@ -87,23 +94,40 @@ class Plan(NamedTuple):
     stops: List[Tuple[int, int]]  # the freight curve: split and least freight, at the ends and the bends alone
 
 
+class Bounds(NamedTuple):
+    """What can be the cheapest where each production entry is known between two bounds only."""
+
+    first: int  # the first split
+    possible: List[bool]  # for each split from the first up: can it be the cheapest?
+    smallest: int  # the smallest and the largest that the least total can be
+    largest: int
+
+
 def _load():
     path = os.environ.get("YADVORKHUL_SO") or os.path.join(os.path.dirname(os.path.abspath(__file__)), "libyadvorkhul.so")
     if not os.path.exists(path):
         raise ImportError("libyadvorkhul.so is not there: run bindings/python/build, or name it in YADVORKHUL_SO")
-    library = ctypes.CDLL(path)
-    # m, n and the least runs, then the slices, each a pointer and then a length
-    slices = [part for kind in _READ + _WRITTEN for part in (ctypes.POINTER(kind), ctypes.c_size_t)]
-    library.yadvorkhul_plan.argtypes = [ctypes.c_size_t] * 2 + [ctypes.c_uint64] * 2 + slices
-    library.yadvorkhul_plan.restype = ctypes.c_uint64
-    library.yadvorkhul_rates.argtypes = [ctypes.c_uint64, ctypes.POINTER(ctypes.c_uint64), ctypes.c_size_t]
-    library.yadvorkhul_rates.restype = ctypes.c_uint64
-    return library
+    return ctypes.CDLL(path)
+
+
+def _declared(function, kinds):
+    """The function with its types: m, n and the least runs, then the slices, each a pointer and then a length."""
+    slices = [part for kind in kinds for part in (ctypes.POINTER(kind), ctypes.c_size_t)]
+    function.argtypes = [ctypes.c_size_t] * 2 + [ctypes.c_uint64] * 2 + slices
+    function.restype = ctypes.c_uint64
+    return function
 
 
 _READ = [ctypes.c_int64] + [ctypes.c_uint64] * 4  # costs; supplies, demands, ceilings, table
 _WRITTEN = [ctypes.c_uint64] * 2 + [ctypes.c_int64, ctypes.c_uint64, ctypes.c_int64]  # plan, splits; freights; report; worth
+_BOUNDS_READ = _READ + [ctypes.c_uint64]  # the high table too
+_BOUNDS_WRITTEN = [ctypes.c_uint64] * 2 + [ctypes.c_int64]  # answers, report; worth
 _library = _load()
+_plan = _declared(_library.yadvorkhul_plan, _READ + _WRITTEN)
+_bounds = _declared(_library.yadvorkhul_bounds, _BOUNDS_READ + _BOUNDS_WRITTEN)
+_rates = _library.yadvorkhul_rates
+_rates.argtypes = [ctypes.c_uint64, ctypes.POINTER(ctypes.c_uint64), ctypes.c_size_t]
+_rates.restype = ctypes.c_uint64
 
 
 def _cells(kind, numbers):
@@ -117,16 +141,27 @@ def _cells(kind, numbers):
     return (kind * (len(numbers) + 1))(*numbers), len(numbers)
 
 
+def _call(function, numbers, read_kinds, read, written_kinds, lent):
+    """Calls a function on lent lists. Each of the last ones is changed in the cells that it writes. Answers its number."""
+    read = [_cells(kind, cells) for kind, cells in zip(read_kinds, read)]
+    written = [_cells(kind, cells) for kind, cells in zip(written_kinds, lent)]
+    _cells(ctypes.c_uint64, numbers)
+    answer = function(*numbers, *(part for pair in read + written for part in pair))
+    for cells, (now, length) in zip(lent, written):
+        cells[:] = now[:length]
+    return answer
+
+
 def plan_into(m, n, run1, run2, costs, supplies, demands, ceilings, table, plan, splits, freights, report, worth):
     """The planner on lent lists. Each of the last five is changed in the cells that the planner writes. Answers its number."""
-    read = [_cells(kind, numbers) for kind, numbers in zip(_READ, (costs, supplies, demands, ceilings, table))]
-    lent = [plan, splits, freights, report, worth]
-    written = [_cells(kind, numbers) for kind, numbers in zip(_WRITTEN, lent)]
-    _cells(ctypes.c_uint64, [m, n, run1, run2])
-    answer = _library.yadvorkhul_plan(m, n, run1, run2, *(part for pair in read + written for part in pair))
-    for numbers, (cells, length) in zip(lent, written):
-        numbers[:] = cells[:length]
-    return answer
+    read = (costs, supplies, demands, ceilings, table)
+    return _call(_plan, [m, n, run1, run2], _READ, read, _WRITTEN, [plan, splits, freights, report, worth])
+
+
+def bounds_into(m, n, run1, run2, costs, supplies, demands, ceilings, low, high, answers, report, worth):
+    """Which splits can be the cheapest, on lent lists. Each of the last three is changed in the cells that are written."""
+    read = (costs, supplies, demands, ceilings, low, high)
+    return _call(_bounds, [m, n, run1, run2], _BOUNDS_READ, read, _BOUNDS_WRITTEN, [answers, report, worth])
 
 
 def _lanes(rows, m, n):
@@ -169,7 +204,7 @@ def rates_into(most, to):
     where most is above 4,000, or 11 where the list is too short, and then writes nothing."""
     cells, length = _cells(ctypes.c_uint64, to)
     _cells(ctypes.c_uint64, [most])
-    answer = _library.yadvorkhul_rates(most, cells, length)
+    answer = _rates(most, cells, length)
     to[:] = cells[:length]
     return answer
 
@@ -181,3 +216,18 @@ def rates(supply) -> List[int]:
     if number != 0:
         raise Refusal(number, 1)
     return table
+
+
+def bounds(costs, supplies, demands, low, high, runs=(0, 0), ceilings=None) -> Bounds:
+    """Which splits can be the cheapest with entries between the low and the high table, or a `Refusal`; the rest as for `plan`."""
+    supplies, demands = list(supplies), list(demands)
+    m, n = len(supplies), len(demands)
+    run1, run2 = runs
+    wide = [MOST_AMOUNT] * (min(m, MOST_SOURCES) * min(n, MOST_TERMINALS)) if ceilings is None else _lanes(ceilings, m, n)
+    answers, report, worth = [0] * MOST_SPLITS, [0] * REPORT_CELLS, [0] * WORTH_CELLS
+    lanes = _lanes(costs, m, n)
+    number = bounds_into(m, n, run1, run2, lanes, supplies, demands, wide, low, high, answers, report, worth)
+    if number != 0:
+        raise Refusal(number, report[0])
+    (first, count), (smallest, largest) = report, worth
+    return Bounds(first, [mark == 1 for mark in answers[:count]], smallest, largest)

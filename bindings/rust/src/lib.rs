@@ -51,8 +51,20 @@
 //!
 //! A house without a production table starts from the square-root rates, [`rates`].
 //!
-//! What is proved are the functions behind [`plan_into`] and [`rates_into`]. Nothing checks their declarations here against the
-//! Rattle source; the tests of this crate compare the planner with an independent one on many cases, and each rate with its rule.
+//! Where each production entry is known between a low and a high one only, [`Case::bounds`] tells which splits can be the
+//! cheapest:
+//!
+//! ```
+//! # use yadvorkhul::Case;
+//! # let case = Case { costs: vec![2, 6, 5, 3, 1, 4], supplies: vec![3, 3, 1], demands: vec![3, 2], table: vec![99, 20, 24, 20], ..Case::default() };
+//! let bounds = case.bounds(&[99, 20, 24, 21]).unwrap(); // the case's own table is the low one
+//! assert_eq!((bounds.smallest, bounds.largest), (33, 34));
+//! assert_eq!((bounds.first, bounds.possible), (1, vec![true, false, true]));
+//! ```
+//!
+//! What is proved are the functions behind [`plan_into`], [`rates_into`] and [`bounds_into`]. Nothing checks their declarations here
+//! against the Rattle source; the tests of this crate compare the planner with an independent one on many cases, each rate with its
+//! rule, and the bounds with all tables between them.
 
 mod rates;
 mod refusal;
@@ -100,6 +112,31 @@ extern "C" {
         splits_len: usize,
         freights: *mut i64,
         freights_len: usize,
+        report: *mut u64,
+        report_len: usize,
+        worth: *mut i64,
+        worth_len: usize,
+    ) -> u64;
+
+    fn yadvorkhul_bounds(
+        m: usize,
+        n: usize,
+        run1: u64,
+        run2: u64,
+        costs: *const i64,
+        costs_len: usize,
+        supplies: *const u64,
+        supplies_len: usize,
+        demands: *const u64,
+        demands_len: usize,
+        ceilings: *const u64,
+        ceilings_len: usize,
+        low: *const u64,
+        low_len: usize,
+        high: *const u64,
+        high_len: usize,
+        answers: *mut u64,
+        answers_len: usize,
         report: *mut u64,
         report_len: usize,
         worth: *mut i64,
@@ -177,6 +214,66 @@ pub fn plan_into(
     }
 }
 
+/// Which splits can be the cheapest, on lent slices of any numbers and any lengths.
+///
+/// Answers 0, or the number of the refusal. Where it is 0 the first cells of `report` are the first split and the count of
+/// splits, those of `worth` the smallest and the largest that the least total can be, and those of `answers` 1 or 0 for each
+/// split. Else the first cell of `report` is the place. All other cells keep their contents.
+///
+/// ```
+/// let (mut answers, mut report, mut worth) = ([7; 4], [7; 3], [7; 3]);
+/// let answer = yadvorkhul::bounds_into(
+///     3, 2, 0, 0, &[2, 6, 5, 3, 1, 4], &[3, 3, 1], &[3, 2], &[4_000; 6], &[99, 20, 24, 20], &[99, 20, 24, 21],
+///     &mut answers, &mut report, &mut worth,
+/// );
+/// assert_eq!(answer, 0);
+/// assert_eq!((answers, report, worth), ([1, 0, 1, 7], [1, 3, 7], [33, 34, 7]));
+/// ```
+#[allow(clippy::too_many_arguments)]
+pub fn bounds_into(
+    m: usize,
+    n: usize,
+    run1: u64,
+    run2: u64,
+    costs: &[i64],
+    supplies: &[u64],
+    demands: &[u64],
+    ceilings: &[u64],
+    low: &[u64],
+    high: &[u64],
+    answers: &mut [u64],
+    report: &mut [u64],
+    worth: &mut [i64],
+) -> u64 {
+    // Safety: as for `plan_into`; the three slices that are written are borrowed exclusively.
+    unsafe {
+        yadvorkhul_bounds(
+            m,
+            n,
+            run1,
+            run2,
+            costs.as_ptr(),
+            costs.len(),
+            supplies.as_ptr(),
+            supplies.len(),
+            demands.as_ptr(),
+            demands.len(),
+            ceilings.as_ptr(),
+            ceilings.len(),
+            low.as_ptr(),
+            low.len(),
+            high.as_ptr(),
+            high.len(),
+            answers.as_mut_ptr(),
+            answers.len(),
+            report.as_mut_ptr(),
+            report.len(),
+            worth.as_mut_ptr(),
+            worth.len(),
+        )
+    }
+}
+
 /// A planning case. There are as many sources as supplies and as many terminals as demands.
 #[derive(Clone, Debug, Default, PartialEq, Eq)]
 pub struct Case {
@@ -222,7 +319,51 @@ pub struct Stop {
     pub freight: i64,
 }
 
+/// What can be the cheapest where each production entry is known between two bounds only.
+#[derive(Clone, Debug, PartialEq, Eq)]
+pub struct Bounds {
+    /// The first split.
+    pub first: u64,
+    /// For each split from the first up: whether some table between the bounds makes its total no greater than any other's.
+    pub possible: Vec<bool>,
+    /// The smallest that the least total can be.
+    pub smallest: i64,
+    /// The largest that the least total can be.
+    pub largest: i64,
+}
+
 impl Case {
+    /// Which splits can be the cheapest with entries from the case's own table up to this one, or the first refusal.
+    pub fn bounds(&self, high: &[u64]) -> Result<Bounds, Refusal> {
+        let (m, n) = (self.supplies.len(), self.demands.len());
+        let wide = vec![MOST_AMOUNT; m.min(MOST_SOURCES) * n.min(MOST_TERMINALS)];
+        // Room for any case that is accepted: refusal 11 cannot arise.
+        let mut answers = vec![0; MOST_AMOUNT as usize + 1];
+        let mut report = [0; REPORT_CELLS];
+        let mut worth = [0; WORTH_CELLS];
+        let number = bounds_into(
+            m,
+            n,
+            self.runs[0],
+            self.runs[1],
+            &self.costs,
+            &self.supplies,
+            &self.demands,
+            self.ceilings.as_deref().unwrap_or(&wide),
+            &self.table,
+            high,
+            &mut answers,
+            &mut report,
+            &mut worth,
+        );
+        if number != 0 {
+            return Err(Refusal { number, place: report[0], sources: m, terminals: n });
+        }
+        let ([first, count], [smallest, largest]) = (report, worth);
+        let possible = answers.iter().take(count as usize).map(|&mark| mark == 1).collect();
+        Ok(Bounds { first, possible, smallest, largest })
+    }
+
     /// The plan, or the first refusal.
     pub fn plan(&self) -> Result<Plan, Refusal> {
         let (m, n) = (self.supplies.len(), self.demands.len());

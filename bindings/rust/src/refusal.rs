@@ -18,7 +18,7 @@ use std::fmt;
 /// ```
 #[derive(Clone, Copy, Debug, PartialEq, Eq)]
 pub struct Refusal {
-    /// 1 to 9, 11, 23, 26 or 27.
+    /// 1 to 9, 11, 23, 26 or 27; of bounds 28 too.
     pub number: u64,
     /// Where the test fails, as the number has it; 0 where it names no place.
     pub place: u64,
@@ -43,6 +43,7 @@ impl Refusal {
             23 => "a least run is above its plant's supply",
             26 => "the ceilings are not one for each lane, or a ceiling is above 4,000",
             27 => "no plan is within both the ceilings and the least runs",
+            28 => "the high table is not as long as the low one, or an entry is below its low one or above 1,000,000,000",
             _ => "a number that this wrapper does not know",
         }
     }
@@ -72,6 +73,7 @@ impl Refusal {
             26 if place == 0 => format!("{m} sources and {n} terminals need {} ceilings", m * n),
             26 => format!("look at the ceiling {}", self.lane()),
             27 => "look for closed or narrow lanes of a depot, a terminal or a plant that has a least run".to_string(),
+            28 => format!("look at the high table's length, then at its entry {place}"),
             _ => "no place is named".to_string(),
         }
     }
@@ -80,7 +82,7 @@ impl Refusal {
 impl fmt::Display for Refusal {
     fn fmt(&self, f: &mut fmt::Formatter<'_>) -> fmt::Result {
         write!(f, "refusal {}", self.number)?;
-        if self.place != 0 || self.number == 9 {
+        if self.place != 0 || self.number == 9 || self.number == 28 {
             write!(f, " at place {}", self.place)?;
         }
         write!(f, ": {}; {}", self.meaning(), self.whereabouts())

@@ -33,24 +33,24 @@ fn lane_cells() -> [u64; 2048] {
 }
 
 // Cells for their unit costs.
-fn cost_cells() -> [i64; 2048] {
+pub fn cost_cells() -> [i64; 2048] {
     [0; 2048]
 }
 
 // The ceiling 4,000 on every lane: no amount of an accepted case passes it.
-fn lane_ceilings() -> [u64; 2048]
+pub fn lane_ceilings() -> [u64; 2048]
     ensures { λ r. ⌜ r ≡ replicate 2048 4000 ⌝ }
 {
     [4_000; 2048]
 }
 
 // One cell more than the longest table has entries.
-fn entry_cells() -> [u64; 4002] {
+pub fn entry_cells() -> [u64; 4002] {
     [0; 4002]
 }
 
 // Cells for the stops of the longest table.
-fn stop_cells() -> [u64; 4001] {
+pub fn stop_cells() -> [u64; 4001] {
     [0; 4001]
 }
 
@@ -59,7 +59,8 @@ fn freight_cells() -> [i64; 4001] {
     [0; 4001]
 }
 
-fn print_refusal(out: &mut [u8], number: u64, place: u64, m: usize, n: usize) -> Printed
+// Prints a refusal of a case of m sources and n terminals.
+pub fn print_refusal(out: &mut [u8], number: u64, place: u64, m: usize, n: usize) -> Printed
     ensures { λ r. ⌜ Told number place m n (refusalText number place) (now (out .entry)) (now (out .exit)) r ⌝ }
 {
     let length = put_refusal(out, number, place);

@@ -1,9 +1,9 @@
 // The command `plan`: reads the two files, writes the printed plan or refusal to standard output, and says what a refusal means on
 // standard error. The command `tidy`: reads two files, and writes their case as two new ones.
 mod arguments;
-mod file;
-mod message;
-mod refusal;
+pub mod file;
+pub mod message;
+pub mod refusal;
 mod rewriting;
 
 use crate::arguments::usage;

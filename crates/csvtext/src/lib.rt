@@ -9,6 +9,8 @@ ghost use lib.ListN.{length};
 ghost use Rattle.csvtext.specs.Text.{decimal, signedText, fieldText, recordText, rowText, lanesText, planText, refusalText};
 ghost use Rattle.csvtext.specs.Writing.{Written, Printable, Narrow, NarrowCosts, Fits, Says, PlanWritten};
 
+pub mod bounds;
+
 // Writes a byte, and gives the next offset.
 pub fn put_byte(out: &mut [u8], at: usize, b: u8) -> usize
     requires { ⌜ at < 2 ^ 63 ⌝ }

@@ -16,7 +16,10 @@ use Rattle.transport.specs.Curve.{written}
 use Rattle.planner.specs.Case.{Case}
 use Rattle.planner.specs.Outcome.{Outcome, outcomeOf}
 use Rattle.planner.specs.Answer.{Slices, Answered}
+use Rattle.tablebounds.specs.Answers as bounds
 use Rattle.ffi.specs.Report.{numberOf, reportOf, worthOf, shortReport, Told, Untold, Exported}
+use Rattle.ffi.specs.Bounds as told
+use Rattle.ffi.specs.Bounds.{BoundsTold, BoundsUntold, BoundsExported}
 
 -- a number of an i64, as the machine reads it back
 pub read-back : (z : ℤ) → mag z < 2 ^ 63 → toZ w64 (ofZ w64 z) ≡ z
@@ -60,4 +63,35 @@ module _ (c : Case) (report : List ℕ) (worth : List ℤ) where
         cells = w ∙ ap (λ (o : Outcome). written (reportOf o) report) q;
         values = v ∙ ap (λ (o : Outcome). written (worthOf o) worth) q;
         answered = subst (λ (o : Outcome). Answered c o before after) q a;
+      }
+
+-- ---- the splits that can be the cheapest
+
+module _ (c : Case) (high report : List ℕ) (worth : List ℤ) where
+  bounds-short : (s : List ℕ) → (ltb (length report) 2 || ltb (length worth) 2) ≡ true → BoundsExported c high s s report report worth worth shortReport
+  unfolding BoundsExported
+  bounds-short s e =
+      subst (λ (b : Bool). cond b (BoundsUntold s s report report worth worth shortReport) (BoundsTold c high s s report report worth worth shortReport)) (sym e)
+      record { number = refl; cells = refl; values = refl; answers = refl }
+
+  pub by-short-report : (s : List ℕ) → length report < 2 → BoundsExported c high s s report report worth worth shortReport
+  by-short-report s h = bounds-short s (simp (lt-ltb (length report) 2 h))
+
+  pub by-short-worth : (s : List ℕ) → 2 ≤ length report → length worth < 2 → BoundsExported c high s s report report worth worth shortReport
+  by-short-worth s h l = bounds-short s (simp (le-ltb (length report) 2 h, lt-ltb (length worth) 2 l))
+
+  -- what is answered is told by its number and its cells
+  pub by-bounds : (o : bounds.Outcome) (before after reported : List ℕ) (valued : List ℤ) (r : ℕ) → 2 ≤ length report → 2 ≤ length worth
+      → bounds.Answered c high o before after → r ≡ told.numberOf o → reported ≡ written (told.reportOf o) report → valued ≡ written (told.worthOf o) worth
+      → BoundsExported c high before after report reported worth valued r
+  unfolding BoundsExported
+  by-bounds o before after reported valued r h l a n w v =
+      let e : (ltb (length report) 2 || ltb (length worth) 2) ≡ false = simp (le-ltb (length report) 2 h, le-ltb (length worth) 2 l) in
+      let q : o ≡ bounds.outcomeOf c high (length before) = a .answer in
+      subst (λ (b : Bool). cond b (BoundsUntold before after report reported worth valued r) (BoundsTold c high before after report reported worth valued r)) (sym e)
+      record {
+        number = n ∙ ap told.numberOf q;
+        cells = w ∙ ap (λ (o : bounds.Outcome). written (told.reportOf o) report) q;
+        values = v ∙ ap (λ (o : bounds.Outcome). written (told.worthOf o) worth) q;
+        answered = subst (λ (o : bounds.Outcome). bounds.Answered c high o before after) q a;
       }

@@ -10,6 +10,8 @@ ghost use Rattle.planner.specs.Answer.{outcome, slices};
 ghost use Rattle.ffi.specs.Report.{numberOf, reportOf, worthOf, Exported};
 use planner::Answer;
 
+pub mod bounds;
+
 // Writes the report and the worth of an answer; its number.
 fn tell(answer: Answer, report: &mut [u64], worth: &mut [i64]) -> u64
     requires { ⌜ (2 ≤ length (now report)) × (2 ≤ length (now worth)) ⌝ }

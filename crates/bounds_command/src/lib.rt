@@ -1,0 +1,137 @@
+// The command `bounds`: reads a tariff and two production files, of the low and the high entries, writes which splits can be the cheapest, or
+// the refusal, to standard output, and says what a refusal means on standard error.
+use boundsfile::bounds_files;
+use boundsfile::low_stands;
+use casefile::planned::Printed;
+use check::same;
+use command::file::file_room;
+use command::file::first;
+use command::file::read_file;
+use command::message::say;
+use command::message::say_with;
+use command::refusal::explain;
+ghost use mathlib.Core.Path.{_≡_};
+ghost use lib.ListN.{length};
+
+// Room for the longest text: two headers, the totals and 4,001 records.
+fn text_room() -> [u8; 172120]
+    ensures { λ r. ⌜ 172120 ≡ length r ⌝ }
+{
+    [0; 172120]
+}
+
+// Writes the usage text to standard error.
+fn usage() {
+    say(b"usage: bounds [TARIFF LOW HIGH]\n");
+    say(
+        b"Tells which splits can be the cheapest where each production entry is known between a low and a high one only.\n",
+    );
+    say(
+        b"Reads three CSV files, tariff.csv, low.csv and high.csv of the current folder where none are named.\n",
+    );
+    say(
+        b"Writes the smallest and the largest least total and a record for each split, or a refusal with its place, to standard output.\n",
+    );
+}
+
+// Refusal 28, by its place.
+fn explain_high(place: u64) {
+    say(
+        b"Refusal 28: the high file does not have one entry for each output of plant 1 from 0 to its supply,\n",
+    );
+    say_with(
+        b"or its entry of split ",
+        place,
+        b" is below the low one or above 1,000,000,000.\n",
+    );
+}
+
+// Says what a refusal means; nothing of an answer.
+fn explain_three(
+    printed: Printed,
+    tariff: &[u8],
+    low: &[u8],
+    high: &[u8],
+    tariff_path: &[u8],
+    low_path: &[u8],
+    high_path: &[u8],
+) {
+    let number = printed.number;
+    if number == 28 {
+        explain_high(printed.place);
+        return;
+    }
+    if 19 < number {
+        if low_stands(tariff, low) {
+            explain(printed, tariff, high, tariff_path, high_path);
+            return;
+        }
+    }
+    explain(printed, tariff, low, tariff_path, low_path);
+}
+
+// Answers three files' bytes.
+fn answer(
+    tariff: &[u8],
+    low: &[u8],
+    high: &[u8],
+    tariff_path: &[u8],
+    low_path: &[u8],
+    high_path: &[u8],
+) {
+    let mut text = text_room();
+    let printed = bounds_files(tariff, low, high, &mut text);
+    let length = printed.length;
+    if !io::write_all(libc::STDOUT_FILENO, first(&text, length)) {
+        say(b"Standard output could not be written.\n");
+    }
+    explain_three(printed, tariff, low, high, tariff_path, low_path, high_path);
+}
+
+// Answers the files of three paths.
+fn answer_paths(tariff_path: &[u8], low_path: &[u8], high_path: &[u8]) {
+    let mut tariff = file_room();
+    let mut low = file_room();
+    let mut high = file_room();
+    let t = read_file(tariff_path, &mut tariff);
+    let l = read_file(low_path, &mut low);
+    let h = read_file(high_path, &mut high);
+    answer(
+        first(&tariff, t),
+        first(&low, l),
+        first(&high, h),
+        tariff_path,
+        low_path,
+        high_path,
+    );
+}
+
+// Answers the files of three paths, unless the first is the word for help.
+fn answer_or_help(tariff: &[u8], low: &[u8], high: &[u8]) {
+    if same(tariff, b"--help") {
+        usage();
+        return;
+    }
+    answer_paths(tariff, low, high);
+}
+
+// Answers the files that the three arguments name.
+fn with_arguments() {
+    let mut tariff = io::buffer();
+    let mut low = io::buffer();
+    let mut high = io::buffer();
+    let t = os::arg(1, &mut tariff);
+    let l = os::arg(2, &mut low);
+    let h = os::arg(3, &mut high);
+    answer_or_help(first(&tariff, t), first(&low, l), first(&high, h));
+}
+
+// Answers the files that three arguments name or, without arguments, those of the current folder.
+pub fn run() {
+    let arguments = os::arg_count();
+    match arguments {
+        0 | 1 => answer_paths(b"tariff.csv", b"low.csv", b"high.csv"),
+        4 => with_arguments(),
+        _ => usage(),
+    }
+}
