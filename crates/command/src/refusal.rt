@@ -1,14 +1,18 @@
 // One sentence for each refusal: what it means and where to look.
+use crate::cause::byte_at;
+use crate::cause::byte_before;
+use crate::cause::is_digit;
+use crate::cause::say_cause;
 use crate::message::say;
 use crate::message::say_number;
 use crate::message::say_with;
+use crate::place::field_at;
+use crate::place::field_start;
+use crate::place::next;
+use crate::place::record_at;
+use crate::place::record_end;
 use casefile::planned::Printed;
 use casefile::planned::tariff_stands;
-
-// The number after n; the largest number has none, and stands for itself.
-fn next(n: u64) -> u64 {
-    if n == u64::MAX { n } else { n + 1 }
-}
 
 // Refusal 4: a supply by its source, or a demand by its terminal.
 fn explain_amount(place: u64, m: u64) {
@@ -78,26 +82,6 @@ fn explain_case(number: u64, place: u64, m: u64, n: u64) {
     }
 }
 
-// The byte at an offset, or 0 where there is none.
-fn byte_at(bytes: &[u8], at: usize) -> u8 {
-    if at < bytes.len() { bytes[at] } else { 0 }
-}
-
-fn is_digit(b: u8) -> bool {
-    if b < 48 {
-        return false;
-    }
-    b < 58
-}
-
-// The byte so many bytes before an offset, or 0 where there is none.
-fn byte_before(bytes: &[u8], at: usize, back: usize) -> u8 {
-    if at < back {
-        return 0;
-    }
-    byte_at(bytes, at - back)
-}
-
 // Whether a number can begin at an offset, where the bytes before it are those of a file of the form: not after a quote that closes a
 // field, nor after the line end of the demands.
 fn begins(bytes: &[u8], at: usize) -> bool {
@@ -121,30 +105,57 @@ fn leads(bytes: &[u8], at: usize) -> bool {
     false
 }
 
+// The record and the field of an offset, after it.
+fn say_spot(bytes: &[u8], at: usize) {
+    say_with(b", counted from 0, in record ", record_at(bytes, at), b"");
+    say_with(b", field ", field_at(bytes, at), b"");
+}
+
 // Refusal 21: a number with 0 in front or another byte by its offset, or the end of the file.
 fn explain_byte(place: u64, bytes: &[u8]) {
     let at = place as usize;
     if bytes.len() <= at {
-        say_with(b" ends too soon, after ", place, b" bytes.\n");
+        say_with(b" ends too soon, at offset ", place, b"");
+        say_spot(bytes, at);
+        say(b".\n");
         return;
     }
     if leads(bytes, at) {
-        say_with(
-            b" has a number with 0 in front at offset ",
-            place,
-            b", counted from 0, perhaps an item code.\n",
-        );
+        say_with(b" has a number with 0 in front at offset ", place, b"");
+        say_spot(bytes, at);
+        say(b", perhaps an item code.\n");
         return;
     }
     say_with(
-        b" has a byte at offset ",
+        b" has a byte that cannot stand there at offset ",
         place,
-        b", counted from 0, that cannot stand there.\n",
+        b"",
     );
+    say_spot(bytes, at);
+    say_cause(bytes, at);
+    say(b".\n");
 }
 
-// The refusals of a file, by its bytes and what is said of a record with a wrong count of fields.
-fn explain_file(number: u64, place: u64, file: &[u8], path: &[u8], bytes: &[u8], wrong: &[u8]) {
+// Refusal 22: a record that has more fields than wanted by the first of these, else by its end.
+fn explain_record(record: u64, bytes: &[u8], wanted: u64) {
+    let end = record_end(bytes, record);
+    let has = field_at(bytes, end);
+    if wanted < has {
+        say_with(b" has ", has, b" fields, not ");
+        say_with(b"", wanted, b": field ");
+        say_with(b"", next(wanted), b" begins at offset ");
+        say_number(field_start(bytes, record, next(wanted)) as u64);
+        say(b", counted from 0, perhaps after a decimal comma; numbers are whole.\n");
+        return;
+    }
+    say_with(b" has only ", has, b" of ");
+    say_with(b"", wanted, b" fields: it ends at offset ");
+    say_number(end as u64);
+    say(b", counted from 0.\n");
+}
+
+// The refusals of a file, by its bytes and how many fields each of its records should have.
+fn explain_file(number: u64, place: u64, file: &[u8], path: &[u8], bytes: &[u8], wanted: u64) {
     if number == 22 {
         say_with(b"record ", place, b" of ");
     }
@@ -153,7 +164,7 @@ fn explain_file(number: u64, place: u64, file: &[u8], path: &[u8], bytes: &[u8],
     match number {
         20 => say(b" cannot be opened and read, or is longer than 65,536 bytes.\n"),
         21 => explain_byte(place, bytes),
-        _ => say(wrong),
+        _ => explain_record(place, bytes, wanted),
     }
 }
 
@@ -167,25 +178,24 @@ fn explain_files(
     production_path: &[u8],
 ) {
     if tariff_stands(tariff) {
-        let wrong = b" has more than one field.\n";
         explain_file(
             number,
             place,
             b"the production file ",
             production_path,
             production,
-            wrong,
+            1,
         );
         return;
     }
-    let wrong = b" has another count of fields than record 1.\n";
+    let wanted = field_at(tariff, record_end(tariff, 1));
     explain_file(
         number,
         place,
         b"the tariff file ",
         tariff_path,
         tariff,
-        wrong,
+        wanted,
     );
 }
 

@@ -36,15 +36,18 @@ Where each production entry is known between a low and a high one only, `bounds`
     >>> b.first, b.possible, b.smallest, b.largest
     (1, [True, False, True], 33, 34)
 
+`page(case)` gives a page for a browser and for paper, `python3 -m yadvorkhul --help` shows the same functions as a command.
+
 The shared object is made from the proved archive by `bindings/python/build`. Nothing checks the declarations here against
 the Rattle source.
 """
 
 import ctypes
 import os
-from typing import List, NamedTuple, Tuple
+from typing import List, NamedTuple, Optional, Tuple
 
 __all__ = ["bounds", "bounds_into", "plan", "plan_into", "rates", "rates_into", "Bounds", "Plan", "Refusal", "SHORT_REPORT"]
+__all__ += ["Case", "page", "offers"]
 
 MOST_SOURCES = 32
 MOST_TERMINALS = 64
@@ -65,6 +68,9 @@ _MEANINGS = {
     8: "the terminals take more than depots and plants can give",
     9: "a table entry at a split in use is above 1,000,000,000",
     11: "a lent slice is too short for the plan or the stops",
+    20: "a file cannot be opened and read, or is longer than 65,536 bytes",
+    21: "a byte of a file cannot stand there, or the file ends too soon",
+    22: "a record has another count of fields than it should",
     23: "a least run is above its plant's supply",
     26: "the ceilings are not one for each lane, or a ceiling is above 4,000",
     27: "no plan is within both the ceilings and the least runs",
@@ -101,6 +107,37 @@ class Bounds(NamedTuple):
     possible: List[bool]  # for each split from the first up: can it be the cheapest?
     smallest: int  # the smallest and the largest that the least total can be
     largest: int
+
+
+class Case(NamedTuple):
+    """What is planned: the parameters of `plan`, then the names that a page shows where there are some."""
+
+    costs: List[List[int]]
+    supplies: List[int]
+    demands: List[int]
+    table: List[int]
+    runs: Tuple[int, int] = (0, 0)
+    ceilings: Optional[List[List[int]]] = None
+    title: str = ""
+    sources: Optional[List[str]] = None
+    terminals: Optional[List[str]] = None
+
+    def plan(self) -> Plan:
+        """The plan, or a `Refusal`."""
+        return plan(*self[:6])
+
+
+def page(case) -> str:
+    """One HTML page, with nothing outside it, of the plan of a case or of its refusal. The case is a `Case` or a mapping with its
+    fields. Needs Jinja2, and Matplotlib for the picture."""
+    from .pages import case_page
+
+    return case_page(case if isinstance(case, Case) else Case(**case))
+
+
+def offers(symbol: str) -> bool:
+    """Whether the archive that the shared object was made of has this C function."""
+    return hasattr(_library, symbol)
 
 
 def _load():

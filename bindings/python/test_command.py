@@ -1,0 +1,108 @@
+"""Tests of the command `python3 -m yadvorkhul`: each subcommand, refusals, and what a build lacks."""
+
+import contextlib
+import io
+import json
+import os
+import subprocess
+import sys
+import tempfile
+import types
+import unittest
+from unittest import mock
+
+import yadvorkhul
+from yadvorkhul import command
+
+HERE = os.path.dirname(os.path.abspath(__file__))
+EXAMPLES = os.path.join(HERE, "..", "..", "examples")
+PRINTED = "source,terminal,amount,cost\r\n0,0,3,20\r\n1,1,3,6\r\n1,2,0,0\r\n2,1,0,0\r\n2,2,1,3\r\n3,1,0,0\r\n3,2,1,4\r\n"
+
+
+def files(folder):
+    return [os.path.join(EXAMPLES, folder, name) for name in ("tariff.csv", "production.csv")]
+
+
+def run(*words):
+    """Status, standard output and standard error of the command."""
+    done = subprocess.run([sys.executable, "-m", "yadvorkhul", *words], cwd=HERE, capture_output=True)
+    return done.returncode, done.stdout.decode(), done.stderr.decode()
+
+
+def run_here(*words):
+    """The same in this process, where parts may be exchanged."""
+    out, errors = io.BytesIO(), io.StringIO()
+    with contextlib.redirect_stdout(io.TextIOWrapper(out)), contextlib.redirect_stderr(errors):
+        return command.main(list(words)), out.getvalue().decode(), errors.getvalue()
+
+
+class Command(unittest.TestCase):
+    def test_plan(self):
+        self.assertEqual(run("plan", *files("case_a")), (0, PRINTED, ""))
+
+    def test_plan_of_json(self):
+        with tempfile.TemporaryDirectory() as folder:
+            path = os.path.join(folder, "case.json")
+            case = dict(costs=[[2, 6], [5, 3], [1, 4]], supplies=[3, 3, 1], demands=[3, 2], table=[99, 20, 24, 20], ceilings=[[1, 9]] + [[9, 9]] * 2)
+            with open(path, "w", encoding="utf-8") as out:
+                json.dump(case, out)
+            status, printed, _ = run("plan", path)
+            self.assertEqual((status, printed.split("\r\n")[1]), (0, "0,0,1,20"))
+            with open(path, "w", encoding="utf-8") as out:
+                out.write("{}")
+            self.assertEqual(run("plan", path)[0], 2)
+            for spoiled in ({**case, "demands": [3, "2"]}, {**case, "costs": 5}, {**case, "runs": [1]}, {**case, "drums": 1}):
+                with open(path, "w", encoding="utf-8") as out:
+                    json.dump(spoiled, out)
+                status, printed, said = run("plan", path)
+                self.assertEqual((status, printed), (2, ""))
+                self.assertIn("is not a case in JSON", said)
+
+    def test_refusal(self):
+        with tempfile.TemporaryDirectory() as folder:
+            tariff = os.path.join(folder, "tariff.csv")
+            with open(tariff, "wb") as out:
+                out.write(b"2,6,3\n5,3,3\n")
+            status, printed, said = run("plan", tariff, files("case_a")[1])
+            self.assertEqual((status, printed), (1, "refusal,place\r\n21,5\r\n"))
+            self.assertIn("record 1, field 3, offset 5", said)
+            self.assertIn("LF without CR", said)
+            status, printed, said = run("plan", os.path.join(folder, "none.csv"), files("case_a")[1])
+            self.assertEqual((status, printed), (1, "refusal,place\r\n20,0\r\n"))
+
+    def test_help(self):
+        for name in ("plan", "page", "bounds", "rates", "flow"):
+            status, printed, _ = run(name, "--help")
+            self.assertEqual(status, 0)
+            self.assertIn(f"yadvorkhul {name}", printed)
+        self.assertEqual(run("dance")[0], 2)
+        self.assertEqual(run("plan", "a", "b", "c")[0], 2)
+
+    def test_lacking(self):
+        with mock.patch.object(yadvorkhul, "offers", lambda symbol: symbol == "yadvorkhul_plan"):
+            for name in ("bounds", "rates", "flow"):
+                status, printed, said = run_here(name, "1", "2", "3")
+                self.assertEqual((status, printed), (3, ""))
+                self.assertIn(f"no yadvorkhul_{name}", said)
+
+    def test_rates_and_bounds_when_offered(self):
+        found = types.SimpleNamespace(smallest=-3, largest=9, first=1, possible=[True, False])
+        with mock.patch.object(yadvorkhul, "offers", lambda symbol: True), mock.patch.object(
+            yadvorkhul, "rates", lambda supply: list(range(supply + 1)), create=True
+        ), mock.patch.object(yadvorkhul, "bounds", lambda *case: found, create=True):
+            self.assertEqual(run_here("rates", "2"), (0, "0\r\n1\r\n2\r\n", ""))
+            tariff, production = files("case_a")
+            due = "smallest,largest\r\n-3,9\r\nsplit,possible\r\n1,1\r\n2,0\r\n"
+            self.assertEqual(run_here("bounds", tariff, production, production), (0, due, ""))
+
+    def test_page_without_libraries(self):
+        for name in ("jinja2", "matplotlib"):
+            with mock.patch.dict(sys.modules, {name: None}):
+                status, _, said = run_here("page", *files("case_a"), "-o", os.devnull)
+                self.assertEqual(status, 3)
+                self.assertIn("apt-get install -y python3-jinja2 python3-matplotlib", said)
+                self.assertEqual(run_here("plan", *files("case_a")), (0, PRINTED, ""))
+
+
+if __name__ == "__main__":
+    unittest.main()

@@ -1,0 +1,122 @@
+"""The picture of a plan: total, freight and production over the splits, as SVG. Needs Matplotlib."""
+
+import io
+import re
+
+from .curve import Curve
+from .words import grouped, increase
+
+INK, BLUE, GREEN, ORANGE, GREY = "#1b1f24", "#0b5cad", "#1a7f37", "#b35900", "#57606a"
+MOST_LABELS = 6  # of rivals that get their numbers in the picture
+BEHIND = dict(facecolor="white", edgecolor="none", alpha=0.8, pad=0.8)  # of a label
+MOST_DOTS = 60  # splits that are drawn one by one
+
+
+def _lines(axes, curve: Curve, values, color, width=1.6):
+    splits = [s.split for s in curve.splits]
+    dots = dict(marker="o", markersize=3.2) if len(splits) <= MOST_DOTS else {}
+    axes.plot(splits, values, color=color, linewidth=width, **dots)
+    if len(splits) == 1:
+        axes.set_xlim(splits[0] - 1, splits[0] + 1)
+    if min(values) == max(values):
+        axes.set_ylim(values[0] - 1, values[0] + 1)
+
+
+def _frame(axes, title: str, ticker, wide: bool):
+    axes.set_title(title, loc="left", fontsize=10, color=INK)
+    axes.grid(True, color="#d8dee4", linewidth=0.6)
+    axes.margins(x=0.04, y=0.18)
+    axes.yaxis.set_major_formatter(ticker.FuncFormatter(lambda value, _: grouped(int(value)) if value == int(value) else ""))
+    axes.xaxis.set_major_formatter(ticker.FuncFormatter(lambda value, _: grouped(int(value)) if value == int(value) else ""))
+    axes.xaxis.set_major_locator(ticker.MaxNLocator(nbins=7 if wide else 4, integer=True, steps=[1, 2, 5, 10]))
+    axes.yaxis.set_major_locator(ticker.MaxNLocator(nbins=5, integer=True))
+    axes.tick_params(labelsize=8, colors=GREY)
+    for side in ("top", "right"):
+        axes.spines[side].set_visible(False)
+
+
+def _total(axes, curve: Curve):
+    """The total with the split given, the ties and every other local minimum."""
+    _lines(axes, curve, [s.total for s in curve.splits], INK, 1.9)
+    least = curve.given.total
+    rivals = [v for v in curve.valleys if v.first is not curve.given]
+    for valley in rivals:
+        axes.plot([valley.first.split, valley.last.split], [valley.first.total] * 2, color=ORANGE, linewidth=2.5)
+        axes.plot([valley.first.split], [valley.first.total], marker="D", markersize=6, color=ORANGE)
+    axes.axhline(least, color=GREEN, linewidth=0.8, linestyle=(0, (4, 3)))
+    axes.plot([curve.given.split], [least], marker="*", markersize=14, color=GREEN)
+    _label(axes, curve.given, f"given: {grouped(curve.given.split)}, total {grouped(least)}", GREEN, weight="bold")
+    for valley in sorted(rivals, key=lambda v: v.more)[:MOST_LABELS]:
+        _label(axes, valley.first, "equal" if valley.more == 0 else increase(valley.more, least), ORANGE)
+
+
+def _label(axes, at, text: str, color: str, **more):
+    """A text below a point of the total."""
+    axes.annotate(
+        text, (at.split, at.total), xytext=(0, -17), textcoords="offset points", ha="center", fontsize=8, color=color, bbox=BEHIND, **more
+    )
+
+
+def _settle(figure, axes):
+    """Moves a label that would pass an end of the axes inwards, then one that would cover an earlier one above its point, and leaves
+    it out where it still would."""
+    figure.canvas.draw()
+    box = axes.get_window_extent()
+    placed = []
+    for text in list(axes.texts):
+        extent = text.get_window_extent()
+        if extent.x0 < box.x0:
+            text.set_ha("left")
+        elif extent.x1 > box.x1:
+            text.set_ha("right")
+        if text.get_window_extent().count_overlaps(placed):
+            text.set_position((0, 9))
+        if text.get_window_extent().count_overlaps(placed):
+            text.remove()
+        else:
+            placed.append(text.get_window_extent())
+
+
+def svg(curve: Curve, stops, width: float = 8.4, name: str = "picture") -> str:
+    """The picture as an `svg` element, so many inches wide; its words are text. Two pictures on a page have two names."""
+    import matplotlib
+    from matplotlib import ticker
+    from matplotlib.backends.backend_agg import FigureCanvasAgg
+    from matplotlib.figure import Figure
+
+    settings = {"svg.fonttype": "none", "svg.hashsalt": name, "font.family": "DejaVu Sans"}
+    with matplotlib.rc_context(settings):
+        figure = Figure(figsize=(width, 7.2), constrained_layout=True)
+        FigureCanvasAgg(figure)
+        total, freight, production = figure.subplots(3, 1, sharex=True, gridspec_kw={"height_ratios": [2.2, 1.2, 1.2]})
+        for axes, title in ((total, "Total"), (freight, "Freight, with its stops"), (production, "Production table")):
+            _frame(axes, title, ticker, width > 6)
+        _total(total, curve)
+        _lines(freight, curve, [s.freight for s in curve.splits], BLUE)
+        freight.plot(*zip(*stops), linestyle="", marker="o", markersize=6, markerfacecolor="white", markeredgecolor=BLUE, markeredgewidth=1.6)
+        _lines(production, curve, [s.production for s in curve.splits], GREY)
+        for axes in (total, freight, production):
+            axes.axvline(curve.given.split, color=GREEN, linewidth=0.8, linestyle=(0, (4, 3)), zorder=0)
+        production.set_xlabel("drums that plant 1 makes", fontsize=9, color=INK)
+        _settle(figure, total)
+        out = io.StringIO()
+        figure.savefig(out, format="svg", metadata={"Date": None, "Creator": None})
+    return _embedded(out.getvalue(), _words(curve))
+
+
+def _words(curve: Curve) -> str:
+    given, rivals = curve.given, len(curve.valleys) - 1
+    return (
+        f"Total, freight and production for plant 1 making {curve.splits[0].split} to {curve.splits[-1].split} drums. The total is least at "
+        f"{given.split}, where it is {grouped(given.total)}; it has {rivals} other local minima."
+    )
+
+
+def _embedded(text: str, words: str) -> str:
+    """The `svg` element alone, as wide as its place, with words for those who do not see it."""
+    text = text[text.index("<svg") :]
+    text = re.sub(r"<metadata>.*?</metadata>", "", text, flags=re.DOTALL)
+    text = re.sub(r'<g id="[^"]*"', "<g", text)
+    head, rest = text.split(">", 1)
+    head = re.sub(r' (width|height)="[^"]*"', "", head)
+    return f'{head} role="img" aria-label="{words}">{rest}'.strip()

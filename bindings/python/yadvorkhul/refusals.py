@@ -1,0 +1,253 @@
+"""What a refusal means for a person: a sentence, what to do, and the place in the file, with the usual cause where the byte tells it."""
+
+from typing import List, NamedTuple, Optional, Tuple
+
+from . import Case, Refusal
+from .files import COMMA, CR, LF, MINUS, NINE, QUOTE, TARIFF, ZERO, File, FileRefusal, formed, read_records
+from .words import counted, grouped
+
+_ADVICE = {
+    1: "Plan regions apart, or join depots that lie together.",
+    2: "Plan regions apart, or join terminals that lie together.",
+    3: "Look for a missing or doubled row; each source has one unit cost for each terminal.",
+    4: "Look at that number; plan in a larger unit if it is right.",
+    5: "Look at that cost; use a larger coin if it is right.",
+    6: "Give one entry for each output of plant 1, 0 and its supply included.",
+    7: "No plan exists: the stock and what must be made cannot all leave. Lower a stock or a least run, or raise a demand.",
+    8: "No plan exists. Raise a capacity or a stock, or lower a demand.",
+    9: "Look at that entry; use a larger coin if it is right.",
+    20: "Look at its path and size.",
+    21: "Look at the marked byte. A number has 1 to 10 digits, the first not 0, or is a single 0; commas part the fields, and each record ends in CR LF.",
+    22: "Look for a missing or doubled comma, or a decimal comma.",
+    23: "Lower the run or raise that plant's supply; 0 is no run.",
+    26: "Give one ceiling for each lane, in the order of the costs; 4,000 where there is none.",
+    27: "Look for a terminal, a depot or a plant with a least run whose lanes together are too narrow, then for groups of them; raise a ceiling or lower a run.",
+}
+
+
+class Line(NamedTuple):
+    """A line of a file around the place, cut to what fits; `marked` is empty but in the line of the place."""
+
+    number: int
+    before: str
+    marked: str
+    after: str
+
+
+class Spot(NamedTuple):
+    """A place in a file."""
+
+    file: File
+    offset: int  # from 0
+    record: int  # from 1
+    field: int  # from 1
+    byte: str  # what stands there
+    cause: str  # the usual cause, or nothing
+    lines: List[Line]
+
+
+class Explained(NamedTuple):
+    number: int
+    place: int
+    sentence: str
+    advice: str
+    facts: List[Tuple[str, str]]  # what the numbers of the case say of it
+    spot: Optional[Spot]
+
+
+# bytes ---------------------------------------------------------------------------------------------------------------------------
+
+
+def _byte(data: bytes, at: int) -> int:
+    return data[at] if 0 <= at < len(data) else -1
+
+
+def _digit(byte: int) -> bool:
+    return ZERO <= byte <= NINE
+
+
+def _letter(byte: int) -> bool:
+    return chr(byte).isascii() and chr(byte).isalpha() or byte >= 128
+
+
+def _leads(data: bytes, at: int) -> bool:
+    """Whether a 0 that a number of several digits begins with stands there."""
+    back = _byte(data, at - 1)
+    begins = back in (-1, COMMA, MINUS, LF) or back == QUOTE and not _digit(_byte(data, at - 2))
+    return _byte(data, at) == ZERO and _digit(_byte(data, at + 1)) and begins
+
+
+def cause_of(data: bytes, at: int) -> str:
+    """What stands where refusal 21 is, with the usual cause, by the byte there and those beside it; empty where they do not tell it."""
+    byte, back = _byte(data, at), _byte(data, at - 1)
+    first_record = LF not in data[:at]
+    if byte == -1:
+        return "the end of the file; a tariff ends in the record of the demands and its empty last field, a production table in an entry"
+    if back == LF and _byte(data, at - 3) == COMMA:
+        return "more after the record of the demands, which is the last: it alone has an empty last field"
+    if _leads(data, at):
+        return "a number with 0 in front, perhaps an item code"
+    if at == 0 and (data.startswith(b"\xef\xbb\xbf") or data[:2] in (b"\xff\xfe", b"\xfe\xff")):
+        return "a byte order mark; save the file as plain text without one"
+    if byte == LF:
+        return "a line that ends in LF without CR; records end in CR LF"
+    if byte == 59:
+        return "a semicolon; fields are parted by commas"
+    if byte == 46:
+        return "a decimal point; numbers are whole"
+    if byte == COMMA and (_digit(back) or back == QUOTE):
+        return "a decimal comma; numbers are whole"
+    if byte in (COMMA, CR) and back in (-1, COMMA, LF):
+        return "an empty field; only the last field of the demands is empty"
+    if byte in (32, 9, 160) or data[at : at + 2] == b"\xc2\xa0":
+        return "a space; a number has digits alone"
+    if _letter(byte) and first_record:
+        return "a letter, perhaps of a header line; the files have none"
+    if byte == MINUS:
+        return "a minus; it can stand only before a unit cost"
+    if _digit(byte) and _digit(back):
+        return "a number of more than ten digits"
+    return ""
+
+
+_NAMES = {-1: "the end of the file", 0: "NUL", 9: "a tab", LF: "LF", CR: "CR", 32: "a space"}
+
+
+def _name(data: bytes, at: int) -> str:
+    byte = _byte(data, at)
+    if byte in _NAMES:
+        return _NAMES[byte] if byte < 0 else f"{_NAMES[byte]} (byte {byte})"
+    return f"{chr(byte)} (byte {byte})" if 32 < byte < 127 else f"byte {byte} (hexadecimal {byte:02x})"
+
+
+_SHOWN = {CR: "\u2039CR\u203a", LF: "\u2039LF\u203a", 9: "\u2039TAB\u203a"}
+
+
+def _shown(data: bytes) -> str:
+    """Bytes for the eye: names for CR, LF and tab, hexadecimal for what is not ASCII, all in angle quotes."""
+    return "".join(_SHOWN.get(b) or (chr(b) if 32 <= b < 127 else f"\u2039{b:02x}\u203a") for b in data)
+
+
+_WIDE = 48  # bytes that are shown on each side of the place
+
+
+def _marked(data: bytes, number: int, start: int, end: int, low: int, high: int) -> Line:
+    """The line from start to end, its part from low to high set apart, and no more than fits on each side."""
+    left, right = max(start, low - _WIDE), min(end, high + _WIDE)
+    before = ("\u2026" if start < left else "") + _shown(data[left:low])
+    after = _shown(data[high:right]) + ("\u2026" if right < end else "")
+    return Line(number, before, _shown(data[low:high]) or "\u2039end\u203a", after)
+
+
+def _plain(data: bytes, number: int, start: int, end: int) -> Line:
+    cut = min(end, start + 2 * _WIDE)
+    return Line(number, _shown(data[start:cut]) + ("\u2026" if cut < end else ""), "", "")
+
+
+def _lines(data: bytes, low: int, high: int) -> List[Line]:
+    """The line of the place, two before it and two after it."""
+    bounds = [0] + [i + 1 for i, b in enumerate(data) if b == LF]
+    if bounds[-1] < len(data) or low == len(data):
+        bounds.append(len(data))
+    here = data[:low].count(LF)
+    found = []
+    for k in range(max(0, here - 2), min(len(bounds) - 1, here + 3)):
+        start, end = bounds[k], bounds[k + 1]
+        found.append(_marked(data, k + 1, start, end, low, high) if k == here else _plain(data, k + 1, start, end))
+    return found
+
+
+def spot_of(file: File, low: int, high: int, cause: str) -> Spot:
+    """The place from offset low to high, by its record and field."""
+    data = file.data
+    record_start = data.rfind(b"\n", 0, low) + 1
+    record, field = data[:low].count(LF) + 1, data[record_start:low].count(COMMA) + 1
+    return Spot(file, low, record, field, _name(data, low), cause, _lines(data, low, high))
+
+
+# sentences -----------------------------------------------------------------------------------------------------------------------
+
+
+def _explain_file(refusal: FileRefusal) -> Explained:
+    file, number, place = refusal.file, refusal.number, refusal.place
+    name = f"the {file.kind} file {file.path}"
+    spot = None
+    if number == 20 and file.data is None:
+        sentence = f"{name} cannot be opened and read."
+    elif number == 20:
+        sentence = f"{name} is longer than 65,536 bytes."
+    elif number == 21:
+        spot = spot_of(file, place, place + 1, cause_of(file.data, place))
+        at = f"record {spot.record}, field {spot.field}, offset {place} counted from 0"
+        ends = place >= len(file.data)
+        sentence = f"{name} ends too soon: {at}." if ends else f"{name} has a byte that cannot stand there: {at}."
+    else:
+        records = formed(file)
+        odd, wanted = records[place - 1], len(records[0]) if file.kind == TARIFF else 1
+        than = "record 1 has" if file.kind == TARIFF else "each has"
+        sentence = f"record {place} of {name} has {counted(len(odd), 'field')}; {than} {wanted}."
+        if len(odd) > wanted:
+            low, high, cause = odd[wanted].start, odd[-1].end, "a field too many, perhaps after a decimal comma; numbers are whole"
+        else:
+            low, high, cause = odd[-1].end, odd[-1].end + 1, "the end of a record that has too few fields"
+        spot = spot_of(file, low, max(high, low + 1), cause)
+    return Explained(number, place, sentence, _ADVICE[number], [], spot)
+
+
+def _field_spot(file: Optional[File], record: int, field: int) -> Optional[Spot]:
+    """A whole field of a file that is of the form."""
+    if file is None:
+        return None
+    found = read_records(file)[record - 1][field - 1]
+    return spot_of(file, found.start, found.end, "")
+
+
+def _balance(case: Case) -> List[Tuple[str, str]]:
+    demand, stock = sum(case.demands), sum(case.supplies[2:])
+    facts = [("all demands", demand), ("all depot stock", stock), ("so the plants must make", demand - stock)]
+    facts += [("the plants can make", sum(case.supplies[:2])), ("the plants' least runs", sum(case.runs))]
+    return [(name, grouped(number)) for name, number in facts]
+
+
+def explain_case(refusal: Refusal, case: Case, tariff: Optional[File] = None, production: Optional[File] = None) -> Explained:
+    """A refusal of a case, shown in its files where it came from some."""
+    number, place = refusal.number, refusal.place
+    m, n = len(case.supplies), len(case.demands)
+    sentence, facts, spot = str(refusal).split(": ", 1)[1] + ".", [], None
+    if number in (1, 2, 3):
+        facts = [("sources", grouped(m)), ("terminals", grouped(n)), ("rows of costs", grouped(len(case.costs)))]
+    elif number == 4 and place <= m:
+        sentence = f"the supply of source {place} is above 4,000."
+        facts = [(f"supply of source {place}", grouped(case.supplies[place - 1]))]
+        spot = _field_spot(tariff, place, n + 1)
+    elif number == 4:
+        sentence = f"the demand of terminal {place - m} is above 4,000."
+        facts = [(f"demand of terminal {place - m}", grouped(case.demands[place - m - 1]))]
+        spot = _field_spot(tariff, m + 1, place - m)
+    elif number == 5 or number == 26 and place:
+        i, j = (place - 1) // n, (place - 1) % n
+        what, most = ("unit cost", "below \u22121,000,000 or above 1,000,000") if number == 5 else ("ceiling", "above 4,000")
+        rows = case.costs if number == 5 else case.ceilings
+        sentence = f"the {what} from source {i + 1} to terminal {j + 1} is {most}."
+        facts = [(what, grouped(rows[i][j]))]
+        spot = _field_spot(tariff, i + 1, j + 1) if number == 5 else None
+    elif number == 6:
+        facts = [("entries", grouped(len(case.table))), ("supply of plant 1", grouped(case.supplies[0]))]
+        facts += [("entries wanted", grouped(case.supplies[0] + 1))]
+    elif number in (7, 8, 27):
+        facts = _balance(case)
+    elif number == 9:
+        sentence = f"the entry of split {place} is above 1,000,000,000."
+        facts = [(f"entry of split {place}", grouped(case.table[place]))]
+        spot = _field_spot(production, place + 1, 1)
+    elif number == 23:
+        sentence = f"the least run of plant {place} is above its supply."
+        facts = [("least run", grouped(case.runs[place - 1])), ("supply", grouped(case.supplies[place - 1]))]
+    return Explained(number, place, sentence, _ADVICE.get(number, ""), facts, spot)
+
+
+def explain(refusal: Refusal, case: Optional[Case] = None, tariff: Optional[File] = None, production: Optional[File] = None) -> Explained:
+    """What a refusal means, by the case it is about, or by the file that it names."""
+    if isinstance(refusal, FileRefusal):
+        return _explain_file(refusal)
+    return explain_case(refusal, case, tariff, production)
