@@ -4,8 +4,6 @@ ghost use Rattle.planner.specs.Verdict.{lent};
 ghost use Rattle.planner.specs.Answer.{outcome, slices, Answered};
 use crate::solve::solve;
 use crate::tests::Made;
-use crate::tests::Verdict;
-use crate::tests::form_test;
 use crate::tests::made_of;
 
 pub mod judge;
@@ -13,6 +11,10 @@ pub mod limits;
 mod solve;
 mod tests;
 mod work;
+
+pub use tests::Verdict;
+pub use tests::form_test;
+pub use tests::out_of_range;
 
 // A plan was found, or the case is refused.
 pub enum Answer {

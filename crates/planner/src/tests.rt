@@ -36,7 +36,7 @@ pub fn first_above(s: &[u64], limit: u64) -> Found
 }
 
 // Is the unit cost below -1,000,000 or above 1,000,000?
-fn out_of_range(cost: i64) -> bool
+pub fn out_of_range(cost: i64) -> bool
     ensures { λ r. ⌜ r ≡ outside cost ⌝ }
 {
     if cost < -1_000_000 {

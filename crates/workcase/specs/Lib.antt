@@ -1,0 +1,8 @@
+pub mod State
+pub mod Calls
+pub mod Store
+pub mod Promise
+pub mod Inner
+pub mod Planning
+pub mod History
+pub mod Seeing

@@ -1,0 +1,45 @@
+-- The working case and its marks, as mathematics: no cell is named here. Assumes nothing.
+use mathlib.Core.Option.{Option, none}
+use mathlib.Core.List.{List}
+use Prim.Native.Nat.{ℕ}
+use lib.IntN.{ℤ}
+use Rattle.planner.specs.Case.{Case}
+
+-- a whole case, without the slices that a plan is written to
+pub record Draft : Type 0 where
+  pub m : ℕ
+  pub n : ℕ
+  -- the two plants' least runs
+  pub run1 : ℕ
+  pub run2 : ℕ
+  pub supplies : List ℕ
+  pub demands : List ℕ
+  pub costs : List ℤ
+  pub ceilings : List ℕ
+  pub table : List ℕ
+
+-- the working case, and what each mark holds; marks are numbered 1 to 8
+pub record State : Type 0 where
+  pub case : Draft
+  pub marks : ℕ → Option Draft
+
+-- the case that is lent to the planner, with slices of so many cells to write
+abbrev pub lentWith : Draft → ℕ → ℕ → ℕ → Case
+lentWith d p q r = record {
+  m = d .m;
+  n = d .n;
+  run1 = d .run1;
+  run2 = d .run2;
+  costs = d .costs;
+  supplies = d .supplies;
+  demands = d .demands;
+  ceilings = d .ceilings;
+  table = d .table;
+  planCells = p;
+  splitCells = q;
+  freightCells = r;
+}
+
+-- a case once accepted: no mark is set
+abbrev pub entered : Draft → State
+entered d = record { case = d; marks = λ _. none }
