@@ -1,0 +1,4 @@
+pub mod RoleLaws
+pub mod Allowed
+pub mod Gate
+pub mod Blind

@@ -1,0 +1,37 @@
+-- `roles::edit_cost` meets its contract. Assumes nothing.
+use mathlib.Core.Path.{refl}
+use Rattle.workcase.specs.Calls.{editCost}
+use Rattle.roles.specs.Deeds.{work, column, first}
+use mir.Syntax.{w64}
+use mir.ValLaws.{toZ-ofZ}
+use Rattle.roles.proofs.Gate.{let-in, kept-out, by-call, by-role, same-cost}
+use borrow.Author.Needs.{needs}
+use Rattle.roles.proofs.edit_cost.Statement.{statement}
+use Rattle.roles.proofs.edit_cost.Tie as tie
+
+may-requires : tie.Need-may-requires
+may-requires c κs = search needs
+
+edit-cost-requires : tie.Need-edit-cost-requires
+edit-cost-requires c κs = search needs
+
+same-length : tie.Need-same-length
+same-length c = search needs
+
+returns : tie.Need-returns
+unfolding column first
+returns c = by-call _ _ _ _ _ (let-in _ (work (editCost (c .before .before .before .before .before .before .before .args .i) (c .before .before .before .before .before .before .before .args .j) (c .before .before .before .before .before .before .before .args .value))) _ (c .before .before .before .before .before .may .ensures) refl (c .before .before .before .before .if1 .taken)) (same-cost _ _ _ _ _ _ _ (toZ-ofZ w64 (c .before .before .before .before .before .before .before .args .value) (c .before .before .before .before .before .before .before .fits .value)) (c .before .before .edit-cost .ensures))
+
+returns-2 : tie.Need-returns-2
+unfolding column first
+returns-2 c = by-role _ _ _ (kept-out _ (work (editCost (c .before .before .before .args .i) (c .before .before .before .args .j) (c .before .before .before .args .value))) _ (c .before .may .ensures) (c .if1 .left))
+
+pub edit-cost-spec : {M : Type 1} → statement M
+edit-cost-spec =
+    tie.close
+    (tie.spec
+    may-requires
+    edit-cost-requires
+    same-length
+    returns
+    returns-2)

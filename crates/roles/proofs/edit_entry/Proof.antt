@@ -1,0 +1,35 @@
+-- `roles::edit_entry` meets its contract. Assumes nothing.
+use mathlib.Core.Path.{refl}
+use Rattle.workcase.specs.Calls.{editEntry}
+use Rattle.roles.specs.Deeds.{work, column, first}
+use Rattle.roles.proofs.Gate.{let-in, kept-out, by-call, by-role}
+use borrow.Author.Needs.{needs}
+use Rattle.roles.proofs.edit_entry.Statement.{statement}
+use Rattle.roles.proofs.edit_entry.Tie as tie
+
+may-requires : tie.Need-may-requires
+may-requires c κs = search needs
+
+edit-entry-requires : tie.Need-edit-entry-requires
+edit-entry-requires c κs = search needs
+
+same-length : tie.Need-same-length
+same-length c = search needs
+
+returns : tie.Need-returns
+unfolding column first
+returns c = by-call _ _ _ _ _ (let-in _ (work (editEntry (c .before .before .before .before .before .before .before .args .y) (c .before .before .before .before .before .before .before .args .value))) _ (c .before .before .before .before .before .may .ensures) refl (c .before .before .before .before .if1 .taken)) (c .before .before .edit-entry .ensures)
+
+returns-2 : tie.Need-returns-2
+unfolding column first
+returns-2 c = by-role _ _ _ (kept-out _ (work (editEntry (c .before .before .before .args .y) (c .before .before .before .args .value))) _ (c .before .may .ensures) (c .if1 .left))
+
+pub edit-entry-spec : {M : Type 1} → statement M
+edit-entry-spec =
+    tie.close
+    (tie.spec
+    may-requires
+    edit-entry-requires
+    same-length
+    returns
+    returns-2)

@@ -1,0 +1,35 @@
+-- `roles::go_back` meets its contract. Assumes nothing.
+use mathlib.Core.Path.{refl}
+use Rattle.workcase.specs.Calls.{goBack}
+use Rattle.roles.specs.Deeds.{work, column, first}
+use Rattle.roles.proofs.Gate.{let-in, kept-out, by-call, by-role}
+use borrow.Author.Needs.{needs}
+use Rattle.roles.proofs.go_back.Statement.{statement}
+use Rattle.roles.proofs.go_back.Tie as tie
+
+may-requires : tie.Need-may-requires
+may-requires c κs = search needs
+
+go-back-requires : tie.Need-go-back-requires
+go-back-requires c κs = search needs
+
+same-length : tie.Need-same-length
+same-length c = search needs
+
+returns : tie.Need-returns
+unfolding column first
+returns c = by-call _ _ _ _ _ (let-in _ (work (goBack (c .before .before .before .before .before .before .before .args .k))) _ (c .before .before .before .before .before .may .ensures) refl (c .before .before .before .before .if1 .taken)) (c .before .before .go-back .ensures)
+
+returns-2 : tie.Need-returns-2
+unfolding column first
+returns-2 c = by-role _ _ _ (kept-out _ (work (goBack (c .before .before .before .args .k))) _ (c .before .may .ensures) (c .if1 .left))
+
+pub go-back-spec : {M : Type 1} → statement M
+go-back-spec =
+    tie.close
+    (tie.spec
+    may-requires
+    go-back-requires
+    same-length
+    returns
+    returns-2)

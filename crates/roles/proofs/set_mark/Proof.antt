@@ -1,0 +1,35 @@
+-- `roles::set_mark` meets its contract. Assumes nothing.
+use mathlib.Core.Path.{refl}
+use Rattle.workcase.specs.Calls.{setMark}
+use Rattle.roles.specs.Deeds.{work, column, first}
+use Rattle.roles.proofs.Gate.{let-in, kept-out, by-call, by-role}
+use borrow.Author.Needs.{needs}
+use Rattle.roles.proofs.set_mark.Statement.{statement}
+use Rattle.roles.proofs.set_mark.Tie as tie
+
+may-requires : tie.Need-may-requires
+may-requires c κs = search needs
+
+set-mark-requires : tie.Need-set-mark-requires
+set-mark-requires c κs = search needs
+
+same-length : tie.Need-same-length
+same-length c = search needs
+
+returns : tie.Need-returns
+unfolding column first
+returns c = by-call _ _ _ _ _ (let-in _ (work (setMark (c .before .before .before .before .before .before .before .args .k))) _ (c .before .before .before .before .before .may .ensures) refl (c .before .before .before .before .if1 .taken)) (c .before .before .set-mark .ensures)
+
+returns-2 : tie.Need-returns-2
+unfolding column first
+returns-2 c = by-role _ _ _ (kept-out _ (work (setMark (c .before .before .before .args .k))) _ (c .before .may .ensures) (c .if1 .left))
+
+pub set-mark-spec : {M : Type 1} → statement M
+set-mark-spec =
+    tie.close
+    (tie.spec
+    may-requires
+    set-mark-requires
+    same-length
+    returns
+    returns-2)

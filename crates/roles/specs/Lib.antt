@@ -1,0 +1,4 @@
+pub mod Roles
+pub mod Deeds
+pub mod Promise
+pub mod Secrecy
