@@ -7,8 +7,10 @@ use super::engine::{mark, measure, push, Cells, Masks, Nodes};
 /// For each source a bit for each terminal that it has a free lane to.
 type Ways = [u64; 32];
 
-/// The terminals and the sources that are not reached yet, and the sources that are and are to be looked at, a bit for each.
+/// The terminals that a source other than the start may serve; the terminals of these and the sources that are not reached yet, and the sources
+/// that are and are to be looked at, a bit for each.
 struct Front {
+    supplied: u64,
     terminals: u64,
     sources: u32,
     wait: u32,
@@ -51,9 +53,10 @@ impl Front {
     }
 
     /// Reaches each terminal that source i has room to send to, the last first, and each source that sends there, until one has room to
-    /// send to the goal.
+    /// send to the goal. A terminal that no source but the start serves any longer is of no use.
     fn look_ahead(
         &mut self,
+        start: usize,
         i: usize,
         goal: usize,
         ways: &Ways,
@@ -62,11 +65,14 @@ impl Front {
         serves: &mut Masks,
         prev: &mut Nodes,
     ) -> bool {
-        let mut rest = ways[i] & self.terminals;
+        let mut rest = ways[i] & (self.terminals - (1 << goal));
         while 0 < rest {
             let j = 63 - rest.leading_zeros() as usize;
             rest -= 1 << j;
-            if has_room(i, j, free, x) {
+            if serves[j] & (u32::MAX - (1 << start)) == 0 {
+                self.supplied -= 1 << j;
+                self.terminals -= 1 << j;
+            } else if has_room(i, j, free, x) {
                 prev[32 + j] = i as u32;
                 self.terminals -= 1 << j;
                 if self.look_back(j, goal, free, x, serves, prev) {
@@ -78,22 +84,24 @@ impl Front {
     }
 }
 
-/// Looks for a way from source i to terminal j over free lanes, by terminals that get drums; the nodes before go into prev.
+/// Looks for a way from source i to terminal j over free lanes, by terminals that a source after i may serve; the nodes before go into prev.
 fn roam(
     i: usize,
     j: usize,
     ways: &Ways,
-    supplied: u64,
     free: &Cells,
     x: &Cells,
+    supplied: &mut u64,
     serves: &mut Masks,
     prev: &mut Nodes,
 ) -> bool {
-    let mut front = Front { terminals: supplied, sources: u32::MAX - (1 << i), wait: 1 << i };
+    let mut front = Front { supplied: *supplied, terminals: *supplied, sources: u32::MAX - (1 << i), wait: 1 << i };
     while 0 < front.wait {
         let v = front.wait.trailing_zeros() as usize;
         front.wait &= front.wait - 1;
-        if front.look_ahead(v, j, ways, free, x, serves, prev) {
+        let found = front.look_ahead(i, v, j, ways, free, x, serves, prev);
+        *supplied = front.supplied;
+        if found {
             return true;
         }
     }
@@ -108,9 +116,9 @@ fn resend(
     j: usize,
     amount: u32,
     ways: &Ways,
-    supplied: u64,
     free: &Cells,
     x: &mut Cells,
+    supplied: &mut u64,
     serves: &mut Masks,
 ) -> u32 {
     if (0..m).rev().all(|v| !has_room(v, j, free, x)) {
@@ -119,7 +127,7 @@ fn resend(
     let mut prev = [0u32; 96];
     let mut left = amount;
     while 0 < left {
-        if !roam(i, j, ways, supplied, free, x, serves, &mut prev) {
+        if !roam(i, j, ways, free, x, supplied, serves, &mut prev) {
             break;
         }
         let (count, part) = measure(&prev, i, 32 + j, left, x, free);
@@ -130,11 +138,6 @@ fn resend(
     left
 }
 
-/// The members that are not 0, a bit for each.
-fn mask(members: impl Iterator<Item = u32>) -> u64 {
-    members.enumerate().fold(0, |mask, (j, a)| mask | u64::from(0 < a) << j)
-}
-
 /// Puts the plan for everybody in the place of a plan that is cheapest by the given potentials. Cheapest plans differ on tight lanes only;
 /// each of these in turn keeps what cannot go another way, and is closed.
 pub fn canonize(m: usize, n: usize, cost: &Cells, cap: &Cells, pot: &Nodes, plan: &mut Cells) {
@@ -143,21 +146,21 @@ pub fn canonize(m: usize, n: usize, cost: &Cells, cap: &Cells, pot: &Nodes, plan
     for i in 0..m {
         for j in 0..n {
             let k = i * 64 + j;
-            let when = |a: u32| if cost[k] + pot[i] == pot[32 + j] { a } else { 0 };
-            let part = when(plan[k]);
-            aside[k] = plan[k] - part;
-            free[k] = when(cap[k]);
-            x[k] = part;
-            if 0 < part {
+            let unless = |a: u32| if cost[k] + pot[i] == pot[32 + j] { 0 } else { a };
+            let kept = unless(plan[k]);
+            aside[k] = kept;
+            free[k] = cap[k] - unless(cap[k]);
+            x[k] = plan[k] - kept;
+            if kept < plan[k] {
                 serves[j] |= 1 << i;
             }
         }
     }
     for i in 0..m {
-        ways[i] = mask((0..n).map(|j| free[i * 64 + j]));
+        ways[i] = (0..n).fold(0, |mask, j| mask | u64::from(0 < free[i * 64 + j]) << j);
     }
+    let mut supplied = u64::MAX;
     for i in 0..m {
-        let supplied = mask(serves[..n].iter().copied());
         while 0 < ways[i] {
             let j = ways[i].trailing_zeros() as usize;
             let k = i * 64 + j;
@@ -165,7 +168,8 @@ pub fn canonize(m: usize, n: usize, cost: &Cells, cap: &Cells, pot: &Nodes, plan
             free[k] = 0;
             x[k] = 0;
             if 0 < amount {
-                aside[k] += resend(m, i, j, amount, &ways, supplied, &free, &mut x, &mut serves);
+                supplied |= 1 << j;
+                aside[k] += resend(m, i, j, amount, &ways, &free, &mut x, &mut supplied, &mut serves);
             }
             ways[i] &= ways[i] - 1;
         }

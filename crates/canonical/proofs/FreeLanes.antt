@@ -1,24 +1,21 @@
 -- The free lanes of each source and the terminals that are served, bit by bit. Assumes nothing.
 use mathlib.Core.Path.{_≡_, ap, _∙_}
-use mathlib.Core.Logic.{_≢_}
 use mathlib.Core.List.{List}
-use Prim.Native.Nat.{ℕ, _+_, _^_, _≤_, _<_}
+use Prim.Native.Nat.{ℕ, _+_, _-_, _^_, _≤_, _<_}
 use native.Mathlib.Decide.{ℕ-discrete}
 use native.Mathlib.Omega.{arith}
 use lib.ListN.{length, set, length-set}
 use lib.Seq.{getD-set-same, getD-set-other}
-use lib.Pow.{pow-pos, pow-lt, pow-mono}
+use lib.Pow.{pow-pos, pow-lt}
 use lib.Bits.{bitOr, or-lt}
-use Rattle.transport.specs.Plan.{col, Under}
+use Rattle.transport.specs.Plan.{Under}
 use Rattle.residual.specs.Cells.{cells}
 use Rattle.residual.specs.Network.{get}
 use Rattle.residual.specs.Bits.{bit}
-use Rattle.residual.specs.LanesInUse.{Covers}
-use Rattle.reachability.specs.Reachability.{Opens, Supplied}
-use Rattle.canonical.specs.Canonize.{Mask, Rerouting}
-use Rattle.transport.proofs.Sums.{sum-at, some-member}
-use Rattle.transport.proofs.PathFlow.{pulse-off}
-use Rattle.residual.proofs.Bits.{bit-none, bit-most, bit-or, bit-own}
+use Rattle.reachability.specs.Reachability.{Opens, Supplied, Known, Through}
+use Rattle.canonical.specs.Canonize.{Mask, Followed}
+use Rattle.residual.proofs.Bits.{bit-most, bit-or, bit-own}
+use Rattle.reachability.proofs.MaskBits.{bit-ones}
 
 -- the members before j are seen
 pub record MaskTo (n : ℕ) (v : ℕ → ℕ) (j r : ℕ) : Type 0 where
@@ -77,37 +74,47 @@ all-end q h = record { long = q .long; within = λ a l. q .rows a (omega arith) 
 
 -- ---- the terminals that are served
 
-pub supplied-start : {m n : ℕ} {x s : List ℕ} {r : ℕ} → n ≤ 64 → Covers m n x s → Mask n (λ j. get s j) r → Supplied m n x r
-supplied-start {m} {n} {x} {s} {r} hn c q = record {
-  fits = omega (arith, q .within, pow-mono {i = n} {j = 64} hn);
-  has = λ a b ha hb o. q .has b hb (some a b (c .serving a b ha hb o));
-}
-  where
-    some : (a b : ℕ) → bit (get s b) a ≡ 1 → 0 < get s b
-    some a b e = elim (ℕ-discrete (get s b) 0) [
-      | yes z ↦ absurd (omega (arith, ap (λ y. bit y a) z, bit-none a))
-      | no z ↦ omega arith
-    ]
+-- all of them
+pub supplied-all : {m n : ℕ} {x : List ℕ} → n ≤ 64 → Supplied m n 32 x (2 ^ 64 - 1)
+supplied-all h = record { fits = omega arith; has = λ a b ha hb z o. bit-ones 64 b (omega arith) }
 
--- no terminal that is not among them gets more
-pub supplied-still : {m n : ℕ} {x x' : List ℕ} {t : ℕ} → Supplied m n x t
-    → ((b : ℕ) → b < n → bit t b ≡ 0 → col m (cells x') b ≤ col m (cells x) b) → Supplied m n x' t
-unfolding col
-supplied-still {m} {n} {x} {x'} {t} u h = record {
+-- with terminal j
+pub supplied-more : {m n e : ℕ} {x : List ℕ} {t : ℕ} (j : ℕ) → j < 64 → Supplied m n e x t → Known m n e j x (bitOr t (2 ^ j))
+supplied-more {t = t} j h u = record {
+  supplied = record {
+    fits = or-lt 64 t (2 ^ j) (u .fits) (pow-lt {i = j} {j = 64} h);
+    has = λ a b ha hb z o. omega (arith, bit-or t (2 ^ j) b, u .has a b ha hb z o, bit-most (2 ^ j) b);
+  };
+  goal = omega (arith, bit-or t (2 ^ j) j, bit-own j, bit-most t j);
+}
+
+-- fewer drums
+pub supplied-under : {m n e : ℕ} {x x' : List ℕ} {t : ℕ} → Supplied m n e x t → Under m n (cells x') (cells x) → Supplied m n e x' t
+supplied-under u h = record { fits = u .fits; has = λ a b ha hb z o. u .has a b ha hb z (omega (arith, h a b ha hb)) }
+
+-- a way was followed
+pub known-next : {m n i j limit : ℕ} {f x x' P : List ℕ} {d t : ℕ} → Known m n i j x t → Through m n i j limit f x P t → Followed m n i j limit f x x' P d
+    → Known m n i j x' t
+known-next {x = x} {x' = x'} {t = t} k w d = record {
+  supplied = record {
+    fits = k .supplied .fits;
+    has = λ a b ha hb z o. elim (ℕ-discrete (cells x' a b) (cells x a b)) [
+      | yes e ↦ k .supplied .has a b ha hb z (omega arith)
+      | no e ↦ d .through t w a b ha hb e
+    ];
+  };
+  goal = k .goal;
+}
+
+-- every source but e, and e sends nothing
+pub supplied-whole : {m n e : ℕ} {x : List ℕ} {t : ℕ} → Supplied m n e x t → ((b : ℕ) → b < n → cells x e b ≡ 0) → Supplied m n 32 x t
+supplied-whole {e = e} {x = x} u h = record {
   fits = u .fits;
-  has = λ a b ha hb o. elim (ℕ-discrete (bit t b) 0) [
-    | yes z ↦
-        let w = some-member m (λ l. cells x l b) (omega (arith, h b hb z, sum-at m a (λ l. cells x' l b) ha)) in
-        u .has (w .0) b (w .1) hb (w .2)
-    | no z ↦ omega (arith, bit-most t b)
+  has = λ a b ha hb z o. elim (ℕ-discrete a e) [
+    | yes y ↦ absurd (omega (arith, h b hb, ap (λ v. cells x v b) y))
+    | no y ↦ u .has a b ha hb y o
   ];
 }
 
-pub supplied-again : {m n i j amount : ℕ} {f x x' : List ℕ} {left t : ℕ} → Supplied m n x t → bit t j ≡ 1 → Rerouting m n i j amount f x x' left
-    → Supplied m n x' t
-supplied-again {j = j} {amount = amount} {left = left} {t = t} u g q = supplied-still u (λ b hb e.
-    let z : j ≢ b = λ z. absurd (omega (arith, ap (λ y. bit t y) z)) in
-    omega (arith, q .cols b hb, pulse-off left j b z, pulse-off amount j b z))
-
-pub supplied-under : {m n : ℕ} {x x' : List ℕ} {t : ℕ} → Supplied m n x t → Under m n (cells x') (cells x) → Supplied m n x' t
-supplied-under u h = record { fits = u .fits; has = λ a b ha hb o. u .has a b ha hb (omega (arith, h a b ha hb)) }
+pub supplied-but : {m n e : ℕ} {x : List ℕ} {t : ℕ} → m ≤ 32 → Supplied m n 32 x t → Supplied m n e x t
+supplied-but h u = record { fits = u .fits; has = λ a b ha hb z o. u .has a b ha hb (omega arith) o }

@@ -22,7 +22,7 @@ use Rattle.reachability.specs.Reachability.{Opens, Supplied}
 use Rattle.canonical.specs.Canonize.{Unless, TightLane, PartedAt, free, aside, Settling, FreeReady, LaneSettled, Longs, CanonReady, Clear, LaneParted, PartedTo, Open, Onward, Canonized}
 use Rattle.residual.proofs.Bits.{bit-none, bit-place, low-set, rest-other, left-start, left-low, left-none, left-next}
 use Rattle.augment.proofs.LaneMarks.{cover-arc, cover-none, set-less}
-use Rattle.canonical.proofs.FreeLanes.{supplied-still}
+use Rattle.canonical.proofs.FreeLanes.{supplied-whole, supplied-but}
 use Rattle.canonical.proofs.Rerouting.{cover-under}
 use Rattle.canonical.proofs.LaneByLane.{settle-start, settle-next, settle-end}
 
@@ -268,7 +268,7 @@ pub record RowTo (m n i : ℕ) (o₀ f₀ x₀ o f x s w : List ℕ) (t all rest
   pub onward : Onward m n (i * 64) (i * 64 + hi) o₀ f₀ x₀ o f x
   pub state : Open m n o f x s w
   pub left : get w i ≡ rest
-  pub supplied : Supplied m n x t
+  pub supplied : Supplied m n i x t
 
 module _ {m n i : ℕ} {o₀ f₀ x₀ o f x s w : List ℕ} {t all rest : ℕ} (ha : i < m) (q : RowTo m n i o₀ f₀ x₀ o f x s w t all rest) where
   pub row-fits : rest < 2 ^ 64
@@ -287,21 +287,26 @@ module _ {m n i : ℕ} {o₀ f₀ x₀ o f x s w : List ℕ} {t all rest : ℕ} 
       lane : (a b : ℕ) → a < m → b < n → a ≡ i → cells f a b ≡ 0
       lane a b c d z = let y : rest ≡ 0 = omega arith in rw z (closed b d (ap (λ v. bit v b) y ∙ bit-none b))
 
+  pub row-supplied : rest ≤ 0 → Supplied m n 32 x t
+  row-supplied e =
+      let y : rest ≡ 0 = omega arith in
+      supplied-whole (q .supplied) (λ b hb. omega (arith, q .state .under i b ha hb, closed b hb (ap (λ v. bit v b) y ∙ bit-none b)))
+
   module _ (p : 0 < rest) where
     pub row-terminal : trailingZeros 64 rest < n
     row-terminal =
         bit-place n rest (trailingZeros 64 rest) (omega (arith, q .left, q .state .opens .within i ha)) (low-set 64 rest p row-fits)
 
     pub row-next : {o' f' x' s' : List ℕ} → LaneSettled m n i (trailingZeros 64 rest) o f x o' f' x' → Open m n o' f' x' s' w
-        → RowTo m n i o₀ f₀ x₀ o' f' x' s' (set w i (bitAnd rest (rest - 1))) t all (bitAnd rest (rest - 1))
-    row-next {o'} {f'} {x'} {s'} d r = record {
+        → {t' : ℕ} → Supplied m n i x' t' → RowTo m n i o₀ f₀ x₀ o' f' x' s' (set w i (bitAnd rest (rest - 1))) t' all (bitAnd rest (rest - 1))
+    row-next {o'} {f'} {x'} {s'} d r u = record {
       hi = trailingZeros 64 rest + 1;
       most = omega (arith, row-terminal, r .terminals);
       past = left-next 64 (q .past) p row-fits;
       onward = onward-lane (r .terminals) ha row-terminal here d;
       state = open-less ha r (q .left) p row-fits (d .own-f);
       left = getD-set-same w i (bitAnd rest (rest - 1)) 0 (omega (arith, r .opens .long, r .sources));
-      supplied = supplied-still (q .supplied) (λ b hb e. omega (arith, d .cols b hb));
+      supplied = u;
     }
       where
         lane : (a b : ℕ) → a < m → b < n → a ≡ i → q .hi ≤ b → b < trailingZeros 64 rest → cells f a b ≡ 0
@@ -312,7 +317,7 @@ module _ {m n i : ℕ} {o₀ f₀ x₀ o f x s w : List ℕ} {t all rest : ℕ} 
             onward-over (λ a b c e g h. lane a b c e (omega (arith, r .terminals, row-terminal, q .most)) (omega (arith, r .terminals, row-terminal, q .most)) (omega (arith, r .terminals, row-terminal, q .most)))
             (omega (arith, left-low 64 (q .past) p row-fits)) (q .onward)
 
-pub row-start : {m n i : ℕ} {o f x s w : List ℕ} {t : ℕ} → Open m n o f x s w → Supplied m n x t → RowTo m n i o f x o f x s w t (get w i) (get w i)
+pub row-start : {m n i : ℕ} {o f x s w : List ℕ} {t : ℕ} → Open m n o f x s w → Supplied m n 32 x t → RowTo m n i o f x o f x s w t (get w i) (get w i)
 row-start q u = record {
   hi = 0;
   most = omega arith;
@@ -320,7 +325,7 @@ row-start q u = record {
   onward = onward-skip (λ a b ha hb l. omega arith) (omega arith) onward-none;
   state = q;
   left = refl;
-  supplied = u;
+  supplied = supplied-but (q .sources) u;
 }
 
 -- ---- the whole

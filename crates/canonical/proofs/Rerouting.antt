@@ -93,25 +93,36 @@ module _ {m n i j : ℕ} {f x : List ℕ} (r : FreeReady m n i j f x) where
       pub way-covers : {s s' x' : List ℕ} → Covers m n x s → Walked P amount count (32 + j) x x' → Marks P count (32 + j) s s' → Covers m n x' s'
       way-covers {s} {s'} {x'} c k l = cover-walk (r .terminals) P amount count (32 + j) x' s' way-trail c k l
 
-      pub followed : {x' : List ℕ} → Walked P amount count (32 + j) x x' → Followed m n i j limit f x x' amount
-      unfolding way-route
-      followed {x'} k = record {
-        some = omega (arith, w .width way-route, lg .some);
-        most = omega (arith, w .width way-route, lg .most);
-        rows = λ l h. omega (arith, q .flow .rows l h, pulse-off amount (32 + j) l (omega (arith, r .sources)));
-        cols = λ l h. elim (ℕ-discrete j l) [
-          | yes e ↦ omega (arith, q .flow .cols l h, pulse-off amount i (32 + l) (omega (arith, r .source, r .sources)), pulse-same amount j l e, pulse-same amount (32 + j) (32 + l) (omega arith))
-          | no e ↦ omega (arith, q .flow .cols l h, pulse-off amount i (32 + l) (omega (arith, r .source, r .sources)), pulse-off amount j l e, pulse-off amount (32 + j) (32 + l) (λ z. e (omega arith)))
-        ];
-        under = q .under;
-        long-x = q .long;
-      }
-        where
-          lg : Label (net m n [] f x) i (Near level (t .dist) (32 + j)) level 96 limit (book (t .dist) P (t .labelled .hops) (t .labelled .widths)) (32 + j)
-          lg = let o = t .labelled .searched .found goal in o .label (32 + j) goal (o .goal)
+      way-label : Label (net m n [] f x) i (Near level (t .dist) (32 + j)) level 96 limit (book (t .dist) P (t .labelled .hops) (t .labelled .widths)) (32 + j)
+      way-label = let o = t .labelled .searched .found goal in o .label (32 + j) goal (o .goal)
 
-          q : Walking (net m n [] f x) level (book (t .dist) P (t .labelled .hops) (t .labelled .widths)) (32 + j) amount x' i
-          q = pushed (send-free p) (t .labelled .searched) goal refl (w .arcs way-route) (omega (arith, w .width way-route)) k
+      way-width : (0 < amount) × (amount ≤ limit)
+      unfolding way-route
+      way-width = (omega (arith, w .width way-route, way-label .some), omega (arith, w .width way-route, way-label .most))
+
+      way-walking : {x' : List ℕ} → Walked P amount count (32 + j) x x'
+          → Walking (net m n [] f x) level (book (t .dist) P (t .labelled .hops) (t .labelled .widths)) (32 + j) amount x' i
+      unfolding way-route
+      way-walking {x'} k = pushed (send-free p) (t .labelled .searched) goal refl (w .arcs way-route) (omega (arith, w .width way-route)) k
+
+pub followed : {m n i j : ℕ} {f x : List ℕ} {limit : ℕ} {P : List ℕ} {count amount : ℕ} {x' : List ℕ} → FreeReady m n i j f x → 0 < limit
+    → Trodden m n i j limit f x P → Measured P x f i (32 + j) limit count amount → Walked P amount count (32 + j) x x'
+    → Followed m n i j limit f x x' P amount
+followed {m} {n} {i} {j} {f} {x} {limit} {P} {count} {amount} {x'} r p t w k = record {
+  some = way-width r p t w .0;
+  most = way-width r p t w .1;
+  rows = λ l h. omega (arith, q .flow .rows l h, pulse-off amount (32 + j) l (omega (arith, r .sources)));
+  cols = λ l h. elim (ℕ-discrete j l) [
+    | yes e ↦ omega (arith, q .flow .cols l h, pulse-off amount i (32 + l) (omega (arith, r .source, r .sources)), pulse-same amount j l e, pulse-same amount (32 + j) (32 + l) (omega arith))
+    | no e ↦ omega (arith, q .flow .cols l h, pulse-off amount i (32 + l) (omega (arith, r .source, r .sources)), pulse-off amount j l e, pulse-off amount (32 + j) (32 + l) (λ z. e (omega arith)))
+  ];
+  under = q .under;
+  long-x = q .long;
+  through = λ s th a b ha hb z. th .within b (omega (arith, r .terminals)) (way-walking r p (th .trodden) w k .tight a b ha hb z .terminal .0);
+}
+  where
+    q : Walking (net m n [] f x) level (book (t .dist) P (t .labelled .hops) (t .labelled .widths)) (32 + j) amount x' i
+    q = way-walking r p t w k
 
 -- ---- way after way
 
@@ -134,8 +145,8 @@ module _ {m n i j amount : ℕ} {f x : List ℕ} (r : FreeReady m n i j f x) whe
     pub roam-at : RoamAt m n i j
     roam-at = record { sources = r .sources; terminals = r .terminals; source = r .source; terminal = r .terminal }
 
-    pub reroute-next : {x'' : List ℕ} {d : ℕ} → Followed m n i j left f x' x'' d → Rerouting m n i j amount f x x'' (left - d)
-    reroute-next {x''} {d} t = record {
+    pub reroute-next : {x'' P : List ℕ} {d : ℕ} → Followed m n i j left f x' x'' P d → Rerouting m n i j amount f x x'' (left - d)
+    reroute-next {x''} {P} {d} t = record {
       most = omega (arith, q .most);
       rows = λ l h. elim (ℕ-discrete i l) [
         | yes e ↦ omega (arith, t .most, t .rows l h, q .rows l h, pulse-same left i l e, pulse-same (left - d) i l e, pulse-same d i l e)

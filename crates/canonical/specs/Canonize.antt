@@ -14,7 +14,7 @@ use Rattle.residual.specs.Cells.{cells}
 use Rattle.residual.specs.Network.{Net, get}
 use Rattle.residual.specs.Bits.{bit}
 use Rattle.residual.specs.LanesInUse.{Covers}
-use Rattle.reachability.specs.Reachability.{Opens, NoRoute}
+use Rattle.reachability.specs.Reachability.{Opens, NoRoute, Through}
 
 -- a plan under the ceilings, with the sums of the plan of N and no dearer
 pub record Rival (N : Net) (z : Table) : Type 0 where
@@ -93,14 +93,15 @@ pub record FreeReady (m n i j : ℕ) (f x : List ℕ) : Type 0 where
   pub ceilings : (i j : ℕ) → i < m → j < n → cells f i j ≤ 4000000000
   pub long-x : length x ≡ 2048
 
--- d drums went from source i to terminal j
-pub record Followed (m n i j limit : ℕ) (f x x' : List ℕ) (d : ℕ) : Type 0 where
+-- d drums went from source i to terminal j, along the way P, so that no lane changed but to its terminals
+pub record Followed (m n i j limit : ℕ) (f x x' P : List ℕ) (d : ℕ) : Type 0 where
   pub some : 0 < d
   pub most : d ≤ limit
   pub rows : (l : ℕ) → l < m → row n (cells x') l ≡ row n (cells x) l + pulse d i l
   pub cols : (l : ℕ) → l < n → col m (cells x') l ≡ col m (cells x) l + pulse d j l
   pub under : Under m n (cells x') (cells f)
   pub long-x : length x' ≡ 2048
+  pub through : (t : ℕ) → Through m n i j limit f x P t → (a b : ℕ) → a < m → b < n → cells x' a b ≢ cells x a b → bit t b ≡ 1
 
 -- all but left of amount did
 pub record Rerouting (m n i j amount : ℕ) (f x x' : List ℕ) (left : ℕ) : Type 0 where

@@ -4,10 +4,9 @@ ghost use mathlib.Core.Path.{_≡_};
 ghost use Prim.Native.Nat.{_+_, _*_, _≤_, _<_};
 ghost use lib.ListN.{length, getD};
 ghost use Rattle.residual.specs.Cells.{cells};
-ghost use Rattle.residual.specs.Network.{net, get};
-ghost use Rattle.residual.specs.Bits.{bit};
+ghost use Rattle.residual.specs.Network.{net};
 ghost use Rattle.residual.specs.LanesInUse.{Covers};
-ghost use Rattle.reachability.specs.Reachability.{Opens, Supplied, Trodden};
+ghost use Rattle.reachability.specs.Reachability.{Opens, Supplied, Known, Trodden};
 ghost use Rattle.canonical.specs.Canonize.{Mask, Unless, FreeReady, Followed, Rerouted, ColFull, Resent, LaneSettled, CanonReady, Clear, LaneParted, PartedTo, Open, Onward, Canonized};
 use augment::send::mark;
 use augment::send::measure;
@@ -128,20 +127,6 @@ fn all_ways(m: usize, n: usize, free: &[u32; 2048], ways: &mut [u64; 32])
     }
 }
 
-// The terminals that a source serves, or did, a bit for each.
-fn served(n: usize, serves: &[u32; 64]) -> u64
-    requires { ⌜ n ≤ 64 ⌝ }
-    ensures { λ r. ⌜ Mask n (λ j. get (now (serves .entry)) j) r ⌝ }
-{
-    let mut mask: u64 = 0;
-    for j in 0..n {
-        if 0 < serves[j] {
-            mask = mask | (1 << j);
-        }
-    }
-    mask
-}
-
 // Sends what can go, limit drums at most, along the way from source i to terminal j that was found.
 fn follow(
     m: usize,
@@ -158,7 +143,7 @@ fn follow(
     requires { ⌜ 0 < limit ⌝ }
     requires { ⌜ Trodden m n i j limit (now free) (now x) (now prev) ⌝ }
     requires { ⌜ Covers m n (now x) (now serves) ⌝ }
-    ensures { λ r. ⌜ Followed m n i j limit (now (free .entry)) (now (x .entry)) (now (x .exit)) r ⌝ }
+    ensures { λ r. ⌜ Followed m n i j limit (now (free .entry)) (now (x .entry)) (now (x .exit)) (now (prev .entry)) r ⌝ }
     ensures { λ r. ⌜ Covers m n (now (x .exit)) (now (serves .exit)) ⌝ }
 {
     let goal = 32 + j;
@@ -173,27 +158,27 @@ fn reroute(
     m: usize,
     n: usize,
     ways: &[u64; 32],
-    supplied: u64,
     free: &[u32; 2048],
     i: usize,
     j: usize,
     amount: u32,
     x: &mut [u32; 2048],
+    supplied: &mut u64,
     serves: &mut [u32; 64],
 ) -> u32
     requires { ⌜ FreeReady m n i j (now free) (now x) ⌝ }
     requires { ⌜ getD (now free) (i * 64 + j) 0 ≡ 0 ⌝ }
-    requires { ⌜ bit supplied j ≡ 1 ⌝ }
-    requires { ⌜ Supplied m n (now x) supplied ⌝ }
+    requires { ⌜ Known m n i j (now x) (now supplied) ⌝ }
     requires { ⌜ Opens m n (now free) (now ways) ⌝ }
     requires { ⌜ Covers m n (now x) (now serves) ⌝ }
     ensures { λ r. ⌜ Rerouted m n i j amount (now (free .entry)) (now (x .entry)) (now (x .exit)) r ⌝ }
+    ensures { λ r. ⌜ Supplied m n i (now (x .exit)) (now (supplied .exit)) ⌝ }
     ensures { λ r. ⌜ Covers m n (now (x .exit)) (now (serves .exit)) ⌝ }
 {
     let mut prev = [0u32; 96];
     let mut left = amount;
     while 0 < left {
-        if roam(m, n, i, j, left, ways, supplied, free, x, serves, &mut prev) {
+        if roam(m, n, i, j, left, ways, free, x, supplied, serves, &mut prev) {
             left = left - follow(m, n, i, j, left, &prev, free, x, serves);
         } else {
             return left;
@@ -223,27 +208,27 @@ fn resend(
     m: usize,
     n: usize,
     ways: &[u64; 32],
-    supplied: u64,
     free: &[u32; 2048],
     i: usize,
     j: usize,
     amount: u32,
     x: &mut [u32; 2048],
+    supplied: &mut u64,
     serves: &mut [u32; 64],
 ) -> u32
     requires { ⌜ FreeReady m n i j (now free) (now x) ⌝ }
     requires { ⌜ getD (now free) (i * 64 + j) 0 ≡ 0 ⌝ }
-    requires { ⌜ bit supplied j ≡ 1 ⌝ }
-    requires { ⌜ Supplied m n (now x) supplied ⌝ }
+    requires { ⌜ Known m n i j (now x) (now supplied) ⌝ }
     requires { ⌜ Opens m n (now free) (now ways) ⌝ }
     requires { ⌜ Covers m n (now x) (now serves) ⌝ }
     ensures { λ r. ⌜ Resent m n i j amount (now (free .entry)) (now (x .entry)) (now (x .exit)) r ⌝ }
+    ensures { λ r. ⌜ Supplied m n i (now (x .exit)) (now (supplied .exit)) ⌝ }
     ensures { λ r. ⌜ Covers m n (now (x .exit)) (now (serves .exit)) ⌝ }
 {
     if column_full(m, j, free, x) {
         return amount;
     }
-    reroute(m, n, ways, supplied, free, i, j, amount, x, serves)
+    reroute(m, n, ways, free, i, j, amount, x, supplied, serves)
 }
 
 // Lane (i, j) keeps what cannot go another way, and is closed.
@@ -253,17 +238,18 @@ fn settle_lane(
     i: usize,
     j: usize,
     ways: &[u64; 32],
-    supplied: u64,
     aside: &mut [u32; 2048],
     free: &mut [u32; 2048],
     x: &mut [u32; 2048],
+    supplied: &mut u64,
     serves: &mut [u32; 64],
 )
     requires { ⌜ (i < m) × (j < n) ⌝ }
-    requires { ⌜ Supplied m n (now x) supplied ⌝ }
+    requires { ⌜ Supplied m n i (now x) (now supplied) ⌝ }
     requires { ⌜ Open m n (now aside) (now free) (now x) (now serves) (now ways) ⌝ }
     ensures { λ _. ⌜ LaneSettled m n i j (now (aside .entry)) (now (free .entry)) (now (x .entry)) (now (aside .exit)) (now (free .exit)) (now (x .exit)) ⌝ }
     ensures { λ _. ⌜ Open m n (now (aside .exit)) (now (free .exit)) (now (x .exit)) (now (serves .exit)) (now (ways .entry)) ⌝ }
+    ensures { λ _. ⌜ Supplied m n i (now (x .exit)) (now (supplied .exit)) ⌝ }
 {
     let k = i * 64 + j;
     let amount = x[k];
@@ -272,7 +258,8 @@ fn settle_lane(
         return;
     }
     x[k] = 0;
-    let left = resend(m, n, ways, supplied, free, i, j, amount, x, serves);
+    *supplied = *supplied | (1 << j);
+    let left = resend(m, n, ways, free, i, j, amount, x, supplied, serves);
     aside[k] = aside[k] + left;
 }
 
@@ -285,18 +272,20 @@ fn settle_row(
     aside: &mut [u32; 2048],
     free: &mut [u32; 2048],
     x: &mut [u32; 2048],
+    supplied: &mut u64,
     serves: &mut [u32; 64],
 )
     requires { ⌜ i < m ⌝ }
+    requires { ⌜ Supplied m n 32 (now x) (now supplied) ⌝ }
     requires { ⌜ Open m n (now aside) (now free) (now x) (now serves) (now ways) ⌝ }
     ensures { λ _. ⌜ Onward m n (i * 64) (i * 64 + 64) (now (aside .entry)) (now (free .entry)) (now (x .entry)) (now (aside .exit)) (now (free .exit)) (now (x .exit)) ⌝ }
     ensures { λ _. ⌜ Open m n (now (aside .exit)) (now (free .exit)) (now (x .exit)) (now (serves .exit)) (now (ways .exit)) ⌝ }
+    ensures { λ _. ⌜ Supplied m n 32 (now (x .exit)) (now (supplied .exit)) ⌝ }
 {
-    let supplied = served(n, serves);
     let mut rest = ways[i];
     while 0 < rest {
         let j = u64::trailing_zeros(rest) as usize;
-        settle_lane(m, n, i, j, ways, supplied, aside, free, x, serves);
+        settle_lane(m, n, i, j, ways, aside, free, x, supplied, serves);
         rest = rest & (rest - 1);
         ways[i] = rest;
     }
@@ -316,8 +305,9 @@ fn settle(
     ensures { λ _. ⌜ Onward m n 0 (m * 64) (now (aside .entry)) (now (free .entry)) (now (x .entry)) (now (aside .exit)) (now (free .exit)) (now (x .exit)) ⌝ }
     ensures { λ _. ⌜ Open m n (now (aside .exit)) (now (free .exit)) (now (x .exit)) (now (serves .exit)) (now (ways .exit)) ⌝ }
 {
+    let mut supplied = u64::MAX;
     for i in 0..m {
-        settle_row(m, n, i, ways, aside, free, x, serves);
+        settle_row(m, n, i, ways, aside, free, x, &mut supplied, serves);
     }
 }
 

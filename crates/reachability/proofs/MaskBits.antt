@@ -9,7 +9,7 @@ use lib.Pow.{pow-pos, shl-exact}
 use lib.Bits.{bitAnd, and-step}
 use lib.Count.{leadingZeros, leading-top}
 use Rattle.residual.specs.Bits.{bit}
-use Rattle.residual.proofs.Bits.{bit-none}
+use Rattle.residual.proofs.Bits.{bit-none, power-fits}
 
 pub bit-and : (a b i : ℕ) → bit (bitAnd a b) i ≡ min (bit a i) (bit b i)
 unfolding bit
@@ -88,3 +88,10 @@ high-set k r p h =
 
 pub high-fits : (k r : ℕ) → 0 < r → r < 2 ^ k → leadingZeros k r < k
 high-fits k r p h = let t = leading-top k r p h in omega (arith, t .1)
+
+-- no bit of a word but one is set
+pub none-but : (w r : ℕ) → w < 32 → bitAnd r (2 ^ 32 - 1 - (1 * 2 ^ w) % 2 ^ 32) ≡ 0 → (i : ℕ) → i < 32 → i ≢ w → bit r i ≡ 0
+none-but w r h e i l z =
+    let p : (1 * 2 ^ w) % 2 ^ 32 ≡ 2 ^ w = power-fits w h in
+    let y : bitAnd r (2 ^ 32 - 1 - 2 ^ w) ≡ 0 = ap (λ v. bitAnd r (2 ^ 32 - 1 - v)) (sym p) ∙ e in
+    omega (arith, ap (λ v. bit v i) y, bit-none i, bit-and r (2 ^ 32 - 1 - 2 ^ w) i, take-other w (2 ^ 32 - 1) i (bit-ones 32 w h) z, bit-ones 32 i l)

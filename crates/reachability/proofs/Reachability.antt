@@ -21,7 +21,7 @@ use Rattle.residual.specs.Bits.{bit}
 use Rattle.residual.specs.LanesInUse.{Covers}
 use Rattle.paths.specs.Search.{Near, Label, Prev}
 use Rattle.paths.specs.Search.Prev.{root, step}
-use Rattle.reachability.specs.Reachability.{Opens, Supplied, Dropped, level, reached, Tree, Roaming, AtTerminal, Aiming, RoamAt, AheadAt, Moved, Back, Shut, Trodden, NoRoute}
+use Rattle.reachability.specs.Reachability.{Opens, Supplied, Known, Dropped, level, reached, Tree, Roaming, AtTerminal, Aiming, RoamAt, AheadAt, Moved, Back, Shut, Trodden, NoRoute, Through}
 use Rattle.transport.proofs.Sums.{sum-change, marks-most}
 use Rattle.residual.proofs.ResidualArc.{arc-room, arc-source, arc-terminal, arc-eq}
 use Rattle.residual.proofs.Bits.{bit-none, bit-most, bit-or, bit-own, bit-place, low-set, rest-same, rest-other}
@@ -152,17 +152,17 @@ module _ {N : Net} {s limit : ℕ} {B : Book} (hm : N .m ≤ 32) (q : Tree N s l
 
 -- ---- the masks
 
-module _ {m n : ℕ} {f x : List ℕ} {s limit R S W : ℕ} {P : List ℕ} (hm : m ≤ 32) (hn : n ≤ 64) where
+module _ {m n : ℕ} {f x : List ℕ} {s limit t R S W : ℕ} {P : List ℕ} (hm : m ≤ 32) (hn : n ≤ 64) where
   -- a source that sends to terminal j, which is reached
-  pub visit-source : {a j : ℕ} → AtTerminal m n f x s limit R S W P j → a < m → j < n → bit S a ≡ 1 → 0 < cells x a j
-      → AtTerminal m n f x s limit R (S - 2 ^ a) (bitOr W (2 ^ a)) (set P a (32 + j)) j
-  visit-source {a} {j} t ha hj fresh o = record {
+  pub visit-source : {a j : ℕ} → AtTerminal m n f x s limit t R S W P j → a < m → j < n → bit S a ≡ 1 → 0 < cells x a j
+      → AtTerminal m n f x s limit t R (S - 2 ^ a) (bitOr W (2 ^ a)) (set P a (32 + j)) j
+  visit-source {a} {j} c ha hj fresh o = record {
     roaming = record {
       dist = set (q .dist) a 800000000;
       hops = _;
       widths = _;
       tree =
-          grow hm (q .tree) {v = 32 + j} {w = a} {k = cells x a j} (omega arith) (omega arith) (t .here) there
+          grow hm (q .tree) {v = 32 + j} {w = a} {k = cells x a j} (omega arith) (omega arith) (c .here) there
           (back j ha hj refl o (omega arith) refl) (omega (arith, q .tree .root-dist));
       fits-r = q .fits-r;
       fits-s = omega (arith, q .fits-s);
@@ -173,16 +173,17 @@ module _ {m n : ℕ} {f x : List ℕ} {s limit R S W : ℕ} {P : List ℕ} (hm :
         | no z ↦ omega (arith, off b z, q .seen-s b hb (take-gone a S b fresh z e))
       ];
       fresh-t = λ b hb e. omega (arith, off (32 + b) (omega arith), q .fresh-t b hb e);
+      others = λ b hb e. let w = q .others b hb e in (w .0, omega (arith, off (32 + b) (omega arith), w .1));
       waits = λ b hb e. elim (ℕ-discrete b a) [
         | yes z ↦ rw z (take-own a S fresh)
         | no z ↦ take-kept a S b fresh (q .waits b hb (omega (arith, e, bit-or W (2 ^ a) b, bit-power a b z)))
       ];
     };
-    here = omega (arith, off (32 + j) (omega arith), t .here);
+    here = omega (arith, off (32 + j) (omega arith), c .here);
   }
     where
-      q : Roaming m n f x s limit R S W P
-      q = t .roaming
+      q : Roaming m n f x s limit t R S W P
+      q = c .roaming
 
       there : far ≤ get (q .dist) a
       there = q .fresh-s a (omega arith) fresh
@@ -194,8 +195,8 @@ module _ {m n : ℕ} {f x : List ℕ} {s limit R S W : ℕ} {P : List ℕ} (hm :
       off u z = getD-set-other (q .dist) a u 800000000 0 z
 
   -- a terminal that a source reached has room to send to
-  pub visit-terminal : {i j : ℕ} → Roaming m n f x s limit R S W P → i < m → j < n → bit S i ≡ 0 → bit R j ≡ 1 → cells x i j < cells f i j
-      → AtTerminal m n f x s limit (R - 2 ^ j) S W (set P (32 + j) i) j
+  pub visit-terminal : {i j : ℕ} → Roaming m n f x s limit t R S W P → i < m → j < n → bit S i ≡ 0 → bit R j ≡ 1 → cells x i j < cells f i j
+      → AtTerminal m n f x s limit t (R - 2 ^ j) S W (set P (32 + j) i) j
   visit-terminal {i} {j} q hi hj seen fresh o = record {
     roaming = record {
       dist = set (q .dist) (32 + j) 800000000;
@@ -210,6 +211,10 @@ module _ {m n : ℕ} {f x : List ℕ} {s limit R S W : ℕ} {P : List ℕ} (hm :
       fresh-s = λ b hb e. omega (arith, off b (omega arith), q .fresh-s b hb e);
       seen-s = λ b hb e. omega (arith, off b (omega arith), q .seen-s b hb e);
       fresh-t = λ b hb e. let t = take-less j R b fresh e in omega (arith, off (32 + b) (λ z. t .0 (omega arith)), q .fresh-t b hb (t .1));
+      others = λ b hb e.
+          let w = q .others b hb e in
+          let z : b ≢ j = λ z. absurd (omega (arith, ap (λ y. bit R y) z, w .0)) in
+          (take-kept j R b fresh (w .0), omega (arith, off (32 + b) (λ y. z (omega arith)), w .1));
       waits = q .waits;
     };
     here = omega (arith, getD-set-same (q .dist) (32 + j) 800000000 0 (omega (arith, q .tree .long .dists)));
@@ -226,9 +231,9 @@ module _ {m n : ℕ} {f x : List ℕ} {s limit R S W : ℕ} {P : List ℕ} (hm :
 
 -- ---- the goal is reached
 
-module _ {m n i j limit : ℕ} {f x : List ℕ} {R S W : ℕ} {P : List ℕ} (at : RoamAt m n i j) (t : AtTerminal m n f x i limit R S W P j) where
-  abbrev q : Roaming m n f x i limit R S W P
-  q = t .roaming
+module _ {m n i j limit : ℕ} {f x : List ℕ} {t R S W : ℕ} {P : List ℕ} (at : RoamAt m n i j) (c : AtTerminal m n f x i limit t R S W P j) where
+  abbrev q : Roaming m n f x i limit t R S W P
+  q = c .roaming
 
   flat : (u : ℕ) → u < 96 → get level u ≡ 800000000
   flat u h = getD-replicate {A = ℕ} 96 u 800000000 0 h
@@ -265,7 +270,7 @@ module _ {m n i j limit : ℕ} {f x : List ℕ} {R S W : ℕ} {P : List ℕ} (at
       goal = omega (arith, at .terminal, at .terminals)
 
       seen : get (q .dist) (32 + j) < far
-      seen = t .here
+      seen = c .here
 
       even : get (q .dist) (32 + j) ≡ 800000000
       even = q .tree .flat (32 + j) goal seen
@@ -295,6 +300,16 @@ module _ {m n i j limit : ℕ} {f x : List ℕ} {R S W : ℕ} {P : List ℕ} (at
           go (step k b d a eh ew) =
               step k b (d, omega (arith, q .tree .flat (get P w) b d, even, flat (32 + j) goal, flat (get P w) b)) a eh ew
 
+  pub through : Through m n i j limit f x P t
+  unfolding trodden
+  through = record {
+    trodden = trodden;
+    within = λ b hb l. elim (ℕ-discrete (bit t b) 0) [
+      | yes z ↦ absurd (omega (arith, q .others b hb z .1))
+      | no z ↦ omega (arith, bit-most t b)
+    ];
+  }
+
 -- ---- sources that come to wait
 
 pub moved-none : {S W : ℕ} → Moved S W S W
@@ -320,10 +335,10 @@ moved-one {S} {W} i h = record {
 -- ---- the sources that send to terminal j, bit by bit
 
 -- the sources left in rest are to be looked at
-pub record LookingBack (m n j g : ℕ) (f x : List ℕ) (s limit R S₀ W₀ : ℕ) (P Y : List ℕ) (S W rest : ℕ) : Type 0 where
+pub record LookingBack (m n j g : ℕ) (f x : List ℕ) (s limit t R S₀ W₀ : ℕ) (P Y : List ℕ) (S W rest : ℕ) : Type 0 where
   pub fits : rest < 2 ^ 32
   pub covers : Covers m n x Y
-  pub at : AtTerminal m n f x s limit R S W P j
+  pub at : AtTerminal m n f x s limit t R S W P j
   pub aiming : Aiming m n g f x R S
   pub moved : Moved S₀ W₀ S W
   pub left : (a : ℕ) → bit rest a ≡ 1 → (bit S a ≡ 1) × (a < m)
@@ -354,13 +369,13 @@ cover-drop {m} {n} {i} {j} {x} {Y} {Y'} hm hi hj c e hn d = rw (d .same) (record
         let z : a ≢ i = λ z. absurd (omega (arith, ap (λ y. cells x y j) z)) in
         omega (arith, bit-and (get Y j) (2 ^ 32 - 1 - 2 ^ i) a, c .serving a j ha hj o, take-other i (2 ^ 32 - 1) a (bit-ones 32 i (omega arith)) z, bit-ones 32 a (omega arith))
 
-module _ {m n s j g limit : ℕ} {f x : List ℕ} {R S₀ W₀ : ℕ} (at : RoamAt m n s j) where
-  pub back-start : {P Y : List ℕ} → Covers m n x Y → AtTerminal m n f x s limit R S₀ W₀ P j → Aiming m n g f x R S₀
-      → LookingBack m n j g f x s limit R S₀ W₀ P Y S₀ W₀ (bitAnd (get Y j) S₀)
-  back-start {P} {Y} c t w = record {
-    fits = omega (arith, and-le-r (get Y j) S₀, t .roaming .fits-s);
+module _ {m n s j g limit : ℕ} {f x : List ℕ} {t R S₀ W₀ : ℕ} (at : RoamAt m n s j) where
+  pub back-start : {P Y : List ℕ} → Covers m n x Y → AtTerminal m n f x s limit t R S₀ W₀ P j → Aiming m n g f x R S₀
+      → LookingBack m n j g f x s limit t R S₀ W₀ P Y S₀ W₀ (bitAnd (get Y j) S₀)
+  back-start {P} {Y} c y w = record {
+    fits = omega (arith, and-le-r (get Y j) S₀, y .roaming .fits-s);
     covers = c;
-    at = t;
+    at = y;
     aiming = w;
     moved = moved-none;
     left = λ a e.
@@ -369,7 +384,7 @@ module _ {m n s j g limit : ℕ} {f x : List ℕ} {R S₀ W₀ : ℕ} (at : Roam
     done = λ a h e o. omega (arith, bit-and (get Y j) S₀ a, c .serving a j h (at .terminal) o);
   }
 
-  module _ {P Y : List ℕ} {S W rest : ℕ} (q : LookingBack m n j g f x s limit R S₀ W₀ P Y S W rest) (p : 0 < rest) where
+  module _ {P Y : List ℕ} {S W rest : ℕ} (q : LookingBack m n j g f x s limit t R S₀ W₀ P Y S W rest) (p : 0 < rest) where
     abbrev i : ℕ
     i = trailingZeros 32 rest
 
@@ -392,17 +407,17 @@ module _ {m n s j g limit : ℕ} {f x : List ℕ} {R S₀ W₀ : ℕ} (at : Roam
       | no z ↦ (z, sym (rest-other 32 rest a p (q .fits) z) ∙ e)
     ]
 
-    back-visit : 0 < cells x i j → AtTerminal m n f x s limit R (S - 2 ^ i) (bitOr W (2 ^ i)) (set P i (32 + j)) j
+    back-visit : 0 < cells x i j → AtTerminal m n f x s limit t R (S - 2 ^ i) (bitOr W (2 ^ i)) (set P i (32 + j)) j
     back-visit o = visit-source (at .sources) (at .terminals) (q .at) back-source (at .terminal) back-fresh o
 
     pub back-found : 0 < cells x (trailingZeros 32 rest) j → cells x (trailingZeros 32 rest) g < cells f (trailingZeros 32 rest) g
-        → Trodden m n s g limit f x (set (set P (trailingZeros 32 rest) (32 + j)) (32 + g) (trailingZeros 32 rest))
+        → Through m n s g limit f x (set (set P (trailingZeros 32 rest) (32 + j)) (32 + g) (trailingZeros 32 rest)) t
     back-found o l =
-        trodden (record { sources = at .sources; terminals = at .terminals; source = at .source; terminal = q .aiming .terminal })
+        through (record { sources = at .sources; terminals = at .terminals; source = at .source; terminal = q .aiming .terminal })
         (visit-terminal (at .sources) (at .terminals) (back-visit o .roaming) back-source (q .aiming .terminal) (take-own i S back-fresh) (q .aiming .fresh) l)
 
     pub back-take : 0 < cells x (trailingZeros 32 rest) j → cells f (trailingZeros 32 rest) g ≤ cells x (trailingZeros 32 rest) g
-        → LookingBack m n j g f x s limit R S₀ W₀ (set P (trailingZeros 32 rest) (32 + j)) Y (S - 2 ^ trailingZeros 32 rest) (bitOr W (2 ^ trailingZeros 32 rest)) (bitAnd rest (rest - 1))
+        → LookingBack m n j g f x s limit t R S₀ W₀ (set P (trailingZeros 32 rest) (32 + j)) Y (S - 2 ^ trailingZeros 32 rest) (bitOr W (2 ^ trailingZeros 32 rest)) (bitAnd rest (rest - 1))
     back-take o l = record {
       fits = omega (arith, back-fewer, q .fits);
       covers = q .covers;
@@ -413,7 +428,7 @@ module _ {m n s j g limit : ℕ} {f x : List ℕ} {R S₀ W₀ : ℕ} (at : Roam
         full = λ a h e. elim (ℕ-discrete a i) [ yes z ↦ rw z l | no z ↦ q .aiming .full a h (take-gone i S a back-fresh z e) ];
       };
       moved = moved-then (q .moved) (moved-one i back-fresh);
-      left = λ a e. let t = rest-left a e in let u = q .left a (t .1) in (take-other i S a back-fresh (t .0) ∙ u .0, u .1);
+      left = λ a e. let y = rest-left a e in let u = q .left a (y .1) in (take-other i S a back-fresh (y .0) ∙ u .0, u .1);
       done = λ a h e y. elim (ℕ-discrete a i) [
         | yes z ↦ rw z (take-own i S back-fresh)
         | no z ↦ take-kept i S a back-fresh (q .done a h (sym (rest-other 32 rest a p (q .fits) z) ∙ e) y)
@@ -421,7 +436,7 @@ module _ {m n s j g limit : ℕ} {f x : List ℕ} {R S₀ W₀ : ℕ} (at : Roam
     }
 
     pub back-skip : {Y' : List ℕ} → cells x (trailingZeros 32 rest) j ≤ 0 → Covers m n x Y'
-        → LookingBack m n j g f x s limit R S₀ W₀ P Y' S W (bitAnd rest (rest - 1))
+        → LookingBack m n j g f x s limit t R S₀ W₀ P Y' S W (bitAnd rest (rest - 1))
     back-skip o c = record {
       fits = omega (arith, back-fewer, q .fits);
       covers = c;
@@ -435,7 +450,7 @@ module _ {m n s j g limit : ℕ} {f x : List ℕ} {R S₀ W₀ : ℕ} (at : Roam
       ];
     }
 
-  pub back-end : {P Y : List ℕ} {S W rest : ℕ} → LookingBack m n j g f x s limit R S₀ W₀ P Y S W rest → rest ≤ 0 → Back m j x R S₀ W₀ R S W
+  pub back-end : {P Y : List ℕ} {S W rest : ℕ} → LookingBack m n j g f x s limit t R S₀ W₀ P Y S W rest → rest ≤ 0 → Back m j x R S₀ W₀ R S W
   back-end {P} {Y} {S} {W} {rest} q e = record {
     same = refl;
     moved = q .moved;
@@ -448,66 +463,152 @@ module _ {m n s j g limit : ℕ} {f x : List ℕ} {R S₀ W₀ : ℕ} (at : Roam
 -- ---- the terminals that source i has room to send to, bit by bit
 
 -- the terminals left in rest are to be looked at
-pub record LookingAhead (m n i g : ℕ) (f x : List ℕ) (s limit S₀ W₀ : ℕ) (P Y : List ℕ) (R S W rest : ℕ) : Type 0 where
+pub record LookingAhead (m n i g : ℕ) (f x : List ℕ) (s limit S₀ W₀ : ℕ) (P Y : List ℕ) (t R S W rest : ℕ) : Type 0 where
   pub fits : rest < 2 ^ 64
   pub covers : Covers m n x Y
-  pub roaming : Roaming m n f x s limit R S W P
+  pub known : Known m n s g x t
+  pub roaming : Roaming m n f x s limit t R S W P
   pub aiming : Aiming m n g f x R S
   pub moved : Moved S₀ W₀ S W
   pub shut : Shut m n i f x R S W
-  pub left : (b : ℕ) → bit rest b ≡ 1 → (bit R b ≡ 1) × (b < n)
+  pub left : (b : ℕ) → bit rest b ≡ 1 → (bit R b ≡ 1) × (b < n) × (b ≢ g)
   pub done : (b : ℕ) → b < n → bit rest b ≡ 0 → cells x i b < cells f i b → bit R b ≡ 0
 
+-- the start is reached
+root-seen : {m n : ℕ} {f x : List ℕ} {s limit t R S W : ℕ} {P : List ℕ} → s < 32 → Roaming m n f x s limit t R S W P → bit S s ≡ 0
+root-seen {s = s} {S = S} h q = elim (ℕ-discrete (bit S s) 0) [
+  | yes z ↦ z
+  | no z ↦ absurd (omega (arith, q .fresh-s s h (omega (arith, bit-most S s)), q .tree .root-dist))
+]
+
 module _ {m n s i g limit : ℕ} {f x : List ℕ} {S₀ W₀ : ℕ} (at : AheadAt m n s i) (seen : bit S₀ i ≡ 0) where
-  pub ahead-start : {P Y ways : List ℕ} {R : ℕ} → Opens m n f ways → Covers m n x Y → Roaming m n f x s limit R S₀ W₀ P → Aiming m n g f x R S₀
-      → Shut m n i f x R S₀ W₀ → LookingAhead m n i g f x s limit S₀ W₀ P Y R S₀ W₀ (bitAnd (get ways i) R)
-  ahead-start {P} {Y} {ways} {R} o c q w h = record {
-    fits = omega (arith, and-le-r (get ways i) R, q .fits-r);
+  pub ahead-start : {P Y ways : List ℕ} {t R : ℕ} → Opens m n f ways → Covers m n x Y → Known m n s g x t → Roaming m n f x s limit t R S₀ W₀ P
+      → Aiming m n g f x R S₀ → Shut m n i f x R S₀ W₀ → LookingAhead m n i g f x s limit S₀ W₀ P Y t R S₀ W₀ (bitAnd (get ways i) (R - 2 ^ g))
+  ahead-start {P} {Y} {ways} {t} {R} o c k q w h = record {
+    fits = omega (arith, and-le-r (get ways i) (R - 2 ^ g), q .fits-r);
     covers = c;
+    known = k;
     roaming = q;
     aiming = w;
     moved = moved-none;
     shut = h;
     left = λ b e.
-        let t : min (bit (get ways i) b) (bit R b) ≡ 1 = sym (bit-and (get ways i) R b) ∙ e in
-        (omega (arith, bit-most R b), bit-place n (get ways i) b (o .within i (at .source)) (omega (arith, bit-most (get ways i) b)));
-    done = λ b h e l. omega (arith, bit-and (get ways i) R b, o .has i b (at .source) h (omega arith));
+        let y : min (bit (get ways i) b) (bit (R - 2 ^ g) b) ≡ 1 = sym (bit-and (get ways i) (R - 2 ^ g) b) ∙ e in
+        let u = take-less g R b (w .fresh) (omega (arith, bit-most (R - 2 ^ g) b)) in
+        (u .1, bit-place n (get ways i) b (o .within i (at .source)) (omega (arith, bit-most (get ways i) b)), u .0);
+    done = λ b h e l. elim (ℕ-discrete b g) [
+      | yes z ↦ absurd (omega (arith, w .full i (at .source) seen, ap (λ y. cells x i y) z, ap (λ y. cells f i y) z))
+      | no z ↦ take-gone g R b (w .fresh) z (omega (arith, bit-and (get ways i) (R - 2 ^ g) b, o .has i b (at .source) h (omega arith)))
+    ];
   }
 
   -- terminal j is one of those left
-  module _ {P Y : List ℕ} {R S W rest : ℕ} (j : ℕ) (q : LookingAhead m n i g f x s limit S₀ W₀ P Y R S W rest) (p : bit rest j ≡ 1) where
+  module _ {P Y : List ℕ} {t R S W rest : ℕ} (j : ℕ) (q : LookingAhead m n i g f x s limit S₀ W₀ P Y t R S W rest) (p : bit rest j ≡ 1) where
     pub ahead-terminal : j < n
     ahead-terminal = q .left j p .1
 
     pub ahead-fresh : bit R j ≡ 1
     ahead-fresh = q .left j p .0
 
+    not-goal : g ≢ j
+    not-goal z = q .left j p .2 (sym z)
+
+    pub ahead-supplied : bit t j ≡ 1
+    ahead-supplied = elim (ℕ-discrete (bit t j) 0) [
+      | yes z ↦ absurd (omega (arith, q .roaming .others j (omega (arith, ahead-terminal, at .terminals)) z .0, ahead-fresh))
+      | no z ↦ omega (arith, bit-most t j)
+    ]
+
     pub ahead-fewer : rest - 2 ^ j < rest
     ahead-fewer = omega (arith, take-fits j rest p, pow-pos j)
 
+    pub ahead-aim : Aiming m n g f x (R - 2 ^ j) S
+    ahead-aim = record {
+      terminal = q .aiming .terminal;
+      fresh = take-other j R g ahead-fresh not-goal ∙ q .aiming .fresh;
+      full = q .aiming .full;
+    }
+
+    still-left : {R' : ℕ} → R' ≡ R - 2 ^ j → (b : ℕ) → bit (rest - 2 ^ j) b ≡ 1 → (bit R' b ≡ 1) × (b < n) × (b ≢ g)
+    still-left e b h =
+        let y = take-less j rest b p h in
+        let u = q .left b (y .1) in
+        (rw e (take-other j R b ahead-fresh (y .0) ∙ u .0), u .1, u .2)
+
+    rest-done : {R' : ℕ} → R' ≡ R - 2 ^ j → (b : ℕ) → b < n → bit (rest - 2 ^ j) b ≡ 0 → cells x i b < cells f i b → bit R' b ≡ 0
+    rest-done e b hb h l = rw e (elim (ℕ-discrete b j) [
+      | yes z ↦ rw z (take-own j R ahead-fresh)
+      | no z ↦ take-kept j R b ahead-fresh (q .done b hb (take-gone j rest b p z h) l)
+    ])
+
+    -- no source but the start serves it
+    module _ (u : (a : ℕ) → a < 32 → a ≢ s → bit (get Y j) a ≡ 0) where
+      none : (a : ℕ) → a < m → a ≢ s → cells x a j ≤ 0
+      none a ha z = elim (decLt 0 (cells x a j)) [
+        | yes l ↦ absurd (omega (arith, q .covers .serving a j ha ahead-terminal l, u a (omega (arith, at .sources)) z))
+        | no l ↦ omega arith
+      ]
+
+      pub ahead-drop : LookingAhead m n i g f x s limit S₀ W₀ P Y (t - 2 ^ j) (R - 2 ^ j) S W (rest - 2 ^ j)
+      ahead-drop = record {
+        fits = omega (arith, q .fits);
+        covers = q .covers;
+        known = record {
+          supplied = record {
+            fits = omega (arith, q .known .supplied .fits);
+            has = λ a b ha hb z o. elim (ℕ-discrete b j) [
+              | yes y ↦ absurd (omega (arith, none a ha z, ap (λ v. cells x a v) y))
+              | no y ↦ take-other j t b ahead-supplied y ∙ q .known .supplied .has a b ha hb z o
+            ];
+          };
+          goal = take-other j t g ahead-supplied not-goal ∙ q .known .goal;
+        };
+        roaming = record {
+          dist = q .roaming .dist;
+          hops = q .roaming .hops;
+          widths = q .roaming .widths;
+          tree = q .roaming .tree;
+          fits-r = omega (arith, q .roaming .fits-r);
+          fits-s = q .roaming .fits-s;
+          fits-w = q .roaming .fits-w;
+          fresh-s = q .roaming .fresh-s;
+          seen-s = q .roaming .seen-s;
+          fresh-t = λ b hb e. q .roaming .fresh-t b hb (take-less j R b ahead-fresh e .1);
+          others = λ b hb e. elim (ℕ-discrete b j) [
+            | yes z ↦ rw z (take-own j R ahead-fresh, q .roaming .fresh-t j (omega (arith, ahead-terminal, at .terminals)) ahead-fresh)
+            | no z ↦ let w = q .roaming .others b hb (take-gone j t b ahead-supplied z e) in (take-kept j R b ahead-fresh (w .0), w .1)
+          ];
+          waits = q .roaming .waits;
+        };
+        aiming = ahead-aim;
+        moved = q .moved;
+        shut = record {
+          ahead = λ a b ha hb z h es ew. take-kept j R b ahead-fresh (q .shut .ahead a b ha hb z h es ew);
+          back = λ a b ha hb h e. elim (ℕ-discrete b j) [
+            | yes z ↦ elim (ℕ-discrete a s) [
+              | yes y ↦ rw y (root-seen (omega (arith, at .start, at .sources)) (q .roaming))
+              | no y ↦ absurd (omega (arith, none a ha y, ap (λ v. cells x a v) z))
+            ]
+            | no z ↦ q .shut .back a b ha hb h (take-gone j R b ahead-fresh z e)
+          ];
+        };
+        left = still-left refl;
+        done = rest-done refl;
+      }
+
     module _ (h : cells x i j < cells f i j) where
-      pub ahead-visit : AtTerminal m n f x s limit (R - 2 ^ j) S W (set P (32 + j) i) j
+      pub ahead-visit : AtTerminal m n f x s limit t (R - 2 ^ j) S W (set P (32 + j) i) j
       ahead-visit =
           visit-terminal (at .sources) (at .terminals) (q .roaming) (at .source) ahead-terminal (q .moved .kept i seen) ahead-fresh h
 
-      -- it is not the goal
-      not-goal : g ≢ j
-      not-goal z = absurd (omega (arith, q .aiming .full i (at .source) (q .moved .kept i seen), ap (λ y. cells x i y) z, ap (λ y. cells f i y) z))
-
-      pub ahead-aim : Aiming m n g f x (R - 2 ^ j) S
-      ahead-aim = record {
-        terminal = q .aiming .terminal;
-        fresh = take-other j R g ahead-fresh not-goal ∙ q .aiming .fresh;
-        full = q .aiming .full;
-      }
-
-      pub ahead-take : {P' Y' : List ℕ} {R' S' W' : ℕ} → Covers m n x Y' → Roaming m n f x s limit R' S' W' P' → Aiming m n g f x R' S'
-          → Back m j x (R - 2 ^ j) S W R' S' W' → LookingAhead m n i g f x s limit S₀ W₀ P' Y' R' S' W' (rest - 2 ^ j)
-      ahead-take {P'} {Y'} {R'} {S'} {W'} c r t d = record {
+      pub ahead-take : {P' Y' : List ℕ} {t' R' S' W' : ℕ} → t' ≡ t → Covers m n x Y' → Roaming m n f x s limit t' R' S' W' P' → Aiming m n g f x R' S'
+          → Back m j x (R - 2 ^ j) S W R' S' W' → LookingAhead m n i g f x s limit S₀ W₀ P' Y' t' R' S' W' (rest - 2 ^ j)
+      ahead-take {P'} {Y'} {t'} {R'} {S'} {W'} e c r y d = record {
         fits = omega (arith, q .fits);
         covers = c;
+        known = rw e (q .known);
         roaming = r;
-        aiming = t;
+        aiming = y;
         moved = moved-then (q .moved) (d .moved);
         shut = record {
           ahead = λ a b ha hb z h es ew. let t = d .moved .new a es ew in rw (d .same) (take-kept j R b ahead-fresh (q .shut .ahead a b ha hb z h (t .0) (t .1)));
@@ -516,17 +617,15 @@ module _ {m n s i g limit : ℕ} {f x : List ℕ} {S₀ W₀ : ℕ} (at : AheadA
             | no z ↦ d .moved .kept a (q .shut .back a b ha hb h (take-gone j R b ahead-fresh z (rw (d .same) at e)))
           ];
         };
-        left = λ b e. let t = take-less j rest b p e in let u = q .left b (t .1) in (rw (d .same) (take-other j R b ahead-fresh (t .0) ∙ u .0), u .1);
-        done = λ b hb e l. rw (d .same) (elim (ℕ-discrete b j) [
-          | yes z ↦ rw z (take-own j R ahead-fresh)
-          | no z ↦ take-kept j R b ahead-fresh (q .done b hb (take-gone j rest b p z e) l)
-        ]);
+        left = still-left (d .same);
+        done = rest-done (d .same);
       }
 
-    pub ahead-skip : cells f i j ≤ cells x i j → LookingAhead m n i g f x s limit S₀ W₀ P Y R S W (rest - 2 ^ j)
+    pub ahead-skip : cells f i j ≤ cells x i j → LookingAhead m n i g f x s limit S₀ W₀ P Y t R S W (rest - 2 ^ j)
     ahead-skip y = record {
       fits = omega (arith, q .fits);
       covers = q .covers;
+      known = q .known;
       roaming = q .roaming;
       aiming = q .aiming;
       moved = q .moved;
@@ -538,17 +637,17 @@ module _ {m n s i g limit : ℕ} {f x : List ℕ} {S₀ W₀ : ℕ} (at : AheadA
       ];
     }
 
-  pub ahead-end : {P Y : List ℕ} {R S W rest : ℕ} → LookingAhead m n i g f x s limit S₀ W₀ P Y R S W rest → rest ≤ 0 → Shut m n 32 f x R S W
-  ahead-end {P} {Y} {R} {S} {W} {rest} q e = record {
+  pub ahead-end : {P Y : List ℕ} {t R S W rest : ℕ} → LookingAhead m n i g f x s limit S₀ W₀ P Y t R S W rest → rest ≤ 0 → Shut m n 32 f x R S W
+  ahead-end {P} {Y} {t} {R} {S} {W} {rest} q e = record {
     ahead = λ a b ha hb z h es ew. elim (ℕ-discrete a i) [
-      | yes y ↦ q .done b hb (none b) (rw y at h)
+      | yes y ↦ q .done b hb (nothing b) (rw y at h)
       | no y ↦ q .shut .ahead a b ha hb y h es ew
     ];
     back = q .shut .back;
   }
     where
-      none : (b : ℕ) → bit rest b ≡ 0
-      none b = let z : rest ≡ 0 = omega arith in ap (λ y. bit y b) z ∙ bit-none b
+      nothing : (b : ℕ) → bit rest b ≡ 0
+      nothing b = let z : rest ≡ 0 = omega arith in ap (λ y. bit y b) z ∙ bit-none b
 
 -- ---- the start
 
@@ -589,7 +688,7 @@ module _ {m n i j limit : ℕ} (f x : List ℕ) (at : RoamAt m n i j) (some : 0 
   own-source : bit (2 ^ 32 - 1) i ≡ 1
   own-source = every-source i (omega (arith, at .source, at .sources))
 
-  pub roam-start : {P : List ℕ} {R : ℕ} → length P ≡ 96 → R < 2 ^ 64 → Roaming m n f x i limit R (2 ^ 32 - 1 - 2 ^ i) (2 ^ i) P
+  pub roam-start : {P : List ℕ} {R : ℕ} → length P ≡ 96 → R < 2 ^ 64 → Roaming m n f x i limit R R (2 ^ 32 - 1 - 2 ^ i) (2 ^ i) P
   roam-start {P} {R} long fits = record {
     dist = T₀;
     hops = replicate 96 0;
@@ -616,6 +715,7 @@ module _ {m n i j limit : ℕ} (f x : List ℕ) (at : RoamAt m n i j) (some : 0 
       | no z ↦ absurd (omega (arith, take-gone i (2 ^ 32 - 1) a own-source z e, every-source a h))
     ];
     fresh-t = λ a h e. omega (arith, start-off (32 + a) (omega arith) (omega (arith, at .source, at .sources)));
+    others = λ a h e. (e, omega (arith, start-off (32 + a) (omega arith) (omega (arith, at .source, at .sources))));
     waits = λ a h e. elim (ℕ-discrete a i) [
       | yes z ↦ rw z (take-own i (2 ^ 32 - 1) own-source)
       | no z ↦ absurd (omega (arith, bit-power i a z))
@@ -629,10 +729,13 @@ module _ {m n i j limit : ℕ} (f x : List ℕ) (at : RoamAt m n i j) (some : 0 
     | no z ↦ absurd (omega (arith, take-gone i (2 ^ 32 - 1) a own-source z e, every-source a (omega (arith, at .sources))))
   ]
 
-  pub shut-start : {R : ℕ} → Supplied m n x R → Shut m n 32 f x R (2 ^ 32 - 1 - 2 ^ i) (2 ^ i)
+  pub shut-start : {R : ℕ} → Supplied m n i x R → Shut m n 32 f x R (2 ^ 32 - 1 - 2 ^ i) (2 ^ i)
   shut-start u = record {
     ahead = λ a b ha hb z h es ew. absurd (omega (arith, bit-own i, ap (λ v. bit (2 ^ i) v) (alone a ha es)));
-    back = λ a b ha hb h e. absurd (omega (arith, u .has a b ha hb h));
+    back = λ a b ha hb h e. elim (ℕ-discrete a i) [
+      | yes z ↦ rw z (take-own i (2 ^ 32 - 1) own-source)
+      | no z ↦ absurd (omega (arith, u .has a b ha hb z h))
+    ];
   }
 
   pub aim-start : {R : ℕ} → cells f i j ≡ 0 → bit R j ≡ 1 → Aiming m n j f x R (2 ^ 32 - 1 - 2 ^ i)
@@ -644,7 +747,7 @@ module _ {m n i j limit : ℕ} (f x : List ℕ) (at : RoamAt m n i j) (some : 0 
 
 -- ---- a source that waits is looked at
 
-module _ {m n i j limit : ℕ} {f x : List ℕ} {R S W : ℕ} {P : List ℕ} (at : RoamAt m n i j) (q : Roaming m n f x i limit R S W P) where
+module _ {m n i j limit : ℕ} {f x : List ℕ} {t R S W : ℕ} {P : List ℕ} (at : RoamAt m n i j) (q : Roaming m n f x i limit t R S W P) where
   module _ (p : 0 < W) where
     abbrev v : ℕ
     v = trailingZeros 32 W
@@ -669,7 +772,7 @@ module _ {m n i j limit : ℕ} {f x : List ℕ} {R S W : ℕ} {P : List ℕ} (at
     pub turn-fewer : bitAnd W (W - 1) < W
     turn-fewer = omega (arith, and-le-r W (W - 1))
 
-    pub turn-roaming : Roaming m n f x i limit R S (bitAnd W (W - 1)) P
+    pub turn-roaming : Roaming m n f x i limit t R S (bitAnd W (W - 1)) P
     turn-roaming = record {
       dist = q .dist;
       hops = q .hops;
@@ -681,6 +784,7 @@ module _ {m n i j limit : ℕ} {f x : List ℕ} {R S W : ℕ} {P : List ℕ} (at
       fresh-s = q .fresh-s;
       seen-s = q .seen-s;
       fresh-t = q .fresh-t;
+      others = q .others;
       waits = λ a h e. elim (ℕ-discrete a v) [
         | yes z ↦ rw z turn-seen
         | no z ↦ q .waits a h (sym (rest-other 32 W a p (q .fits-w) z) ∙ e)
@@ -695,17 +799,11 @@ module _ {m n i j limit : ℕ} {f x : List ℕ} {R S W : ℕ} {P : List ℕ} (at
 
   -- ---- the end
 
-  start-seen : bit S i ≡ 0
-  start-seen = elim (ℕ-discrete (bit S i) 0) [
-    | yes z ↦ z
-    | no z ↦ absurd (omega (arith, q .fresh-s i (omega (arith, at .source, at .sources)) (omega (arith, bit-most S i)), q .tree .root-dist))
-  ]
-
   pub no-route : Shut m n 32 f x R S W → W ≤ 0 → bit R j ≡ 1 → NoRoute m n i j f x
   no-route h e g = record {
     p = bit S;
     q = bit R;
-    start = start-seen;
+    start = root-seen (omega (arith, at .source, at .sources)) q;
     goal = g;
     most = bit-most R;
     ahead = λ a b ha hb o. elim (ℕ-discrete (bit S a) 0) [

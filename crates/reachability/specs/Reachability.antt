@@ -21,10 +21,15 @@ pub record Opens (m n : ℕ) (f o : List ℕ) : Type 0 where
   pub within : (i : ℕ) → i < m → get o i < 2 ^ n
   pub has : (i j : ℕ) → i < m → j < n → 0 < cells f i j → bit (get o i) j ≡ 1
 
--- bit j of t is set for each terminal j that gets drums, and may be for one that got some
-pub record Supplied (m n : ℕ) (x : List ℕ) (t : ℕ) : Type 0 where
+-- bit j of t is set for each terminal j that gets drums from a source other than e, and may be for one that got some
+pub record Supplied (m n e : ℕ) (x : List ℕ) (t : ℕ) : Type 0 where
   pub fits : t < 2 ^ 64
-  pub has : (i j : ℕ) → i < m → j < n → 0 < cells x i j → bit t j ≡ 1
+  pub has : (i j : ℕ) → i < m → j < n → i ≢ e → 0 < cells x i j → bit t j ≡ 1
+
+-- and for terminal g
+pub record Known (m n e g : ℕ) (x : List ℕ) (t : ℕ) : Type 0 where
+  pub supplied : Supplied m n e x t
+  pub goal : bit t g ≡ 1
 
 -- ---- the nodes reached
 
@@ -45,9 +50,8 @@ pub record Tree (N : Net) (s limit : ℕ) (B : Book) : Type 0 where
   pub label : (v : ℕ) → v < 96 → get (B .dist) v < far
       → Label N s (λ w. get (B .dist) w < far) level (sum 96 (λ w. reached (get (B .dist) w))) limit B v
 
--- the terminals R and the sources S are not reached yet, the sources W are, and are to be looked at; P has the nodes before. A terminal that is
--- not in R was reached, or no source of S sends to it
-pub record Roaming (m n : ℕ) (f x : List ℕ) (s limit R S W : ℕ) (P : List ℕ) : Type 0 where
+-- of the terminals t the terminals R, and the sources S are not reached yet, the sources W are, and are to be looked at; P has the nodes before
+pub record Roaming (m n : ℕ) (f x : List ℕ) (s limit t R S W : ℕ) (P : List ℕ) : Type 0 where
   pub dist : List ℕ
   pub hops : List ℕ
   pub widths : List ℕ
@@ -58,11 +62,12 @@ pub record Roaming (m n : ℕ) (f x : List ℕ) (s limit R S W : ℕ) (P : List 
   pub fresh-s : (a : ℕ) → a < 32 → bit S a ≡ 1 → far ≤ get dist a
   pub seen-s : (a : ℕ) → a < 32 → bit S a ≡ 0 → get dist a < far
   pub fresh-t : (b : ℕ) → b < 64 → bit R b ≡ 1 → far ≤ get dist (32 + b)
+  pub others : (b : ℕ) → b < 64 → bit t b ≡ 0 → (bit R b ≡ 0) × (far ≤ get dist (32 + b))
   pub waits : (a : ℕ) → a < 32 → bit W a ≡ 1 → bit S a ≡ 0
 
 -- and terminal j is reached
-pub record AtTerminal (m n : ℕ) (f x : List ℕ) (s limit R S W : ℕ) (P : List ℕ) (j : ℕ) : Type 0 where
-  pub roaming : Roaming m n f x s limit R S W P
+pub record AtTerminal (m n : ℕ) (f x : List ℕ) (s limit t R S W : ℕ) (P : List ℕ) (j : ℕ) : Type 0 where
+  pub roaming : Roaming m n f x s limit t R S W P
   pub here : get (roaming .dist) (32 + j) < far
 
 -- terminal g is not reached yet, and no source that is has room to send to it
@@ -75,6 +80,10 @@ pub record Aiming (m n g : ℕ) (f x : List ℕ) (R S : ℕ) : Type 0 where
 pub record Room (i j : ℕ) (f x : List ℕ) (r : Bool) : Type 0 where
   pub room : r ≡ true → cells x i j < cells f i j
   pub full : r ≡ false → cells f i j ≤ cells x i j
+
+-- whether no source but e serves terminal j
+pub record Unserved (e j : ℕ) (s : List ℕ) (r : Bool) : Type 0 where
+  pub none : r ≡ true → (i : ℕ) → i < 32 → i ≢ e → bit (get s j) i ≡ 0
 
 -- source i is taken from those of terminal j
 pub record Dropped (i j : ℕ) (s s' : List ℕ) : Type 0 where
@@ -127,21 +136,28 @@ pub record NoRoute (m n i j : ℕ) (f x : List ℕ) : Type 0 where
   pub ahead : (a b : ℕ) → a < m → b < n → cells x a b < cells f a b → q b ≤ p a
   pub back : (a b : ℕ) → a < m → b < n → 0 < cells x a b → p a ≤ q b
 
+-- a way by terminals of t
+pub record Through (m n i j limit : ℕ) (f x P : List ℕ) (t : ℕ) : Type 0 where
+  pub trodden : Trodden m n i j limit f x P
+  pub within : (b : ℕ) → b < 64 → get (trodden .dist) (32 + b) < far → bit t b ≡ 1
+
 -- after a look from terminal j: terminal g is reached, or each source that sends to j is
-pub record LookedBack (m n j s g limit : ℕ) (f x : List ℕ) (R S W R' S' W' : ℕ) (P : List ℕ) (r : Bool) : Type 0 where
-  pub found : r ≡ true → Trodden m n s g limit f x P
-  pub roaming : r ≡ false → Roaming m n f x s limit R' S' W' P
+pub record LookedBack (m n j s g limit : ℕ) (f x : List ℕ) (t R S W t' R' S' W' : ℕ) (P : List ℕ) (r : Bool) : Type 0 where
+  pub same : t' ≡ t
+  pub found : r ≡ true → Through m n s g limit f x P t'
+  pub roaming : r ≡ false → Roaming m n f x s limit t' R' S' W' P
   pub aiming : r ≡ false → Aiming m n g f x R' S'
   pub back : r ≡ false → Back m j x R S W R' S' W'
 
 -- after a look from a source: terminal g is reached, or no open arc leaves the nodes reached but from the sources that wait
-pub record LookedAhead (m n s g limit : ℕ) (f x : List ℕ) (S W R' S' W' : ℕ) (P : List ℕ) (r : Bool) : Type 0 where
-  pub found : r ≡ true → Trodden m n s g limit f x P
-  pub roaming : r ≡ false → Roaming m n f x s limit R' S' W' P
+pub record LookedAhead (m n s g limit : ℕ) (f x : List ℕ) (S W t' R' S' W' : ℕ) (P : List ℕ) (r : Bool) : Type 0 where
+  pub known : Known m n s g x t'
+  pub found : r ≡ true → Through m n s g limit f x P t'
+  pub roaming : r ≡ false → Roaming m n f x s limit t' R' S' W' P
   pub aiming : r ≡ false → Aiming m n g f x R' S'
   pub shut : r ≡ false → Shut m n 32 f x R' S' W'
   pub fewer : r ≡ false → S' + W' ≤ S + W
 
-pub record Roamed (m n i j limit : ℕ) (f x P : List ℕ) (r : Bool) : Type 0 where
-  pub found : r ≡ true → Trodden m n i j limit f x P
+pub record Roamed (m n i j limit : ℕ) (f x P : List ℕ) (t : ℕ) (r : Bool) : Type 0 where
+  pub found : r ≡ true → Through m n i j limit f x P t
   pub none : r ≡ false → NoRoute m n i j f x

@@ -4,10 +4,12 @@ ghost use Prim.Native.Nat.{_+_, _*_, _^_, _≤_, _<_};
 ghost use lib.ListN.{length, getD};
 ghost use Rattle.residual.specs.Bits.{bit};
 ghost use Rattle.residual.specs.LanesInUse.{Covers};
-ghost use Rattle.reachability.specs.Reachability.{Opens, Supplied, Room, Dropped, Roaming, AtTerminal, Aiming, RoamAt, AheadAt, Shut, LookedBack, LookedAhead, Roamed};
+ghost use Rattle.reachability.specs.Reachability.{Opens, Known, Room, Unserved, Dropped, Roaming, AtTerminal, Aiming, RoamAt, AheadAt, Shut, LookedBack, LookedAhead, Roamed};
 
-// The terminals and the sources that are not reached yet, and the sources that are and are to be looked at, a bit for each; is the goal reached?
+// The terminals that a source other than the start may serve; the terminals of these and the sources that are not reached yet, and the sources
+// that are and are to be looked at, a bit for each; is the goal reached?
 pub struct Front {
+    pub supplied: u64,
     pub terminals: u64,
     pub sources: u32,
     pub wait: u32,
@@ -30,6 +32,14 @@ fn has_room(i: usize, j: usize, free: &[u32; 2048], x: &[u32; 2048]) -> bool
 {
     let k = i * 64 + j;
     x[k] < free[k]
+}
+
+// Does no source but the start serve terminal j?
+fn unserved(start: usize, j: usize, serves: &[u32; 64]) -> bool
+    requires { ⌜ (start < 32) × (j < 64) ⌝ }
+    ensures { λ r. ⌜ Unserved start j (now (serves .entry)) r ⌝ }
+{
+    serves[j] & (u32::MAX - (1 << start)) == 0
 }
 
 // Takes source i from those that serve terminal j.
@@ -56,9 +66,9 @@ fn look_back(
 ) -> Front
     requires { ⌜ RoamAt m n start j ⌝ }
     requires { ⌜ Covers m n (now x) (now serves) ⌝ }
-    requires { ⌜ AtTerminal m n (now free) (now x) start limit (front .terminals) (front .sources) (front .wait) (now prev) j ⌝ }
+    requires { ⌜ AtTerminal m n (now free) (now x) start limit (front .supplied) (front .terminals) (front .sources) (front .wait) (now prev) j ⌝ }
     requires { ⌜ Aiming m n goal (now free) (now x) (front .terminals) (front .sources) ⌝ }
-    ensures { λ r. ⌜ LookedBack m n j start goal limit (now (free .entry)) (now (x .entry)) (front .terminals) (front .sources) (front .wait) (r .terminals) (r .sources) (r .wait) (now (prev .exit)) (r .found) ⌝ }
+    ensures { λ r. ⌜ LookedBack m n j start goal limit (now (free .entry)) (now (x .entry)) (front .supplied) (front .terminals) (front .sources) (front .wait) (r .supplied) (r .terminals) (r .sources) (r .wait) (now (prev .exit)) (r .found) ⌝ }
     ensures { λ r. ⌜ Covers m n (now (x .entry)) (now (serves .exit)) ⌝ }
 {
     let mut sources = front.sources;
@@ -72,6 +82,7 @@ fn look_back(
             if has_room(i, goal, free, x) {
                 prev[32 + goal] = i as u32;
                 return Front {
+                    supplied: front.supplied,
                     terminals: front.terminals,
                     sources,
                     wait,
@@ -85,6 +96,7 @@ fn look_back(
         }
     }
     Front {
+        supplied: front.supplied,
         terminals: front.terminals,
         sources,
         wait,
@@ -93,7 +105,7 @@ fn look_back(
 }
 
 // Reaches each terminal that source i has room to send to, the last first, and each source that sends there, until one has room to send to
-// the goal.
+// the goal. A terminal that no source but the start serves any longer is of no use.
 fn look_ahead(
     m: usize,
     n: usize,
@@ -112,18 +124,22 @@ fn look_ahead(
     requires { ⌜ bit (front .sources) i ≡ 0 ⌝ }
     requires { ⌜ Covers m n (now x) (now serves) ⌝ }
     requires { ⌜ Opens m n (now free) (now ways) ⌝ }
-    requires { ⌜ Roaming m n (now free) (now x) start limit (front .terminals) (front .sources) (front .wait) (now prev) ⌝ }
+    requires { ⌜ Known m n start goal (now x) (front .supplied) ⌝ }
+    requires { ⌜ Roaming m n (now free) (now x) start limit (front .supplied) (front .terminals) (front .sources) (front .wait) (now prev) ⌝ }
     requires { ⌜ Aiming m n goal (now free) (now x) (front .terminals) (front .sources) ⌝ }
     requires { ⌜ Shut m n i (now free) (now x) (front .terminals) (front .sources) (front .wait) ⌝ }
-    ensures { λ r. ⌜ LookedAhead m n start goal limit (now (free .entry)) (now (x .entry)) (front .sources) (front .wait) (r .terminals) (r .sources) (r .wait) (now (prev .exit)) (r .found) ⌝ }
+    ensures { λ r. ⌜ LookedAhead m n start goal limit (now (free .entry)) (now (x .entry)) (front .sources) (front .wait) (r .supplied) (r .terminals) (r .sources) (r .wait) (now (prev .exit)) (r .found) ⌝ }
     ensures { λ r. ⌜ Covers m n (now (x .entry)) (now (serves .exit)) ⌝ }
 {
     let mut now = front;
-    let mut rest = ways[i] & front.terminals;
+    let mut rest = ways[i] & (front.terminals - (1 << goal));
     while 0 < rest {
         let j = highest(rest);
         rest = rest - (1 << j);
-        if has_room(i, j, free, x) {
+        if unserved(start, j, serves) {
+            now.supplied = now.supplied - (1 << j);
+            now.terminals = now.terminals - (1 << j);
+        } else if has_room(i, j, free, x) {
             prev[32 + j] = i as u32;
             now.terminals = now.terminals - (1 << j);
             now = look_back(m, n, start, goal, limit, j, free, x, now, serves, prev);
@@ -136,8 +152,8 @@ fn look_ahead(
     now
 }
 
-// Looks for a way from source i to terminal j for limit drums at most, by terminals that get drums; the nodes before go into prev. The lane
-// (i, j) is closed.
+// Looks for a way from source i to terminal j for limit drums at most, by terminals that a source after i may serve; the nodes before go into
+// prev. The lane (i, j) is closed.
 pub fn roam(
     m: usize,
     n: usize,
@@ -145,25 +161,26 @@ pub fn roam(
     j: usize,
     limit: u32,
     ways: &[u64; 32],
-    supplied: u64,
     free: &[u32; 2048],
     x: &[u32; 2048],
+    supplied: &mut u64,
     serves: &mut [u32; 64],
     prev: &mut [u32; 96],
 ) -> bool
     requires { ⌜ RoamAt m n i j ⌝ }
     requires { ⌜ 0 < limit ⌝ }
     requires { ⌜ getD (now free) (i * 64 + j) 0 ≡ 0 ⌝ }
-    requires { ⌜ bit supplied j ≡ 1 ⌝ }
-    requires { ⌜ Supplied m n (now x) supplied ⌝ }
+    requires { ⌜ Known m n i j (now x) (now supplied) ⌝ }
     requires { ⌜ Covers m n (now x) (now serves) ⌝ }
     requires { ⌜ Opens m n (now free) (now ways) ⌝ }
     requires { ⌜ length (now prev) ≡ 96 ⌝ }
-    ensures { λ r. ⌜ Roamed m n i j limit (now (free .entry)) (now (x .entry)) (now (prev .exit)) r ⌝ }
+    ensures { λ r. ⌜ Roamed m n i j limit (now (free .entry)) (now (x .entry)) (now (prev .exit)) (now (supplied .exit)) r ⌝ }
+    ensures { λ r. ⌜ Known m n i j (now (x .entry)) (now (supplied .exit)) ⌝ }
     ensures { λ r. ⌜ Covers m n (now (x .entry)) (now (serves .exit)) ⌝ }
 {
     let mut front = Front {
-        terminals: supplied,
+        supplied: *supplied,
+        terminals: *supplied,
         sources: u32::MAX - (1 << i),
         wait: 1 << i,
         found: false,
@@ -172,6 +189,7 @@ pub fn roam(
         let v = u32::trailing_zeros(front.wait) as usize;
         front.wait = front.wait & (front.wait - 1);
         front = look_ahead(m, n, i, j, limit, v, ways, free, x, front, serves, prev);
+        *supplied = front.supplied;
         if front.found {
             return true;
         }

@@ -4,33 +4,34 @@ use Prim.Native.Nat.{ℕ}
 use native.Mathlib.Omega.{arith}
 use lib.ListN.{length, length-replicate}
 use Rattle.residual.specs.LanesInUse.{Covers}
+use Rattle.reachability.specs.Reachability.{Known}
 use Rattle.canonical.specs.Canonize.{Rerouting}
-use Rattle.canonical.proofs.FreeLanes.{supplied-again}
+use Rattle.canonical.proofs.FreeLanes.{known-next}
 use Rattle.canonical.proofs.Rerouting.{reroute-start, free-again, roam-at, reroute-next}
 use Rattle.canonical.proofs.canon.reroute.Statement.{statement}
 use Rattle.canonical.proofs.canon.reroute.Tie as tie
 
 abbrev Inv-loop : tie.InvT-loop
-Inv-loop m n ways supplied free i j amount x₀ serves₀ prev₀ left₀ x serves prev left = Rerouting m n i j amount free x₀ x left × Covers m n x serves × (length prev ≡ 96)
+Inv-loop m n ways free i j amount x₀ supplied₀ serves₀ prev₀ left₀ x supplied serves prev left =
+    Rerouting m n i j amount free x₀ x left × Covers m n x serves × (length prev ≡ 96) × Known m n i j x supplied
 
 abbrev μ-loop : tie.MeasureT-loop
-μ-loop m n ways supplied free i j amount x₀ serves₀ prev₀ left₀ x serves prev left = left
+μ-loop m n ways free i j amount x₀ supplied₀ serves₀ prev₀ left₀ x supplied serves prev left = left
 
 loop-holds : tie.Need-loop-holds Inv-loop μ-loop
-loop-holds c = (reroute-start (c .pre .0), c .pre .1 .1 .1 .1 .1, length-replicate {A = ℕ} 96 0)
+loop-holds c = (reroute-start (c .pre .0), c .pre .1 .1 .1 .1, length-replicate {A = ℕ} 96 0, c .pre .1 .1 .0)
 
 roam-requires : tie.Need-roam-requires Inv-loop μ-loop
 roam-requires c κs =
-    let s = c .before .before .before .before .before .pre in
-    let q = c .before .before .before .before .loop .inv in
-    (roam-at (s .0) (q .0), (c .before .before .before .loop-test .taken, (s .1 .0, (s .1 .1 .0, (supplied-again (s .1 .1 .1 .0) (s .1 .1 .0) (q .0), (q .1, (s .1 .1 .1 .1 .0, q .2)))))))
+    let h = c .before .before .before .before in let s = h .before .before .pre in
+    let q = h .before .loop .inv in
+    (roam-at (s .0) (q .0), (h .loop-test .taken, (s .1 .0, (q .3, (q .1, (s .1 .1 .1 .0, q .2))))))
 
 follow-requires : tie.Need-follow-requires Inv-loop μ-loop
 follow-requires c κs =
-    let s = c .before .before .before .before .before .before .before .before .before .before .pre in
-    let q = c .before .before .before .before .before .before .before .before .before .loop .inv in
-    let r = c .before .before .before .before .roam .ensures in
-    (free-again (s .0) (q .0), (c .before .before .before .before .before .before .before .before .loop-test .taken, (r .0 .found (c .before .before .before .if1 .taken), r .1)))
+    let t = c .before .before .before in let h = t .before .before .before .before .before .before in let s = h .before .before .pre in
+    let r = t .before .roam .ensures in
+    (free-again (s .0) (h .before .loop .inv .0), (h .loop-test .taken, (r .0 .found (t .if1 .taken) .trodden, r .1 .1)))
 
 sub-left : tie.Need-sub-left Inv-loop μ-loop
 sub-left c = c .follow .ensures .0 .most
@@ -40,16 +41,17 @@ loop-less c = omega (arith, c .follow .ensures .0 .some, c .follow .ensures .0 .
 
 loop-again : tie.Need-loop-again Inv-loop μ-loop
 loop-again c =
-    let s = c .before .before .before .before .before .before .before .before .before .before .before .pre in
-    let q = c .before .before .before .before .before .before .before .before .before .before .loop .inv in
-    let t = c .before .before .before .before .before .roam .ensures .0 .found (c .before .before .before .before .if1 .taken) in
-    (reroute-next (s .0) (q .0) (c .follow .ensures .0), c .follow .ensures .1, t .labelled .searched .long .prevs)
+    let t = c .before .before .before .before in let h = t .before .before .before .before .before .before in let s = h .before .before .pre in
+    let r = t .before .roam .ensures in let w = r .0 .found (t .if1 .taken) in let d = c .follow .ensures in
+    (reroute-next (s .0) (h .before .loop .inv .0) (d .0), d .1, w .trodden .labelled .searched .long .prevs, known-next (r .1 .0) w (d .0))
 
 returns : tie.Need-returns Inv-loop μ-loop
-returns c = let q = c .before .before .before .before .before .before .loop .inv in let r = c .before .roam .ensures in (record { rerouting = q .0; none = λ h. r .0 .none (c .if1 .left) }, r .1)
+returns c =
+    let h = c .before .before .before .before .before .before in let r = c .before .roam .ensures in
+    (record { rerouting = h .before .loop .inv .0; none = λ h. r .0 .none (c .if1 .left) }, (r .1 .0 .supplied, r .1 .1))
 
 returns-2 : tie.Need-returns-2 Inv-loop μ-loop
-returns-2 c = let q = c .before .loop .inv in (record { rerouting = q .0; none = λ h. absurd (omega (arith, c .loop-test .left)) }, q .1)
+returns-2 c = let q = c .before .loop .inv in (record { rerouting = q .0; none = λ h. absurd (omega (arith, c .loop-test .left)) }, (q .3 .supplied, q .1))
 
 pub reroute-spec : {M : Type 1} → statement M
 reroute-spec =

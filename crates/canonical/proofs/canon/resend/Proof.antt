@@ -8,13 +8,13 @@ column-full-requires : tie.Need-column-full-requires
 column-full-requires c κs = search needs
 
 returns : tie.Need-returns
-returns c = let s = c .before .before .before .pre in (stays-col (s .0) (s .1 .0) (c .before .column-full .ensures .full (c .if1 .taken)), s .1 .1 .1 .1 .1)
+returns c = let s = c .before .before .before .pre in (stays-col (s .0) (s .1 .0) (c .before .column-full .ensures .full (c .if1 .taken)), (s .1 .1 .0 .supplied, s .1 .1 .1 .1))
 
 reroute-requires : tie.Need-reroute-requires
 reroute-requires c κs = search needs
 
 returns-2 : tie.Need-returns-2
-returns-2 c = let s = c .before .before .before .before .before .before .pre in (resent (s .0) (s .1 .0) (c .reroute .ensures .0), c .reroute .ensures .1)
+returns-2 c = let s = c .before .before .before .before .before .before .before .pre in (resent (s .0) (s .1 .0) (c .reroute .ensures .0), c .reroute .ensures .1)
 
 pub resend-spec : {M : Type 1} → statement M
 resend-spec =

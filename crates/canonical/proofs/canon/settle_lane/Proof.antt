@@ -1,7 +1,8 @@
 -- `canonical::canon::settle_lane` meets its contract. Assumes nothing.
-use Prim.Native.Nat.{_+_, _*_}
+use Prim.Native.Nat.{_+_, _*_, _<_}
 use native.Mathlib.Omega.{arith}
-use Rattle.canonical.proofs.FreeLanes.{supplied-under}
+use Rattle.reachability.proofs.MaskBits.{power-fits-long}
+use Rattle.canonical.proofs.FreeLanes.{supplied-more, supplied-under}
 use Rattle.canonical.proofs.LaneStores.{free-ready, opens-closed, open-next, longs-closed, longs-settled}
 use Rattle.canonical.proofs.Rerouting.{lane-empty, out-ready, out-shut, out-under, out-covers, lane-settled}
 use borrow.Author.Needs.{needs}
@@ -30,7 +31,7 @@ returns : tie.Need-returns
 returns c =
     let s = c .before .before in let q = s .pre .1 .1 in let l = q .longs in
     let d = lane-empty (free-ready (s .pre .0 .0) (s .pre .0 .1) q) (l .long-f) (omega (arith, c .if1 .taken)) in
-    (d, open-next (s .pre .0 .0) (s .pre .0 .1) q d (longs-closed (s .args .i * 64 + s .args .j) l) (q .covers))
+    (d, (open-next (s .pre .0 .0) (s .pre .0 .1) q d (longs-closed (s .args .i * 64 + s .args .j) l) (q .covers), s .pre .1 .0))
 
 mul-x : tie.Need-mul-x
 mul-x c = search needs
@@ -38,10 +39,17 @@ mul-x c = search needs
 element-write-x : tie.Need-element-write-x
 element-write-x c = search needs
 
+short : (s : tie.Start) → s .args .j < 64
+short s = omega (arith, s .pre .0 .1, s .pre .1 .1 .terminals)
+
+shl-supplied : tie.Need-shl-supplied
+shl-supplied c = short (c .before .before .before)
+
 resend-requires : tie.Need-resend-requires
 resend-requires c κs =
-    let s = c .before .before .before .before .before in let q = s .pre .1 .1 in let r = free-ready (s .pre .0 .0) (s .pre .0 .1) q in let l = q .longs .long-f in
-    (out-ready r l, (out-shut r l, (s .pre .1 .0 .has (s .args .i) (s .args .j) (s .pre .0 .0) (s .pre .0 .1) (omega (arith, c .before .before .before .if1 .left)), (supplied-under (s .pre .1 .0) (out-under r l), (opens-closed (s .args .i * 64 + s .args .j) (q .opens), out-covers r l (q .covers))))))
+    let s = c .before .before .before .before .before .before .before in let q = s .pre .1 .1 in let r = free-ready (s .pre .0 .0) (s .pre .0 .1) q in let l = q .longs .long-f in
+    rw (power-fits-long (s .args .j) (short s))
+    (out-ready r l, (out-shut r l, (supplied-more (s .args .j) (short s) (supplied-under (s .pre .1 .0) (out-under r l)), (opens-closed (s .args .i * 64 + s .args .j) (q .opens), out-covers r l (q .covers)))))
 
 mul-aside : tie.Need-mul-aside
 mul-aside c = search needs
@@ -51,7 +59,7 @@ element-copy-out-aside c = search needs
 
 add-aside : tie.Need-add-aside
 add-aside c =
-    let s = c .before .before .before .before .before .before .before in let q = s .pre .1 .1 in
+    let s = c .before .before .before .before .before .before .before .before .before in let q = s .pre .1 .1 in
     omega (arith, c .before .resend .ensures .0 .most, q .under (s .args .i) (s .args .j) (s .pre .0 .0) (s .pre .0 .1), q .ceilings (s .args .i) (s .args .j) (s .pre .0 .0) (s .pre .0 .1))
 
 mul-aside-2 : tie.Need-mul-aside-2
@@ -62,9 +70,9 @@ element-write-aside c = search needs
 
 returns-2 : tie.Need-returns-2
 returns-2 c =
-    let s = c .before .before .before .before .before .before .before in let q = s .pre .1 .1 in let l = q .longs in let w = c .before .resend .ensures in
+    let s = c .before .before .before .before .before .before .before .before .before in let q = s .pre .1 .1 in let l = q .longs in let w = c .before .resend .ensures in
     let d = lane-settled (free-ready (s .pre .0 .0) (s .pre .0 .1) q) (l .long-f) (l .long-o) (w .0) in
-    (d, open-next (s .pre .0 .0) (s .pre .0 .1) q d (longs-settled (s .args .i * 64 + s .args .j) _ l (w .0 .long-x)) (w .1))
+    (d, (open-next (s .pre .0 .0) (s .pre .0 .1) q d (longs-settled (s .args .i * 64 + s .args .j) _ l (w .0 .long-x)) (w .1 .1), w .1 .0))
 
 pub settle-lane-spec : {M : Type 1} → statement M
 settle-lane-spec =
@@ -79,6 +87,7 @@ settle-lane-spec =
     returns
     mul-x
     element-write-x
+    shl-supplied
     resend-requires
     mul-aside
     element-copy-out-aside

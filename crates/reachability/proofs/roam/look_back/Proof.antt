@@ -1,4 +1,5 @@
 -- `reachability::roam::look_back` meets its contract. Assumes nothing.
+use mathlib.Core.Path.{refl}
 use mathlib.Core.Bool.{true≢false, false≢true}
 use Prim.Native.Nat.{_+_, _*_, _<_}
 use native.Mathlib.Omega.{arith}
@@ -11,7 +12,7 @@ use Rattle.reachability.proofs.roam.look_back.Tie as tie
 
 abbrev Inv-loop : tie.InvT-loop
 Inv-loop m n start goal limit j free x front serves₀ prev₀ sources₀ wait₀ rest₀ serves prev sources wait rest =
-    LookingBack m n j goal free x start limit (front .terminals) (front .sources) (front .wait) prev serves sources wait rest
+    LookingBack m n j goal free x start limit (front .supplied) (front .terminals) (front .sources) (front .wait) prev serves sources wait rest
 
 abbrev μ-loop : tie.MeasureT-loop
 μ-loop m n start goal limit j free x front serves₀ prev₀ sources₀ wait₀ rest₀ serves prev sources wait rest = rest
@@ -88,6 +89,7 @@ returns c =
     let s = c .before .before .before .before .before .before .before .pre in
     let q = c .before .before .before .before .before .loop .inv in (
       record {
+        same = refl;
         found = λ e. back-found (s .0) q (c .before .before .before .before .loop-test .taken) (c .before .before .if1 .taken) (c .before .has-room .ensures .room (c .if2 .taken));
         roaming = λ e. absurd (true≢false e);
         aiming = λ e. absurd (true≢false e);
@@ -138,6 +140,7 @@ loop-again-2 c =
 returns-2 : tie.Need-returns-2 Inv-loop μ-loop
 returns-2 c = let s = c .before .before .before .pre in let q = c .before .loop .inv in (
   record {
+    same = refl;
     found = λ e. absurd (false≢true e);
     roaming = λ e. q .at .roaming;
     aiming = λ e. q .aiming;
