@@ -25,10 +25,10 @@ use Rattle.casefile.specs.declared.planned.Printed.{Printed}
 use Rattle.casefile.specs.CaseFiles.{caseAnswer, entriesIn, CaseStored}
 use Rattle.casefile.specs.Printed.{recordsOf, filedCase, fileCase, Told}
 use Rattle.casefile.specs.Cuts.{cutCase, Stored}
-use Rattle.casefile.proofs.Lengths.{both-stand}
-use Rattle.casefile.proofs.Refusals.{Alike}
+use Rattle.casefile.proofs.CaseLengths.{both-stand}
+use Rattle.casefile.proofs.FileRefusals.{Alike}
 use Rattle.planner.proofs.Judging.{cut-ceilings}
-use Rattle.casefile.proofs.Cuts.{few-lanes, cut-alike}
+use Rattle.casefile.proofs.StoredCase.{few-lanes, cut-alike}
 use Rattle.tablebounds.specs.Tables.{after, leastTotal, mark, marks}
 use Rattle.tablebounds.specs.Answers.{Outcome, known, refused, badEntry, place28, laterOf, outcomeOf, Answered}
 use Rattle.tablebounds.proofs.Planned.{Ready, ready}

@@ -1,6 +1,6 @@
 -- The loop over a field's digits. Assumes nothing.
-use mathlib.Core.Path.{_≡_, refl, ap, sym, _∙_, subst}
-use mathlib.Core.Bool.{Bool, true, false}
+use mathlib.Core.Path.{_≡_, refl, ap, _∙_}
+use mathlib.Core.Bool.{Bool}
 use mathlib.Core.List.{List}
 use Prim.Native.Nat.{ℕ, suc, _+_, _*_, _-_, _≤_, _<_, _^_}
 use native.Mathlib.Omega.{arith}
@@ -9,11 +9,11 @@ use native.Mathlib.Nat.{pow-suc, pow-le-pow-right}
 use lib.IntN.{ℤ}
 use lib.ListN.{length, getD, drop}
 use Rattle.casefile.specs.declared.Kind.{Kind}
-use Rattle.casefile.specs.Form.{Mark, digit, mark}
+use Rattle.casefile.specs.Form.{mark}
 use Rattle.casefile.specs.Records.{reading, run}
 use Rattle.casefile.specs.Reader.{within, digitOr10, DigitsRead}
-use Rattle.casefile.proofs.Marks.{NotDigit, no-digit-found, digit-found, inside}
-use Rattle.casefile.proofs.Runs.{digits-end, digits-more}
+use Rattle.casefile.proofs.ByteMarks.{no-digit-found, digit-found, inside}
+use Rattle.casefile.proofs.FormRuns.{digits-end, digits-more}
 
 -- the digits from at to next make the value, and so many more may come
 pub record DigitsSoFar (s : List ℕ) (at value next left : ℕ) : Type 0 where

@@ -1,5 +1,5 @@
 -- What is printed is the definition's text, byte by byte; so two pairs of files that are the same case get the same bytes. Assumes nothing.
-use mathlib.Core.Path.{_≡_, refl, sym, ap, ap₂, _∙_}
+use mathlib.Core.Path.{_≡_, refl, sym, ap, _∙_}
 use mathlib.Core.List.{List}
 use Prim.Native.Nat.{ℕ}
 use lib.ListN.{length}
@@ -7,7 +7,7 @@ use lib.Seq.{sets}
 use Rattle.planner.specs.Case as planner-case
 use Rattle.planner.specs.Outcome.{Outcome, planned, refused, outcomeOf}
 use Rattle.casefile.specs.declared.case.CaseAnswer.{CaseAnswer}
-use Rattle.casefile.specs.declared.case.CaseAnswer.the-variants.{Case, Refused}
+use Rattle.casefile.specs.declared.case.CaseAnswer.the-variants.{Case}
 use Rattle.casefile.specs.declared.planned.Printed.{Printed}
 use Rattle.casefile.specs.CaseFiles.{caseAnswer}
 use Rattle.casefile.specs.Printed.{fileCase, fileOutcome, outcomeFor, OutcomePrinted, FilesPrinted, outcomeText, filesText}

@@ -1,5 +1,5 @@
 -- The answers at a field. Assumes nothing.
-use mathlib.Core.Path.{_≡_, refl, ap, sym, _∙_, subst}
+use mathlib.Core.Path.{_≡_, refl, ap, sym, _∙_}
 use mathlib.Core.Bool.{Bool, true, false, _||_, true≢false, false≢true}
 use mathlib.Core.Option.{none}
 use mathlib.Core.List.{List}
@@ -13,11 +13,11 @@ use lib.ListN.{length, getD, drop}
 use Rattle.casefile.specs.declared.Kind.{Kind}
 use Rattle.casefile.specs.declared.field.Field.{Field}
 use Rattle.casefile.specs.declared.field.Field.the-variants.{Value, Refused}
-use Rattle.casefile.specs.Form.{Mark, digit, quote, mark, field, opened, step}
+use Rattle.casefile.specs.Form.{digit, quote, mark, field, opened, step}
 use Rattle.casefile.specs.Records.{reading, run, isFirst, absorb, Form, broken}
-use Rattle.casefile.specs.Reader.{digitOr10, isMinus, pickBool, numberFrom, within, closedAs, DigitsRead, NumberRead, pickField, closeQuote, onField, FieldRead, fieldEnds}
-use Rattle.casefile.proofs.Marks.{no-digit-found, digit-found, seen, known, inside, past, nothing-ten, minus-inside, no-minus}
-use Rattle.casefile.proofs.Runs.{here, refused, start, start-on, start-clear, quoted-on, quoted-clear, no-field, no-opened, no-signed, no-zero, no-quote, begins, zero-alone, zero-led, bare-closed, quote-closed, minus-begins}
+use Rattle.casefile.specs.Reader.{digitOr10, isMinus, pickBool, numberFrom, within, closedAs, NumberRead, pickField, closeQuote, onField, FieldRead, fieldEnds}
+use Rattle.casefile.proofs.ByteMarks.{no-digit-found, digit-found, seen, known, inside, past, nothing-ten, minus-inside, no-minus}
+use Rattle.casefile.proofs.FormRuns.{here, refused, start, start-on, start-clear, quoted-on, quoted-clear, no-field, no-opened, no-signed, no-zero, no-quote, begins, zero-alone, zero-led, bare-closed, quote-closed, minus-begins}
 
 -- after a number: its digits are read, or there is none
 abbrev onNumber : Kind → Bool → Bool → Bool → List ℤ → List (List ℤ) → List ℕ → Field → Form

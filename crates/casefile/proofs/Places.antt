@@ -53,8 +53,8 @@ use Rattle.casefile.specs.Form.{
 }
 use Rattle.casefile.specs.Records.{Reading, reading, run, absorb, isSource, recordsAtEnd, Form, whole, broken, formOf}
 use Rattle.casefile.specs.Reader.{digitOr10}
-use Rattle.casefile.proofs.Marks.{mark-digit, digit-found, nothing-ten, mark-zero, digit-small}
-use Rattle.casefile.proofs.Viable.{EndsWell, viable}
+use Rattle.casefile.proofs.ByteMarks.{mark-digit, digit-found, nothing-ten, mark-zero, digit-small}
+use Rattle.casefile.proofs.Viable.{viable}
 
 -- ---- a 0 that stands first in a number of several digits
 

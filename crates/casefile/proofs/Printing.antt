@@ -18,11 +18,11 @@ use Rattle.planner.specs.Plans.{PlanAt, planFor}
 use Rattle.planner.specs.Outcome.{Outcome, planned, refused, outcomeOf}
 use Rattle.planner.specs.Verdict.{lent}
 use Rattle.planner.specs.Answer.{Slices, Written, Answered}
-use Rattle.planner.proofs.Passed.{Formed}
+use Rattle.planner.proofs.TestsPassed.{Formed}
 use Rattle.planner.proofs.OnePlan.{first-cells}
 use Rattle.casefile.specs.declared.planned.Printed.{Printed}
 use Rattle.casefile.specs.Printed.{filedCase, Told, PlanPrinted, OutcomePrinted, CasePrinted}
-use Rattle.casefile.proofs.Refusals.{planned-formed}
+use Rattle.casefile.proofs.FileRefusals.{planned-formed}
 
 -- an amount is at most the demand of its terminal
 small-amount : (c : Case) (s : ℕ) (x : List ℕ) → Formed c → PlanAt c s x → (k : ℕ) → k < c .m * c .n → getD x k 0 ≤ 4000

@@ -1,12 +1,9 @@
 -- Every state can still end well, so that the byte that settles refusal 21 is the first that no file of the form could have there. Assumes nothing.
-use mathlib.Core.Path.{_≡_, refl, ap, sym, _∙_, subst}
-use mathlib.Core.Bool.{Bool, true, false, _||_}
+use mathlib.Core.Path.{_≡_, refl, _∙_}
+use mathlib.Core.Bool.{Bool, false}
 use lib.IntN.{ℤ}
-use mathlib.Core.Option.{Option, none, some}
 use mathlib.Core.List.{List, [], _∷_, _++_}
-use Prim.Native.Nat.{ℕ, zero, suc, _+_, _*_, _≤_, _<_}
-use native.Mathlib.Omega.{arith}
-use lib.ListN.{length, take}
+use Prim.Native.Nat.{ℕ, suc, _+_, _*_}
 use Rattle.casefile.specs.declared.Kind.{Kind}
 use Rattle.casefile.specs.declared.Kind.the-variants.{Tariff, Production}
 use Rattle.casefile.specs.Form.{
@@ -37,7 +34,7 @@ use Rattle.casefile.specs.Form.{
   inTariff,
   leading,
 }
-use Rattle.casefile.specs.Records.{Reading, reading, run, absorb, recordsAtEnd, rowWith, rowsWith, isFirst, isSource, signed, Form, whole, broken, formOf}
+use Rattle.casefile.specs.Records.{Reading, reading, run, absorb, rowWith, isFirst, signed, whole}
 
 -- bytes with which a file of the form goes on from here, and its records then
 pub record EndsWell (kind : Kind) (at : ℕ) (r : Reading) : Type 0 where

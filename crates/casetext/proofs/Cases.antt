@@ -17,7 +17,7 @@ use Rattle.casefile.specs.Records.{Form, whole, formOf}
 use Rattle.casefile.specs.Files.{pick, wanted, oddFrom, judged, judge, pickTable, tableOf, inOrder}
 use Rattle.casefile.specs.CaseFiles.{sourcesIn, terminalsIn, sourceRecords, costsIn, suppliesIn, demandsIn, entriesIn}
 use Rattle.casefile.specs.Printed.{filedCase, caseOf}
-use Rattle.casefile.proofs.CaseFiles.{Even}
+use Rattle.casefile.proofs.TariffCase.{Even}
 use Rattle.casetext.specs.Texts.{tab, sourceRecord, tariffRecords, productionRecords}
 use Rattle.casetext.proofs.Tabs.{tab-length, tab-ext, tab-list, tab-map, tab-rows, tab-ones}
 

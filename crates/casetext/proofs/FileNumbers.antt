@@ -52,7 +52,7 @@ use Rattle.casefile.specs.Form.{
 }
 use Rattle.casefile.specs.Records.{Reading, reading, run, absorb, signed, number, recordsAtEnd, isSource, rowWith, rowsWith, Form, whole, broken, formOf}
 use Rattle.casefile.specs.Files.{inOrder}
-use Rattle.casefile.proofs.Marks.{NotDigit, mark-digit, below-digit, above-digit}
+use Rattle.casefile.proofs.ByteMarks.{NotDigit, mark-digit, below-digit, above-digit}
 
 -- a digit is at most 9
 abbrev Low : Mark → Type 0

@@ -11,9 +11,9 @@ use lib.Seq.{sets, sets-eq, take-at, drop-at}
 use Rattle.planner.specs.Case.{Case, entry}
 use Rattle.planner.specs.Outcome.{Outcome, refused, refuseIf, refuseAt, firstFrom, _orElse_, formRefusal, refusalOf, outcomeOf, test7, test8, test27, test9, test11}
 use Rattle.planner.specs.Judge.{caseRefusal}
-use Rattle.planner.proofs.First.{first-none}
-use Rattle.planner.proofs.Passed.{some≢none, first-passes, second-passes, first-decides, second-decides, refuseIf-none, either-first, either-second, accepted}
-use Rattle.planner.proofs.TestLaws.{no-place}
+use Rattle.planner.proofs.FirstFailing.{first-none}
+use Rattle.planner.proofs.TestsPassed.{some≢none, first-passes, second-passes, first-decides, second-decides, refuseIf-none, either-first, either-second, accepted}
+use Rattle.planner.proofs.TestParts.{no-place}
 use Rattle.planner.proofs.Promise.{refused-outcome}
 use Rattle.casefile.specs.declared.Kind.the-variants.{Tariff, Production}
 use Rattle.casefile.specs.Records.{Form, whole, broken, formOf}

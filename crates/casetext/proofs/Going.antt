@@ -11,7 +11,7 @@ use native.Mathlib.Numerals.{add-one}
 use lib.IntN.{ℤ, pos, negsuc, negℤ, natAbs}
 use lib.ListN.{length, length-append}
 use Rattle.csvtext.specs.Text.{decimal, signedText, fieldText, recordText}
-use Rattle.csvtext.proofs.Texts.{decimal-small, decimal-large}
+use Rattle.csvtext.proofs.DecimalTexts.{decimal-small, decimal-large}
 use Rattle.casefile.specs.declared.Kind.{Kind}
 use Rattle.casefile.specs.declared.Kind.the-variants.{Tariff, Production}
 use Rattle.casefile.specs.Form.{
@@ -38,7 +38,7 @@ use Rattle.casefile.specs.Form.{
   afterLine,
 }
 use Rattle.casefile.specs.Records.{Reading, reading, run, absorb, isFirst, isSource, rowWith, rowsWith, signed}
-use Rattle.casefile.proofs.Marks.{mark-digit}
+use Rattle.casefile.proofs.ByteMarks.{mark-digit}
 use Rattle.casetext.specs.Texts.{lineText}
 
 -- the reader goes over a text from one reading to another, whatever comes after it

@@ -9,7 +9,7 @@ use lib.IntN.{ℤ, pos, negsuc, natAbs}
 use lib.ListN.{length, getD, length-append, List·getD-append}
 use Rattle.csvtext.specs.Text.{decimal, signedText, fieldText, recordText, each}
 use Rattle.csvtext.specs.Column.{columnText}
-use Rattle.csvtext.proofs.Texts.{decimal-small, decimal-large}
+use Rattle.csvtext.proofs.DecimalTexts.{decimal-small, decimal-large}
 use Rattle.casetext.specs.Texts.{costsText, listText, lineText, sourceText, sourcesText, demandsText, tariffOf, productionOf}
 use Rattle.casetext.proofs.Forms.{Small}
 

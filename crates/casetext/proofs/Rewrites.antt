@@ -14,15 +14,15 @@ use Rattle.planner.specs.Size.{checkedOf}
 use Rattle.planner.specs.declared.limits.Checked.{Checked}
 use Rattle.planner.specs.declared.limits.Checked.the-variants as checks
 use Rattle.planner.specs.Judge.{caseRefusal, freeCase}
-use Rattle.planner.proofs.FormLaws.{Limits, in-limits, by-size}
+use Rattle.planner.proofs.FormTests.{Limits, in-limits, by-size}
 use Rattle.planner.proofs.Judging.{case-form}
 use Rattle.casefile.specs.declared.case.CaseAnswer.{CaseAnswer}
 use Rattle.casefile.specs.declared.case.CaseAnswer.the-variants as answers
 use Rattle.casefile.specs.CaseFiles.{caseAnswer, CaseStored}
 use Rattle.casefile.specs.Printed.{fileCase}
 use Rattle.casefile.specs.Cuts.{cutCase, Stored}
-use Rattle.casefile.proofs.Refusals.{Alike}
-use Rattle.casefile.proofs.Cuts.{cut-alike}
+use Rattle.casefile.proofs.FileRefusals.{Alike}
+use Rattle.casefile.proofs.StoredCase.{cut-alike}
 use Rattle.casetext.specs.declared.Texts.{Texts}
 use Rattle.casetext.specs.declared.Texts.the-variants as texts
 use Rattle.casetext.specs.Texts.{tariffText, productionText}

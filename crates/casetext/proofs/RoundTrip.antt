@@ -10,8 +10,8 @@ use lib.ListN.{length, getD, replicate}
 use Rattle.planner.specs.Case.{Case, entry}
 use Rattle.planner.specs.Outcome.{Outcome, refused, refuseAt, firstFrom, formRefusal, _orElse_}
 use Rattle.planner.specs.Judge.{caseRefusal}
-use Rattle.planner.proofs.First.{none-passes}
-use Rattle.planner.proofs.Passed.{first-passes, second-passes, some≢none, Formed, formed}
+use Rattle.planner.proofs.FirstFailing.{none-passes}
+use Rattle.planner.proofs.TestsPassed.{first-passes, second-passes, some≢none, Formed, formed}
 use Rattle.planner.proofs.Judging.{case-formed}
 use Rattle.casefile.proofs.Printing.{small-cost}
 use Rattle.casefile.specs.declared.Kind.the-variants.{Tariff, Production}

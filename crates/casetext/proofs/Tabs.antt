@@ -8,7 +8,7 @@ use lib.IntN.{ℤ}
 use lib.ListN.{length, getD, take, length-append}
 use lib.Seq.{take-suc, take-length}
 use Rattle.casefile.specs.Files.{inOrder}
-use Rattle.casefile.proofs.Tallies.{inOrder-snoc}
+use Rattle.casefile.proofs.FieldCounts.{inOrder-snoc}
 use Rattle.casetext.specs.Texts.{tab}
 
 pub tab-length {ℓ} : {A : Type ℓ} (k : ℕ) (f : ℕ → A) → length (tab k f) ≡ k

@@ -10,7 +10,7 @@ use borrow.Author.Tests.{lt-ltb, le-ltb}
 use Rattle.csvtext.specs.Text.{decimal, signedText, fieldText, recordText, each}
 use Rattle.csvtext.specs.Writing.{Written}
 use Rattle.csvtext.specs.Column.{columnText, columnPrinted}
-use Rattle.csvtext.proofs.Texts.{short-digits, each-end}
+use Rattle.csvtext.proofs.DecimalTexts.{short-digits, each-end}
 
 -- record k
 abbrev pub line : List ℕ → ℕ → List ℕ

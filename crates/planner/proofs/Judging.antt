@@ -3,23 +3,23 @@ use mathlib.Core.Path.{_≡_, refl, sym, ap, ap₂, _∙_}
 use mathlib.Core.Bool.{Bool, true, false, cond}
 use mathlib.Core.Option.{Option, none, some}
 use mathlib.Core.List.{List}
-use Prim.Native.Nat.{ℕ, max, min, _+_, _-_, _*_, _≤_, _<_}
+use Prim.Native.Nat.{ℕ, max, min, _+_, _-_, _*_, _≤_}
 use native.Mathlib.Omega.{arith}
 use lib.Dec.{ltb}
 use lib.IntN.{ℤ}
-use lib.ListN.{length, getD, take, replicate, length-replicate, replicate-append-replicate}
+use lib.ListN.{take, replicate, length-replicate, replicate-append-replicate}
 use lib.Seq.{take-at}
 use Rattle.planner.specs.Case.{Case, supply, entry, allDemand, depotStock, made, leastSplit, greatestSplit, steps}
-use Rattle.planner.specs.Outcome.{Outcome, refused, refuseAt, firstFrom, formRefusal, test23, test26, test7, test8, test27, test9, _orElse_}
+use Rattle.planner.specs.Outcome.{Outcome, refused, refuseAt, firstFrom, formRefusal, test7, test8, test27, test9, _orElse_}
 use Rattle.planner.specs.Verdict.{madeOf, entriesRefusal, lent, Within}
 use Rattle.planner.specs.Judge.{caseRefusal, freeCase}
 use Rattle.planner.specs.declared.tests.Made.the-variants.{Drums, Unbalanced}
 use Rattle.planner.specs.Ready.{OnBalance}
-use Rattle.planner.proofs.Passed.{first-decides, second-decides, first-passes, Formed, formed, Balanced, balanced}
-use Rattle.planner.proofs.TestLaws.{met, unmet}
-use Rattle.planner.proofs.FormLaws.{Limits, lanes}
-use Rattle.planner.proofs.Decide.{made-by}
-use Rattle.planner.proofs.Earlier as earlier
+use Rattle.planner.proofs.TestsPassed.{first-decides, second-decides, first-passes, Formed, formed, Balanced, balanced}
+use Rattle.planner.proofs.TestParts.{met, unmet}
+use Rattle.planner.proofs.FormTests.{Limits, lanes}
+use Rattle.planner.proofs.LaterTests.{made-by}
+use Rattle.planner.proofs.WithoutCeilings as earlier
 use Rattle.planner.proofs.Unchanged.{Free, no-27, ends-same}
 
 -- as many of 2,048 ceilings of 4,000 as there are lanes

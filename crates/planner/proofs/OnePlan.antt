@@ -17,11 +17,11 @@ use Rattle.planner.specs.Plans.{PlanAt, freightOf, leastFreightAt, planF
 use Rattle.planner.specs.Outcome.{Outcome, planned, formRefusal, planOf}
 use Rattle.planner.specs.Verdict.{lent}
 use Rattle.planner.specs.Answer.{Slices, Written, Answered}
-use Rattle.planner.proofs.Passed.{Formed, formed, accepted}
+use Rattle.planner.proofs.TestsPassed.{Formed, formed, accepted}
 use Rattle.planner.proofs.Integers.{above-one}
-use Rattle.planner.proofs.Numbers.{planned-passes}
+use Rattle.planner.proofs.RefusalNumbers.{planned-passes}
 use Rattle.planner.proofs.Promise.{planned-outcome}
-use Rattle.planner.proofs.Raised.{raisedCosts, raisedFreight, raisedAt, added, lane-in, freight-above, least-at-above, plan-for-is}
+use Rattle.planner.proofs.RaisedCurve.{raisedCosts, raisedFreight, raisedAt, added, lane-in, freight-above, least-at-above, plan-for-is}
 
 -- ---- the plan for everybody
 

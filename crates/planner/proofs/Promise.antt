@@ -11,11 +11,11 @@ use Rattle.planner.specs.Plans.{rowSum, freightOf, PlanAt, planTotal, le
 use Rattle.planner.specs.Outcome.{Outcome, refused, _orElse_, formRefusal, refusalOf, planOf, outcomeOf}
 use Rattle.planner.specs.Outcome.{test7, test8, test27, test9, test11}
 use Rattle.planner.specs.Promise.{Cheapest, NoPlan, Unbalanced, BalanceRule}
-use Rattle.planner.proofs.Passed.{first-decides, second-decides, Formed, formed, balanced, balanced-passes, refuseIf-cases, has-split, split-passes, accepted}
-use Rattle.planner.proofs.Numbers.{Late, later-tests, never10}
+use Rattle.planner.proofs.TestsPassed.{first-decides, second-decides, Formed, formed, balanced, balanced-passes, refuseIf-cases, has-split, split-passes, accepted}
+use Rattle.planner.proofs.RefusalNumbers.{Late, later-tests, never10}
 use Rattle.planner.proofs.Splits.{SplitOf, split-of, split-range, Fitting, fitting, fits-split, in-order, last-split, plan-exists, meets-between}
 use Rattle.planner.proofs.Integers.{above-pos, above-at-most, above-below}
-use Rattle.planner.proofs.Raised.{raisedTotal, low, freight-above, total-above, freight-met, best-split, best-in}
+use Rattle.planner.proofs.RaisedCurve.{raisedTotal, low, freight-above, total-above, freight-met, best-split, best-in}
 
 -- ---- the refusals for balance
 

@@ -17,7 +17,7 @@ use Rattle.transport.proofs.SplitInterval.{split-between, between-split}
 use Rattle.transport.proofs.Existence as exists
 use Rattle.planner.specs.Case.{Case, supply, demand, ceiling, allDemand, depotStock, made, lowestSplit, highestSplit, splits, hasSplit, leastSplit, greatestSplit, steps}
 use Rattle.planner.specs.Plans.{rowSum, columnSum, MeetsTP, PlanAt}
-use Rattle.planner.proofs.Passed.{Formed, Balanced}
+use Rattle.planner.proofs.TestsPassed.{Formed, Balanced}
 
 -- the first two, and the rest
 pub first-two : (m : ℕ) (g : ℕ → ℕ) → 2 ≤ m → sum m g ≡ g 0 + (g 1 + sum (m - 2) (λ k. g (2 + k)))

@@ -24,12 +24,12 @@ use Rattle.planner.specs.Plans.{columnSum, MeetsTP, leastFreightAt, plan
 use Rattle.planner.specs.Outcome.{Outcome, planned, refuseAt, firstFrom, _orElse_, formRefusal, refusalOf, planOf, outcomeOf}
 use Rattle.planner.specs.Outcome.{test1, test2, test3, test4, test23, test5, test26, test6, test7, test8, test27, test9, test11}
 use Rattle.planner.specs.Verdict.{ceilingsRefusal}
-use Rattle.planner.proofs.First.{above-none}
-use Rattle.planner.proofs.Passed.{Formed, formed, Balanced, balanced, second-decides, under-first, split-passes, accepted}
-use Rattle.planner.proofs.TestLaws.{ceilings-pass}
+use Rattle.planner.proofs.FirstFailing.{above-none}
+use Rattle.planner.proofs.TestsPassed.{Formed, formed, Balanced, balanced, second-decides, under-first, split-passes, accepted}
+use Rattle.planner.proofs.TestParts.{ceilings-pass}
 use Rattle.planner.proofs.Splits.{fits-split, sent-all}
-use Rattle.planner.proofs.Raised.{lane-in}
-use Rattle.planner.proofs.Earlier as earlier
+use Rattle.planner.proofs.RaisedCurve.{lane-in}
+use Rattle.planner.proofs.WithoutCeilings as earlier
 
 -- 4,000 on every lane
 abbrev pub Free : Case → Type 0

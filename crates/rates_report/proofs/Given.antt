@@ -13,9 +13,9 @@ use Rattle.planner.specs.Case.{allDemand, depotStock, made, entry, leastSplit, 
 use Rattle.planner.specs.Plans.{leastFreightAt, totalAt, bestSplit, stops}
 use Rattle.planner.specs.Outcome.{planned, refuseIf, refuseAt, firstFrom, firstOver, _orElse_, formRefusal, refusalOf, planOf, outcomeOf}
 use Rattle.planner.specs.Outcome.{test1, test2, test3, test4, test23, test5, test26, test6, test7, test8, test27, test9, test11}
-use Rattle.planner.proofs.First.{first-none}
-use Rattle.planner.proofs.TestLaws.{unmet, no-place}
-use Rattle.planner.proofs.Passed.{Formed, formed, balanced, second-decides}
+use Rattle.planner.proofs.FirstFailing.{first-none}
+use Rattle.planner.proofs.TestParts.{unmet, no-place}
+use Rattle.planner.proofs.TestsPassed.{Formed, formed, balanced, second-decides}
 use Rattle.planner.proofs.Splits.{Fitting, fitting, fits-split, split-of, greatest-most, last-split}
 use Rattle.planner.proofs.Promise.{from9, gets-plan}
 use Rattle.planner.proofs.Promise as promise

@@ -21,7 +21,7 @@ use Rattle.planner.specs.Answer.{Slices}
 use Rattle.planner.specs.Answer as promise
 use Rattle.planner.specs.Outcome.{firstFrom}
 use Rattle.planner.specs.Outcome as planner
-use Rattle.planner.proofs.First.{moved, first-moved, none-passes, some-first}
+use Rattle.planner.proofs.FirstFailing.{moved, first-moved, none-passes, some-first}
 use Rattle.planner.proofs.Integers.{above-le, above-pos}
 use Rattle.tablebounds.specs.Tables.{Split, after, totalWith, Smallest, Largest, leastOver, leastTotal, canBe, mark, marks}
 use Rattle.tablebounds.specs.Heights.{height, Moderate, Line, Drawn, Drawing, Summed, leastUpTo, leastSum, marksBy, firstBad}

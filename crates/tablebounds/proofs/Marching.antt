@@ -14,7 +14,7 @@ use Rattle.transport.proofs.Stops.{Stop, Rising, stops-in, stops-out, stops-fro
 use Rattle.planner.specs.Case.{Case, leastSplit, greatestSplit}
 use Rattle.planner.specs.Plans.{leastFreightAt, stops}
 use Rattle.planner.proofs.Integers.{sub-same, sub-add, sub-scale}
-use Rattle.planner.proofs.Shift.{Follows, stops-above}
+use Rattle.planner.proofs.RaisedFreight.{Follows, stops-above}
 use Rattle.tablebounds.specs.Tables.{Split}
 use Rattle.tablebounds.specs.Heights.{height, Line}
 use Rattle.tablebounds.proofs.Planned.{Ready}

@@ -3,7 +3,7 @@ use mathlib.Core.Path.{_≡_, sym, ap₂}
 use Prim.Native.Nat.{ℕ, min, _*_}
 use native.Mathlib.Omega.{arith}
 use lib.Seq.{length-take-le}
-use Rattle.casefile.proofs.Cuts.{few-lanes, ceilings-long}
+use Rattle.casefile.proofs.StoredCase.{few-lanes, ceilings-long}
 use Rattle.boundsfile.proofs.Bounding.{cut-printed}
 use borrow.Author.Needs.{needs}
 use Rattle.boundsfile.proofs.print_stored.Statement.{statement}

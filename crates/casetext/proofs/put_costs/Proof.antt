@@ -7,8 +7,8 @@ use lib.IntN.{ℤ, pos}
 use lib.ListN.{length, getD}
 use Rattle.csvtext.specs.Text.{each, fieldText}
 use Rattle.csvtext.specs.Writing.{Written}
-use Rattle.csvtext.proofs.Signs.{read-back}
-use Rattle.csvtext.proofs.Texts.{each-start, each-next, each-end, written-length}
+use Rattle.csvtext.proofs.PrintedSigns.{read-back}
+use Rattle.csvtext.proofs.DecimalTexts.{each-start, each-next, each-end, written-length}
 use Rattle.casetext.specs.Texts.{costsText}
 use borrow.Author.Needs.{needs}
 use Rattle.casetext.proofs.put_costs.Statement.{statement}

@@ -5,7 +5,7 @@ use lib.IntN.{pos}
 use lib.ListN.{length, getD}
 use Rattle.csvtext.specs.Text.{each, fieldText}
 use Rattle.csvtext.specs.Writing.{Written}
-use Rattle.csvtext.proofs.Texts.{each-start, each-next, each-end, written-length}
+use Rattle.csvtext.proofs.DecimalTexts.{each-start, each-next, each-end, written-length}
 use Rattle.casetext.specs.Texts.{listText}
 use borrow.Author.Needs.{needs}
 use Rattle.casetext.proofs.put_list.Statement.{statement}

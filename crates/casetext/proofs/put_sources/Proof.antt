@@ -6,7 +6,7 @@ use native.Mathlib.Nat.{zero-mul}
 use lib.ListN.{length, getD}
 use Rattle.csvtext.specs.Text.{each}
 use Rattle.csvtext.specs.Writing.{Written}
-use Rattle.csvtext.proofs.Texts.{each-start, each-next, each-end, written-length, row-within, next-start}
+use Rattle.csvtext.proofs.DecimalTexts.{each-start, each-next, each-end, written-length, row-within, next-start}
 use Rattle.casetext.specs.Texts.{sourceText, sourcesText}
 use Rattle.casetext.proofs.Writes.{source-written}
 use borrow.Author.Needs.{needs}

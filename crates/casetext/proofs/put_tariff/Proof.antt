@@ -1,6 +1,6 @@
 -- `casetext::put_tariff` meets its contract. Assumes nothing.
 use native.Mathlib.Omega.{arith}
-use Rattle.csvtext.proofs.Texts.{then, widen}
+use Rattle.csvtext.proofs.DecimalTexts.{then, widen}
 use Rattle.casetext.specs.Texts.{demandsText, tariffOf}
 use borrow.Author.Needs.{needs}
 use Rattle.casetext.proofs.put_tariff.Statement.{statement}

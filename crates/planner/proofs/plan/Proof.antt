@@ -7,8 +7,8 @@ use denote.Ref.{now}
 use Rattle.planner.specs.Outcome.{formRefusal}
 use Rattle.planner.specs.Case.{Case}
 use Rattle.planner.specs.Verdict.{lent, verdict}
-use Rattle.planner.proofs.Solution.{refuses}
-use Rattle.planner.proofs.Decide.{form-decides, amounts, unbalanced, on-balance}
+use Rattle.planner.proofs.EngineAnswer.{refuses}
+use Rattle.planner.proofs.LaterTests.{form-decides, amounts, unbalanced, on-balance}
 use Rattle.planner.proofs.plan.Statement.{statement}
 use Rattle.planner.proofs.plan.Tie as tie
 

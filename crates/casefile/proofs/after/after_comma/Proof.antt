@@ -1,6 +1,6 @@
 -- `casefile::after::after_comma` meets its contract. Assumes nothing.
 use denote.Ref.{now}
-use Rattle.casefile.proofs.Afters.{comma-production, comma-source, comma-later}
+use Rattle.casefile.proofs.AfterField.{comma-production, comma-source, comma-later}
 use borrow.Author.Needs.{needs}
 use Rattle.casefile.proofs.after.after_comma.Statement.{statement}
 use Rattle.casefile.proofs.after.after_comma.Tie as tie

@@ -1,7 +1,7 @@
 -- `casefile::after::after_cost` meets its contract. Assumes nothing.
 use denote.Ref.{now}
-use Rattle.casefile.proofs.Afters.{cost-none, cost-comma}
-use Rattle.casefile.proofs.Marks.{past}
+use Rattle.casefile.proofs.AfterField.{cost-none, cost-comma}
+use Rattle.casefile.proofs.ByteMarks.{past}
 use borrow.Author.Needs.{needs}
 use Rattle.casefile.proofs.after.after_cost.Statement.{statement}
 use Rattle.casefile.proofs.after.after_cost.Tie as tie

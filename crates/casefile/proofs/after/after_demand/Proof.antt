@@ -1,7 +1,7 @@
 -- `casefile::after::after_demand` meets its contract. Assumes nothing.
 use native.Mathlib.Omega.{arith}
 use denote.Ref.{now}
-use Rattle.casefile.proofs.Afters.{demand-end, demand-cr, demand-field}
+use Rattle.casefile.proofs.AfterField.{demand-end, demand-cr, demand-field}
 use borrow.Author.Needs.{needs}
 use Rattle.casefile.proofs.after.after_demand.Statement.{statement}
 use Rattle.casefile.proofs.after.after_demand.Tie as tie

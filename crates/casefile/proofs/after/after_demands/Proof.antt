@@ -1,8 +1,8 @@
 -- `casefile::after::after_demands` meets its contract. Assumes nothing.
 use native.Mathlib.Omega.{arith}
 use denote.Ref.{now}
-use Rattle.casefile.proofs.Afters.{demands-none, demands-more, demands-end}
-use Rattle.casefile.proofs.Marks.{past}
+use Rattle.casefile.proofs.AfterField.{demands-none, demands-more, demands-end}
+use Rattle.casefile.proofs.ByteMarks.{past}
 use borrow.Author.Needs.{needs}
 use Rattle.casefile.proofs.after.after_demands.Statement.{statement}
 use Rattle.casefile.proofs.after.after_demands.Tie as tie

@@ -1,8 +1,8 @@
 -- `casefile::after::after_record` meets its contract. Assumes nothing.
 use native.Mathlib.Omega.{arith}
 use denote.Ref.{now}
-use Rattle.casefile.proofs.Afters.{record-none, record-tariff, record-end, record-more}
-use Rattle.casefile.proofs.Marks.{past}
+use Rattle.casefile.proofs.AfterField.{record-none, record-tariff, record-end, record-more}
+use Rattle.casefile.proofs.ByteMarks.{past}
 use borrow.Author.Needs.{needs}
 use Rattle.casefile.proofs.after.after_record.Statement.{statement}
 use Rattle.casefile.proofs.after.after_record.Tie as tie

@@ -1,6 +1,6 @@
 -- `casefile::after::read_after` meets its contract. Assumes nothing.
 use denote.Ref.{now}
-use Rattle.casefile.proofs.Afters.{after-minus, after-end, after-comma, after-cr, after-none}
+use Rattle.casefile.proofs.AfterField.{after-minus, after-end, after-comma, after-cr, after-none}
 use borrow.Author.Needs.{needs}
 use Rattle.casefile.proofs.after.read_after.Statement.{statement}
 use Rattle.casefile.proofs.after.read_after.Tie as tie

@@ -2,7 +2,7 @@
 use mathlib.Core.Path.{_≡_, sym, _∙_}
 use native.Mathlib.Omega.{arith}
 use denote.Ref.{now}
-use Rattle.casefile.proofs.CaseFiles.{tariff-refused, production-refused, both-accepted}
+use Rattle.casefile.proofs.TariffCase.{tariff-refused, production-refused, both-accepted}
 use lib.ListN.{length}
 use borrow.Author.Needs.{needs}
 use Rattle.casefile.proofs.case.read_case.Statement.{statement}

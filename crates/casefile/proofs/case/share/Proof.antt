@@ -1,7 +1,7 @@
 -- `casefile::case::share` meets its contract. Assumes nothing.
 use Prim.Native.Nat.{_≤_}
 use native.Mathlib.Omega.{arith}
-use Rattle.casefile.proofs.CaseFiles.{share-room, too-large}
+use Rattle.casefile.proofs.TariffCase.{share-room, too-large}
 use borrow.Author.Needs.{needs}
 use Rattle.casefile.proofs.case.share.Statement.{statement}
 use Rattle.casefile.proofs.case.share.Tie as tie

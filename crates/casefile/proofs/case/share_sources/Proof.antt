@@ -6,8 +6,8 @@ use borrow.Author.Needs.{needs}
 use denote.Ref.{now}
 use lib.IntN.{pos, natAbs}
 use lib.ListN.{length, getD}
-use Rattle.casefile.proofs.Shares.{Sharing, sharing-start, source-within, sharing-next, sharing-end}
-use Rattle.csvtext.proofs.Signs.{read-back}
+use Rattle.casefile.proofs.RecordShares.{Sharing, sharing-start, source-within, sharing-next, sharing-end}
+use Rattle.csvtext.proofs.PrintedSigns.{read-back}
 use Rattle.casefile.proofs.case.share_sources.Statement.{statement}
 use Rattle.casefile.proofs.case.share_sources.Tie as tie
 use Rattle.casefile.proofs.case.share_sources.Reads as reads

@@ -3,7 +3,7 @@ use mathlib.Core.Path.{refl}
 use denote.Ref.{now}
 use lib.ListN.{getD}
 use borrow.Author.Tests.{eq-eqb, ne-eqb}
-use Rattle.casefile.proofs.Marks.{past}
+use Rattle.casefile.proofs.ByteMarks.{past}
 use borrow.Author.Needs.{needs}
 use Rattle.casefile.proofs.field.close_quote.Statement.{statement}
 use Rattle.casefile.proofs.field.close_quote.Tie as tie

@@ -3,7 +3,7 @@ use mathlib.Core.Path.{sym, ap}
 use borrow.Author.Needs.{needs}
 use denote.Ref.{now}
 use Rattle.casefile.specs.Reader.{digitOr10}
-use Rattle.casefile.proofs.Marks.{mark-digit, below-ten, above-ten, nothing-ten}
+use Rattle.casefile.proofs.ByteMarks.{mark-digit, below-ten, above-ten, nothing-ten}
 use Rattle.casefile.proofs.field.digit_at.Statement.{statement}
 use Rattle.casefile.proofs.field.digit_at.Tie as tie
 use Rattle.casefile.proofs.field.digit_at.Reads as reads

@@ -1,6 +1,6 @@
 -- `casefile::field::minus_at` meets its contract. Assumes nothing.
 use denote.Ref.{now}
-use Rattle.casefile.proofs.Marks.{no-minus, minus-byte}
+use Rattle.casefile.proofs.ByteMarks.{no-minus, minus-byte}
 use Rattle.casefile.specs.declared.Kind.the-variants.{Tariff}
 use borrow.Author.Needs.{needs}
 use Rattle.casefile.proofs.field.minus_at.Statement.{statement}

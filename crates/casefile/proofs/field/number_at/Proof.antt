@@ -7,7 +7,7 @@ use lib.Dec.{ltb}
 use lib.ListN.{getD}
 use Rattle.casefile.specs.Form.{mark}
 use Rattle.casefile.specs.Reader.{digitOr10}
-use Rattle.casefile.proofs.Marks.{inside}
+use Rattle.casefile.proofs.ByteMarks.{inside}
 use Rattle.casefile.proofs.Fields.{number-none, number-plain, number-minus, number-zero}
 use borrow.Author.Needs.{needs}
 use Rattle.casefile.proofs.field.number_at.Statement.{statement}

@@ -10,7 +10,7 @@ use lib.ListN.{length, drop, getD}
 use Rattle.casefile.specs.Form.{mark}
 use Rattle.casefile.specs.Reader.{digitOr10}
 use Rattle.casefile.proofs.Digits.{DigitsSoFar, none-yet, one-more, no-more, all-ten, fits}
-use Rattle.casefile.proofs.Marks.{inside}
+use Rattle.casefile.proofs.ByteMarks.{inside}
 use Rattle.casefile.proofs.field.read_digits.Statement.{statement}
 use Rattle.casefile.proofs.field.read_digits.Tie as tie
 use Rattle.casefile.proofs.field.read_digits.Reads as reads

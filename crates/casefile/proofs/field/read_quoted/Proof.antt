@@ -3,7 +3,7 @@ use mathlib.Core.Path.{sym, _∙_}
 use Rattle.casefile.proofs.Fields.{opened-minus, opened-plain}
 use denote.Ref.{now}
 use native.Mathlib.Omega.{arith}
-use Rattle.casefile.proofs.Marks.{minus-inside}
+use Rattle.casefile.proofs.ByteMarks.{minus-inside}
 use borrow.Author.Needs.{needs}
 use Rattle.casefile.proofs.field.read_quoted.Statement.{statement}
 use Rattle.casefile.proofs.field.read_quoted.Tie as tie

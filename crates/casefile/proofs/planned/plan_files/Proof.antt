@@ -2,7 +2,7 @@
 use mathlib.Core.Path.{refl}
 use lib.ListN.{replicate}
 use Rattle.casefile.specs.Cuts.{Stored}
-use Rattle.casefile.proofs.Cuts.{refused-files, case-files}
+use Rattle.casefile.proofs.StoredCase.{refused-files, case-files}
 use borrow.Author.Needs.{needs}
 use Rattle.casefile.proofs.planned.plan_files.Statement.{statement}
 use Rattle.casefile.proofs.planned.plan_files.Tie as tie

@@ -7,7 +7,7 @@ use denote.Ref.{now}
 use lib.IntN.{pos}
 use lib.ListN.{length, take, drop, getD}
 use Rattle.csvtext.proofs.Stores.{Storing, storing-start, storing-next, storing-end, part-at, part-length}
-use Rattle.csvtext.proofs.Signs.{read-back}
+use Rattle.csvtext.proofs.PrintedSigns.{read-back}
 use Rattle.casefile.proofs.store.copy_signed.Statement.{statement}
 use Rattle.casefile.proofs.store.copy_signed.Tie as tie
 use Rattle.casefile.proofs.store.copy_signed.Reads as reads

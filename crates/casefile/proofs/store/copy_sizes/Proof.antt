@@ -8,8 +8,8 @@ use denote.Ref.{now}
 use lib.IntN.{pos, natAbs}
 use lib.ListN.{length, take, drop, getD}
 use Rattle.csvtext.proofs.Stores.{Storing, storing-start, storing-next, storing-end}
-use Rattle.casefile.proofs.Machine.{sizes-at, sizes-length}
-use Rattle.csvtext.proofs.Signs.{read-back}
+use Rattle.casefile.proofs.FieldIntegers.{sizes-at, sizes-length}
+use Rattle.csvtext.proofs.PrintedSigns.{read-back}
 use Rattle.casefile.proofs.store.copy_sizes.Statement.{statement}
 use Rattle.casefile.proofs.store.copy_sizes.Tie as tie
 use Rattle.casefile.proofs.store.copy_sizes.Reads as reads

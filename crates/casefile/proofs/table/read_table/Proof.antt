@@ -10,8 +10,8 @@ use mir.Syntax.{w64}
 use mir.Val.{toZ, ofZ}
 use Rattle.casefile.specs.declared.table.Tally.{Tally}
 use Rattle.casefile.specs.Tallies.{recordTally}
-use Rattle.casefile.proofs.Tables.{few-field, field-ahead, field-small, field-next, record-next, along-length, valued-length, Along, Valued, along-start, countable, long-table, field-refused, field-valued, on-field, on-record, on-end, on-empty, on-refused}
-use Rattle.csvtext.proofs.Signs.{read-back}
+use Rattle.casefile.proofs.FieldLoop.{few-field, field-ahead, field-small, field-next, record-next, along-length, valued-length, Along, Valued, along-start, countable, long-table, field-refused, field-valued, on-field, on-record, on-end, on-empty, on-refused}
+use Rattle.csvtext.proofs.PrintedSigns.{read-back}
 use Rattle.casefile.proofs.table.read_table.Statement.{statement}
 use Rattle.casefile.proofs.table.read_table.Tie as tie
 use Rattle.casefile.proofs.table.read_table.Reads as reads

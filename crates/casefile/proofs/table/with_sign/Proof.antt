@@ -1,5 +1,5 @@
 -- `casefile::table::with_sign` meets its contract. Assumes nothing.
-use Rattle.casefile.proofs.Machine.{minus-fits, minus-made, plain-made}
+use Rattle.casefile.proofs.FieldIntegers.{minus-fits, minus-made, plain-made}
 use borrow.Author.Needs.{needs}
 use Rattle.casefile.proofs.table.with_sign.Statement.{statement}
 use Rattle.casefile.proofs.table.with_sign.Tie as tie

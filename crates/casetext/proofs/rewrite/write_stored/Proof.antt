@@ -3,7 +3,7 @@ use mathlib.Core.Path.{_≡_, sym, ap₂}
 use Prim.Native.Nat.{ℕ, min, _*_}
 use native.Mathlib.Omega.{arith}
 use lib.Seq.{length-take-le}
-use Rattle.casefile.proofs.Cuts.{few-lanes}
+use Rattle.casefile.proofs.StoredCase.{few-lanes}
 use Rattle.casetext.proofs.Rewrites.{cut-written}
 use borrow.Author.Needs.{needs}
 use Rattle.casetext.proofs.rewrite.write_stored.Statement.{statement}

@@ -1,6 +1,6 @@
 -- `csvtext::bounds::put_fitting_marks` meets its contract. Assumes nothing.
 use Rattle.csvtext.specs.Bounds.{boundsText, totalsHeader, splitsHeader}
-use Rattle.csvtext.proofs.Texts.{then}
+use Rattle.csvtext.proofs.DecimalTexts.{then}
 use mir.Syntax.{w64}
 use mir.ValLaws.{toZ-ofZ}
 use borrow.Author.Needs.{needs}

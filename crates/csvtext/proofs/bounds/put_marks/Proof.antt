@@ -10,7 +10,7 @@ use lib.ListN.{length, getD}
 use Rattle.csvtext.specs.Text.{each, recordText}
 use Rattle.csvtext.specs.Bounds.{marksText}
 use Rattle.csvtext.specs.Writing.{Written}
-use Rattle.csvtext.proofs.Texts.{each-start, each-next, each-end, written-length}
+use Rattle.csvtext.proofs.DecimalTexts.{each-start, each-next, each-end, written-length}
 use Rattle.csvtext.proofs.bounds.put_marks.Statement.{statement}
 use Rattle.csvtext.proofs.bounds.put_marks.Tie as tie
 use Rattle.csvtext.proofs.bounds.put_marks.Reads as reads

@@ -1,6 +1,6 @@
 -- `csvtext::bounds::put_totals` meets its contract. Assumes nothing.
 use Rattle.csvtext.specs.Text.{recordText}
-use Rattle.csvtext.proofs.Texts.{then}
+use Rattle.csvtext.proofs.DecimalTexts.{then}
 use mir.Syntax.{w64}
 use mir.ValLaws.{toZ-ofZ}
 use borrow.Author.Needs.{needs}

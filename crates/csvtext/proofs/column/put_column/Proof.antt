@@ -3,7 +3,7 @@ use Prim.Native.Nat.{_*_, _-_, _≤_}
 use native.Mathlib.Omega.{arith}
 use Rattle.csvtext.specs.Text.{each}
 use Rattle.csvtext.specs.Writing.{Written}
-use Rattle.csvtext.proofs.Texts.{each-start, each-next, written-length}
+use Rattle.csvtext.proofs.DecimalTexts.{each-start, each-next, written-length}
 use Rattle.csvtext.proofs.Columns.{line, column-none, column-end}
 use borrow.Author.Needs.{needs}
 use Rattle.csvtext.proofs.column.put_column.Statement.{statement}

@@ -1,6 +1,6 @@
 -- `csvtext::column::put_line` meets its contract. Assumes nothing.
 use Rattle.csvtext.specs.Text.{recordText}
-use Rattle.csvtext.proofs.Texts.{then}
+use Rattle.csvtext.proofs.DecimalTexts.{then}
 use borrow.Author.Needs.{needs}
 use Rattle.csvtext.proofs.column.put_line.Statement.{statement}
 use Rattle.csvtext.proofs.column.put_line.Tie as tie

@@ -9,7 +9,7 @@ use Rattle.planner.specs.Outcome.{formRefusal}
 use Rattle.planner.specs.Verdict.{verdict}
 use Rattle.planner.specs.Judge.{freeCase}
 use Rattle.planner.specs.Ready.{OnBalance}
-use Rattle.planner.proofs.Decide.{amounts, on-balance}
+use Rattle.planner.proofs.LaterTests.{amounts, on-balance}
 use Rattle.planner.proofs.Judging.{case-form, case-unbalanced, case-entries, case-within}
 use borrow.Author.Needs.{needs}
 use Rattle.planner.proofs.judge.judge.Statement.{statement}

@@ -4,7 +4,7 @@ use mathlib.Core.Option.{some}
 use native.Mathlib.Omega.{arith}
 use denote.Ref.{now}
 use Rattle.planner.specs.Verdict.{found, firstAbove}
-use Rattle.planner.proofs.TestLaws.{ceilings-length, ceilings-high, ceilings-pass, above-within}
+use Rattle.planner.proofs.TestParts.{ceilings-length, ceilings-high, ceilings-pass, above-within}
 use borrow.Author.Needs.{needs}
 use Rattle.planner.proofs.tests.ceilings_test.Statement.{statement}
 use Rattle.planner.proofs.tests.ceilings_test.Tie as tie

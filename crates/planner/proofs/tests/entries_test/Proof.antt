@@ -5,7 +5,7 @@ use mathlib.Core.Option.{some}
 use native.Mathlib.Omega.{arith}
 use denote.Ref.{now}
 use Rattle.planner.specs.Verdict.{found, firstAbove}
-use Rattle.planner.proofs.TestLaws.{entries-high, entries-pass, high-within}
+use Rattle.planner.proofs.TestParts.{entries-high, entries-pass, high-within}
 use Rattle.planner.proofs.tests.entries_test.Statement.{statement}
 use Rattle.planner.proofs.tests.entries_test.Tie as tie
 

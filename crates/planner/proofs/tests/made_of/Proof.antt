@@ -6,7 +6,7 @@ use native.Mathlib.Omega.{arith}
 use lib.ListN.{length, getD, take, drop}
 use denote.Ref.{now}
 use Rattle.transport.specs.Sum.{sum}
-use Rattle.planner.proofs.TestLaws.{depots-length, depots-most, depots-sum, sum-most, made-below, made-above, made-drums}
+use Rattle.planner.proofs.TestParts.{depots-length, depots-most, depots-sum, sum-most, made-below, made-above, made-drums}
 use Rattle.planner.proofs.tests.made_of.Statement.{statement}
 use Rattle.planner.proofs.tests.made_of.Tie as tie
 

@@ -1,7 +1,7 @@
 -- `planner::tests::runs_test` meets its contract. Assumes nothing.
 use mathlib.Core.Path.{sym}
 use borrow.Author.Needs.{needs}
-use Rattle.planner.proofs.TestLaws.{runs-first, runs-second, runs-pass}
+use Rattle.planner.proofs.TestParts.{runs-first, runs-second, runs-pass}
 use Rattle.planner.proofs.tests.runs_test.Statement.{statement}
 use Rattle.planner.proofs.tests.runs_test.Tie as tie
 

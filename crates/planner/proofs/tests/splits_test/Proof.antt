@@ -3,7 +3,7 @@ use mathlib.Core.Path.{_≡_, sym, ap, _∙_}
 use mathlib.Core.Option.{none}
 use denote.Ref.{now}
 use Rattle.planner.specs.Verdict.{verdict, entriesRefusal}
-use Rattle.planner.proofs.TestLaws.{splits-entry, splits-plan, splits-split, splits-freight, splits-pass}
+use Rattle.planner.proofs.TestParts.{splits-entry, splits-plan, splits-split, splits-freight, splits-pass}
 use borrow.Author.Needs.{needs}
 use Rattle.planner.proofs.tests.splits_test.Statement.{statement}
 use Rattle.planner.proofs.tests.splits_test.Tie as tie

@@ -2,7 +2,7 @@
 use Prim.Native.Nat.{_-_}
 use native.Mathlib.Omega.{arith}
 use lib.ListN.{length}
-use Rattle.planner.proofs.Copies.{Copying, copy-start, copy-next, copy-end}
+use Rattle.planner.proofs.CellCopies.{Copying, copy-start, copy-next, copy-end}
 use Rattle.planner.proofs.work.copy_into.Statement.{statement}
 use Rattle.planner.proofs.work.copy_into.Tie as tie
 

@@ -5,7 +5,7 @@ use native.Mathlib.Nat.{zero-mul}
 use native.Mathlib.Omega.{arith}
 use denote.Ref.{now}
 use lib.ListN.{length}
-use Rattle.planner.proofs.Copies.{Moving, move-start, move-next, move-end, part-size, row-within, row-start}
+use Rattle.planner.proofs.CellCopies.{Moving, move-start, move-next, move-end, part-size, row-within, row-start}
 use Rattle.planner.proofs.work.gather_rows.Statement.{statement}
 use Rattle.planner.proofs.work.gather_rows.Tie as tie
 

@@ -1,6 +1,6 @@
 -- `planner::work::supplied` meets its contract. Assumes nothing.
 use borrow.Author.Needs.{needs}
-use Rattle.planner.proofs.Copies.{copied-first}
+use Rattle.planner.proofs.CellCopies.{copied-first}
 use Rattle.planner.proofs.work.supplied.Statement.{statement}
 use Rattle.planner.proofs.work.supplied.Tie as tie
 

@@ -6,7 +6,7 @@ use native.Mathlib.Omega.{arith}
 use lib.ListN.{length, length-map}
 use denote.Ref.{now}
 use Rattle.planner.specs.Range.{outside, raisedOf}
-use Rattle.planner.proofs.Machine.{read-back}
+use Rattle.planner.proofs.MachineIntegers.{read-back}
 use Rattle.workcase.proofs.Copies.{Filling, filling-start, filling-length, filling-end}
 use Rattle.workcase.proofs.CostLaws.{raise-next, raise-fits}
 use Rattle.workcase.proofs.costs.raise_cells.Statement.{statement}

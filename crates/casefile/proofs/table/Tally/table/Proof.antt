@@ -1,6 +1,6 @@
 -- `casefile::table::Tally::table` meets its contract. Assumes nothing.
 use mathlib.Core.Path.{refl, sym}
-use Rattle.casefile.proofs.Tallies.{judged-odd}
+use Rattle.casefile.proofs.FieldCounts.{judged-odd}
 use Rattle.casefile.proofs.table.Tally.table.Statement.{statement}
 use Rattle.casefile.proofs.table.Tally.table.Tie as tie
 use Rattle.casefile.proofs.table.Tally.table.Reads as reads

@@ -8,7 +8,7 @@ use lib.IntN.{ℤ}
 use Rattle.planner.specs.Case.{Case}
 use Rattle.planner.specs.Outcome.{Outcome, planned, refused, refuseIf, refuseAt, _orElse_, formRefusal, refusalOf, planOf, outcomeOf}
 use Rattle.planner.specs.Outcome.{test1, test2, test3, test4, test23, test5, test26, test6, test7, test8, test27, test9, test11}
-use Rattle.planner.proofs.Passed.{some≢none}
+use Rattle.planner.proofs.TestsPassed.{some≢none}
 
 -- the number of a refusal, 0 of a plan
 pub number : Outcome → ℕ

@@ -1,9 +1,9 @@
 -- The answers after a field. Assumes nothing.
-use mathlib.Core.Path.{_≡_, refl, ap, sym, _∙_, subst}
+use mathlib.Core.Path.{_≡_, refl, sym, _∙_}
 use mathlib.Core.Bool.{Bool, true, false, _||_, true≢false, false≢true}
 use mathlib.Core.Option.{none}
-use mathlib.Core.List.{List, [], _∷_}
-use Prim.Native.Nat.{ℕ, suc, _+_, _≤_, _<_}
+use mathlib.Core.List.{List, []}
+use Prim.Native.Nat.{ℕ, _+_, _≤_, _<_}
 use native.Mathlib.Omega.{arith}
 use lib.IntN.{ℤ, pos}
 use lib.ListN.{length, getD, drop}
@@ -38,9 +38,9 @@ use Rattle.casefile.specs.Form.{
   leading,
 }
 use Rattle.casefile.specs.Records.{reading, run, signed, isFirst, absorb, recordsAtEnd, rowWith, rowsWith}
-use Rattle.casefile.specs.Reader.{AfterRead, afterEnds, onAfter, closedAs, atField, atCost, atComma, atDemand, atCr, atLastCr, atLast, Any, Source, Known}
-use Rattle.casefile.proofs.Marks.{Seen, seen, known}
-use Rattle.casefile.proofs.Runs.{onward, here, at-end, refused, no-mark, no-comma, no-feed}
+use Rattle.casefile.specs.Reader.{AfterRead, afterEnds, onAfter, atField, atCost, atComma, atDemand, atCr, atLastCr, atLast, Any, Source, Known}
+use Rattle.casefile.proofs.ByteMarks.{Seen, seen, known}
+use Rattle.casefile.proofs.FormRuns.{onward, here, at-end, refused, no-mark, no-comma, no-feed}
 
 no-done : (kind : Kind) (source : Bool) (m : Mark) → step kind source done m ≡ none
 unfolding step

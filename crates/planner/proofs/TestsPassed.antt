@@ -15,7 +15,7 @@ use borrow.Author.Tests.{eqb-true, ltb-false, le-ltb, not-false}
 use Rattle.planner.specs.Case.{Case, supply, demand, entry, allDemand, depotStock, made, hasSplit, leastSplit, steps}
 use Rattle.planner.specs.Outcome.{Outcome, refused, refuseIf, refuseAt, firstFrom, firstOver, _orElse_, formRefusal, refusalOf}
 use Rattle.planner.specs.Outcome.{test1, test2, test3, test4, test23, test5, test26, test6, test7, test8, test27, test9, test11}
-use Rattle.planner.proofs.First.{none-passes}
+use Rattle.planner.proofs.FirstFailing.{none-passes}
 
 pub some≢none : (r : Outcome) → _≡_ {A = Option Outcome} (some r) none → ⊥
 some≢none r e = let z : _≡_ {A = ℕ} 0 1 = cc in omega arith

@@ -13,15 +13,15 @@ use Rattle.planner.specs.Case.{Case, steps}
 use Rattle.planner.specs.Outcome.{Outcome, planned, refused, formRefusal, outcomeOf}
 use Rattle.planner.specs.Outcome.{test23, test26, test11}
 use Rattle.planner.specs.Verdict.{firstOutside, amountsRefusal, runsRefusal, ceilingsRefusal, AtMost}
-use Rattle.planner.proofs.Passed.{some≢none, Formed, formed, accepted}
-use Rattle.planner.proofs.Numbers.{planned-passes}
+use Rattle.planner.proofs.TestsPassed.{some≢none, Formed, formed, accepted}
+use Rattle.planner.proofs.RefusalNumbers.{planned-passes}
 use Rattle.planner.proofs.Promise.{refused-outcome}
 use Rattle.planner.proofs.Splits.{greatest-most}
-use Rattle.planner.proofs.Earlier as earlier
+use Rattle.planner.proofs.WithoutCeilings as earlier
 use Rattle.planner.proofs.Unchanged.{no-26, unchanged}
-use Rattle.planner.proofs.Decide.{form-decides}
-use Rattle.planner.proofs.TestLaws.{unmet, amounts-none, runs-pass}
-use Rattle.planner.proofs.FormLaws.{Limits, by-amounts, by-cost, by-table}
+use Rattle.planner.proofs.LaterTests.{form-decides}
+use Rattle.planner.proofs.TestParts.{unmet, amounts-none, runs-pass}
+use Rattle.planner.proofs.FormTests.{Limits, by-amounts, by-cost, by-table}
 use Rattle.casefile.specs.Printed.{filedCase, caseOf, fileCase}
 
 module _ (c : Case) where

@@ -16,8 +16,8 @@ use Rattle.planner.specs.Verdict.{firstAbove, firstOutside, amountsRefus
 use Rattle.planner.specs.declared.tests.Made.the-variants.{Drums, Unbalanced}
 use Rattle.transport.specs.Sum.{sum}
 use Rattle.transport.proofs.Sums.{sum-zero, sum-suc, sum-ext}
-use Rattle.planner.proofs.Passed.{first-decides, second-decides}
-use Rattle.planner.proofs.First.{moved, first-moved, first-then, first-within, none-passes, some-first}
+use Rattle.planner.proofs.TestsPassed.{first-decides, second-decides}
+use Rattle.planner.proofs.FirstFailing.{moved, first-moved, first-then, first-within, none-passes, some-first}
 
 -- ---- a condition, a place
 

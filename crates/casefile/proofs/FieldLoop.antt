@@ -1,8 +1,8 @@
 -- The loop over the fields of a file. Assumes nothing.
 use mathlib.Core.Path.{_≡_, refl, ap, sym, _∙_, subst}
-use mathlib.Core.Bool.{Bool, true, false, _||_}
+use mathlib.Core.Bool.{Bool, false, _||_}
 use mathlib.Core.List.{List, [], _∷_, _++_, append-assoc, append-nil}
-use Prim.Native.Nat.{ℕ, zero, suc, _+_, _≤_, _<_, _^_}
+use Prim.Native.Nat.{ℕ, _+_, _≤_, _<_, _^_}
 use native.Mathlib.Omega.{arith}
 use borrow.Author.Tests.{lt-ltb, le-ltb}
 use lib.IntN.{ℤ, pos}
@@ -13,15 +13,14 @@ use Rattle.casefile.specs.declared.field.Field.{Field}
 use Rattle.casefile.specs.declared.field.Field.the-variants as field-answers
 use Rattle.casefile.specs.declared.after.After.{After}
 use Rattle.casefile.specs.declared.after.After.the-variants as after-answers
-use Rattle.casefile.specs.declared.table.Table.{Table}
 use Rattle.casefile.specs.declared.table.Table.the-variants.{Refused}
 use Rattle.casefile.specs.declared.table.Tally.{Tally}
 use Rattle.casefile.specs.Form.{field}
-use Rattle.casefile.specs.Records.{reading, run, signed, rowWith, rowsWith, Form, whole, broken, formOf}
-use Rattle.casefile.specs.Files.{tableOf, judge, judged, inOrder, pickTable}
+use Rattle.casefile.specs.Records.{reading, run, signed, rowWith, rowsWith, whole, broken, formOf}
+use Rattle.casefile.specs.Files.{tableOf, judge, judged, inOrder}
 use Rattle.casefile.specs.Reader.{closedAs, FieldRead, AfterRead, atField, Known}
 use Rattle.casefile.specs.Tallies.{startTally, fieldTally, recordTally, sourceTally, Countable, handedOn, TableRead}
-use Rattle.casefile.proofs.Tallies.{Tallied, tally-start, tally-field, tally-record, tally-source, inOrder-snoc, judged-whole}
+use Rattle.casefile.proofs.FieldCounts.{Tallied, tally-start, tally-field, tally-record, tally-source, inOrder-snoc, judged-whole}
 use Rattle.csvtext.proofs.Stores.{sets-snoc}
 
 -- the counts do not outgrow the offset

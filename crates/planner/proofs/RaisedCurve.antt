@@ -19,12 +19,12 @@ use Rattle.planner.specs.Freight.{ratesByRow, leastAtℤ}
 use Rattle.planner.specs.Range.{outside, raisedOf, lower}
 use Rattle.planner.specs.Case.{Case, supply, demand, ceiling, entry, allDemand, made, leastSplit, greatestSplit, steps}
 use Rattle.planner.specs.Plans.{PlanAt, freightOf, leastFreightAt, planFor, totalAt, bestSplit, stops, stopFreights}
-use Rattle.planner.proofs.Passed.{Formed}
+use Rattle.planner.proofs.TestsPassed.{Formed}
 use Rattle.planner.proofs.Splits.{Fitting, last-split, plan-exists}
 use Rattle.planner.proofs.Integers.{above-pos, above-at-most}
-use Rattle.planner.proofs.Machine.{raised-is, raised-above}
-use Rattle.planner.proofs.Raises.{map-at}
-use Rattle.planner.proofs.Shift.{Raised, plan-above, least-freight-above, canonical-above, best-above, stops-above, freights-above}
+use Rattle.planner.proofs.MachineIntegers.{raised-is, raised-above}
+use Rattle.planner.proofs.RaisedLists.{map-at}
+use Rattle.planner.proofs.RaisedFreight.{Raised, plan-above, least-freight-above, canonical-above, best-above, stops-above, freights-above}
 
 -- ---- the raised case
 

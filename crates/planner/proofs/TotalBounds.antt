@@ -16,11 +16,11 @@ use Rattle.planner.specs.Case.{Case, supply, allDemand, made, lowestSpli
 use Rattle.planner.specs.Plans.{totalAt, bestSplit}
 use Rattle.planner.specs.Outcome.{test9}
 use Rattle.planner.specs.Promise.{Bounded}
-use Rattle.planner.proofs.Passed.{Formed, small-entry}
-use Rattle.planner.proofs.TestLaws.{sum-under}
+use Rattle.planner.proofs.TestsPassed.{Formed, small-entry}
+use Rattle.planner.proofs.TestParts.{sum-under}
 use Rattle.planner.proofs.Splits.{Fitting, in-order, last-split, ends-within, most-made, sent-all}
 use Rattle.planner.proofs.Integers.{sub-at-most, sub-lt, pos-sub, neg-sub}
-use Rattle.planner.proofs.Raised.{raisedCosts, raisedFreight, raisedAt, raisedTotal, added, met, cost-most, total-above, best-in}
+use Rattle.planner.proofs.RaisedCurve.{raisedCosts, raisedFreight, raisedAt, raisedTotal, added, met, cost-most, total-above, best-in}
 
 -- at a split within the supplies no source sends more than 4,000
 sends-little : (c : Case) → Formed c → (y : ℕ) → lowestSplit c ≤ y → y ≤ highestSplit c → (i : ℕ) → i < c .m

@@ -1,14 +1,13 @@
 -- The records of a tariff, shared out. Assumes nothing.
-use mathlib.Core.Path.{_≡_, refl, ap, sym, _∙_, subst}
-use mathlib.Core.List.{List, [], _∷_, _++_, map, append-nil}
-use Prim.Native.Nat.{ℕ, zero, suc, _+_, _-_, _*_, _≤_, _<_}
+use mathlib.Core.Path.{_≡_, refl, ap, sym, _∙_}
+use mathlib.Core.List.{List}
+use Prim.Native.Nat.{ℕ, suc, _+_, _-_, _*_, _≤_, _<_}
 use native.Mathlib.Omega.{arith}
-use native.Mathlib.Nat.{add-zero, zero-mul, suc-mul, mul-le-mul-right, sub-zero}
+use native.Mathlib.Nat.{zero-mul, suc-mul, mul-le-mul-right, sub-zero}
 use native.Mathlib.Numerals.{add-one}
 use lib.IntN.{ℤ, pos, natAbs}
-use lib.ListN.{length, getD, take, drop, set, length-append, length-set}
+use lib.ListN.{length, getD, take, drop, set, length-set}
 use lib.Seq.{sets, length-sets, drop-drop, getD-drop}
-use Rattle.casefile.specs.Files.{inOrder}
 use Rattle.casefile.specs.CaseFiles.{costRows, supplyRows}
 use Rattle.csvtext.proofs.Stores.{sets-append, part-length}
 

@@ -13,7 +13,7 @@ use Rattle.casefile.specs.declared.case.CaseAnswer.the-variants as answe
 use Rattle.casefile.specs.Records.{whole, formOf}
 use Rattle.casefile.specs.Files.{wanted, tableOf, inOrder}
 use Rattle.casefile.specs.CaseFiles.{sourcesIn, terminalsIn, sourceRecords, costsIn, suppliesIn, demandsIn, entriesIn, answerOf, caseAnswer}
-use Rattle.casefile.proofs.CaseFiles.{Even, accepted, even-length}
+use Rattle.casefile.proofs.TariffCase.{Even, accepted, even-length}
 
 -- the first k fields of each of the first m records
 even-take : (w k m : ℕ) (rs : List (List ℤ)) → k ≤ w → Even w rs → Even k (map (λ (r : List ℤ). take k r) (take m rs))

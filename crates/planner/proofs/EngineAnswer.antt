@@ -29,13 +29,13 @@ use Rattle.planner.specs.Promise.{Cheapest, BalanceRule}
 use Rattle.planner.specs.Answer.{Slices, slices, Written, Answered}
 use Rattle.planner.specs.Copy.{Narrow, RowsMoved, Supplied, Wanted}
 use Rattle.planner.specs.Ready.{OnBalance}
-use Rattle.planner.proofs.Passed.{Formed, formed, Balanced, balanced, has-split, split-passes, small-entry, roomy, first-decides, second-decides}
-use Rattle.planner.proofs.TestLaws.{met, sum-under}
+use Rattle.planner.proofs.TestsPassed.{Formed, formed, Balanced, balanced, has-split, split-passes, small-entry, roomy, first-decides, second-decides}
+use Rattle.planner.proofs.TestParts.{met, sum-under}
 use Rattle.planner.proofs.Splits.{Fitting, fitting, fits-split, sent-all, in-order, last-split, ends-within, most-made}
 use Rattle.planner.proofs.Promise.{from27, from9, refused-outcome, balance-rule, cheapest}
 use Rattle.planner.specs.Range.{AllInside, lower, Moderate}
-use Rattle.planner.proofs.Raised.{lane-in, raisedCosts, raisedFreight, raisedAt, raisedTotal, added, cost-most, freight-above, plan-for-is, least-above, total-above, best-is, best-in, stops-are, stop-freights-are}
-use Rattle.planner.proofs.Bounds.{few-drums, raised-most, total-bounded}
+use Rattle.planner.proofs.RaisedCurve.{lane-in, raisedCosts, raisedFreight, raisedAt, raisedTotal, added, cost-most, freight-above, plan-for-is, least-above, total-above, best-is, best-in, stops-are, stop-freights-are}
+use Rattle.planner.proofs.TotalBounds.{few-drums, raised-most, total-bounded}
 
 -- a list of values up to a limit
 each-most : (limit : ℕ) (g : ℕ → ℕ) (l : List ℕ) → ((y : ℕ) → List·Memᴰ y l → g y ≤ limit) → (i : ℕ) → getD (map g l) i 0 ≤ limit

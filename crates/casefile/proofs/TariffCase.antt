@@ -4,13 +4,12 @@ use mathlib.Core.Bool.{Bool, true, false}
 use mathlib.Core.List.{List, [], _∷_, _++_, map, append-assoc}
 use Prim.Native.Nat.{ℕ, zero, suc, _+_, _-_, _*_, _≤_, _<_, min}
 use native.Mathlib.Omega.{arith}
-use native.Mathlib.Nat.{zero-mul, suc-mul, mul-le-mul, add-zero, zero-add}
-use native.Mathlib.Numerals.{add-one}
+use native.Mathlib.Nat.{zero-mul, suc-mul, mul-le-mul}
 use native.Mathlib.Decide.{decLt}
 use borrow.Author.Tests.{ltb-false, eqb-true}
 use lib.Dec.{eqb, ltb}
 use lib.IntN.{ℤ, pos, natAbs}
-use lib.ListN.{length, getD, take, drop, length-append, length-map, List·getD-append}
+use lib.ListN.{length, getD, take, drop, length-append, List·getD-append}
 use lib.Seq.{sets, sets-eq, take-append-le, take-at, take-all, take-take, drop-drop, drop-at}
 use Rattle.casefile.specs.declared.Kind.{Kind}
 use Rattle.casefile.specs.declared.Kind.the-variants.{Tariff, Production}
@@ -18,7 +17,6 @@ use Rattle.casefile.specs.declared.table.Table.{Table}
 use Rattle.casefile.specs.declared.table.Table.the-variants.{Whole, Refused}
 use Rattle.casefile.specs.Records.{Form, whole, broken, formOf}
 use Rattle.casefile.specs.Files.{pick, wanted, oddFrom, judge, tableOf, pickTable, inOrder}
-use Rattle.casefile.specs.declared.case.CaseAnswer.{CaseAnswer}
 use Rattle.casefile.specs.declared.case.CaseAnswer.the-variants as answers
 use Rattle.casefile.specs.Tallies.{TableRead}
 use Rattle.casefile.specs.CaseFiles.{
@@ -38,7 +36,7 @@ use Rattle.casefile.specs.CaseFiles.{
   TariffStored,
   CaseStored,
 }
-use Rattle.casefile.proofs.Tallies.{judged-whole}
+use Rattle.casefile.proofs.FieldCounts.{judged-whole}
 use Rattle.csvtext.proofs.Stores.{stored-part}
 
 -- every record has w fields

@@ -13,10 +13,10 @@ use Rattle.planner.specs.Outcome.{test7, test8, test9, test11}
 use Rattle.planner.specs.Verdict.{madeOf, entriesRefusal, splitsRefusal, Amounts, Within}
 use Rattle.planner.specs.declared.tests.Made.the-variants.{Drums, Unbalanced}
 use Rattle.planner.specs.Ready.{OnBalance}
-use Rattle.planner.proofs.Passed.{first-decides, first-passes, second-passes, formed}
-use Rattle.planner.proofs.TestLaws.{met, unmet}
+use Rattle.planner.proofs.TestsPassed.{first-decides, first-passes, second-passes, formed}
+use Rattle.planner.proofs.TestParts.{met, unmet}
 use Rattle.planner.proofs.Promise.{from7, from8, from9}
-use Rattle.planner.proofs.Solution.{OnSplits, Accepts, order, inside}
+use Rattle.planner.proofs.EngineAnswer.{OnSplits, Accepts, order, inside}
 
 -- ---- the tests before the balance
 

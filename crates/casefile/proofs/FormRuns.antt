@@ -1,14 +1,14 @@
 -- How a run goes on at an offset. Assumes nothing.
-use mathlib.Core.Path.{_≡_, refl, ap, sym, _∙_, subst}
-use mathlib.Core.Bool.{Bool, true, false, _||_, true≢false}
-use mathlib.Core.Option.{Option, none, some}
-use mathlib.Core.List.{List, [], _∷_, _++_}
-use Prim.Native.Nat.{ℕ, zero, suc, _+_, _*_, _-_, _≤_, _<_}
+use mathlib.Core.Path.{_≡_, refl, ap, sym, _∙_}
+use mathlib.Core.Bool.{Bool, true, false, true≢false}
+use mathlib.Core.Option.{none, some}
+use mathlib.Core.List.{List}
+use Prim.Native.Nat.{ℕ, suc, _+_, _*_, _-_, _≤_, _<_}
 use native.Mathlib.Omega.{arith}
 use native.Mathlib.Decide.{decLt}
 use native.Mathlib.Numerals.{add-one}
 use lib.IntN.{ℤ}
-use lib.ListN.{length, getD, drop, drop-of-length-le, List·getD-eq-default}
+use lib.ListN.{length, getD, drop, drop-of-length-le}
 use lib.Seq.{drop-cons}
 use Rattle.casefile.specs.declared.Kind.{Kind}
 use Rattle.casefile.specs.declared.Kind.the-variants.{Tariff, Production}
@@ -45,9 +45,9 @@ use Rattle.casefile.specs.Form.{
   placeOf,
   mayEnd,
 }
-use Rattle.casefile.specs.Records.{Reading, reading, run, absorb, recordsAtEnd, isFirst, isSource, Form, whole, broken}
+use Rattle.casefile.specs.Records.{Reading, reading, run, absorb, recordsAtEnd, isSource, Form, whole, broken}
 use Rattle.casefile.specs.Reader.{isMinus, within, closedAs}
-use Rattle.casefile.proofs.Marks.{NotDigit, Seen}
+use Rattle.casefile.proofs.ByteMarks.{NotDigit, Seen}
 
 -- after a byte of the mark m
 abbrev pub onward : Kind → Reading → Mark → List ℕ → ℕ → ℕ → Form

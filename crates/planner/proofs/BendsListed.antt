@@ -18,10 +18,10 @@ use Rattle.planner.specs.Outcome.{Outcome, planned, refusalOf, planOf, o
 use Rattle.planner.specs.Answer.{Slices, Answered}
 use Rattle.planner.specs.Bends.{Bend, ListsBends}
 use Rattle.planner.proofs.Integers.{sub-sub, sub-same, at-most-sub}
-use Rattle.planner.proofs.Shift.{Follows}
-use Rattle.planner.proofs.Numbers.{planned-passes}
+use Rattle.planner.proofs.RaisedFreight.{Follows}
+use Rattle.planner.proofs.RefusalNumbers.{planned-passes}
 use Rattle.planner.proofs.Splits.{in-order}
-use Rattle.planner.proofs.Raised.{raisedAt, least-above, stops-are}
+use Rattle.planner.proofs.RaisedCurve.{raisedAt, least-above, stops-are}
 use Rattle.planner.proofs.Promise.{accepted-fitting}
 
 -- ---- members and places

@@ -14,7 +14,7 @@ use Rattle.planner.specs.Outcome.{refused, outcomeOf}
 use Rattle.planner.specs.Size.{checkedOf}
 use Rattle.planner.specs.declared.limits.Checked.{Checked}
 use Rattle.planner.specs.declared.limits.Checked.the-variants as checks
-use Rattle.planner.proofs.FormLaws.{Limits, lanes, in-limits, by-size}
+use Rattle.planner.proofs.FormTests.{Limits, lanes, in-limits, by-size}
 use Rattle.planner.proofs.Judging.{cut-ceilings}
 use Rattle.casefile.specs.declared.case.CaseAnswer.{CaseAnswer}
 use Rattle.casefile.specs.declared.case.CaseAnswer.the-variants as answers
@@ -22,9 +22,9 @@ use Rattle.casefile.specs.declared.planned.Printed.{Printed}
 use Rattle.casefile.specs.CaseFiles.{costsIn, suppliesIn, demandsIn, entriesIn, caseAnswer, TariffStored, CaseStored}
 use Rattle.casefile.specs.Printed.{filedCase, caseOf, fileCase, fileOutcome, Told, PlanPrinted, OutcomePrinted, CasePrinted, FilesPrinted}
 use Rattle.casefile.specs.Cuts.{cutCase, Stored}
-use Rattle.casefile.proofs.Lengths.{BothStand, both-stand}
+use Rattle.casefile.proofs.CaseLengths.{BothStand, both-stand}
 use Rattle.casefile.proofs.Printing.{printed-refusal}
-use Rattle.casefile.proofs.Refusals.{Alike, alike-equal, alike-refused, alike-long}
+use Rattle.casefile.proofs.FileRefusals.{Alike, alike-equal, alike-refused, alike-long}
 
 -- how many cells are kept
 pub few-lanes : (m n : ℕ) → min m 32 * min n 64 ≤ 2048

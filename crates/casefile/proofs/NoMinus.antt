@@ -1,6 +1,6 @@
 -- A supply, a demand and a production entry have no minus: the last field of each record of a file of the form is not negative, nor is any field of
 -- the last record of a tariff. Assumes nothing.
-use mathlib.Core.Path.{_≡_, refl, ap, sym, _∙_, subst}
+use mathlib.Core.Path.{_≡_, refl, sym, _∙_, subst}
 use mathlib.Core.Bool.{Bool, true, false, _||_, true≢false, false≢true}
 use mathlib.Core.Option.{Option, none, some}
 use mathlib.Core.List.{List, [], _∷_, _++_}
