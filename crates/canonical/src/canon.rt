@@ -21,7 +21,7 @@ fn unless(test: bool, a: u32) -> u32
     if test { 0 } else { a }
 }
 
-// A tight lane is free, with its ceiling and its drums; what another lane carries is set aside. There is no branch on what cannot be foreseen.
+// A tight lane is free, with its ceiling and its drums; what another lane carries is set aside.
 fn part_lane(
     m: usize,
     n: usize,
