@@ -97,7 +97,7 @@ uint64_t yadvorkhul_rates(uint64_t most, uint64_t *to, size_t to_cells);
    where high is not as long as low (place 0), or its entry at split y is below the low one or above 1,000,000,000 (place y);
    then 11 where answers has fewer cells than there are splits; or YADVORKHUL_SHORT_REPORT, before all else. On a refusal answers
    and worth keep their contents. All cells that are not named here keep theirs always. What is said above of pointers holds
-   here too; it needs about 250 kB of stack, and no heap. */
+   here too; it needs about 218 kB of stack, and no heap. */
 uint64_t yadvorkhul_bounds(size_t m, size_t n, uint64_t run1, uint64_t run2,
                            const int64_t *costs, size_t costs_cells,
                            const uint64_t *supplies, size_t supplies_cells,
