@@ -1,0 +1,7 @@
+pub mod Fronts
+pub mod LineLaws
+pub mod FormLaws
+pub mod Places
+pub mod Machine
+pub mod LinesLaws
+pub mod StoreLaws

@@ -1,0 +1,43 @@
+-- `dimacs::bytes::skip_spaces` meets its contract. Assumes nothing.
+use mathlib.Core.Path.{_≡_, refl, sym, _∙_}
+use Prim.Native.Nat.{_-_, _≤_, _+_}
+use native.Mathlib.Omega.{arith}
+use denote.Ref.{now}
+use borrow.Author.Needs.{needs}
+use lib.ListN.{length, drop}
+use Rattle.dimacs.specs.Bytes.{spaces}
+use Rattle.dimacs.proofs.Fronts.{there, spaces-more, spaces-stop}
+use Rattle.dimacs.proofs.bytes.skip_spaces.Statement.{statement}
+use Rattle.dimacs.proofs.bytes.skip_spaces.Tie as tie
+use Rattle.dimacs.proofs.bytes.skip_spaces.Reads as reads
+use Rattle.dimacs.proofs.bytes.skip_spaces.Lts as lts
+use Rattle.dimacs.proofs.bytes.byte_at.Reads as byte-at-reads
+
+abbrev Inv-loop : tie.InvT-loop
+Inv-loop s at next₀ next = (next ≤ length s) × (spaces (drop at s) ≡ spaces (drop next s))
+
+abbrev μ-loop : tie.MeasureT-loop
+μ-loop s at next₀ next = length s - next
+
+loop-holds : tie.Need-loop-holds Inv-loop μ-loop
+loop-holds c = (c .before .pre, refl)
+
+byte-at-requires : tie.Need-byte-at-requires Inv-loop μ-loop
+byte-at-requires c κs = search needs
+
+returns : tie.Need-returns Inv-loop μ-loop
+returns c = let s = now (c .before .before .before .before .args .s) in let n = c .before .before .loop .next in record { upto = c .before .before .loop .inv .0; meaning = c .before .before .loop .inv .1 ∙ spaces-stop s n _ (c .before .byte-at .ensures) (c .if1 .taken) }
+
+add-next : tie.Need-add-next Inv-loop μ-loop
+add-next c = omega (arith, there (now (c .before .before .before .before .args .s)) (c .before .before .loop .next) _ (c .before .byte-at .ensures) (λ q. omega (arith, c .if1 .left)))
+
+loop-less : tie.Need-loop-less Inv-loop μ-loop
+loop-less c = omega (arith, there (now (c .before .before .before .before .args .s)) (c .before .before .loop .next) _ (c .before .byte-at .ensures) (λ q. omega (arith, c .if1 .left)))
+
+loop-again : tie.Need-loop-again Inv-loop μ-loop
+loop-again c = let s = now (c .before .before .before .before .args .s) in let n = c .before .before .loop .next in (omega (arith, there (now (c .before .before .before .before .args .s)) (c .before .before .loop .next) _ (c .before .byte-at .ensures) (λ q. omega (arith, c .if1 .left))), c .before .before .loop .inv .1 ∙ spaces-more s n _ (c .before .byte-at .ensures) (c .if1 .left))
+
+pub skip-spaces-spec : {M : Type 1} → statement M
+skip-spaces-spec =
+    tie.close
+    (tie.spec Inv-loop μ-loop loop-holds byte-at-requires returns add-next loop-less loop-again)

@@ -1,0 +1,102 @@
+-- `dimacs::line::read_arc` meets its contract. Assumes nothing.
+use Rattle.dimacs.proofs.LineLaws.{field-in, arc-1, arc-2, arc-3, arc-4, arc-5, arc-long, arc-read}
+use borrow.Author.Needs.{needs}
+use Rattle.dimacs.proofs.line.read_arc.Statement.{statement}
+use Rattle.dimacs.proofs.line.read_arc.Tie as tie
+use Rattle.dimacs.proofs.line.read_arc.Reads as reads
+use Rattle.dimacs.proofs.line.read_arc.Lts as lts
+use Rattle.dimacs.proofs.bytes.read_field.Reads as read-field-reads
+use Rattle.dimacs.proofs.bytes.read_signed_field.Reads as read-signed-field-reads
+
+read-field-requires : tie.Need-read-field-requires
+read-field-requires c κs = search needs
+
+enum-known-f1 : tie.Need-enum-known-f1
+enum-known-f1 c = search needs
+
+enum-told : tie.Need-enum-told
+enum-told c = search needs
+
+returns : tie.Need-returns
+returns c = arc-1 (c .before .before .read-field .ensures) (c .enum-told .given .1)
+
+read-field-requires-2 : tie.Need-read-field-requires-2
+read-field-requires-2 c κs = field-in (c .before .before .before .read-field .ensures) _ _ (c .before .f1 .given .1)
+
+enum-known-f2 : tie.Need-enum-known-f2
+enum-known-f2 c = search needs
+
+enum-told-2 : tie.Need-enum-told-2
+enum-told-2 c = search needs
+
+returns-2 : tie.Need-returns-2
+returns-2 c = arc-2 (c .before .before .before .before .before .before .read-field .ensures) _ _ (c .before .before .before .before .f1 .given .1) (c .before .before .read-field2 .ensures) (c .enum-told2 .given .1)
+
+read-field-requires-3 : tie.Need-read-field-requires-3
+read-field-requires-3 c κs = field-in (c .before .before .before .read-field2 .ensures) _ _ (c .before .f2 .given .1)
+
+enum-known-f3 : tie.Need-enum-known-f3
+enum-known-f3 c = search needs
+
+enum-told-3 : tie.Need-enum-told-3
+enum-told-3 c = search needs
+
+returns-3 : tie.Need-returns-3
+returns-3 c = arc-3 (c .before .before .before .before .before .before .before .before .before .before .read-field .ensures) _ _ (c .before .before .before .before .before .before .before .before .f1 .given .1) (c .before .before .before .before .before .before .read-field2 .ensures) _ _ (c .before .before .before .before .f2 .given .1) (c .before .before .read-field3 .ensures) (c .enum-told3 .given .1)
+
+read-field-requires-4 : tie.Need-read-field-requires-4
+read-field-requires-4 c κs = field-in (c .before .before .before .read-field3 .ensures) _ _ (c .before .f3 .given .1)
+
+enum-known-f4 : tie.Need-enum-known-f4
+enum-known-f4 c = search needs
+
+enum-told-4 : tie.Need-enum-told-4
+enum-told-4 c = search needs
+
+returns-4 : tie.Need-returns-4
+returns-4 c = arc-4 (c .before .before .before .before .before .before .before .before .before .before .before .before .before .before .read-field .ensures) _ _ (c .before .before .before .before .before .before .before .before .before .before .before .before .f1 .given .1) (c .before .before .before .before .before .before .before .before .before .before .read-field2 .ensures) _ _ (c .before .before .before .before .before .before .before .before .f2 .given .1) (c .before .before .before .before .before .before .read-field3 .ensures) _ _ (c .before .before .before .before .f3 .given .1) (c .before .before .read-field4 .ensures) (c .enum-told4 .given .1)
+
+read-signed-field-requires : tie.Need-read-signed-field-requires
+read-signed-field-requires c κs = field-in (c .before .before .before .read-field4 .ensures) _ _ (c .before .f4 .given .1)
+
+enum-known-f5 : tie.Need-enum-known-f5
+enum-known-f5 c = search needs
+
+enum-told-5 : tie.Need-enum-told-5
+enum-told-5 c = search needs
+
+returns-5 : tie.Need-returns-5
+returns-5 c = arc-5 (c .before .before .before .before .before .before .before .before .before .before .before .before .before .before .before .before .before .before .read-field .ensures) _ _ (c .before .before .before .before .before .before .before .before .before .before .before .before .before .before .before .before .f1 .given .1) (c .before .before .before .before .before .before .before .before .before .before .before .before .before .before .read-field2 .ensures) _ _ (c .before .before .before .before .before .before .before .before .before .before .before .before .f2 .given .1) (c .before .before .before .before .before .before .before .before .before .before .read-field3 .ensures) _ _ (c .before .before .before .before .before .before .before .before .f3 .given .1) (c .before .before .before .before .before .before .read-field4 .ensures) _ _ (c .before .before .before .before .f4 .given .1) (c .before .before .read-signed-field .ensures) (c .enum-told5 .given .1)
+
+returns-6 : tie.Need-returns-6
+returns-6 c = arc-long (c .before .before .before .before .before .before .before .before .before .before .before .before .before .before .before .before .before .before .before .before .read-field .ensures) _ _ (c .before .before .before .before .before .before .before .before .before .before .before .before .before .before .before .before .before .before .f1 .given .1) (c .before .before .before .before .before .before .before .before .before .before .before .before .before .before .before .before .read-field2 .ensures) _ _ (c .before .before .before .before .before .before .before .before .before .before .before .before .before .before .f2 .given .1) (c .before .before .before .before .before .before .before .before .before .before .before .before .read-field3 .ensures) _ _ (c .before .before .before .before .before .before .before .before .before .before .f3 .given .1) (c .before .before .before .before .before .before .before .before .read-field4 .ensures) _ _ (c .before .before .before .before .before .before .f4 .given .1) (c .before .before .before .before .read-signed-field .ensures) _ _ _ (c .before .before .f5 .given .1) (c .if1 .taken)
+
+returns-7 : tie.Need-returns-7
+returns-7 c = arc-read (c .before .before .before .before .before .before .before .before .before .before .before .before .before .before .before .before .before .before .before .before .read-field .ensures) _ _ (c .before .before .before .before .before .before .before .before .before .before .before .before .before .before .before .before .before .before .f1 .given .1) (c .before .before .before .before .before .before .before .before .before .before .before .before .before .before .before .before .read-field2 .ensures) _ _ (c .before .before .before .before .before .before .before .before .before .before .before .before .before .before .f2 .given .1) (c .before .before .before .before .before .before .before .before .before .before .before .before .read-field3 .ensures) _ _ (c .before .before .before .before .before .before .before .before .before .before .f3 .given .1) (c .before .before .before .before .before .before .before .before .read-field4 .ensures) _ _ (c .before .before .before .before .before .before .f4 .given .1) (c .before .before .before .before .read-signed-field .ensures) _ _ _ (c .before .before .f5 .given .1) (c .if1 .left)
+
+pub read-arc-spec : {M : Type 1} → statement M
+read-arc-spec =
+    tie.close
+    (tie.spec
+    read-field-requires
+    enum-known-f1
+    enum-told
+    returns
+    read-field-requires-2
+    enum-known-f2
+    enum-told-2
+    returns-2
+    read-field-requires-3
+    enum-known-f3
+    enum-told-3
+    returns-3
+    read-field-requires-4
+    enum-known-f4
+    enum-told-4
+    returns-4
+    read-signed-field-requires
+    enum-known-f5
+    enum-told-5
+    returns-5
+    returns-6
+    returns-7)

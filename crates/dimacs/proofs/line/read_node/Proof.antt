@@ -1,0 +1,54 @@
+-- `dimacs::line::read_node` meets its contract. Assumes nothing.
+use Rattle.dimacs.proofs.LineLaws.{field-in, node-no-id, node-no-supply, node-long, node-read}
+use borrow.Author.Needs.{needs}
+use Rattle.dimacs.proofs.line.read_node.Statement.{statement}
+use Rattle.dimacs.proofs.line.read_node.Tie as tie
+use Rattle.dimacs.proofs.line.read_node.Reads as reads
+use Rattle.dimacs.proofs.line.read_node.Lts as lts
+use Rattle.dimacs.proofs.bytes.read_field.Reads as read-field-reads
+use Rattle.dimacs.proofs.bytes.read_signed_field.Reads as read-signed-field-reads
+
+read-field-requires : tie.Need-read-field-requires
+read-field-requires c κs = search needs
+
+enum-known-n : tie.Need-enum-known-n
+enum-known-n c = search needs
+
+enum-told : tie.Need-enum-told
+enum-told c = search needs
+
+returns : tie.Need-returns
+returns c = node-no-id (c .before .before .read-field .ensures) (c .enum-told .given .1)
+
+read-signed-field-requires : tie.Need-read-signed-field-requires
+read-signed-field-requires c κs = field-in (c .before .before .before .read-field .ensures) _ _ (c .before .n .given .1)
+
+enum-known-v : tie.Need-enum-known-v
+enum-known-v c = search needs
+
+enum-told-2 : tie.Need-enum-told-2
+enum-told-2 c = search needs
+
+returns-2 : tie.Need-returns-2
+returns-2 c = node-no-supply (c .before .before .before .before .before .before .read-field .ensures) _ _ (c .before .before .before .before .n .given .1) (c .before .before .read-signed-field .ensures) (c .enum-told2 .given .1)
+
+returns-3 : tie.Need-returns-3
+returns-3 c = node-long (c .before .before .before .before .before .before .before .before .read-field .ensures) _ _ (c .before .before .before .before .before .before .n .given .1) (c .before .before .before .before .read-signed-field .ensures) _ _ _ (c .before .before .v .given .1) (c .if1 .taken)
+
+returns-4 : tie.Need-returns-4
+returns-4 c = node-read (c .before .before .before .before .before .before .before .before .read-field .ensures) _ _ (c .before .before .before .before .before .before .n .given .1) (c .before .before .before .before .read-signed-field .ensures) _ _ _ (c .before .before .v .given .1) (c .if1 .left)
+
+pub read-node-spec : {M : Type 1} → statement M
+read-node-spec =
+    tie.close
+    (tie.spec
+    read-field-requires
+    enum-known-n
+    enum-told
+    returns
+    read-signed-field-requires
+    enum-known-v
+    enum-told-2
+    returns-2
+    returns-3
+    returns-4)

@@ -1,0 +1,81 @@
+-- `dimacs::store::put_node` meets its contract. Assumes nothing.
+use mathlib.Core.Path.{ap₂, sym, subst, _∙_}
+use mathlib.Core.Logic.{inl, inr}
+use Prim.Native.Nat.{ℕ, _-_, _<_, _^_}
+use native.Mathlib.Omega.{arith}
+use lib.IntN.{subℕ}
+use Rattle.dimacs.proofs.LinesLaws.{supply-parts, given-small, taken-small}
+use Rattle.dimacs.proofs.StoreLaws.{node-none, node-again, node-next}
+use borrow.Author.Needs.{needs}
+use Rattle.dimacs.proofs.store.put_node.Statement.{statement}
+use Rattle.dimacs.proofs.store.put_node.Tie as tie
+use Rattle.dimacs.proofs.store.put_node.Reads as reads
+use Rattle.dimacs.proofs.store.put_node.Lts as lts
+use Rattle.dimacs.proofs.store.either.Reads as either-reads
+use Rattle.dimacs.proofs.store.given.Reads as given-reads
+use Rattle.dimacs.proofs.store.taken.Reads as taken-reads
+
+returns : tie.Need-returns
+returns c = λ sup r. let a = c .before .args in node-none (a .nodes) sup _ (a .odd) _ _ _ r (inl (c .if1 .taken))
+
+returns-2 : tie.Need-returns-2
+returns-2 c = λ sup r. let a = c .before .before .args in node-none (a .nodes) sup _ (a .odd) _ _ _ r (inr (c .if2 .taken))
+
+mul-if3 : tie.Need-mul-if3
+mul-if3 c = search needs
+
+element-copy-out-if3 : tie.Need-element-copy-out-if3
+element-copy-out-if3 c = search needs
+
+returns-3 : tie.Need-returns-3
+returns-3 c = λ sup r. let a = c .before .before .before .before .args in node-again (a .nodes) sup _ (a .odd) _ _ _ r (a .id - 1) (omega (arith, c .before .before .before .if1 .left)) (omega (arith, c .before .before .if2 .left, c .before .before .before .if1 .left)) (c .if3 .taken)
+
+given-requires : tie.Need-given-requires
+given-requires c κs = search needs
+
+taken-requires : tie.Need-taken-requires
+taken-requires c κs = search needs
+
+mul-gives : tie.Need-mul-gives
+mul-gives c = search needs
+
+element-write-gives : tie.Need-element-write-gives
+element-write-gives c = search needs
+
+mul-takes : tie.Need-mul-takes
+mul-takes c = search needs
+
+element-write-takes : tie.Need-element-write-takes
+element-write-takes c = search needs
+
+mul-marks : tie.Need-mul-marks
+mul-marks c = search needs
+
+element-write-marks : tie.Need-element-write-marks
+element-write-marks c = search needs
+
+either-requires : tie.Need-either-requires
+either-requires c κs = search needs
+
+returns-4 : tie.Need-returns-4
+returns-4 c = λ sup r. let a = c .before .before .before .before .before .before .before .args in let g = c .before .before .given in let t = c .before .taken in node-next (a .nodes) sup _ (a .odd) _ _ _ r (a .id - 1) (omega (arith, c .before .before .before .before .before .before .if1 .left)) (omega (arith, c .before .before .before .before .before .if2 .left, c .before .before .before .before .before .before .if1 .left)) (g .result) (t .result) (c .before .before .before .if3 .left) (ap₂ (λ (x y : ℕ). subℕ x y) (g .ensures) (t .ensures) ∙ supply-parts (a .minus) (a .supply)) (subst (λ (x : ℕ). x < 10 ^ 10) (sym (g .ensures)) (given-small (a .minus) (a .supply) (c .before .before .before .before .before .before .before .pre))) (subst (λ (x : ℕ). x < 10 ^ 10) (sym (t .ensures)) (taken-small (a .minus) (a .supply) (c .before .before .before .before .before .before .before .pre))) (c .either .result) (c .either .ensures)
+
+pub put-node-spec : {M : Type 1} → statement M
+put-node-spec =
+    tie.close
+    (tie.spec
+    returns
+    returns-2
+    mul-if3
+    element-copy-out-if3
+    returns-3
+    given-requires
+    taken-requires
+    mul-gives
+    element-write-gives
+    mul-takes
+    element-write-takes
+    mul-marks
+    element-write-marks
+    either-requires
+    returns-4)

@@ -1,0 +1,118 @@
+-- `dimacs::store::read_file` meets its contract. Assumes nothing.
+use mathlib.Core.Path.{sym, ap, subst, _∙_}
+use Prim.Native.Nat.{_-_}
+use native.Mathlib.Omega.{arith}
+use borrow.Author.Needs.{needs}
+use denote.Ref.{now}
+use lib.ListN.{length}
+use Rattle.dimacs.specs.declared.form.Form.{Form}
+use Rattle.dimacs.specs.declared.store.Reading.{Reading}
+use Rattle.dimacs.specs.Stored.{flagged, ReadAs}
+use Rattle.dimacs.proofs.FormLaws.{no-lf, form-ends, form-wrong, form-on}
+use Rattle.dimacs.proofs.StoreLaws.{Kept, kept-start, kept-ends, kept-on}
+use Rattle.dimacs.proofs.store.read_file.Statement.{statement}
+use Rattle.dimacs.proofs.store.read_file.Tie as tie
+use Rattle.dimacs.proofs.store.read_file.Reads as reads
+use Rattle.dimacs.proofs.store.read_file.Lts as lts
+use Rattle.dimacs.proofs.form.at_end.Reads as at-end-reads
+use Rattle.dimacs.proofs.form.line_end.Reads as line-end-reads
+use Rattle.dimacs.proofs.form.with_line.Reads as with-line-reads
+use Rattle.dimacs.proofs.line.read_line.Reads as read-line-reads
+use Rattle.dimacs.proofs.store.store_arc.Reads as store-arc-reads
+use Rattle.dimacs.proofs.store.store_node.Reads as store-node-reads
+use Rattle.dimacs.proofs.store.with_flags.Reads as with-flags-reads
+
+abbrev Inv-loop : tie.InvT-loop
+Inv-loop s starts₀ ends₀ ceilings₀ costs₀ gives₀ takes₀ marks₀ t₀ at₀ line₀ odd₀ bad₀ starts ends ceilings costs gives takes marks t at line odd bad =
+    Kept s t at line odd bad starts ends ceilings costs gives takes marks
+
+abbrev μ-loop : tie.MeasureT-loop
+μ-loop s starts₀ ends₀ ceilings₀ costs₀ gives₀ takes₀ marks₀ t₀ at₀ line₀ odd₀ bad₀ starts ends ceilings costs gives takes marks t at line odd bad =
+    length s - at
+
+loop-holds : tie.Need-loop-holds Inv-loop μ-loop
+loop-holds c = kept-start _ _ _ _ _ _ _ _ (c .before .pre .0) (c .before .pre .1)
+
+line-end-requires : tie.Need-line-end-requires Inv-loop μ-loop
+line-end-requires c κs = c .loop .inv .so-far .upto
+
+returns : tie.Need-returns Inv-loop μ-loop
+returns c = record { reads = no-lf _ _ _ _ _ (c .before .before .before .loop .inv .so-far) (c .before .before .line-end .ensures) (c .before .if1 .taken) (c .if2 .taken) }
+
+at-end-requires : tie.Need-at-end-requires Inv-loop μ-loop
+at-end-requires c κs = search needs
+
+with-flags-requires : tie.Need-with-flags-requires Inv-loop μ-loop
+with-flags-requires c κs = search needs
+
+returns-2 : tie.Need-returns-2 Inv-loop μ-loop
+returns-2 c = record { reads = let k = c .before .before .before .before .before .loop in subst (λ (z : Reading). ReadAs (now (c .before .before .before .before .before .before .before .args .s)) z (k .starts) (k .ends) (k .ceilings) (k .costs) (k .gives) (k .takes) (k .marks)) (sym (c .with-flags .ensures ∙ ap (λ (z : Form). flagged z (k .odd) (k .bad)) (c .before .at-end .ensures))) (kept-ends _ _ _ _ _ _ _ _ (k .t) (k .line) (k .odd) (k .bad) (k .inv .so-far .stage) (k .inv .so-far .stands) (form-ends _ _ _ _ _ (k .inv .so-far) (c .before .before .before .before .line-end .ensures) (c .before .before .before .if1 .taken) (c .before .before .if2 .left)) (k .inv .arc-lines) (k .inv .node-lines)) }
+
+sub-read-line : tie.Need-sub-read-line Inv-loop μ-loop
+sub-read-line c = omega (arith, c .before .line-end .ensures .from)
+
+part-read-line-start : tie.Need-part-read-line-start Inv-loop μ-loop
+part-read-line-start c = omega (arith, c .before .line-end .ensures .from)
+
+part-read-line-end : tie.Need-part-read-line-end Inv-loop μ-loop
+part-read-line-end c = omega (arith, c .before .line-end .ensures .upto)
+
+read-line-requires : tie.Need-read-line-requires Inv-loop μ-loop
+read-line-requires c κs = search needs
+
+with-line-requires : tie.Need-with-line-requires Inv-loop μ-loop
+with-line-requires c κs = search needs
+
+enum-known-n : tie.Need-enum-known-n Inv-loop μ-loop
+enum-known-n c = search needs
+
+enum-told : tie.Need-enum-told Inv-loop μ-loop
+enum-told c = search needs
+
+returns-3 : tie.Need-returns-3 Inv-loop μ-loop
+returns-3 c = record { reads = form-wrong _ _ _ _ _ (c .before .before .before .before .before .before .before .loop .inv .so-far) (c .before .before .before .before .before .before .line-end .ensures) (c .before .before .before .before .before .if1 .left) _ (c .before .before .before .read-line .ensures) (sym (c .before .before .with-line .ensures) ∙ c .enum-told .given .1) }
+
+store-node-requires : tie.Need-store-node-requires Inv-loop μ-loop
+store-node-requires c κs = c .before .before .before .before .before .before .before .read-line .ensures .small
+
+store-arc-requires : tie.Need-store-arc-requires Inv-loop μ-loop
+store-arc-requires c κs = c .before .before .before .before .before .before .before .before .before .before .before .before .read-line .ensures .small
+
+add-at : tie.Need-add-at Inv-loop μ-loop
+add-at c = omega (arith, c .before .before .before .before .before .before .before .before .before .before .before .before .before .before .before .before .before .before .before .good .0 .0, c .before .before .before .before .before .before .before .before .before .before .before .before .before .before .before .before .before .before .before .good .0 .1, c .before .before .before .before .before .before .before .before .before .before .before .before .before .before .before .if1 .left)
+
+add-line : tie.Need-add-line Inv-loop μ-loop
+add-line c = omega (arith, c .before .before .before .before .before .before .before .before .before .before .before .before .before .before .before .before .before .before .before .good .0 .0, c .before .before .before .before .before .before .before .before .before .before .before .before .before .before .before .before .before .before .before .good .0 .1, c .before .before .before .before .before .before .before .before .before .before .before .before .before .before .before .before .before .loop .inv .so-far .numbered, c .before .before .before .before .before .before .before .before .before .before .before .before .before .before .before .before .line-end .ensures .from, c .before .before .before .before .before .before .before .before .before .before .before .before .before .before .before .if1 .left)
+
+loop-less : tie.Need-loop-less Inv-loop μ-loop
+loop-less c = omega (arith, c .before .before .before .before .before .before .before .before .before .before .before .before .before .before .before .before .line-end .ensures .from, c .before .before .before .before .before .before .before .before .before .before .before .before .before .before .before .if1 .left)
+
+loop-again : tie.Need-loop-again Inv-loop μ-loop
+loop-again c = let f = form-on _ _ _ _ _ (c .before .before .before .before .before .before .before .before .before .before .before .before .before .before .before .before .before .loop .inv .so-far) (c .before .before .before .before .before .before .before .before .before .before .before .before .before .before .before .before .line-end .ensures) (c .before .before .before .before .before .before .before .before .before .before .before .before .before .before .before .if1 .left) _ (c .before .before .before .before .before .before .before .before .before .before .before .before .before .read-line .ensures) _ (sym (c .before .before .before .before .before .before .before .before .before .before .before .before .with-line .ensures) ∙ c .before .before .before .before .before .before .before .before .before .before .n .given .1) in kept-on (c .before .before .before .before .before .before .before .before .before .before .before .before .before .before .before .before .before .loop .inv) (f .0) (c .before .before .before .before .before .before .before .before .before .before .before .before .before .read-line .result) (f .1) (c .before .before .before .before .before .store-node .ensures) (c .store-arc .ensures)
+
+pub read-file-spec : {M : Type 1} → statement M
+read-file-spec =
+    tie.close
+    (tie.spec
+    Inv-loop
+    μ-loop
+    loop-holds
+    line-end-requires
+    returns
+    at-end-requires
+    with-flags-requires
+    returns-2
+    sub-read-line
+    part-read-line-start
+    part-read-line-end
+    read-line-requires
+    with-line-requires
+    enum-known-n
+    enum-told
+    returns-3
+    store-node-requires
+    store-arc-requires
+    add-at
+    add-line
+    loop-less
+    loop-again)
