@@ -74,3 +74,8 @@ pub fn request(seed: u64) -> Request {
         cost,
     }
 }
+
+// Depot or reader, the depot more often.
+pub fn role(seed: u64) -> usize {
+    if below(next(next(seed)), 4) == 0 { 4 } else { 3 }
+}

@@ -11,6 +11,7 @@ use crate::model::Request;
 use crate::model::edited;
 use crate::model::first_case;
 use crate::model::refusal;
+use crate::outsiders::run_outsiders;
 use crate::plans::plan_both;
 use crate::tally::agreed;
 use crate::tally::count;
@@ -20,6 +21,7 @@ use planner::Verdict;
 
 mod draws;
 mod model;
+mod outsiders;
 mod plans;
 mod tally;
 
@@ -160,7 +162,21 @@ fn run_all(store: &mut [u64]) {
     report(&calls, &plans);
 }
 
+// Depot and reader on two stores that differ in entries only.
+fn run_roles(a: &mut [u64], b: &mut [u64]) {
+    let mut heard = [0u64; 128];
+    run_outsiders(a, b, &mut heard);
+    line(b"outsiders, done:   ", heard[0]);
+    line(b"refused 4:         ", heard[4]);
+    line(b"refused 23:        ", heard[23]);
+    line(b"refused 24:        ", heard[24]);
+    line(b"refused 31:        ", heard[31]);
+    line(b"heard differently: ", heard[100]);
+}
+
 fn main() {
     let mut store = new_store();
+    let mut other = new_store();
     run_all(&mut store);
+    run_roles(&mut store, &mut other);
 }

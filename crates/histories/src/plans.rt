@@ -5,7 +5,7 @@ use crate::model::RUN1;
 use crate::model::RUN2;
 use planner::Answer;
 
-fn same_cells(p: &[u64], q: &[u64]) -> bool {
+pub fn same_cells(p: &[u64], q: &[u64]) -> bool {
     if p.len() != q.len() {
         return false;
     }
@@ -21,7 +21,7 @@ fn same_cells(p: &[u64], q: &[u64]) -> bool {
     true
 }
 
-fn same_freights(p: &[i64], q: &[i64]) -> bool {
+pub fn same_freights(p: &[i64], q: &[i64]) -> bool {
     if p.len() != q.len() {
         return false;
     }
@@ -38,7 +38,7 @@ fn same_freights(p: &[i64], q: &[i64]) -> bool {
 }
 
 // Two plans are the same, or two refusals.
-fn same_answers(x: Answer, y: Answer) -> bool {
+pub fn same_answers(x: Answer, y: Answer) -> bool {
     match x {
         Answer::Planned {
             split,
