@@ -16,9 +16,9 @@ use Rattle.transport.specs.Listing.{upFrom}
 use Rattle.transport.proofs.ListMembers.{upFrom-length}
 use Rattle.csvtext.specs.Text.{refusalText}
 use Rattle.csvtext.specs.Bounds.{boundsText, MarksFit}
-use Rattle.planner.specs.Case.{Case, supply, leastSplit, greatestSplit}
-use Rattle.planner.specs.Outcome.{firstFrom}
-use Rattle.planner.specs.Outcome as planner
+use Rattle.problem.specs.Case.{Case, supply, leastSplit, greatestSplit}
+use Rattle.problem.specs.Outcome.{firstFrom}
+use Rattle.problem.specs.Outcome as planner
 use Rattle.casefile.specs.declared.case.CaseAnswer.{CaseAnswer}
 use Rattle.casefile.specs.declared.case.CaseAnswer.the-variants as answers
 use Rattle.casefile.specs.declared.planned.Printed.{Printed}

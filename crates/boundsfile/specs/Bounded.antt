@@ -7,12 +7,12 @@ use Prim.Native.Nat.{ℕ}
 use lib.IntN.{ℤ}
 use Rattle.csvtext.specs.Text.{refusalText}
 use Rattle.csvtext.specs.Bounds.{boundsText}
-use Rattle.planner.specs.Case as planner-case
-use Rattle.casefile.specs.declared.Kind.the-variants.{Production}
+use Rattle.problem.specs.Case as planner-case
+use Rattle.caseform.specs.declared.Kind.the-variants.{Production}
 use Rattle.casefile.specs.declared.case.CaseAnswer.{CaseAnswer}
 use Rattle.casefile.specs.declared.case.CaseAnswer.the-variants.{Case, Refused}
 use Rattle.casefile.specs.declared.planned.Printed.{Printed}
-use Rattle.casefile.specs.Records.{formOf}
+use Rattle.caseform.specs.Records.{formOf}
 use Rattle.casefile.specs.CaseFiles.{entriesIn, caseAnswer}
 use Rattle.casefile.specs.Printed.{recordsOf, fileCase, sourcesTold, terminalsTold, Told}
 use Rattle.tablebounds.specs.Tables.{marks}

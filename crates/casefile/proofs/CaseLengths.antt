@@ -6,11 +6,11 @@ use native.Mathlib.Omega.{arith}
 use lib.IntN.{ℤ, pos, natAbs}
 use lib.ListN.{length, getD, take, length-map}
 use lib.Seq.{length-take-le}
-use Rattle.casefile.specs.declared.Kind.the-variants.{Tariff, Production}
+use Rattle.caseform.specs.declared.Kind.the-variants.{Tariff, Production}
 use Rattle.casefile.specs.declared.table.Table.{Table}
 use Rattle.casefile.specs.declared.table.Table.the-variants.{Whole, Refused}
 use Rattle.casefile.specs.declared.case.CaseAnswer.the-variants as answers
-use Rattle.casefile.specs.Records.{whole, formOf}
+use Rattle.caseform.specs.Records.{whole, formOf}
 use Rattle.casefile.specs.Files.{wanted, tableOf, inOrder}
 use Rattle.casefile.specs.CaseFiles.{sourcesIn, terminalsIn, sourceRecords, costsIn, suppliesIn, demandsIn, entriesIn, answerOf, caseAnswer}
 use Rattle.casefile.proofs.TariffCase.{Even, accepted, even-length}

@@ -4,8 +4,8 @@ use mathlib.Core.List.{List}
 use Prim.Native.Nat.{ℕ}
 use lib.ListN.{length}
 use lib.Seq.{sets}
-use Rattle.planner.specs.Case as planner-case
-use Rattle.planner.specs.Outcome.{Outcome, planned, refused, outcomeOf}
+use Rattle.problem.specs.Case as planner-case
+use Rattle.problem.specs.Outcome.{Outcome, planned, refused, outcomeOf}
 use Rattle.casefile.specs.declared.case.CaseAnswer.{CaseAnswer}
 use Rattle.casefile.specs.declared.case.CaseAnswer.the-variants.{Case}
 use Rattle.casefile.specs.declared.planned.Printed.{Printed}

@@ -3,12 +3,12 @@ use mathlib.Core.Path.{_≡_, refl}
 use mathlib.Core.List.{List, [], _∷_, map}
 use Prim.Native.Nat.{ℕ}
 use lib.IntN.{pos, negsuc}
-use Rattle.casefile.specs.declared.Kind.{Kind}
-use Rattle.casefile.specs.declared.Kind.the-variants.{Tariff, Production}
+use Rattle.caseform.specs.declared.Kind.{Kind}
+use Rattle.caseform.specs.declared.Kind.the-variants.{Tariff, Production}
 use Rattle.casefile.specs.declared.table.Table.{Table}
 use Rattle.casefile.specs.declared.table.Table.the-variants.{Whole, Refused}
-use Rattle.casefile.specs.Form.{mark, step, more, mayEnd, isProduction, afterComma, afterLine, inTariff, leading}
-use Rattle.casefile.specs.Records.{run, absorb, recordsAtEnd, formOf, whole}
+use Rattle.caseform.specs.Form.{mark, step, more, mayEnd, isProduction, afterComma, afterLine, inTariff, leading}
+use Rattle.caseform.specs.Records.{run, absorb, recordsAtEnd, formOf, whole}
 use Rattle.casefile.specs.Files.{wanted, oddFrom, judge, tableOf}
 
 pub record Example : Type 0 where

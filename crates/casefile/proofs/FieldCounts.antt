@@ -9,11 +9,11 @@ use borrow.Author.Tests.{ne-eqb}
 use lib.Dec.{eqb, eqb·suc-zero}
 use lib.IntN.{ℤ}
 use lib.ListN.{length, length-append}
-use Rattle.casefile.specs.declared.Kind.{Kind}
-use Rattle.casefile.specs.declared.Kind.the-variants.{Tariff, Production}
+use Rattle.caseform.specs.declared.Kind.{Kind}
+use Rattle.caseform.specs.declared.Kind.the-variants.{Tariff, Production}
 use Rattle.casefile.specs.declared.table.Table.the-variants.{Whole, Refused}
 use Rattle.casefile.specs.declared.table.Tally.{Tally}
-use Rattle.casefile.specs.Records.{rowWith, isFirst}
+use Rattle.caseform.specs.Records.{rowWith, isFirst}
 use Rattle.casefile.specs.Files.{pick, judged, wanted, oddFrom, inOrder}
 use Rattle.casefile.specs.Tallies.{startTally, fieldTally, widthOr, oddOr, recordTally, sourceTally}
 

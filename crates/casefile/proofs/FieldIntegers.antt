@@ -9,7 +9,7 @@ use lib.ListN.{length, getD, take, drop, List·getD-map, length-map}
 use mir.Syntax.{w64}
 use mir.Val.{SFits, toZ, ofZ}
 use mir.ValLaws.{toZ-ofZ, toZ-pos}
-use Rattle.casefile.specs.Records.{signed}
+use Rattle.caseform.specs.Records.{signed}
 use Rattle.csvtext.proofs.Stores.{part-at, part-length}
 
 module _ (v : ℕ) (small : v < 10 ^ 10) where

@@ -8,17 +8,17 @@ use borrow.Author.Tests.{lt-ltb, le-ltb}
 use lib.IntN.{ℤ, pos}
 use lib.ListN.{length, set, drop, length-append}
 use lib.Seq.{sets, length-sets}
-use Rattle.casefile.specs.declared.Kind.{Kind}
-use Rattle.casefile.specs.declared.field.Field.{Field}
-use Rattle.casefile.specs.declared.field.Field.the-variants as field-answers
-use Rattle.casefile.specs.declared.after.After.{After}
-use Rattle.casefile.specs.declared.after.After.the-variants as after-answers
+use Rattle.caseform.specs.declared.Kind.{Kind}
+use Rattle.caseform.specs.declared.field.Field.{Field}
+use Rattle.caseform.specs.declared.field.Field.the-variants as field-answers
+use Rattle.caseform.specs.declared.after.After.{After}
+use Rattle.caseform.specs.declared.after.After.the-variants as after-answers
 use Rattle.casefile.specs.declared.table.Table.the-variants.{Refused}
 use Rattle.casefile.specs.declared.table.Tally.{Tally}
-use Rattle.casefile.specs.Form.{field}
-use Rattle.casefile.specs.Records.{reading, run, signed, rowWith, rowsWith, whole, broken, formOf}
+use Rattle.caseform.specs.Form.{field}
+use Rattle.caseform.specs.Records.{reading, run, signed, rowWith, rowsWith, whole, broken, formOf}
 use Rattle.casefile.specs.Files.{tableOf, judge, judged, inOrder}
-use Rattle.casefile.specs.Reader.{closedAs, FieldRead, AfterRead, atField, Known}
+use Rattle.caseform.specs.Reader.{closedAs, FieldRead, AfterRead, atField, Known}
 use Rattle.casefile.specs.Tallies.{startTally, fieldTally, recordTally, sourceTally, Countable, handedOn, TableRead}
 use Rattle.casefile.proofs.FieldCounts.{Tallied, tally-start, tally-field, tally-record, tally-source, inOrder-snoc, judged-whole}
 use Rattle.csvtext.proofs.Stores.{sets-snoc}

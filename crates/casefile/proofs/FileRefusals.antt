@@ -9,19 +9,18 @@ use native.Mathlib.Omega.{arith}
 use lib.IntN.{ℤ}
 use lib.ListN.{length, getD, replicate}
 use borrow.Author.Tests.{le-ltb}
-use Rattle.planner.specs.Case.{Case, steps}
-use Rattle.planner.specs.Outcome.{Outcome, planned, refused, formRefusal, outcomeOf}
-use Rattle.planner.specs.Outcome.{test23, test26, test11}
-use Rattle.planner.specs.Verdict.{firstOutside, amountsRefusal, runsRefusal, ceilingsRefusal, AtMost}
-use Rattle.planner.proofs.TestsPassed.{some≢none, Formed, formed, accepted}
-use Rattle.planner.proofs.RefusalNumbers.{planned-passes}
-use Rattle.planner.proofs.Promise.{refused-outcome}
-use Rattle.planner.proofs.Splits.{greatest-most}
-use Rattle.planner.proofs.WithoutCeilings as earlier
-use Rattle.planner.proofs.Unchanged.{no-26, unchanged}
+use Rattle.problem.specs.Case.{Case, steps}
+use Rattle.problem.specs.Outcome.{Outcome, planned, refused, formRefusal, outcomeOf, test23, test26, test11}
+use Rattle.problem.specs.LentTests.{firstOutside, amountsRefusal, runsRefusal, ceilingsRefusal, AtMost}
+use Rattle.problem.proofs.TestsPassed.{some≢none, Formed, formed, accepted}
+use Rattle.problem.proofs.RefusalNumbers.{planned-passes}
+use Rattle.problem.proofs.Promise.{refused-outcome}
+use Rattle.problem.proofs.Splits.{greatest-most}
+use Rattle.problem.proofs.WithoutCeilings as earlier
+use Rattle.problem.proofs.Unchanged.{no-26, unchanged}
 use Rattle.planner.proofs.LaterTests.{form-decides}
-use Rattle.planner.proofs.TestParts.{unmet, amounts-none, runs-pass}
-use Rattle.planner.proofs.FormTests.{Limits, by-amounts, by-cost, by-table}
+use Rattle.problem.proofs.TestParts.{unmet, amounts-none, runs-pass}
+use Rattle.casetests.proofs.FormTests.{Limits, by-amounts, by-cost, by-table}
 use Rattle.casefile.specs.Printed.{filedCase, caseOf, fileCase}
 
 module _ (c : Case) where

@@ -1,14 +1,6 @@
 pub mod FieldIntegers
-pub mod ByteMarks
-pub mod FormRuns
-pub mod Digits
-pub mod Fields
-pub mod AfterField
 pub mod FieldCounts
 pub mod FieldLoop
-pub mod NoMinus
-pub mod Viable
-pub mod Places
 pub mod Examples
 pub mod RecordShares
 pub mod TariffCase

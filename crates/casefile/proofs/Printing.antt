@@ -12,13 +12,12 @@ use Rattle.transport.specs.Plan.{byRow, col}
 use Rattle.transport.proofs.Sums.{sum-at}
 use Rattle.csvtext.specs.Text.{planText, refusalText}
 use Rattle.csvtext.specs.Writing.{Fits}
-use Rattle.planner.specs.Case.{Case}
-use Rattle.planner.specs.Range.{outside}
-use Rattle.planner.specs.Plans.{PlanAt, planFor}
-use Rattle.planner.specs.Outcome.{Outcome, planned, refused, outcomeOf}
-use Rattle.planner.specs.Verdict.{lent}
+use Rattle.problem.specs.Case.{Case, lent}
+use Rattle.problem.specs.Range.{outside}
+use Rattle.problem.specs.Plans.{PlanAt, planFor}
+use Rattle.problem.specs.Outcome.{Outcome, planned, refused, outcomeOf}
 use Rattle.planner.specs.Answer.{Slices, Written, Answered}
-use Rattle.planner.proofs.TestsPassed.{Formed}
+use Rattle.problem.proofs.TestsPassed.{Formed}
 use Rattle.planner.proofs.OnePlan.{first-cells}
 use Rattle.casefile.specs.declared.planned.Printed.{Printed}
 use Rattle.casefile.specs.Printed.{filedCase, Told, PlanPrinted, OutcomePrinted, CasePrinted}

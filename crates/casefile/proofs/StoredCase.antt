@@ -9,12 +9,12 @@ use lib.IntN.{ℤ}
 use lib.ListN.{length, take, drop, replicate, length-replicate}
 use lib.Seq.{sets, sets-eq, take-at, take-all, length-sets, length-take-le}
 use Rattle.csvtext.specs.Text.{refusalText}
-use Rattle.planner.specs.Case.{Case}
-use Rattle.planner.specs.Outcome.{refused, outcomeOf}
-use Rattle.planner.specs.Size.{checkedOf}
-use Rattle.planner.specs.declared.limits.Checked.{Checked}
-use Rattle.planner.specs.declared.limits.Checked.the-variants as checks
-use Rattle.planner.proofs.FormTests.{Limits, lanes, in-limits, by-size}
+use Rattle.problem.specs.Case.{Case}
+use Rattle.problem.specs.Outcome.{refused, outcomeOf}
+use Rattle.casetests.specs.Size.{checkedOf}
+use Rattle.casetests.specs.declared.limits.Checked.{Checked}
+use Rattle.casetests.specs.declared.limits.Checked.the-variants as checks
+use Rattle.casetests.proofs.FormTests.{Limits, lanes, in-limits, by-size}
 use Rattle.planner.proofs.Judging.{cut-ceilings}
 use Rattle.casefile.specs.declared.case.CaseAnswer.{CaseAnswer}
 use Rattle.casefile.specs.declared.case.CaseAnswer.the-variants as answers

@@ -11,11 +11,11 @@ use lib.Dec.{eqb, ltb}
 use lib.IntN.{ℤ, pos, natAbs}
 use lib.ListN.{length, getD, take, drop, length-append, List·getD-append}
 use lib.Seq.{sets, sets-eq, take-append-le, take-at, take-all, take-take, drop-drop, drop-at}
-use Rattle.casefile.specs.declared.Kind.{Kind}
-use Rattle.casefile.specs.declared.Kind.the-variants.{Tariff, Production}
+use Rattle.caseform.specs.declared.Kind.{Kind}
+use Rattle.caseform.specs.declared.Kind.the-variants.{Tariff, Production}
 use Rattle.casefile.specs.declared.table.Table.{Table}
 use Rattle.casefile.specs.declared.table.Table.the-variants.{Whole, Refused}
-use Rattle.casefile.specs.Records.{Form, whole, broken, formOf}
+use Rattle.caseform.specs.Records.{Form, whole, broken, formOf}
 use Rattle.casefile.specs.Files.{pick, wanted, oddFrom, judge, tableOf, pickTable, inOrder}
 use Rattle.casefile.specs.declared.case.CaseAnswer.the-variants as answers
 use Rattle.casefile.specs.Tallies.{TableRead}

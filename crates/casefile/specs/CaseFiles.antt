@@ -6,12 +6,12 @@ use Prim.Native.Nat.{ℕ, zero, suc, _+_, _-_, _*_, _≤_}
 use lib.IntN.{ℤ, pos, natAbs}
 use lib.ListN.{length, getD, take, drop}
 use lib.Seq.{sets}
-use Rattle.casefile.specs.declared.Kind.the-variants.{Tariff, Production}
+use Rattle.caseform.specs.declared.Kind.the-variants.{Tariff, Production}
 use Rattle.casefile.specs.declared.table.Table.{Table}
 use Rattle.casefile.specs.declared.table.Table.the-variants as tables
 use Rattle.casefile.specs.declared.case.CaseAnswer.{CaseAnswer}
 use Rattle.casefile.specs.declared.case.CaseAnswer.the-variants.{Case, Refused}
-use Rattle.casefile.specs.Records.{whole, formOf}
+use Rattle.caseform.specs.Records.{whole, formOf}
 use Rattle.casefile.specs.Files.{wanted, tableOf, inOrder}
 
 -- m and n of a tariff: a record for each source, n costs and then the supply; then the demands, with an empty last field

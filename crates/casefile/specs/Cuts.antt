@@ -4,7 +4,7 @@ use mathlib.Core.List.{List}
 use Prim.Native.Nat.{ℕ, min, _*_}
 use lib.IntN.{ℤ}
 use lib.ListN.{length, take, replicate}
-use Rattle.planner.specs.Case.{Case}
+use Rattle.problem.specs.Case.{Case}
 use Rattle.casefile.specs.Printed.{filedCase}
 
 -- the first cells of each array: as many as the case has, and no more than are stored, each lane with the ceiling 4,000

@@ -5,11 +5,11 @@ use Prim.Native.Nat.{ℕ, zero, suc}
 use lib.Dec.{eqb, ltb}
 use lib.IntN.{ℤ}
 use lib.ListN.{length}
-use Rattle.casefile.specs.declared.Kind.{Kind}
-use Rattle.casefile.specs.declared.Kind.the-variants.{Tariff, Production}
+use Rattle.caseform.specs.declared.Kind.{Kind}
+use Rattle.caseform.specs.declared.Kind.the-variants.{Tariff, Production}
 use Rattle.casefile.specs.declared.table.Table.{Table}
 use Rattle.casefile.specs.declared.table.Table.the-variants.{Whole, Refused}
-use Rattle.casefile.specs.Records.{Form, whole, broken, formOf}
+use Rattle.caseform.specs.Records.{Form, whole, broken, formOf}
 
 abbrev pub pick : Bool → ℕ → ℕ → ℕ
 pick true a b = a

@@ -1,7 +1,4 @@
-pub mod Form
-pub mod Records
 pub mod Files
-pub mod Reader
 pub mod Tallies
 pub mod CaseFiles
 pub mod Printed

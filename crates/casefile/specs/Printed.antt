@@ -7,18 +7,18 @@ use lib.IntN.{ℤ}
 use lib.ListN.{length, replicate}
 use lib.Seq.{sets}
 use Rattle.csvtext.specs.Text.{planText, refusalText}
-use Rattle.planner.specs.Case as planner-case
-use Rattle.planner.specs.Plans.{PlanAt, freightOf, leastFreightAt, planFor}
-use Rattle.planner.specs.Outcome.{Outcome, planned, refused, outcomeOf}
-use Rattle.planner.specs.Promise.{Cheapest}
-use Rattle.planner.specs.Verdict.{lent}
-use Rattle.casefile.specs.declared.Kind.the-variants.{Tariff, Production}
+use Rattle.problem.specs.Case as planner-case
+use Rattle.problem.specs.Plans.{PlanAt, freightOf, leastFreightAt, planFor}
+use Rattle.problem.specs.Outcome.{Outcome, planned, refused, outcomeOf}
+use Rattle.problem.specs.Promise.{Cheapest}
+use Rattle.problem.specs.Case.{lent}
+use Rattle.caseform.specs.declared.Kind.the-variants.{Tariff, Production}
 use Rattle.casefile.specs.declared.table.Table.{Table}
 use Rattle.casefile.specs.declared.table.Table.the-variants as tables
 use Rattle.casefile.specs.declared.case.CaseAnswer.{CaseAnswer}
 use Rattle.casefile.specs.declared.case.CaseAnswer.the-variants.{Case, Refused}
 use Rattle.casefile.specs.declared.planned.Printed.{Printed}
-use Rattle.casefile.specs.Records.{Form, whole, broken, formOf}
+use Rattle.caseform.specs.Records.{Form, whole, broken, formOf}
 use Rattle.casefile.specs.CaseFiles.{sourcesIn, terminalsIn, costsIn, suppliesIn, demandsIn, entriesIn, caseAnswer}
 
 -- the records of a file, none where it has not the form

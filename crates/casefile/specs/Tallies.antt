@@ -7,14 +7,14 @@ use lib.Dec.{eqb}
 use lib.IntN.{ℤ}
 use lib.ListN.{length}
 use lib.Seq.{sets}
-use Rattle.casefile.specs.declared.Kind.{Kind}
-use Rattle.casefile.specs.declared.Kind.the-variants.{Tariff, Production}
-use Rattle.casefile.specs.declared.field.Field.{Field}
-use Rattle.casefile.specs.declared.field.Field.the-variants as answers
+use Rattle.caseform.specs.declared.Kind.{Kind}
+use Rattle.caseform.specs.declared.Kind.the-variants.{Tariff, Production}
+use Rattle.caseform.specs.declared.field.Field.{Field}
+use Rattle.caseform.specs.declared.field.Field.the-variants as answers
 use Rattle.casefile.specs.declared.table.Table.{Table}
 use Rattle.casefile.specs.declared.table.Table.the-variants.{Whole, Refused}
 use Rattle.casefile.specs.declared.table.Tally.{Tally}
-use Rattle.casefile.specs.Records.{Form, whole, formOf}
+use Rattle.caseform.specs.Records.{Form, whole, formOf}
 use Rattle.casefile.specs.Files.{pick, wanted, oddFrom, tableOf, inOrder}
 
 abbrev pub startTally : Kind → Tally

@@ -1,11 +1,11 @@
 // A planning case from its two files.
-use crate::Kind;
 use crate::store::copy_signed;
 use crate::store::copy_sizes;
 use crate::store::put;
 use crate::store::smaller;
 use crate::table::Table;
 use crate::table::read_table;
+use caseform::Kind;
 use csvtext::magnitude;
 ghost use mathlib.Core.Path.{_≡_};
 ghost use mathlib.Core.List.{map};

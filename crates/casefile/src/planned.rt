@@ -1,10 +1,10 @@
 // From two files to the printed plan.
-use crate::Kind;
 use crate::case::CaseAnswer;
 use crate::case::read_case;
 use crate::store::smaller;
 use crate::table::Table;
 use crate::table::read_table;
+use caseform::Kind;
 use csvtext::put_plan;
 use csvtext::put_refusal;
 use planner::Answer;
@@ -13,7 +13,7 @@ ghost use Prim.Native.Nat.{_*_, _≤_};
 ghost use lib.ListN.{length, take, replicate};
 ghost use Rattle.csvtext.specs.Text.{planText, refusalText};
 ghost use Rattle.csvtext.specs.Writing.{Fits};
-ghost use Rattle.casefile.specs.declared.Kind.the-variants as kinds;
+ghost use Rattle.caseform.specs.declared.Kind.the-variants as kinds;
 ghost use Rattle.casefile.specs.Files.{tableOf};
 ghost use Rattle.casefile.specs.Printed.{filedCase, Told, CasePrinted, FilesPrinted, stands};
 ghost use Rattle.casefile.specs.Cuts.{cutCase, Stored};

@@ -1,15 +1,15 @@
 // A file: its records, counted, and their fields in file order.
-use crate::Kind;
-use crate::after::After;
-use crate::after::read_after;
-use crate::field::Field;
-use crate::field::read_field;
 use crate::store::put_signed;
+use caseform::Kind;
+use caseform::after::After;
+use caseform::after::read_after;
+use caseform::field::Field;
+use caseform::field::read_field;
 ghost use mathlib.Core.Path.{_≡_};
 ghost use mathlib.Core.Bool.{_||_};
 ghost use Prim.Native.Nat.{_<_, _^_};
 ghost use Rattle.casefile.specs.Files.{judged};
-ghost use Rattle.casefile.specs.Records.{signed};
+ghost use Rattle.caseform.specs.Records.{signed};
 ghost use Rattle.casefile.specs.Tallies.{startTally, fieldTally, recordTally, sourceTally, widthOr, oddOr, Countable, handedOn, TableRead};
 
 // The whole file's count of records and of each record's fields, or a refusal.

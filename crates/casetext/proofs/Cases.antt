@@ -10,10 +10,10 @@ use lib.Dec.{eqb, ltb}
 use lib.IntN.{ℤ, pos, natAbs}
 use lib.ListN.{length, getD, take, replicate, length-append}
 use lib.Seq.{take-at, getD-at}
-use Rattle.casefile.specs.declared.Kind.{Kind}
-use Rattle.casefile.specs.declared.Kind.the-variants.{Tariff, Production}
+use Rattle.caseform.specs.declared.Kind.{Kind}
+use Rattle.caseform.specs.declared.Kind.the-variants.{Tariff, Production}
 use Rattle.casefile.specs.declared.table.Table.the-variants.{Whole}
-use Rattle.casefile.specs.Records.{Form, whole, formOf}
+use Rattle.caseform.specs.Records.{Form, whole, formOf}
 use Rattle.casefile.specs.Files.{pick, wanted, oddFrom, judged, judge, pickTable, tableOf, inOrder}
 use Rattle.casefile.specs.CaseFiles.{sourcesIn, terminalsIn, sourceRecords, costsIn, suppliesIn, demandsIn, entriesIn}
 use Rattle.casefile.specs.Printed.{filedCase, caseOf}

@@ -5,7 +5,7 @@ use Prim.Native.Nat.{ℕ}
 use lib.IntN.{ℤ, pos, negsuc}
 use Rattle.csvtext.specs.Text.{digitsOf, decimal, signedText, fieldText, recordText, each}
 use Rattle.csvtext.specs.Column.{columnText}
-use Rattle.planner.specs.Case.{Case}
+use Rattle.problem.specs.Case.{Case}
 use Rattle.planner.specs.Judge.{freeCase}
 use Rattle.casetext.specs.Texts.{costsText, listText, lineText, sourceText, sourcesText, demandsText, tariffOf, productionOf, tariffText, productionText}
 

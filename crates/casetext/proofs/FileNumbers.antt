@@ -9,9 +9,9 @@ use native.Mathlib.Decide.{decLe}
 use native.Mathlib.Nat.{pow-suc, pow-le-pow-right}
 use lib.IntN.{ℤ, pos, natAbs}
 use lib.ListN.{length, getD}
-use Rattle.casefile.specs.declared.Kind.{Kind}
-use Rattle.casefile.specs.declared.Kind.the-variants.{Tariff, Production}
-use Rattle.casefile.specs.Form.{
+use Rattle.caseform.specs.declared.Kind.{Kind}
+use Rattle.caseform.specs.declared.Kind.the-variants.{Tariff, Production}
+use Rattle.caseform.specs.Form.{
   Mark,
   digit,
   minus,
@@ -50,9 +50,9 @@ use Rattle.casefile.specs.Form.{
   afterComma,
   afterLine,
 }
-use Rattle.casefile.specs.Records.{Reading, reading, run, absorb, signed, number, recordsAtEnd, isSource, rowWith, rowsWith, Form, whole, broken, formOf}
+use Rattle.caseform.specs.Records.{Reading, reading, run, absorb, signed, number, recordsAtEnd, isSource, rowWith, rowsWith, Form, whole, broken, formOf}
 use Rattle.casefile.specs.Files.{inOrder}
-use Rattle.casefile.proofs.ByteMarks.{NotDigit, mark-digit, below-digit, above-digit}
+use Rattle.caseform.proofs.ByteMarks.{NotDigit, mark-digit, below-digit, above-digit}
 
 -- a digit is at most 9
 abbrev Low : Mark → Type 0

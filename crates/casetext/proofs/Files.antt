@@ -8,15 +8,15 @@ use borrow.Author.Tests.{le-ltb, ltb-false}
 use lib.Dec.{ltb}
 use lib.ListN.{length, getD, take, drop}
 use lib.Seq.{sets, sets-eq, take-at, drop-at}
-use Rattle.planner.specs.Case.{Case, entry}
-use Rattle.planner.specs.Outcome.{Outcome, refused, refuseIf, refuseAt, firstFrom, _orElse_, formRefusal, refusalOf, outcomeOf, test7, test8, test27, test9, test11}
+use Rattle.problem.specs.Case.{Case, entry}
+use Rattle.problem.specs.Outcome.{Outcome, refused, refuseIf, refuseAt, firstFrom, _orElse_, formRefusal, refusalOf, outcomeOf, test7, test8, test27, test9, test11}
 use Rattle.planner.specs.Judge.{caseRefusal}
-use Rattle.planner.proofs.FirstFailing.{first-none}
-use Rattle.planner.proofs.TestsPassed.{some≢none, first-passes, second-passes, first-decides, second-decides, refuseIf-none, either-first, either-second, accepted}
-use Rattle.planner.proofs.TestParts.{no-place}
-use Rattle.planner.proofs.Promise.{refused-outcome}
-use Rattle.casefile.specs.declared.Kind.the-variants.{Tariff, Production}
-use Rattle.casefile.specs.Records.{Form, whole, broken, formOf}
+use Rattle.problem.proofs.FirstFailing.{first-none}
+use Rattle.problem.proofs.TestsPassed.{some≢none, first-passes, second-passes, first-decides, second-decides, refuseIf-none, either-first, either-second, accepted}
+use Rattle.problem.proofs.TestParts.{no-place}
+use Rattle.problem.proofs.Promise.{refused-outcome}
+use Rattle.caseform.specs.declared.Kind.the-variants.{Tariff, Production}
+use Rattle.caseform.specs.Records.{Form, whole, broken, formOf}
 use Rattle.casefile.specs.Files.{inOrder}
 use Rattle.casefile.specs.declared.case.CaseAnswer.{CaseAnswer}
 use Rattle.casefile.specs.declared.case.CaseAnswer.the-variants as read-answers

@@ -9,10 +9,10 @@ use lib.IntN.{ℤ, pos, natAbs}
 use lib.ListN.{length, getD}
 use Rattle.csvtext.specs.Text.{fieldText, each}
 use Rattle.csvtext.specs.Column.{columnText}
-use Rattle.casefile.specs.declared.Kind.{Kind}
-use Rattle.casefile.specs.declared.Kind.the-variants.{Tariff, Production}
-use Rattle.casefile.specs.Form.{mark, State, field, fieldOrEmpty, recordOrEnd, lineEnd, lastLineEnd, done, step, mayEnd, afterComma, afterLine}
-use Rattle.casefile.specs.Records.{Reading, reading, run, absorb, recordsAtEnd, isFirst, rowWith, rowsWith, Form, whole, formOf}
+use Rattle.caseform.specs.declared.Kind.{Kind}
+use Rattle.caseform.specs.declared.Kind.the-variants.{Tariff, Production}
+use Rattle.caseform.specs.Form.{mark, State, field, fieldOrEmpty, recordOrEnd, lineEnd, lastLineEnd, done, step, mayEnd, afterComma, afterLine}
+use Rattle.caseform.specs.Records.{Reading, reading, run, absorb, recordsAtEnd, isFirst, rowWith, rowsWith, Form, whole, formOf}
 use Rattle.casetext.specs.Texts.{
   costsText,
   listText,

@@ -12,9 +12,9 @@ use lib.IntN.{ℤ, pos, negsuc, negℤ, natAbs}
 use lib.ListN.{length, length-append}
 use Rattle.csvtext.specs.Text.{decimal, signedText, fieldText, recordText}
 use Rattle.csvtext.proofs.DecimalTexts.{decimal-small, decimal-large}
-use Rattle.casefile.specs.declared.Kind.{Kind}
-use Rattle.casefile.specs.declared.Kind.the-variants.{Tariff, Production}
-use Rattle.casefile.specs.Form.{
+use Rattle.caseform.specs.declared.Kind.{Kind}
+use Rattle.caseform.specs.declared.Kind.the-variants.{Tariff, Production}
+use Rattle.caseform.specs.Form.{
   Mark,
   digit,
   minus,
@@ -37,8 +37,8 @@ use Rattle.casefile.specs.Form.{
   afterComma,
   afterLine,
 }
-use Rattle.casefile.specs.Records.{Reading, reading, run, absorb, isFirst, isSource, rowWith, rowsWith, signed}
-use Rattle.casefile.proofs.ByteMarks.{mark-digit}
+use Rattle.caseform.specs.Records.{Reading, reading, run, absorb, isFirst, isSource, rowWith, rowsWith, signed}
+use Rattle.caseform.proofs.ByteMarks.{mark-digit}
 use Rattle.casetext.specs.Texts.{lineText}
 
 -- the reader goes over a text from one reading to another, whatever comes after it

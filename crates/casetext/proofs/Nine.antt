@@ -4,13 +4,12 @@ use mathlib.Core.Option.{Option}
 use mathlib.Core.List.{List}
 use Prim.Native.Nat.{ℕ}
 use lib.IntN.{ℤ}
-use Rattle.planner.specs.Case.{Case}
-use Rattle.planner.specs.Outcome.{Outcome, _orElse_, formRefusal}
-use Rattle.planner.specs.Outcome.{test1, test2, test3, test4, test23, test5, test6, test7, test8, test27, test9}
+use Rattle.problem.specs.Case.{Case}
+use Rattle.problem.specs.Outcome.{Outcome, _orElse_, formRefusal, test1, test2, test3, test4, test23, test5, test6, test7, test8, test27, test9}
 use Rattle.planner.specs.Judge.{caseRefusal, freeCase}
-use Rattle.planner.proofs.TestsPassed.{second-decides, under-first, formed, balanced}
-use Rattle.planner.proofs.WithoutCeilings as earlier
-use Rattle.planner.proofs.Unchanged.{Free, form-same, no-27}
+use Rattle.problem.proofs.TestsPassed.{second-decides, under-first, formed, balanced}
+use Rattle.problem.proofs.WithoutCeilings as earlier
+use Rattle.problem.proofs.Unchanged.{Free, form-same, no-27}
 use Rattle.casefile.proofs.FileRefusals.{never-23}
 
 module _ (c : Case) (free : Free c) (e1 : c .run1 ≡ 0) (e2 : c .run2 ≡ 0) where

@@ -8,13 +8,13 @@ use native.Mathlib.Nat.{min-eq-left}
 use native.Mathlib.Omega.{arith}
 use lib.IntN.{ℤ}
 use lib.ListN.{length, take}
-use Rattle.planner.specs.Case.{Case}
-use Rattle.planner.specs.Outcome.{Outcome, refused, formRefusal}
-use Rattle.planner.specs.Size.{checkedOf}
-use Rattle.planner.specs.declared.limits.Checked.{Checked}
-use Rattle.planner.specs.declared.limits.Checked.the-variants as checks
+use Rattle.problem.specs.Case.{Case}
+use Rattle.problem.specs.Outcome.{Outcome, refused, formRefusal}
+use Rattle.casetests.specs.Size.{checkedOf}
+use Rattle.casetests.specs.declared.limits.Checked.{Checked}
+use Rattle.casetests.specs.declared.limits.Checked.the-variants as checks
 use Rattle.planner.specs.Judge.{caseRefusal, freeCase}
-use Rattle.planner.proofs.FormTests.{Limits, in-limits, by-size}
+use Rattle.casetests.proofs.FormTests.{Limits, in-limits, by-size}
 use Rattle.planner.proofs.Judging.{case-form}
 use Rattle.casefile.specs.declared.case.CaseAnswer.{CaseAnswer}
 use Rattle.casefile.specs.declared.case.CaseAnswer.the-variants as answers

@@ -7,17 +7,17 @@ use native.Mathlib.Omega.{arith}
 use borrow.Author.Tests.{ltb-false}
 use lib.Dec.{ltb}
 use lib.ListN.{length, getD, replicate}
-use Rattle.planner.specs.Case.{Case, entry}
-use Rattle.planner.specs.Outcome.{Outcome, refused, refuseAt, firstFrom, formRefusal, _orElse_}
+use Rattle.problem.specs.Case.{Case, entry}
+use Rattle.problem.specs.Outcome.{Outcome, refused, refuseAt, firstFrom, formRefusal, _orElse_}
 use Rattle.planner.specs.Judge.{caseRefusal}
-use Rattle.planner.proofs.FirstFailing.{none-passes}
-use Rattle.planner.proofs.TestsPassed.{first-passes, second-passes, some≢none, Formed, formed}
+use Rattle.problem.proofs.FirstFailing.{none-passes}
+use Rattle.problem.proofs.TestsPassed.{first-passes, second-passes, some≢none, Formed, formed}
 use Rattle.planner.proofs.Judging.{case-formed}
 use Rattle.casefile.proofs.Printing.{small-cost}
-use Rattle.casefile.specs.declared.Kind.the-variants.{Tariff, Production}
+use Rattle.caseform.specs.declared.Kind.the-variants.{Tariff, Production}
 use Rattle.casefile.specs.declared.table.Table.the-variants.{Whole}
 use Rattle.casefile.specs.declared.case.CaseAnswer.the-variants as answers
-use Rattle.casefile.specs.Records.{whole, formOf}
+use Rattle.caseform.specs.Records.{whole, formOf}
 use Rattle.casefile.specs.Files.{wanted, tableOf}
 use Rattle.casefile.specs.CaseFiles.{caseAnswer, answerOf}
 use Rattle.casefile.specs.Printed.{recordsOf, filedCase, caseOf, fileCase}

@@ -7,8 +7,8 @@ use lib.IntN.{ℤ}
 use lib.ListN.{length, take}
 use native.Mathlib.Omega.{arith}
 use lib.Seq.{sets, take-all}
-use Rattle.planner.specs.Case.{Case}
-use Rattle.planner.specs.Outcome.{outcomeOf}
+use Rattle.problem.specs.Case.{Case}
+use Rattle.problem.specs.Outcome.{outcomeOf}
 use Rattle.casefile.specs.declared.case.CaseAnswer.{CaseAnswer}
 use Rattle.casefile.specs.declared.case.CaseAnswer.the-variants as answers
 use Rattle.casefile.specs.CaseFiles.{entriesIn, CaseStored, caseAnswer}

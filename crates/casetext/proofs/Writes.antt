@@ -12,12 +12,12 @@ use lib.ListN.{length, getD}
 use lib.Seq.{sets}
 use Rattle.csvtext.specs.Writing.{Written}
 use Rattle.csvtext.proofs.DecimalTexts.{then, widen}
-use Rattle.planner.specs.Case.{Case, entry}
-use Rattle.planner.specs.Outcome.{Outcome, refused, refuseIf, refuseAt, firstFrom, _orElse_}
+use Rattle.problem.specs.Case.{Case, entry}
+use Rattle.problem.specs.Outcome.{Outcome, refused, refuseIf, refuseAt, firstFrom, _orElse_}
 use Rattle.planner.specs.Judge.{caseRefusal}
-use Rattle.planner.proofs.FirstFailing.{first-none, first-some}
-use Rattle.planner.proofs.TestsPassed.{some≢none, first-decides, second-decides}
-use Rattle.planner.proofs.TestParts.{or-true, met, unmet, at-place, no-place}
+use Rattle.problem.proofs.FirstFailing.{first-none, first-some}
+use Rattle.problem.proofs.TestsPassed.{some≢none, first-decides, second-decides}
+use Rattle.problem.proofs.TestParts.{or-true, met, unmet, at-place, no-place}
 use Rattle.casetext.specs.declared.Texts.{Texts}
 use Rattle.casetext.specs.declared.Texts.the-variants as answers
 use Rattle.casetext.specs.Texts.{costsText, lineText, sourceText, tariffText, productionText}

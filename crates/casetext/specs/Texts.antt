@@ -5,7 +5,7 @@ use lib.IntN.{ℤ, pos}
 use lib.ListN.{length, getD}
 use Rattle.csvtext.specs.Text.{fieldText, recordText, each}
 use Rattle.csvtext.specs.Column.{columnText}
-use Rattle.planner.specs.Case.{Case}
+use Rattle.problem.specs.Case.{Case}
 
 -- n unit costs from the place start on, a comma after each
 unfoldable pub costsText : List ℤ → ℕ → ℕ → List ℕ

@@ -7,8 +7,8 @@ use Prim.Native.Nat.{ℕ}
 use lib.Dec.{ltb}
 use lib.ListN.{length}
 use lib.Seq.{sets}
-use Rattle.planner.specs.Case.{Case, entry}
-use Rattle.planner.specs.Outcome.{Outcome, refused, refuseIf, refuseAt, firstFrom, _orElse_}
+use Rattle.problem.specs.Case.{Case, entry}
+use Rattle.problem.specs.Outcome.{Outcome, refused, refuseIf, refuseAt, firstFrom, _orElse_}
 use Rattle.planner.specs.Judge.{caseRefusal}
 use Rattle.casefile.specs.declared.case.CaseAnswer.{CaseAnswer}
 use Rattle.casefile.specs.declared.case.CaseAnswer.the-variants as answers

@@ -16,18 +16,12 @@ pub fn byte_before(bytes: &[u8], at: usize, back: usize) -> u8 {
 }
 
 pub fn is_digit(b: u8) -> bool {
-    if b < 48 {
-        return false;
-    }
-    b < 58
+    (47 < b) & (b < 58)
 }
 
 // A letter of the Latin alphabet, or a byte of a letter that is none of these.
 fn is_letter(b: u8) -> bool {
-    match b {
-        65..=90 | 97..=122 | 128..=255 => true,
-        _ => false,
-    }
+    ((64 < b) & (b < 91)) | ((96 < b) & (b < 123)) | (127 < b)
 }
 
 // A comma or CR: where a field would begin it leaves one empty, elsewhere a comma is part of a number.

@@ -6,13 +6,11 @@ pub mod file;
 pub mod message;
 mod place;
 pub mod refusal;
-mod rewriting;
+pub mod rewriting;
 
 use crate::arguments::usage;
 use crate::arguments::with_arguments;
-use crate::file::first;
 use crate::file::plan_paths;
-use crate::rewriting::show_path;
 use crate::rewriting::tidy_usage;
 use crate::rewriting::tidy_with_arguments;
 
@@ -33,11 +31,4 @@ pub fn tidy() {
         5 => tidy_with_arguments(),
         _ => tidy_usage(),
     }
-}
-
-// Writes the file that an argument names to standard output.
-pub fn show(i: usize) {
-    let mut path = io::buffer();
-    let length = os::arg(i, &mut path);
-    show_path(first(&path, length));
 }

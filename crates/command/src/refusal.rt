@@ -105,35 +105,49 @@ fn leads(bytes: &[u8], at: usize) -> bool {
     false
 }
 
-// The record and the field of an offset, after it.
+// An offset, with its record and its field.
 fn say_spot(bytes: &[u8], at: usize) {
-    say_with(b", counted from 0, in record ", record_at(bytes, at), b"");
-    say_with(b", field ", field_at(bytes, at), b"");
+    say_number(at as u64);
+    say_with(
+        b", counted from 0, in record ",
+        record_at(bytes, at),
+        b", field ",
+    );
+    say_number(field_at(bytes, at));
+}
+
+// A number with 0 in front, or another byte that cannot stand there.
+fn say_wrong(bytes: &[u8], at: usize) {
+    if leads(bytes, at) {
+        say(b" has a number with 0 in front at offset ");
+        say_spot(bytes, at);
+        say(b", perhaps an item code");
+        return;
+    }
+    say(b" has a byte that cannot stand there at offset ");
+    say_spot(bytes, at);
+    say_cause(bytes, at);
 }
 
 // Refusal 21: a number with 0 in front or another byte by its offset, or the end of the file.
 fn explain_byte(place: u64, bytes: &[u8]) {
     let at = place as usize;
     if bytes.len() <= at {
-        say_with(b" ends too soon, at offset ", place, b"");
+        say(b" ends too soon, at offset ");
         say_spot(bytes, at);
-        say(b".\n");
-        return;
+    } else {
+        say_wrong(bytes, at);
     }
-    if leads(bytes, at) {
-        say_with(b" has a number with 0 in front at offset ", place, b"");
-        say_spot(bytes, at);
-        say(b", perhaps an item code.\n");
-        return;
-    }
-    say_with(
-        b" has a byte that cannot stand there at offset ",
-        place,
-        b"",
-    );
-    say_spot(bytes, at);
-    say_cause(bytes, at);
     say(b".\n");
+}
+
+// More fields than wanted, by the offset of the first of these.
+fn say_more(has: u64, wanted: u64, at: u64) {
+    say_with(b" has ", has, b" fields, not ");
+    say_number(wanted);
+    say_with(b": field ", next(wanted), b" begins at offset ");
+    say_number(at);
+    say(b", counted from 0, perhaps after a decimal comma; numbers are whole.\n");
 }
 
 // Refusal 22: a record that has more fields than wanted by the first of these, else by its end.
@@ -141,17 +155,16 @@ fn explain_record(record: u64, bytes: &[u8], wanted: u64) {
     let end = record_end(bytes, record);
     let has = field_at(bytes, end);
     if wanted < has {
-        say_with(b" has ", has, b" fields, not ");
-        say_with(b"", wanted, b": field ");
-        say_with(b"", next(wanted), b" begins at offset ");
-        say_number(field_start(bytes, record, next(wanted)) as u64);
-        say(b", counted from 0, perhaps after a decimal comma; numbers are whole.\n");
+        say_more(has, wanted, field_start(bytes, record, next(wanted)) as u64);
         return;
     }
     say_with(b" has only ", has, b" of ");
-    say_with(b"", wanted, b" fields: it ends at offset ");
-    say_number(end as u64);
-    say(b", counted from 0.\n");
+    say_number(wanted);
+    say_with(
+        b" fields: it ends at offset ",
+        end as u64,
+        b", counted from 0.\n",
+    );
 }
 
 // The refusals of a file, by its bytes and how many fields each of its records should have.

@@ -89,7 +89,7 @@ fn rewrite(
 }
 
 // Writes the case of the files of two paths as new files of two others.
-fn tidy_paths(
+pub fn tidy_paths(
     tariff_path: &[u8],
     production_path: &[u8],
     new_tariff_path: &[u8],

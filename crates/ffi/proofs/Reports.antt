@@ -13,8 +13,8 @@ use mir.ValLaws.{toZ-ofZ}
 use lib.ListN.{length, set}
 use borrow.Author.Tests.{lt-ltb, le-ltb}
 use Rattle.transport.specs.Curve.{written}
-use Rattle.planner.specs.Case.{Case}
-use Rattle.planner.specs.Outcome.{Outcome, outcomeOf}
+use Rattle.problem.specs.Case.{Case}
+use Rattle.problem.specs.Outcome.{Outcome, outcomeOf}
 use Rattle.planner.specs.Answer.{Slices, Answered}
 use Rattle.tablebounds.specs.Answers as bounds
 use Rattle.ffi.specs.Report.{numberOf, reportOf, worthOf, shortReport, Told, Untold, Exported}

@@ -8,7 +8,7 @@ use lib.Dec.{ltb}
 use lib.IntN.{ℤ}
 use lib.ListN.{length}
 use Rattle.transport.specs.Curve.{written}
-use Rattle.planner.specs.Case.{Case}
+use Rattle.problem.specs.Case.{Case}
 use Rattle.tablebounds.specs.Answers.{Outcome, known, refused, outcomeOf, Answered}
 use Rattle.ffi.specs.Report.{shortReport}
 

@@ -7,8 +7,8 @@ use lib.Dec.{ltb}
 use lib.IntN.{ℤ}
 use lib.ListN.{length}
 use Rattle.transport.specs.Curve.{written}
-use Rattle.planner.specs.Case.{Case}
-use Rattle.planner.specs.Outcome.{Outcome, planned, refused, outcomeOf}
+use Rattle.problem.specs.Case.{Case}
+use Rattle.problem.specs.Outcome.{Outcome, planned, refused, outcomeOf}
 use Rattle.planner.specs.Answer.{Slices, Answered}
 
 -- 0 for a plan, else the refusal's number

@@ -5,7 +5,7 @@ ghost use mathlib.Core.Path.{_≡_};
 ghost use Prim.Native.Nat.{_≤_};
 ghost use lib.ListN.{length};
 ghost use Rattle.transport.specs.Curve.{written};
-ghost use Rattle.planner.specs.Verdict.{lent};
+ghost use Rattle.problem.specs.Case.{lent};
 ghost use Rattle.planner.specs.Answer.{outcome, slices};
 ghost use Rattle.ffi.specs.Report.{numberOf, reportOf, worthOf, Exported};
 use planner::Answer;

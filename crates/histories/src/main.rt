@@ -16,7 +16,7 @@ use crate::tally::agreed;
 use crate::tally::count;
 use crate::tally::line;
 use crate::tally::number_of;
-use planner::Verdict;
+use casetests::tests::Verdict;
 
 mod draws;
 mod model;

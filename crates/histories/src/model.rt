@@ -1,5 +1,5 @@
 // A plain working case of 3 sources and 2 terminals: whole copies, and the refusals as the paper has them.
-use planner::Verdict;
+use casetests::tests::Verdict;
 
 pub const RUN1: u64 = 1;
 

@@ -1,5 +1,5 @@
 // Answers as numbers, and how often each was met.
-use planner::Verdict;
+use casetests::tests::Verdict;
 
 // Two verdicts as one number: 0 where both pass, 100 where they differ, else the refusal's number.
 pub fn agreed(x: Verdict, y: Verdict) -> u64 {

@@ -14,12 +14,12 @@ use lib.ListN.{length, getD, List·getD-append}
 use lib.Seq.{getD-append-add}
 use borrow.Author.Tests.{ltb-false, eqb-true, not-false, le-ltb, lt-ltb}
 use Rattle.network.specs.Network.{Network, arcCount, start, end, ceiling, cost, listed, amount, CheapestFlow}
-use Rattle.planner.specs.Case.{Case, supply as supplyOf, demand, entry}
-use Rattle.planner.specs.Promise.{Cheapest, NoPlan}
+use Rattle.problem.specs.Case.{Case, supply as supplyOf, demand, entry}
+use Rattle.problem.specs.Promise.{Cheapest, NoPlan}
 use Rattle.network.specs.Reduce.{cells, rowsOf, node, stock, laneCost, laneCeiling, want, entryAt, caseOf, flowOf}
 use Rattle.network.specs.Sound.{Sound}
-use Rattle.planner.specs.Range.{outside}
-use Rattle.planner.proofs.TestsPassed.{Formed}
+use Rattle.problem.specs.Range.{outside}
+use Rattle.problem.proofs.TestsPassed.{Formed}
 use Rattle.dimacs.specs.Form.{File, Form, whole, broken, formOf}
 use Rattle.dimacs.specs.Lines.{anyOf}
 use Rattle.network.specs.Answer.{networkOf, Room, tooShort, badFile, badName, outOfLimits, flows, leastTotal, Outcome, carried, refused, flowOutcome, limited, judged, outcomeOf, uneven}

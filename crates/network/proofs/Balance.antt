@@ -8,11 +8,12 @@ use lib.Dec.{eqb}
 use lib.IntN.{ℤ, pos, negsuc, subℕ, _+ℤ_, _-ℤ_, +ℤ-negℤ-cancel}
 use borrow.Author.Tests.{eqb-true, eq-eqb}
 use Rattle.transport.specs.Sum.{sum}
-use Rattle.planner.specs.Integer.{eqZ, sumℤ, Above}
+use Rattle.problem.specs.Integer.{eqZ, sumℤ, Above}
 use Rattle.network.specs.Network.{Network, arcCount, start, end, ceiling, supply, listed, at, leaving, entering, amount, Flow}
 use Rattle.network.specs.Reduce.{stock}
 use Rattle.network.specs.Sound.{Sound}
-use Rattle.planner.proofs.Integers.{sub-eq, sub-same, sub-sub, pos-sub, above-add, above-zero}
+use Rattle.transport.proofs.Differences.{sub-same, sub-sub, pos-sub}
+use Rattle.problem.proofs.Integers.{sub-eq, above-add, above-zero}
 use Rattle.network.proofs.Regroup.{regroup}
 use Rattle.network.proofs.Carried.{Graph, Kept}
 

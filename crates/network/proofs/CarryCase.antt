@@ -17,12 +17,11 @@ use borrow.Author.Tests.{eq-eqb, le-ltb}
 use Rattle.transport.specs.Sum.{sum}
 use Rattle.transport.specs.Plan.{byRow, row}
 use Rattle.transport.specs.Curve.{written}
-use Rattle.planner.specs.Range.{outside}
-use Rattle.planner.specs.Verdict.{lent}
-use Rattle.planner.specs.Case.{Case}
-use Rattle.planner.specs.Plans.{rowSum, planFor}
-use Rattle.planner.specs.Promise.{Cheapest, Bounded}
-use Rattle.planner.proofs.MachineIntegers.{read-back}
+use Rattle.problem.specs.Range.{outside}
+use Rattle.problem.specs.Case.{lent, Case}
+use Rattle.problem.specs.Plans.{rowSum, planFor}
+use Rattle.problem.specs.Promise.{Cheapest, Bounded}
+use Rattle.problem.proofs.MachineIntegers.{read-back}
 use Rattle.dimacs.specs.Arc.{Arc}
 use Rattle.network.specs.Network.{Network, arcCount, arcAt, start, end, ceiling, listed, NoFlow}
 use Rattle.network.specs.Reduce.{cells, rowsOf, nodeOf, sourceOf, node, source, stock, laneCost, laneCeiling, want, entryAt, caseOf, flowAt, flowOf}

@@ -13,23 +13,22 @@ use mir.Syntax.{w64}
 use mir.Val.{toZ, ofZ}
 use lib.ListN.{length, getD}
 use borrow.Author.Tests.{le-ltb}
-use Rattle.planner.specs.Case.{Case, supply as supplyOf, entry, leastSplit, greatestSplit, steps}
-use Rattle.planner.specs.Outcome.{Outcome, refused, refusalOf, outcomeOf, formRefusal, test7, test8, test27, test9, test11, _orElse_}
-use Rattle.planner.specs.Promise.{Cheapest, NoPlan, Bounded, Unbalanced, BalanceRule}
-use Rattle.planner.specs.Verdict.{lent}
+use Rattle.problem.specs.Case.{Case, supply as supplyOf, entry, leastSplit, greatestSplit, steps, lent}
+use Rattle.problem.specs.Outcome.{Outcome, refused, refusalOf, outcomeOf, formRefusal, test7, test8, test27, test9, test11, _orElse_}
+use Rattle.problem.specs.Promise.{Cheapest, NoPlan, Bounded, Unbalanced, BalanceRule}
 use Rattle.planner.specs.Answer.{Answered, Slices, outcome}
 use Rattle.planner.specs.declared.Answer.{Answer}
 use Rattle.planner.specs.declared.Answer.the-variants.{Planned, Refused}
 use Rattle.network.specs.declared.carry.Found.{Found}
 use Rattle.network.specs.declared.carry.Found.the-variants as founds
 use Rattle.network.specs.Found.{FoundAs}
-use Rattle.planner.proofs.FirstFailing.{first-none, above-none, outside-none}
-use Rattle.planner.proofs.TestsPassed.{Formed, second-decides, first-decides, refuseIf-cases}
-use Rattle.planner.proofs.TestParts.{unmet, no-place, amounts-pass, runs-pass, ceilings-pass}
-use Rattle.planner.proofs.FormTests.{Limits, lanes, by-none}
-use Rattle.planner.proofs.Promise.{from7, from8, from27, from9, outcome-refused}
-use Rattle.planner.proofs.MachineIntegers.{read-back}
-use Rattle.planner.proofs.Splits.{greatest-most}
+use Rattle.problem.proofs.FirstFailing.{first-none, above-none, outside-none}
+use Rattle.problem.proofs.TestsPassed.{Formed, second-decides, first-decides, refuseIf-cases}
+use Rattle.problem.proofs.TestParts.{unmet, no-place, amounts-pass, runs-pass, ceilings-pass}
+use Rattle.casetests.proofs.FormTests.{Limits, lanes, by-none}
+use Rattle.problem.proofs.Promise.{from7, from8, from27, from9, outcome-refused}
+use Rattle.problem.proofs.MachineIntegers.{read-back}
+use Rattle.problem.proofs.Splits.{greatest-most}
 
 -- ---- a case of the right form is refused for its balance alone
 

@@ -11,9 +11,9 @@ use lib.Dec.{eqb, ltb}
 use lib.IntN.{ℤ, pos}
 use lib.ListN.{length, getD, List·getD-append, List·getD-eq-default}
 use lib.Seq.{getD-append-add}
-use Rattle.planner.specs.Range.{outside}
-use Rattle.planner.specs.Case.{Case, supply as supplyOf, entry}
-use Rattle.planner.proofs.TestsPassed.{Formed}
+use Rattle.problem.specs.Range.{outside}
+use Rattle.problem.specs.Case.{Case, supply as supplyOf, entry}
+use Rattle.problem.proofs.TestsPassed.{Formed}
 use Rattle.network.specs.Network.{Network, arcCount, start, end, ceiling, cost, listed}
 use Rattle.network.specs.Reduce.{cells, rowsOf, node, stock, laneCost, laneCeiling, want, entryAt, caseOf}
 use Rattle.network.specs.Sound.{Sound}

@@ -5,7 +5,7 @@ use Prim.Native.Nat.{ℕ}
 use lib.IntN.{ℤ, pos, negsuc}
 use Rattle.transport.specs.Sum.{sum}
 use Rattle.transport.specs.Listing.{upFrom, select}
-use Rattle.planner.specs.Integer.{eqZ, minℤ, sumℤ, leastℤ}
+use Rattle.problem.specs.Integer.{eqZ, minℤ, sumℤ, leastℤ}
 use Rattle.dimacs.specs.Arc.{Arc, arc}
 use Rattle.network.specs.Network.{at, leaving, entering, ownCost, flowTotal, amount}
 use Rattle.network.specs.Reduce.{cells}

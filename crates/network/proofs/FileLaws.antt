@@ -12,7 +12,7 @@ use lib.Signed.{ltZ}
 use lib.ListN.{length, getD, take, drop, replicate, length-map, length-replicate, getD-replicate, List·getD-map}
 use lib.Seq.{ext-getD, length-take-le, getD-take}
 use borrow.Author.Tests.{lt-ltb, le-ltb, ltb-false}
-use Rattle.planner.specs.Range.{outside}
+use Rattle.problem.specs.Range.{outside}
 use Rattle.dimacs.specs.Arc.{Arc, arc}
 use Rattle.dimacs.specs.Form.{ArcLine, NodeLine, File, Form, whole, broken, formOf}
 use Rattle.dimacs.specs.Lines.{supplyIn, anyOf, noNode, twice, badArc}

@@ -16,17 +16,18 @@ use lib.Seq.{getD-append-add}
 use borrow.Author.Tests.{ltb-true, ltb-false, eqb-true, eqb-false, eq-eqb, ne-eqb, not-true, not-false, le-ltb}
 use Rattle.transport.specs.Sum.{sum}
 use Rattle.transport.proofs.Sums.{sum-mono}
-use Rattle.planner.specs.Integer.{eqZ, sumℤ, Above}
+use Rattle.problem.specs.Integer.{eqZ, sumℤ, Above}
 use Rattle.dimacs.specs.Arc.{Arc, arc}
 use Rattle.network.specs.Network.{Network, arcCount, arcAt, start, end, ceiling, cost, supply, listed, at, leaving, entering, Flow, amount, NoFlow, CheapestFlow}
-use Rattle.planner.specs.Case.{Case, supply as supplyOf, demand, entry}
-use Rattle.planner.specs.Promise.{Cheapest, NoPlan}
+use Rattle.problem.specs.Case.{Case, supply as supplyOf, demand, entry}
+use Rattle.problem.specs.Promise.{Cheapest, NoPlan}
 use Rattle.network.specs.Reduce.{cells, rowsOf, node, stock, laneCost, laneCeiling, want, entryAt, caseOf, flowOf}
 use Rattle.network.specs.Sound.{Sound}
 use Rattle.dimacs.specs.Form.{ArcLine, NodeLine, File, Form, whole, broken, formOf}
 use Rattle.dimacs.specs.Lines.{supplyIn, anyOf, noNode, twice, badArc}
 use Rattle.network.specs.Answer.{networkOf, anyBelow, Room, tooShort, badFile, badName, outOfLimits, flows, leastTotal, Outcome, carried, refused, flowOutcome, limited, judged, outcomeOf, uneven}
-use Rattle.planner.proofs.Integers.{pos-sub, sub-add, sub-same, sub-pos, above-add}
+use Rattle.transport.proofs.Differences.{pos-sub, sub-add, sub-same, sub-pos}
+use Rattle.problem.proofs.Integers.{above-add}
 use Rattle.network.proofs.Regroup.{cond-same, cond-other, at-same, at-other, regroup}
 use Rattle.network.proofs.Cells.{cells-length, cells-at, rows-length, rows-at, node-below, node-0, node-1, source-v, source-below}
 use Rattle.network.proofs.Balance.{same-sub, sum-above}

@@ -13,7 +13,7 @@ use lib.ListN.{length, getD}
 use borrow.Author.Tests.{not-true, not-false, eqb-true}
 use Rattle.transport.specs.Listing.{upFrom, select}
 use Rattle.transport.proofs.ListMembers.{flat-in, flat-out, select-in, select-out, upFrom-in, upFrom-out}
-use Rattle.planner.specs.Integer.{eqZ, minℤ, leastℤ}
+use Rattle.problem.specs.Integer.{eqZ, minℤ, leastℤ}
 use Rattle.dimacs.specs.Arc.{Arc, arc}
 use Rattle.network.specs.Network.{Network, arcCount, ceiling, supply, listed, leaving, entering, Flow, flowTotal, CheapestFlow, NoFlow}
 use Rattle.dimacs.specs.Lines.{anyOf}

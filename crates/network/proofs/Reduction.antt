@@ -15,12 +15,12 @@ use borrow.Author.Tests.{eq-eqb, ne-eqb, le-ltb}
 use Rattle.transport.specs.Sum.{sum}
 use Rattle.transport.specs.Plan.{byRow, row, col}
 use Rattle.transport.proofs.Sums.{sum-ext, sum-at}
-use Rattle.planner.specs.Integer.{sumℤ}
+use Rattle.problem.specs.Integer.{sumℤ}
 use Rattle.network.specs.Network.{Network, arcCount, start, end, ceiling, cost, supply, listed, at, leaving, entering, amount, Flow, ownCost, flowTotal, CheapestFlow, NoFlow}
-use Rattle.planner.specs.Case.{Case, supply as supplyOf, demand, entry}
-use Rattle.planner.specs.Freight.{ratesByRow, freightℤ}
-use Rattle.planner.specs.Plans.{freightOf, rowSum, columnSum, MeetsTP, planTotal}
-use Rattle.planner.specs.Promise.{Cheapest, NoPlan}
+use Rattle.problem.specs.Case.{Case, supply as supplyOf, demand, entry}
+use Rattle.problem.specs.Freight.{ratesByRow, freightℤ}
+use Rattle.problem.specs.Plans.{freightOf, rowSum, columnSum, MeetsTP, planTotal}
+use Rattle.problem.specs.Promise.{Cheapest, NoPlan}
 use Rattle.network.specs.Reduce.{cells, rowsOf, nodeOf, sourceOf, node, source, stock, laneCost, laneCeiling, want, entryAt, caseOf, flowAt, flowOf, sentAt, planOf}
 use Rattle.network.specs.Sound.{Sound}
 use Rattle.network.proofs.Regroup.{cond-same, cond-other, at-same, at-other, sum-zeros, sum-two-at, sumℤ-ext, sumℤ-swap, sumℤ-one}

@@ -10,7 +10,7 @@ use lib.IntN.{ℤ, pos, _+ℤ_, _*ℤ_, +ℤ-assoc, +ℤ-comm, +ℤ-idl, +ℤ-id
 use borrow.Author.Tests.{eq-eqb, ne-eqb}
 use Rattle.transport.specs.Sum.{sum}
 use Rattle.transport.proofs.Sums.{sum-ext, sum-add, sum-none, sum-swap, sum-change}
-use Rattle.planner.specs.Integer.{sumℤ}
+use Rattle.problem.specs.Integer.{sumℤ}
 use Rattle.network.specs.Network.{at}
 
 -- ---- a choice by equality

@@ -13,8 +13,8 @@ use lib.ListN.{length, getD, length-map, List·getD-map}
 use lib.Seq.{ext-getD}
 use borrow.Author.Tests.{eq-eqb, ne-eqb, lt-ltb, le-ltb}
 use Rattle.transport.specs.Sum.{sum}
-use Rattle.planner.specs.Integer.{eqZ, sumℤ, Above}
-use Rattle.planner.proofs.Integers.{by-sign, sub-add, sub-pos, pos-sub}
+use Rattle.problem.specs.Integer.{eqZ, sumℤ, Above}
+use Rattle.transport.proofs.Differences.{by-sign, sub-add, sub-pos, pos-sub}
 use Rattle.dimacs.specs.Arc.{Arc, arc}
 use Rattle.network.specs.Network.{Network, arcCount, arcAt, start, end, ceiling, cost, supply, entering, amount}
 use Rattle.network.specs.Reduce.{cells, nodeOf, node, stock, laneCost, laneCeiling, want}

@@ -7,7 +7,7 @@ use lib.IntN.{ℤ, pos, negℤ, subℕ}
 use lib.Signed.{ltZ}
 use lib.ListN.{length}
 use Rattle.transport.specs.Listing.{upFrom, select}
-use Rattle.planner.specs.Integer.{eqZ, sumℤ, leastℤ}
+use Rattle.problem.specs.Integer.{eqZ, sumℤ, leastℤ}
 use Rattle.dimacs.specs.Arc.{Arc}
 use Rattle.network.specs.Network.{Network, arcCount, ceiling, supply, listed, leaving, entering, flowTotal, amount}
 use Rattle.network.specs.Reduce.{cells}

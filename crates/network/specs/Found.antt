@@ -3,10 +3,10 @@ use mathlib.Core.Path.{_≡_}
 use mathlib.Core.List.{List}
 use Prim.Native.Nat.{ℕ}
 use Rattle.transport.specs.Curve.{written}
-use Rattle.planner.specs.Case.{Case}
-use Rattle.planner.specs.Plans.{planFor}
-use Rattle.planner.specs.Outcome.{refused, outcomeOf}
-use Rattle.planner.specs.Promise.{Cheapest, Bounded, BalanceRule}
+use Rattle.problem.specs.Case.{Case}
+use Rattle.problem.specs.Plans.{planFor}
+use Rattle.problem.specs.Outcome.{refused, outcomeOf}
+use Rattle.problem.specs.Promise.{Cheapest, Bounded, BalanceRule}
 use Rattle.network.specs.declared.carry.Found as found-answer
 use Rattle.network.specs.declared.carry.Found.the-variants as founds
 

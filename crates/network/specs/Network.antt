@@ -10,7 +10,7 @@ use lib.Signed.{_≤ℤ_, _<ℤ_}
 use lib.ListN.{length, getD}
 use Rattle.transport.specs.Sum.{sum}
 use Rattle.dimacs.specs.Arc.{Arc, arc}
-use Rattle.planner.specs.Integer.{sumℤ}
+use Rattle.problem.specs.Integer.{sumℤ}
 
 -- a supply for each node (0 for a node without an n line), and the arcs in file order
 pub record Network : Type 0 where

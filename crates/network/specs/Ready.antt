@@ -8,8 +8,8 @@ use lib.IntN.{ℤ, pos}
 use lib.ListN.{length, getD}
 use Rattle.transport.specs.Sum.{sum}
 use Rattle.transport.specs.Curve.{written}
-use Rattle.planner.specs.Range.{outside}
-use Rattle.planner.specs.Promise.{Bounded}
+use Rattle.problem.specs.Range.{outside}
+use Rattle.problem.specs.Promise.{Bounded}
 use Rattle.network.specs.Network.{Network, CheapestFlow, NoFlow}
 use Rattle.network.specs.Build.{haveIn}
 use Rattle.network.specs.declared.carry.Carried as carried-answer

@@ -8,7 +8,7 @@ use lib.Dec.{eqb, ltb}
 use lib.IntN.{ℤ, pos, natAbs}
 use Rattle.transport.specs.Plan.{byRow, row}
 use Rattle.network.specs.Network.{Network, arcCount, start, end, ceiling, cost, listed, amount}
-use Rattle.planner.specs.Case.{Case}
+use Rattle.problem.specs.Case.{Case}
 
 -- f 0, f 1, .., n of them
 unfoldable pub cells {ℓ} : {A : Type ℓ} → ℕ → (ℕ → A) → List A

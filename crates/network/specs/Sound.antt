@@ -5,7 +5,7 @@ use mathlib.Core.List.{List}
 use Prim.Native.Nat.{ℕ, suc, _+_, _≤_, _<_}
 use lib.IntN.{ℤ, pos}
 use lib.ListN.{length}
-use Rattle.planner.specs.Integer.{sumℤ}
+use Rattle.problem.specs.Integer.{sumℤ}
 use Rattle.network.specs.Network.{Network, arcCount, start, end, ceiling, supply, amount}
 use Rattle.network.specs.Reduce.{stock}
 

@@ -10,7 +10,7 @@ use planner::plan;
 ghost use mathlib.Core.Path.{_≡_};
 ghost use Prim.Native.Nat.{_-_, _≤_};
 ghost use lib.ListN.{length};
-ghost use Rattle.planner.specs.Verdict.{lent};
+ghost use Rattle.problem.specs.Case.{lent};
 ghost use Rattle.network.specs.Found.{FoundIs};
 ghost use Rattle.network.specs.Ready.{Arcs, Amounts, Named, CarriedIs};
 ghost use Rattle.network.specs.Slices.{netOf};

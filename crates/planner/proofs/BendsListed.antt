@@ -12,17 +12,17 @@ use lib.ListN.{length, getD, drop, length-map, length-append, List·getD-append}
 use Rattle.transport.specs.Listing.{upFrom, select}
 use Rattle.transport.specs.Curve.{isStop, stopsOf, written}
 use Rattle.transport.proofs.Stops.{Stop, stops-in, stops-out, stops-front, stops-back, stops-rising, stops-few}
-use Rattle.planner.specs.Case.{Case, leastSplit, greatestSplit}
-use Rattle.planner.specs.Plans.{leastFreightAt, stops, stopFreights}
-use Rattle.planner.specs.Outcome.{Outcome, planned, refusalOf, planOf, outcomeOf}
+use Rattle.problem.specs.Case.{Case, leastSplit, greatestSplit}
+use Rattle.problem.specs.Plans.{leastFreightAt, stops, stopFreights}
+use Rattle.problem.specs.Outcome.{Outcome, planned, refusalOf, planOf, outcomeOf}
 use Rattle.planner.specs.Answer.{Slices, Answered}
-use Rattle.planner.specs.Bends.{Bend, ListsBends}
-use Rattle.planner.proofs.Integers.{sub-sub, sub-same, at-most-sub}
-use Rattle.planner.proofs.RaisedFreight.{Follows}
-use Rattle.planner.proofs.RefusalNumbers.{planned-passes}
-use Rattle.planner.proofs.Splits.{in-order}
-use Rattle.planner.proofs.RaisedCurve.{raisedAt, least-above, stops-are}
-use Rattle.planner.proofs.Promise.{accepted-fitting}
+use Rattle.problem.specs.Bends.{Bend, ListsBends}
+use Rattle.transport.proofs.Differences.{sub-sub, sub-same, at-most-sub}
+use Rattle.problem.proofs.RaisedFreight.{Follows}
+use Rattle.problem.proofs.RefusalNumbers.{planned-passes}
+use Rattle.problem.proofs.Splits.{in-order}
+use Rattle.problem.proofs.RaisedCurve.{raisedAt, least-above, stops-are}
+use Rattle.problem.proofs.Promise.{accepted-fitting}
 
 -- ---- members and places
 

@@ -8,7 +8,7 @@ use native.Mathlib.Omega.{arith}
 use lib.ListN.{length, getD, set, length-set, take, drop, length-take, length-drop}
 use lib.Seq.{getD-set-same, getD-set-other, getD-take, getD-drop}
 use Rattle.planner.specs.Copy.{Narrow, Copied, RowsMoved, Supplied}
-use Rattle.planner.proofs.CellRows.{row-at}
+use Rattle.problem.proofs.CellRows.{row-at}
 
 -- the first k cells are copied
 pub record Copying (s : List ℕ) (at k : ℕ) (d e : List ℕ) : Type 0 where

@@ -22,20 +22,20 @@ use Rattle.transport.proofs.WithinCeilings.{some-ext, leastFreightIn-ext}
 use Rattle.transport.proofs.Splits.{at-has, member-splits}
 use Rattle.transport.proofs.Canonical.{canonical-ext, canonical-plan}
 use Rattle.transport.proofs.Tables.{rows-ext}
-use Rattle.planner.specs.Case.{Case, supply, demand, ceiling, allDemand, made, lowestSplit, highestSplit, splits, hasSplit, leastSplit, greatestSplit, steps}
-use Rattle.planner.specs.Plans.{PlanAt, freightOf, leastFreightAt, planFor, totalAt, bestSplit, stops}
-use Rattle.planner.specs.Outcome.{Outcome, planned, refused, refusalOf, planOf, outcomeOf, test27, test9, test11}
-use Rattle.planner.specs.Promise.{Cheapest, BalanceRule}
+use Rattle.problem.specs.Case.{Case, supply, demand, ceiling, allDemand, made, lowestSplit, highestSplit, splits, hasSplit, leastSplit, greatestSplit, steps}
+use Rattle.problem.specs.Plans.{PlanAt, freightOf, leastFreightAt, planFor, totalAt, bestSplit, stops}
+use Rattle.problem.specs.Outcome.{Outcome, planned, refused, refusalOf, planOf, outcomeOf, test27, test9, test11}
+use Rattle.problem.specs.Promise.{Cheapest, BalanceRule}
 use Rattle.planner.specs.Answer.{Slices, slices, Written, Answered}
 use Rattle.planner.specs.Copy.{Narrow, RowsMoved, Supplied, Wanted}
 use Rattle.planner.specs.Ready.{OnBalance}
-use Rattle.planner.proofs.TestsPassed.{Formed, formed, Balanced, balanced, has-split, split-passes, small-entry, roomy, first-decides, second-decides}
-use Rattle.planner.proofs.TestParts.{met, sum-under}
-use Rattle.planner.proofs.Splits.{Fitting, fitting, fits-split, sent-all, in-order, last-split, ends-within, most-made}
-use Rattle.planner.proofs.Promise.{from27, from9, refused-outcome, balance-rule, cheapest}
-use Rattle.planner.specs.Range.{AllInside, lower, Moderate}
-use Rattle.planner.proofs.RaisedCurve.{lane-in, raisedCosts, raisedFreight, raisedAt, raisedTotal, added, cost-most, freight-above, plan-for-is, least-above, total-above, best-is, best-in, stops-are, stop-freights-are}
-use Rattle.planner.proofs.TotalBounds.{few-drums, raised-most, total-bounded}
+use Rattle.problem.proofs.TestsPassed.{Formed, formed, Balanced, balanced, has-split, split-passes, small-entry, roomy, first-decides, second-decides}
+use Rattle.problem.proofs.TestParts.{met, sum-under}
+use Rattle.problem.proofs.Splits.{Fitting, fitting, fits-split, sent-all, in-order, last-split, ends-within, most-made}
+use Rattle.problem.proofs.Promise.{from27, from9, refused-outcome, balance-rule, cheapest}
+use Rattle.problem.specs.Range.{AllInside, lower, Moderate}
+use Rattle.problem.proofs.RaisedCurve.{lane-in, raisedCosts, raisedFreight, raisedAt, raisedTotal, added, cost-most, freight-above, plan-for-is, least-above, total-above, best-is, best-in, stops-are, stop-freights-are}
+use Rattle.problem.proofs.TotalBounds.{few-drums, raised-most, total-bounded}
 
 -- a list of values up to a limit
 each-most : (limit : ℕ) (g : ℕ → ℕ) (l : List ℕ) → ((y : ℕ) → List·Memᴰ y l → g y ≤ limit) → (i : ℕ) → getD (map g l) i 0 ≤ limit

@@ -9,18 +9,19 @@ use lib.Dec.{ltb}
 use lib.IntN.{ℤ}
 use lib.ListN.{take, replicate, length-replicate, replicate-append-replicate}
 use lib.Seq.{take-at}
-use Rattle.planner.specs.Case.{Case, supply, entry, allDemand, depotStock, made, leastSplit, greatestSplit, steps}
-use Rattle.planner.specs.Outcome.{Outcome, refused, refuseAt, firstFrom, formRefusal, test7, test8, test27, test9, _orElse_}
-use Rattle.planner.specs.Verdict.{madeOf, entriesRefusal, lent, Within}
+use Rattle.problem.specs.Case.{Case, supply, entry, allDemand, depotStock, made, leastSplit, greatestSplit, steps, lent}
+use Rattle.problem.specs.Outcome.{Outcome, refused, refuseAt, firstFrom, formRefusal, test7, test8, test27, test9, _orElse_}
+use Rattle.problem.specs.LentTests.{entriesRefusal, Within}
+use Rattle.casetests.specs.Verdict.{madeOf}
 use Rattle.planner.specs.Judge.{caseRefusal, freeCase}
-use Rattle.planner.specs.declared.tests.Made.the-variants.{Drums, Unbalanced}
+use Rattle.casetests.specs.declared.tests.Made.the-variants.{Drums, Unbalanced}
 use Rattle.planner.specs.Ready.{OnBalance}
-use Rattle.planner.proofs.TestsPassed.{first-decides, second-decides, first-passes, Formed, formed, Balanced, balanced}
-use Rattle.planner.proofs.TestParts.{met, unmet}
-use Rattle.planner.proofs.FormTests.{Limits, lanes}
+use Rattle.problem.proofs.TestsPassed.{first-decides, second-decides, first-passes, Formed, formed, Balanced, balanced}
+use Rattle.problem.proofs.TestParts.{met, unmet}
+use Rattle.casetests.proofs.FormTests.{Limits, lanes}
 use Rattle.planner.proofs.LaterTests.{made-by}
-use Rattle.planner.proofs.WithoutCeilings as earlier
-use Rattle.planner.proofs.Unchanged.{Free, no-27, ends-same}
+use Rattle.problem.proofs.WithoutCeilings as earlier
+use Rattle.problem.proofs.Unchanged.{Free, no-27, ends-same}
 
 -- as many of 2,048 ceilings of 4,000 as there are lanes
 pub cut-ceilings : (k : ℕ) → k ≤ 2048 → take k (replicate {A = ℕ} 2048 4000) ≡ replicate {A = ℕ} k 4000

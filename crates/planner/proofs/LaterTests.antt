@@ -7,15 +7,15 @@ use native.Mathlib.Omega.{arith}
 use lib.Dec.{ltb}
 use lib.ListN.{length, getD}
 use Rattle.transport.specs.Sum.{sum}
-use Rattle.planner.specs.Case.{Case, supply, demand, allDemand, depotStock, made, steps}
-use Rattle.planner.specs.Outcome.{Outcome, refused, _orElse_, formRefusal, refusalOf}
-use Rattle.planner.specs.Outcome.{test7, test8, test9, test11}
-use Rattle.planner.specs.Verdict.{madeOf, entriesRefusal, splitsRefusal, Amounts, Within}
-use Rattle.planner.specs.declared.tests.Made.the-variants.{Drums, Unbalanced}
+use Rattle.problem.specs.Case.{Case, supply, demand, allDemand, depotStock, made, steps}
+use Rattle.problem.specs.Outcome.{Outcome, refused, _orElse_, formRefusal, refusalOf, test7, test8, test9, test11}
+use Rattle.problem.specs.LentTests.{entriesRefusal, splitsRefusal, Amounts, Within}
+use Rattle.casetests.specs.Verdict.{madeOf}
+use Rattle.casetests.specs.declared.tests.Made.the-variants.{Drums, Unbalanced}
 use Rattle.planner.specs.Ready.{OnBalance}
-use Rattle.planner.proofs.TestsPassed.{first-decides, first-passes, second-passes, formed}
-use Rattle.planner.proofs.TestParts.{met, unmet}
-use Rattle.planner.proofs.Promise.{from7, from8, from9}
+use Rattle.problem.proofs.TestsPassed.{first-decides, first-passes, second-passes, formed}
+use Rattle.problem.proofs.TestParts.{met, unmet}
+use Rattle.problem.proofs.Promise.{from7, from8, from9}
 use Rattle.planner.proofs.EngineAnswer.{OnSplits, Accepts, order, inside}
 
 -- ---- the tests before the balance

@@ -8,8 +8,8 @@ use lib.IntN.{ℤ}
 use lib.ListN.{length, getD, set, take, drop, length-map, List·getD-map}
 use lib.Seq.{paste, paste-zero, paste-suc, length-paste, length-take-le}
 use Rattle.transport.specs.Curve.{written}
-use Rattle.planner.specs.Range.{lower}
-use Rattle.planner.proofs.RaisedLists.{map-take}
+use Rattle.problem.specs.Range.{lower}
+use Rattle.problem.proofs.RaisedLists.{map-take}
 
 -- the first k cells are written
 pub record Lowering (added : ℕ) (work : List ℕ) (k : ℕ) (d e : List ℤ) : Type 0 where

@@ -12,16 +12,15 @@ use Rattle.transport.specs.Plan.{byRow}
 use Rattle.transport.specs.Curve.{leastIn}
 use Rattle.transport.specs.Canonical.{Before, canonicalAt}
 use Rattle.transport.proofs.Canonical.{canonical-plan, canonical-least, canonical-before, before-leads, leads-both}
-use Rattle.planner.specs.Case.{Case, supply, demand, ceiling, allDemand, depotStock, made, lowestSplit, highestSplit, splits, leastSplit, greatestSplit, steps}
-use Rattle.planner.specs.Plans.{PlanAt, freightOf, leastFreightAt, planFor, totalAt, bestSplit, stops}
-use Rattle.planner.specs.Outcome.{Outcome, planned, formRefusal, planOf}
-use Rattle.planner.specs.Verdict.{lent}
+use Rattle.problem.specs.Case.{Case, supply, demand, ceiling, allDemand, depotStock, made, lowestSplit, highestSplit, splits, leastSplit, greatestSplit, steps, lent}
+use Rattle.problem.specs.Plans.{PlanAt, freightOf, leastFreightAt, planFor, totalAt, bestSplit, stops}
+use Rattle.problem.specs.Outcome.{Outcome, planned, formRefusal, planOf}
 use Rattle.planner.specs.Answer.{Slices, Written, Answered}
-use Rattle.planner.proofs.TestsPassed.{Formed, formed, accepted}
-use Rattle.planner.proofs.Integers.{above-one}
-use Rattle.planner.proofs.RefusalNumbers.{planned-passes}
-use Rattle.planner.proofs.Promise.{planned-outcome}
-use Rattle.planner.proofs.RaisedCurve.{raisedCosts, raisedFreight, raisedAt, added, lane-in, freight-above, least-at-above, plan-for-is}
+use Rattle.problem.proofs.TestsPassed.{Formed, formed, accepted}
+use Rattle.problem.proofs.Integers.{above-one}
+use Rattle.problem.proofs.RefusalNumbers.{planned-passes}
+use Rattle.problem.proofs.Promise.{planned-outcome}
+use Rattle.problem.proofs.RaisedCurve.{raisedCosts, raisedFreight, raisedAt, added, lane-in, freight-above, least-at-above, plan-for-is}
 
 -- ---- the plan for everybody
 

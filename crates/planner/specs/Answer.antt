@@ -4,10 +4,10 @@ use mathlib.Core.List.{List}
 use Prim.Native.Nat.{ℕ}
 use lib.IntN.{ℤ}
 use Rattle.transport.specs.Curve.{written}
-use Rattle.planner.specs.Case.{Case}
-use Rattle.planner.specs.Plans.{PlanAt, freightOf, leastFreightAt, planFor, stops, stopFreights}
-use Rattle.planner.specs.Outcome.{Outcome, planned, refused, outcomeOf}
-use Rattle.planner.specs.Promise.{Cheapest, Bounded, BalanceRule}
+use Rattle.problem.specs.Case.{Case}
+use Rattle.problem.specs.Plans.{PlanAt, freightOf, leastFreightAt, planFor, stops, stopFreights}
+use Rattle.problem.specs.Outcome.{Outcome, planned, refused, outcomeOf}
+use Rattle.problem.specs.Promise.{Cheapest, Bounded, BalanceRule}
 use Rattle.planner.specs.declared.Answer.{Answer}
 use Rattle.planner.specs.declared.Answer.the-variants.{Planned, Refused}
 

@@ -4,9 +4,8 @@ use mathlib.Core.List.{List}
 use Prim.Native.Nat.{ℕ, _*_}
 use lib.IntN.{ℤ}
 use lib.ListN.{replicate}
-use Rattle.planner.specs.Case.{Case}
-use Rattle.planner.specs.Outcome.{Outcome, refused, _orElse_, formRefusal, test7, test8, test27, test9}
-use Rattle.planner.specs.Verdict.{lent}
+use Rattle.problem.specs.Case.{Case, lent}
+use Rattle.problem.specs.Outcome.{Outcome, refused, _orElse_, formRefusal, test7, test8, test27, test9}
 use Rattle.planner.specs.declared.judge.Judged.{Judged}
 use Rattle.planner.specs.declared.judge.Judged.the-variants.{Passed, Refused}
 

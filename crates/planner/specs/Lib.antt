@@ -1,14 +1,4 @@
-pub mod Integer
-pub mod Freight
-pub mod Range
-pub mod Case
-pub mod Plans
-pub mod Outcome
-pub mod Promise
-pub mod Size
-pub mod Verdict
 pub mod Copy
 pub mod Answer
-pub mod Bends
 pub mod Ready
 pub mod Judge

@@ -2,8 +2,8 @@
 use mathlib.Core.Path.{_≡_}
 use mathlib.Core.Option.{none}
 use Prim.Native.Nat.{ℕ}
-use Rattle.planner.specs.Case.{Case, made}
-use Rattle.planner.specs.Outcome.{formRefusal, test7, test8}
+use Rattle.problem.specs.Case.{Case, made}
+use Rattle.problem.specs.Outcome.{formRefusal, test7, test8}
 
 -- past test 8: all is d
 pub record OnBalance (c : Case) (all : ℕ) : Type 0 where

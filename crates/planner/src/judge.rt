@@ -2,16 +2,16 @@
 ghost use mathlib.Core.Path.{_≡_};
 ghost use Prim.Native.Nat.{ℕ, _-_, min};
 ghost use lib.ListN.{replicate};
-ghost use Rattle.planner.specs.Outcome.{formRefusal};
-ghost use Rattle.planner.specs.Verdict.{verdict};
+ghost use Rattle.problem.specs.Outcome.{formRefusal};
+ghost use Rattle.casetests.specs.Verdict.{verdict};
 ghost use Rattle.planner.specs.Judge.{judged, caseRefusal, freeCase};
-use crate::limits::Checked;
-use crate::limits::Size;
-use crate::tests::Made;
-use crate::tests::Verdict;
-use crate::tests::entries_test;
-use crate::tests::form_test;
-use crate::tests::made_of;
+use casetests::limits::Checked;
+use casetests::limits::Size;
+use casetests::tests::Made;
+use casetests::tests::Verdict;
+use casetests::tests::entries_test;
+use casetests::tests::form_test;
+use casetests::tests::made_of;
 
 // A case passes, or it is refused by a number and a place.
 pub enum Judged {

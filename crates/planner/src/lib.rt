@@ -1,20 +1,16 @@
 // The two-plant production and freight planner.
 ghost use lib.ListN.{length};
-ghost use Rattle.planner.specs.Verdict.{lent};
+ghost use Rattle.problem.specs.Case.{lent};
 ghost use Rattle.planner.specs.Answer.{outcome, slices, Answered};
 use crate::solve::solve;
-use crate::tests::Made;
-use crate::tests::made_of;
+use casetests::tests::Made;
+use casetests::tests::Verdict;
+use casetests::tests::form_test;
+use casetests::tests::made_of;
 
 pub mod judge;
-pub mod limits;
 mod solve;
-mod tests;
 mod work;
-
-pub use tests::Verdict;
-pub use tests::form_test;
-pub use tests::out_of_range;
 
 // A plan was found, or the case is refused.
 pub enum Answer {

@@ -1,12 +1,9 @@
 // From a case in balance to its plan.
 ghost use lib.ListN.{length};
-ghost use Rattle.planner.specs.Verdict.{lent};
+ghost use Rattle.problem.specs.Case.{lent};
 ghost use Rattle.planner.specs.Ready.{OnBalance};
 ghost use Rattle.planner.specs.Answer.{outcome, slices, Answered};
 use crate::Answer;
-use crate::tests::Verdict;
-use crate::tests::splits_test;
-use crate::tests::sum_of;
 use crate::work::ceiling_rows;
 use crate::work::gather_rows;
 use crate::work::lower_into;
@@ -14,6 +11,9 @@ use crate::work::lowered;
 use crate::work::raised_rows;
 use crate::work::supplied;
 use crate::work::wanted;
+use casetests::tests::Verdict;
+use casetests::tests::splits_test;
+use casetests::tests::sum_of;
 use range::begin::begin;
 use sweep::curve::sweep;
 

@@ -6,7 +6,7 @@ ghost use mathlib.Core.List.{map};
 ghost use lib.IntN.{subℕ};
 ghost use lib.ListN.{length, getD, take};
 ghost use Rattle.transport.specs.Curve.{written};
-ghost use Rattle.planner.specs.Range.{outside, raisedOf, AllInside, lower, Moderate};
+ghost use Rattle.problem.specs.Range.{outside, raisedOf, AllInside, lower, Moderate};
 ghost use Rattle.planner.specs.Copy.{Narrow, Copied, RowsMoved, Supplied, Wanted};
 
 // Copies a slice whose numbers fit 32 bits into working cells from index `at` on.

@@ -13,10 +13,10 @@ use lib.Signed.{_≤ℤ_, _<ℤ_, leZ-yes, ltZ-yes}
 use lib.ListN.{getD}
 use Rattle.transport.specs.Sum.{sum}
 use Rattle.transport.specs.Plan.{row, col}
-use Rattle.planner.specs.Integer.{sumℤ}
-use Rattle.planner.specs.Freight.{freightℤ}
-use Rattle.planner.specs.Plans.{rowSum, columnSum, freightOf, MeetsTP, planTotal}
-use Rattle.planner.specs.Promise.{Cheapest}
+use Rattle.problem.specs.Integer.{sumℤ}
+use Rattle.problem.specs.Freight.{freightℤ}
+use Rattle.problem.specs.Plans.{rowSum, columnSum, freightOf, MeetsTP, planTotal}
+use Rattle.problem.specs.Promise.{Cheapest}
 use Rattle.ratetable.specs.Rate.{rate}
 use Rattle.ratetable.proofs.Squares.{rate-is, only-rate, is-rate}
 use Rattle.ratetable.proofs.Table.{and-left, and-right}

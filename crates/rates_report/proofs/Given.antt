@@ -8,17 +8,16 @@ use lib.IntN.{ℤ, pos}
 use lib.ListN.{length}
 use borrow.Author.Tests.{le-ltb}
 use Rattle.transport.specs.Sum.{sum}
-use Rattle.planner.specs.Range.{outside}
-use Rattle.planner.specs.Case.{allDemand, depotStock, made, entry, leastSplit, steps, hasSplit}
-use Rattle.planner.specs.Plans.{leastFreightAt, totalAt, bestSplit, stops}
-use Rattle.planner.specs.Outcome.{planned, refuseIf, refuseAt, firstFrom, firstOver, _orElse_, formRefusal, refusalOf, planOf, outcomeOf}
-use Rattle.planner.specs.Outcome.{test1, test2, test3, test4, test23, test5, test26, test6, test7, test8, test27, test9, test11}
-use Rattle.planner.proofs.FirstFailing.{first-none}
-use Rattle.planner.proofs.TestParts.{unmet, no-place}
-use Rattle.planner.proofs.TestsPassed.{Formed, formed, balanced, second-decides}
-use Rattle.planner.proofs.Splits.{Fitting, fitting, fits-split, split-of, greatest-most, last-split}
-use Rattle.planner.proofs.Promise.{from9, gets-plan}
-use Rattle.planner.proofs.Promise as promise
+use Rattle.problem.specs.Range.{outside}
+use Rattle.problem.specs.Case.{allDemand, depotStock, made, entry, leastSplit, steps, hasSplit}
+use Rattle.problem.specs.Plans.{leastFreightAt, totalAt, bestSplit, stops}
+use Rattle.problem.specs.Outcome.{planned, refuseIf, refuseAt, firstFrom, firstOver, _orElse_, formRefusal, refusalOf, planOf, outcomeOf, test1, test2, test3, test4, test23, test5, test26, test6, test7, test8, test27, test9, test11}
+use Rattle.problem.proofs.FirstFailing.{first-none}
+use Rattle.problem.proofs.TestParts.{unmet, no-place}
+use Rattle.problem.proofs.TestsPassed.{Formed, formed, balanced, second-decides}
+use Rattle.problem.proofs.Splits.{Fitting, fitting, fits-split, split-of, greatest-most, last-split}
+use Rattle.problem.proofs.Promise.{from9, gets-plan}
+use Rattle.problem.proofs.Promise as promise
 use Rattle.ratetable.specs.Rate.{rate, ratesFrom}
 use Rattle.ratetable.proofs.Squares.{rate-is, self-square}
 use Rattle.ratetable.proofs.Filling.{from-at}

@@ -7,8 +7,8 @@ use native.Mathlib.Omega.{arith}
 use lib.Dec.{leb→le}
 use lib.IntN.{ℤ, pos, negsuc}
 use lib.Signed.{_≤ℤ_, _<ℤ_, clashℤ}
-use Rattle.planner.specs.Case.{Case}
-use Rattle.planner.specs.Promise.{Cheapest}
+use Rattle.problem.specs.Case.{Case}
+use Rattle.problem.specs.Promise.{Cheapest}
 
 both-ways : (a b : ℤ) → a ≤ℤ b → b ≤ℤ a → a ≡ b
 both-ways (pos a) (pos b) h k = ap pos (omega (arith, leb→le a b (h .le), leb→le b a (k .le)))

@@ -3,8 +3,7 @@ use mathlib.Core.List.{List, [], _∷_}
 use Prim.Native.Nat.{ℕ}
 use lib.IntN.{pos}
 use lib.ListN.{replicate}
-use Rattle.planner.specs.Case.{Case}
-use Rattle.planner.specs.Verdict.{lent}
+use Rattle.problem.specs.Case.{Case, lent}
 use Rattle.ratetable.specs.Rate.{ratesFrom}
 
 -- plant 1 makes up to 200 drums, plant 2 up to 200; no least runs, and no ceiling below 4,000

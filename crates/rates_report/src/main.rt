@@ -3,8 +3,8 @@ ghost use mathlib.Core.Path.{_≡_};
 ghost use lib.IntN.{pos};
 ghost use lib.ListN.{length};
 ghost use Rattle.planner.specs.Answer.{outcome};
-ghost use Rattle.planner.specs.Outcome.{planned};
-ghost use Rattle.planner.specs.Plans.{stops};
+ghost use Rattle.problem.specs.Outcome.{planned};
+ghost use Rattle.problem.specs.Plans.{stops};
 ghost use Rattle.rates_report.specs.Report.{report};
 use planner::Answer;
 

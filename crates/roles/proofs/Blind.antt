@@ -10,7 +10,7 @@ use native.Mathlib.Omega.{arith}
 use lib.Dec.{eqb}
 use lib.IntN.{ℤ}
 use lib.ListN.{length}
-use Rattle.planner.specs.Outcome.{Outcome, refused, refuseIf, _orElse_}
+use Rattle.problem.specs.Outcome.{Outcome, refused, refuseIf, _orElse_}
 use Rattle.planner.specs.Answer.{Slices}
 use Rattle.workcase.specs.State.{Draft, State}
 use Rattle.workcase.specs.Calls.{Call, editDemand, editSupply, editCost, editEntry, setMark, goBack, leastRun, refusalIn, acted, unless, step}

@@ -8,9 +8,9 @@ use native.Mathlib.Omega.{arith}
 use lib.IntN.{ℤ}
 use lib.ListN.{length}
 use borrow.Author.Tests.{not-true, not-false}
-use Rattle.planner.specs.Outcome.{Outcome, refused, refuseIf, _orElse_}
+use Rattle.problem.specs.Outcome.{Outcome, refused, refuseIf, _orElse_}
 use Rattle.planner.specs.Answer.{Slices, Answered}
-use Rattle.planner.proofs.TestsPassed.{first-decides, second-decides}
+use Rattle.problem.proofs.TestsPassed.{first-decides, second-decides}
 use Rattle.workcase.specs.State.{State}
 use Rattle.workcase.specs.Calls.{Call, editCost}
 use Rattle.workcase.specs.Store.{heldIn}

@@ -3,7 +3,7 @@ use mathlib.Core.Bool.{Bool, false, _||_, _&&_}
 use mathlib.Core.Option.{Option}
 use Prim.Native.Nat.{ℕ}
 use lib.Dec.{eqb}
-use Rattle.planner.specs.Outcome.{Outcome, refuseIf}
+use Rattle.problem.specs.Outcome.{Outcome, refuseIf}
 use Rattle.workcase.specs.Calls.{Call, editDemand, editSupply, editCost, editEntry, setMark, goBack}
 use Rattle.roles.specs.Roles.{barred, barredFirst}
 

@@ -5,7 +5,7 @@ use mathlib.Core.List.{List}
 use Prim.Native.Nat.{ℕ}
 use lib.IntN.{ℤ}
 use lib.ListN.{length}
-use Rattle.planner.specs.Outcome.{Outcome, refused, _orElse_}
+use Rattle.problem.specs.Outcome.{Outcome, refused, _orElse_}
 use Rattle.planner.specs.Answer.{Slices, Answered}
 use Rattle.workcase.specs.State.{State, lentWith}
 use Rattle.workcase.specs.Calls.{Call}

@@ -6,7 +6,7 @@ use mathlib.Core.List.{List, [], _∷_}
 use Prim.Native.Nat.{ℕ}
 use lib.IntN.{ℤ}
 use lib.ListN.{length, replicate}
-use Rattle.planner.specs.Outcome.{Outcome}
+use Rattle.problem.specs.Outcome.{Outcome}
 use Rattle.planner.specs.Answer.{Slices}
 use Rattle.workcase.specs.State.{Draft, State}
 use Rattle.workcase.specs.Calls.{Call, edited}

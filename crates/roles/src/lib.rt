@@ -1,14 +1,14 @@
 // The working case by roles: each deed is done only where the table of roles allows it.
 ghost use lib.ListN.{length};
-ghost use Rattle.planner.specs.Verdict.{verdict};
+ghost use Rattle.casetests.specs.Verdict.{verdict};
 ghost use Rattle.planner.specs.Answer.{outcome, slices};
 ghost use Rattle.workcase.specs.Store.{heldIn};
 ghost use Rattle.workcase.specs.Calls.{editDemand, editSupply, editCost, editEntry, setMark, goBack};
 ghost use Rattle.roles.specs.Promise.{PerformedBy, PlannedBy, TariffSeen, TableSeen};
 use crate::table::may;
 use crate::table::may_supply;
+use casetests::tests::Verdict;
 use planner::Answer;
-use planner::Verdict;
 
 mod table;
 

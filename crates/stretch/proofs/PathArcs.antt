@@ -24,7 +24,7 @@ use Rattle.transport.proofs.CellChange.{Put}
 use Rattle.transport.proofs.PathFlow.{pulse-same, pulse-off}
 use Rattle.augment.proofs.CellStores.{cells-at, cells-put}
 use Rattle.stretch.proofs.PathLanes.{last}
-use Rattle.stretch.proofs.Differences.{shift, add-diff, take-diff, diff-same, diff-at-most}
+use Rattle.transport.proofs.Differences.{shift, add-diff, take-diff, diff-same, diff-at-most}
 
 -- ---- what a path's lanes cost, what its return arcs do
 

@@ -30,7 +30,7 @@ use Rattle.transport.proofs.LeastFreight.{line}
 use Rattle.augment.proofs.Potentials.{lowers}
 use Rattle.augment.proofs.PathWalk.{walks}
 use Rattle.stretch.proofs.IncumbentScan.{along-is}
-use Rattle.stretch.proofs.Differences.{diff-same}
+use Rattle.transport.proofs.Differences.{diff-same}
 use Rattle.stretch.proofs.PathArcs.{no-less, rises}
 
 -- ---- the incumbent

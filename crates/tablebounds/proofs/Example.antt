@@ -3,18 +3,17 @@ use mathlib.Core.Path.{_≡_, refl}
 use mathlib.Core.List.{List, [], _∷_, flatMap}
 use Prim.Native.Nat.{ℕ}
 use lib.IntN.{ℤ, pos, negsuc}
-use Rattle.planner.specs.Integer.{eqZ, minℤ, sumℤ, leastℤ}
-use Rattle.planner.specs.Freight.{freightℤ, leastFreightℤ, leastAtℤ, bendsℤ, isStopℤ, stopsOfℤ, bestFromℤ}
-use Rattle.planner.specs.Range.{outside}
+use Rattle.problem.specs.Integer.{eqZ, minℤ, sumℤ, leastℤ}
+use Rattle.problem.specs.Freight.{freightℤ, leastFreightℤ, leastAtℤ, bendsℤ, isStopℤ, stopsOfℤ, bestFromℤ}
+use Rattle.problem.specs.Range.{outside}
 use Rattle.transport.specs.Sum.{sum}
 use Rattle.transport.specs.Plan.{row, col}
 use Rattle.transport.specs.Listing.{upFrom, select, compositions, rowLists, served, listing, every, fits, listingIn, some, least, greatest}
 use Rattle.transport.specs.Curve.{amountsAt, hasPlan, splitsIn}
-use Rattle.planner.specs.Case.{Case, allDemand, depotStock, made, lowestSplit, highestSplit, splits, hasSplit, leastSplit, greatestSplit, steps}
-use Rattle.planner.specs.Plans.{leastFreightAt, totalAt, bestSplit, stops, stopFreights}
-use Rattle.planner.specs.Outcome.{refuseIf, refuseAt, firstFrom, firstOver, _orElse_, formRefusal, refusalOf, planOf}
-use Rattle.planner.specs.Outcome.{test1, test2, test3, test4, test23, test5, test26, test6, test7, test8, test27, test9, test11}
-use Rattle.planner.specs.Outcome as planner
+use Rattle.problem.specs.Case.{Case, allDemand, depotStock, made, lowestSplit, highestSplit, splits, hasSplit, leastSplit, greatestSplit, steps}
+use Rattle.problem.specs.Plans.{leastFreightAt, totalAt, bestSplit, stops, stopFreights}
+use Rattle.problem.specs.Outcome.{refuseIf, refuseAt, firstFrom, firstOver, _orElse_, formRefusal, refusalOf, planOf, test1, test2, test3, test4, test23, test5, test26, test6, test7, test8, test27, test9, test11}
+use Rattle.problem.specs.Outcome as planner
 use Rattle.tablebounds.specs.Tables.{totalWith, leastOver, leastTotal, allFrom, canBe, mark, marks}
 use Rattle.tablebounds.specs.Answers.{Outcome, known, refused, lowCase, badEntry, place28, laterOf, outcomeOf}
 

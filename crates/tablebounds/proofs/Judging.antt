@@ -14,15 +14,15 @@ use lib.Seq.{length-take-le, getD-take, getD-drop}
 use borrow.Author.Tests.{eq-eqb, ne-eqb, lt-ltb, le-ltb, ltb-false, lt-leb, le-leb}
 use Rattle.transport.specs.Listing.{upFrom}
 use Rattle.transport.specs.Curve.{written, stopsOf}
-use Rattle.planner.specs.Integer.{minℤ, Above}
-use Rattle.planner.specs.Case.{Case, supply, entry, leastSplit, greatestSplit}
-use Rattle.planner.specs.Plans.{leastFreightAt, stops, stopFreights}
+use Rattle.problem.specs.Integer.{minℤ, Above}
+use Rattle.problem.specs.Case.{Case, supply, entry, leastSplit, greatestSplit}
+use Rattle.problem.specs.Plans.{leastFreightAt, stops, stopFreights}
 use Rattle.planner.specs.Answer.{Slices}
 use Rattle.planner.specs.Answer as promise
-use Rattle.planner.specs.Outcome.{firstFrom}
-use Rattle.planner.specs.Outcome as planner
-use Rattle.planner.proofs.FirstFailing.{moved, first-moved, none-passes, some-first}
-use Rattle.planner.proofs.Integers.{above-le, above-pos}
+use Rattle.problem.specs.Outcome.{firstFrom}
+use Rattle.problem.specs.Outcome as planner
+use Rattle.problem.proofs.FirstFailing.{moved, first-moved, none-passes, some-first}
+use Rattle.problem.proofs.Integers.{above-le, above-pos}
 use Rattle.tablebounds.specs.Tables.{Split, after, totalWith, Smallest, Largest, leastOver, leastTotal, canBe, mark, marks}
 use Rattle.tablebounds.specs.Heights.{height, Moderate, Line, Drawn, Drawing, Summed, leastUpTo, leastSum, marksBy, firstBad}
 use Rattle.tablebounds.specs.Answers.{Outcome, known, refused, badEntry, place28, laterOf, outcomeOf, Given, Answered, Listed, settledOf}

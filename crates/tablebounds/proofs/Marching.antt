@@ -11,10 +11,10 @@ use lib.IntN.{ℤ, pos, subℕ, _+ℤ_, _*ℤ_}
 use lib.ListN.{length, getD}
 use Rattle.transport.specs.Curve.{stopsOf}
 use Rattle.transport.proofs.Stops.{Stop, Rising, stops-in, stops-out, stops-front, stops-rising}
-use Rattle.planner.specs.Case.{Case, leastSplit, greatestSplit}
-use Rattle.planner.specs.Plans.{leastFreightAt, stops}
-use Rattle.planner.proofs.Integers.{sub-same, sub-add, sub-scale}
-use Rattle.planner.proofs.RaisedFreight.{Follows, stops-above}
+use Rattle.problem.specs.Case.{Case, leastSplit, greatestSplit}
+use Rattle.problem.specs.Plans.{leastFreightAt, stops}
+use Rattle.transport.proofs.Differences.{sub-same, sub-add, sub-scale}
+use Rattle.problem.proofs.RaisedFreight.{Follows, stops-above}
 use Rattle.tablebounds.specs.Tables.{Split}
 use Rattle.tablebounds.specs.Heights.{height, Line}
 use Rattle.tablebounds.proofs.Planned.{Ready}

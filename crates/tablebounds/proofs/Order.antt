@@ -9,8 +9,8 @@ use lib.Dec.{T, leb}
 use lib.IntN.{ℤ, pos, negsuc, subℕ, _+ℤ_}
 use lib.Signed.{leZ, _≤ℤ_, leZ-yes, ≤ℤ-refl}
 use borrow.Author.Tests.{leb-false}
-use Rattle.planner.specs.Integer.{minℤ}
-use Rattle.planner.proofs.Integers.{pos-sub, neg-sub, sub-add, sub-le, sub-at-most, at-most-sub}
+use Rattle.problem.specs.Integer.{minℤ}
+use Rattle.transport.proofs.Differences.{pos-sub, neg-sub, sub-add, sub-le, sub-at-most, at-most-sub}
 use Rattle.tablebounds.specs.Tables.{leastOver}
 
 -- an integer is a difference of two naturals

@@ -19,9 +19,9 @@ use mir.ValLaws.{toZ-pos, toZ-ofZ}
 use Rattle.transport.specs.Listing.{upFrom}
 use Rattle.transport.specs.Curve.{written}
 use Rattle.transport.proofs.ListMembers.{upFrom-length, upFrom-getD}
-use Rattle.planner.proofs.FirstFailing.{first-none, first-some}
-use Rattle.planner.proofs.Integers.{sub-add, sub-sub, sub-pos, pos-sub}
-use Rattle.planner.proofs.MachineIntegers.{sub-fits}
+use Rattle.problem.proofs.FirstFailing.{first-none, first-some}
+use Rattle.transport.proofs.Differences.{sub-add, sub-sub, sub-pos, pos-sub}
+use Rattle.problem.proofs.MachineIntegers.{sub-fits}
 use Rattle.tablebounds.specs.Heights.{height, Moderate, Line, Drawn, Stretch, Drawing, Summed, leastUpTo, leastSum, marksBy, firstBad}
 
 -- ---- heights as the machine has them

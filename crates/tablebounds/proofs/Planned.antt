@@ -7,16 +7,16 @@ use native.Mathlib.Omega.{arith}
 use lib.IntN.{ℤ, pos, natAbs, subℕ, _+ℤ_}
 use lib.ListN.{length}
 use borrow.Author.Tests.{le-ltb}
-use Rattle.planner.proofs.TestParts.{unmet}
-use Rattle.planner.specs.Case.{Case, supply, entry, leastSplit, greatestSplit, steps}
-use Rattle.planner.specs.Plans.{leastFreightAt, totalAt, bestSplit, stops}
-use Rattle.planner.specs.Outcome.{Outcome, planned, formRefusal, refusalOf, planOf, outcomeOf, test11}
-use Rattle.planner.proofs.TestsPassed.{formed, balanced, has-split, small-entry, accepted}
-use Rattle.planner.proofs.RefusalNumbers.{planned-passes}
-use Rattle.planner.proofs.Splits.{fitting, in-order, last-split, greatest-most}
-use Rattle.planner.proofs.Integers.{sub-add, sub-same, sub-pos, pos-sub}
-use Rattle.planner.proofs.RaisedCurve.{raisedAt, added, least-above}
-use Rattle.planner.proofs.TotalBounds.{few-drums, raised-most}
+use Rattle.problem.proofs.TestParts.{unmet}
+use Rattle.problem.specs.Case.{Case, supply, entry, leastSplit, greatestSplit, steps}
+use Rattle.problem.specs.Plans.{leastFreightAt, totalAt, bestSplit, stops}
+use Rattle.problem.specs.Outcome.{Outcome, planned, formRefusal, refusalOf, planOf, outcomeOf, test11}
+use Rattle.problem.proofs.TestsPassed.{formed, balanced, has-split, small-entry, accepted}
+use Rattle.problem.proofs.RefusalNumbers.{planned-passes}
+use Rattle.problem.proofs.Splits.{fitting, in-order, last-split, greatest-most}
+use Rattle.transport.proofs.Differences.{sub-add, sub-same, sub-pos, pos-sub}
+use Rattle.problem.proofs.RaisedCurve.{raisedAt, added, least-above}
+use Rattle.problem.proofs.TotalBounds.{few-drums, raised-most}
 use Rattle.tablebounds.specs.Tables.{Split}
 use Rattle.tablebounds.specs.Heights.{height, Moderate}
 

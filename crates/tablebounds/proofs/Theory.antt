@@ -13,8 +13,8 @@ use lib.Signed.{leZ, _≤ℤ_, ≤ℤ-refl}
 use lib.ListN.{length, getD, set, length-set}
 use lib.Seq.{getD-set-same, getD-set-other}
 use borrow.Author.Tests.{eq-eqb, ne-eqb}
-use Rattle.planner.specs.Case.{Case, supply, entry, leastSplit, greatestSplit}
-use Rattle.planner.specs.Plans.{leastFreightAt}
+use Rattle.problem.specs.Case.{Case, supply, entry, leastSplit, greatestSplit}
+use Rattle.problem.specs.Plans.{leastFreightAt}
 use Rattle.tablebounds.specs.Tables.{Split, after, totalWith, Within, Possible, leastTotal, Smallest, Largest, allFrom, canBe}
 use Rattle.tablebounds.proofs.Order.{≤ℤ-trans, rise, leZ-true, true-leZ, least-low, least-high, least-rises}
 

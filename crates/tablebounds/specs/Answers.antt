@@ -7,13 +7,12 @@ use Prim.Native.Nat.{ℕ, _+_, _-_, _≤_, _<_}
 use lib.Dec.{eqb, ltb}
 use lib.IntN.{ℤ, pos, subℕ}
 use lib.ListN.{length, getD}
-use Rattle.planner.specs.Plans.{leastFreightAt, stops}
+use Rattle.problem.specs.Plans.{leastFreightAt, stops}
 use Rattle.tablebounds.specs.Heights.{leastSum}
 use Rattle.transport.specs.Curve.{written}
-use Rattle.planner.specs.Case.{Case, supply, entry, leastSplit}
-use Rattle.planner.specs.Verdict.{lent}
-use Rattle.planner.specs.Outcome.{firstFrom}
-use Rattle.planner.specs.Outcome as planner
+use Rattle.problem.specs.Case.{Case, supply, entry, leastSplit, lent}
+use Rattle.problem.specs.Outcome.{firstFrom}
+use Rattle.problem.specs.Outcome as planner
 use Rattle.tablebounds.specs.Tables.{Split, after, Possible, leastTotal, Smallest, Largest, marks}
 use Rattle.tablebounds.specs.declared.Answer.{Answer}
 use Rattle.tablebounds.specs.declared.Answer.the-variants.{Known, Refused}

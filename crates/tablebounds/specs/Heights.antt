@@ -8,8 +8,8 @@ use lib.Dec.{leb, ltb}
 use Rattle.transport.specs.Listing.{upFrom}
 use lib.IntN.{ℤ, pos, natAbs, _+ℤ_}
 use lib.ListN.{length, getD}
-use Rattle.planner.specs.Integer.{Above}
-use Rattle.planner.specs.Outcome.{firstFrom}
+use Rattle.problem.specs.Integer.{Above}
+use Rattle.problem.specs.Outcome.{firstFrom}
 use Rattle.tablebounds.specs.declared.curve.Found.{Found}
 use Rattle.tablebounds.specs.declared.curve.Found.the-variants.{At, Nowhere}
 

@@ -1,25 +1,25 @@
 // The fixed cases of the scope, with the answers that it gives. They stand in the file `stdin`, whose first lines say how it is read.
-use crate::bench::ANSWER;
-use crate::bench::BASE;
-use crate::bench::CASE;
-use crate::bench::KNOWN;
-use crate::cells::at;
-use crate::cells::fill;
-use crate::cells::plus;
-use crate::cells::transfer;
-use crate::compare::Told;
-use crate::compare::check_told;
-use crate::compare::failed;
 use crate::planned::Outcome;
-use crate::rows::after;
-use crate::rows::byte;
-use crate::rows::end_of;
-use crate::rows::first;
-use crate::rows::item_at;
-use crate::rows::value_of;
 use crate::trial::close;
 use crate::trial::run_known;
 use crate::trial::run_small;
+use referee::bench::ANSWER;
+use referee::bench::BASE;
+use referee::bench::CASE;
+use referee::bench::KNOWN;
+use referee::cells::at;
+use referee::cells::fill;
+use referee::cells::plus;
+use referee::cells::transfer;
+use referee::compare::Told;
+use referee::compare::check_told;
+use referee::compare::failed;
+use trial_cases::rows::after;
+use trial_cases::rows::byte;
+use trial_cases::rows::end_of;
+use trial_cases::rows::first;
+use trial_cases::rows::item_at;
+use trial_cases::rows::value_of;
 
 // Writes the numbers of a line from the cell on that it names.
 fn write_line(b: &mut [u64], line: &[u8]) {

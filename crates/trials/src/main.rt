@@ -3,26 +3,19 @@
 ghost use mathlib.Core.Path.{_≡_};
 ghost use lib.ListN.{length};
 
-mod bench;
-mod cells;
-mod compare;
 mod fixed;
-mod listing;
 mod money;
-mod paper;
 mod planned;
-mod random;
 mod report;
-mod rows;
 mod trial;
 
-use crate::bench::TALLY;
-use crate::cells::fill;
 use crate::fixed::run_fixed;
-use crate::random::next_case;
 use crate::report::report;
 use crate::trial::close;
 use crate::trial::run_small;
+use referee::bench::TALLY;
+use referee::cells::fill;
+use trial_cases::random::next_case;
 
 const RANDOM_CASES: u64 = 10_000;
 

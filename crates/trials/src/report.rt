@@ -1,7 +1,7 @@
 // What the trials found, a line for each count of the tally.
-use crate::bench::TALLY;
-use crate::cells::at;
-use crate::cells::plus;
+use referee::bench::TALLY;
+use referee::cells::at;
+use referee::cells::plus;
 
 // How many lines there are, how wide a name is, and the cell of the tally that each line shows.
 const LINES: usize = 29;

@@ -1,31 +1,31 @@
 // One trial: the planner runs on the case of the bench, and its answer is checked and counted.
-use crate::bench::DEMANDS;
-use crate::bench::SUPPLIES;
-use crate::bench::Sizes;
-use crate::bench::TALLY;
-use crate::bench::TIES;
-use crate::bench::sizes_of;
-use crate::cells::NONE;
-use crate::cells::at;
-use crate::cells::given;
-use crate::cells::minus;
-use crate::cells::others;
-use crate::cells::part;
-use crate::cells::plus;
-use crate::cells::put;
-use crate::compare::Told;
-use crate::compare::expect;
-use crate::compare::failed;
-use crate::compare::is_stop;
-use crate::listing::list;
-use crate::paper::Span;
-use crate::paper::Verdict;
-use crate::paper::judge;
-use crate::paper::judge_splits;
-use crate::paper::listed_span;
-use crate::paper::span_of;
 use crate::planned::Outcome;
 use crate::planned::check;
+use referee::bench::DEMANDS;
+use referee::bench::SUPPLIES;
+use referee::bench::Sizes;
+use referee::bench::TALLY;
+use referee::bench::TIES;
+use referee::bench::sizes_of;
+use referee::cells::NONE;
+use referee::cells::add;
+use referee::cells::at;
+use referee::cells::cell;
+use referee::cells::minus;
+use referee::cells::others;
+use referee::cells::part;
+use referee::cells::plus;
+use referee::compare::Told;
+use referee::compare::expect;
+use referee::compare::failed;
+use referee::compare::is_stop;
+use referee::listing::list;
+use referee::paper::Span;
+use referee::paper::Verdict;
+use referee::paper::judge;
+use referee::paper::judge_splits;
+use referee::paper::listed_span;
+use referee::paper::span_of;
 
 // The tally: the expected answers by number (0 for a plan); what planned cases show; listed cases with plans and without;
 // cases, differences, the first case with one and its check.
@@ -35,62 +35,85 @@ const LISTED: u64 = 37;
 
 const CASES: u64 = 39;
 
-// Adds to a cell of the tally.
-fn raise(b: &mut [u64], k: u64, by: u64) {
-    let v = plus(at(b, plus(TALLY, k)), by);
-    put(b, plus(TALLY, k), v);
-}
-
-// Adds counts to the tally from its cell `first` on.
+// Adds counts to the cells from `first` on.
 fn count(b: &mut [u64], counts: &[u64], first: u64) {
     let mut k: usize = 0;
     while k < counts.len() {
-        raise(b, plus(first, k as u64), counts[k]);
+        add(b, plus(first, k as u64), counts[k]);
         k += 1;
     }
 }
 
-// Counts a case and, where a check failed, a difference; keeps the first such case.
-pub fn close(b: &mut [u64], failed: u64) {
-    let cases = plus(at(b, TALLY + CASES), 1);
-    let differences = at(b, TALLY + CASES + 1);
-    let one = given(failed != 0, 1);
-    let first = given(differences == 0, one);
-    let counts = [1, one, given(first == 1, cases), given(first == 1, failed)];
-    count(b, &counts, CASES);
+// What a case adds to the tally: one case and, where a check failed, a difference; the first of these is kept.
+fn closing(b: &[u64], failed: u64) -> [u64; 4] {
+    if failed == 0 {
+        return [1, 0, 0, 0];
+    }
+    if at(b, TALLY + CASES + 1) != 0 {
+        return [1, 1, 0, 0];
+    }
+    [1, 1, plus(at(b, TALLY + CASES), 1), failed]
 }
 
-// Counts what a planned case shows. What a refused one would show is counted where nothing reads it.
-fn count_plan(z: Sizes, s: Span, want: Told, plans: u64, b: &mut [u64]) {
-    let plan_ties = at(b, plus(TIES, want.split));
+// Counts a case.
+pub fn close(b: &mut [u64], failed: u64) {
+    let counts = closing(b, failed);
+    count(b, &counts, TALLY + CASES);
+}
+
+// What is judged of a listed case: its splits, the answer expected, whether the listing agrees with the tests.
+struct Ruling {
+    s: Span,
+    want: Told,
+    sound: bool,
+}
+
+// What a planned case shows.
+fn facts(z: Sizes, s: Span, want: Told, plans: u64, b: &[u64]) -> [u64; 9] {
+    let plan_ties = cell(b, TIES, want.split);
     let supplied = others(part(b, SUPPLIES, z.m), 0, 0);
     let demanded = others(part(b, DEMANDS, z.n), 0, 0);
-    let between = !is_stop(s, b, want.split);
-    let counts = [
-        given(s.width == 1, 1),
-        given(1 < want.ties, 1),
-        given(1 < plan_ties, 1),
+    let stop = is_stop(s, b, want.split);
+    [
+        (s.width == 1) as u64,
+        (1 < want.ties) as u64,
+        (1 < plan_ties) as u64,
         plans,
-        given(z.m == 2, 1),
-        given(z.n == 1, 1),
-        given(supplied < z.m, 1),
-        given(demanded < z.n, 1),
-        given(between, 1),
-    ];
-    count(b, &counts, plus(FACTS, given(want.number != 0, 100)));
+        (z.m == 2) as u64,
+        (z.n == 1) as u64,
+        (supplied < z.m) as u64,
+        (demanded < z.n) as u64,
+        !stop as u64,
+    ]
+}
+
+// Counts the answer expected and, of a planned case, what it shows.
+fn tally(z: Sizes, s: Span, want: Told, plans: u64, b: &mut [u64]) {
+    add(b, plus(TALLY, want.number), 1);
+    if want.number == 0 {
+        let counts = facts(z, s, want, plans, b);
+        count(b, &counts, TALLY + FACTS);
+    }
+}
+
+// Whether a case passes the tests before the balance.
+fn listable(z: Sizes, b: &[u64]) -> bool {
+    let v = judge(z, span_of(z, b), b);
+    let number = v.number;
+    match number {
+        0 | 7 | 8 => true,
+        _ => false,
+    }
 }
 
 // Lists the plans of a case that passes the tests before the balance, and counts such cases with plans and without.
-fn list_case(v: Verdict, z: Sizes, b: &mut [u64]) -> u64 {
-    let number = v.number;
-    match number {
-        0 | 7 | 8 => {
-            let plans = list(z, b);
-            raise(b, plus(LISTED, given(plans == 0, 1)), 1);
-            plans
-        }
-        _ => 0,
+fn list_case(z: Sizes, b: &mut [u64]) -> u64 {
+    if !listable(z, b) {
+        return 0;
     }
+    let plans = list(z, b);
+    add(b, plus(TALLY + LISTED, (plans == 0) as u64), 1);
+    plans
 }
 
 // Whether the listing agrees with the tests up to 8: of a refused case no plan; else plans at each split of one
@@ -99,42 +122,45 @@ fn sound(v: Verdict, all: Span, s: Span, plans: u64) -> bool {
     if v.number != 0 {
         return plans == 0;
     }
-    if plans == NONE {
-        return false;
-    }
-    if s.width == 0 {
-        return true;
-    }
-    if s.first < all.first {
-        return false;
-    }
-    if all.last < s.last {
-        return false;
-    }
-    minus(plus(s.last, 1), s.first) == s.width
+    let within = (all.first <= s.first) & (s.last <= all.last);
+    let one_stretch = minus(plus(s.last, 1), s.first) == s.width;
+    (plans != NONE) & ((s.width == 0) | (within & one_stretch))
 }
 
-// Counts and checks a judged case whose plans are listed.
-fn run_listed(b: &mut [u64], z: Sizes, s: Span, want: Told, plans: u64) -> Outcome {
-    raise(b, want.number, 1);
-    count_plan(z, s, want, plans, b);
-    check(z, s, want, true, b)
+// Judges a case whose plans are listed.
+fn judged(z: Sizes, plans: u64, b: &[u64]) -> Ruling {
+    let all = span_of(z, b);
+    let v = judge(z, all, b);
+    let s = listed_span(all, b);
+    let want = expect(judge_splits(v, z, s, b), z, b);
+    Ruling {
+        s,
+        want,
+        sound: sound(v, all, s, plans),
+    }
+}
+
+// Checks a case whose plans are listed.
+fn check_listed(z: Sizes, j: Ruling, b: &[u64]) -> Outcome {
+    let s = j.s;
+    let want = j.want;
+    let o = check(z, s, want, true, b);
+    let got = o.got;
+    Outcome {
+        failed: failed(o.failed, !j.sound, 12),
+        got,
+    }
 }
 
 // Runs and checks a case small enough for the listing.
 pub fn run_small(b: &mut [u64]) -> Outcome {
     let z = sizes_of(b);
-    let all = span_of(z, b);
-    let v = judge(z, all, b);
-    let plans = list_case(v, z, b);
-    let s = listed_span(all, b);
-    let want = expect(judge_splits(v, z, s, b), z, b);
-    let o = run_listed(b, z, s, want, plans);
-    let got = o.got;
-    Outcome {
-        failed: failed(o.failed, !sound(v, all, s, plans), 12),
-        got,
-    }
+    let plans = list_case(z, b);
+    let j = judged(z, plans, b);
+    let s = j.s;
+    let want = j.want;
+    tally(z, s, want, plans, b);
+    check_listed(z, j, b)
 }
 
 // Runs and checks a case whose least freights are known.

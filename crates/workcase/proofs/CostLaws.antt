@@ -8,9 +8,9 @@ use lib.IntN.{ℤ, pos, subℕ}
 use lib.ListN.{length, getD, set, take, length-map, List·getD-map}
 use lib.Seq.{take-at}
 use Rattle.transport.specs.Curve.{written}
-use Rattle.planner.specs.Range.{outside, raisedOf, AllInside}
-use Rattle.planner.proofs.MachineIntegers.{raised-is, raised-above}
-use Rattle.planner.proofs.RaisedLists.{map-at}
+use Rattle.problem.specs.Range.{outside, raisedOf, AllInside}
+use Rattle.problem.proofs.MachineIntegers.{raised-is, raised-above}
+use Rattle.problem.proofs.RaisedLists.{map-at}
 use Rattle.workcase.specs.Store.{inCase, costIn}
 use Rattle.workcase.proofs.Copies.{Filling, filling-next, filling-end, filled-front}
 

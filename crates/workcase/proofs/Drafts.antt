@@ -10,7 +10,7 @@ use lib.IntN.{ℤ}
 use lib.ListN.{length, getD, set, take, drop, replicate, length-append, length-replicate, getD-replicate, List·getD-append}
 use lib.Seq.{length-take-le, getD-set-same, getD-set-other, getD-take, getD-append-add, drop-set-lt, ext-getD}
 use borrow.Author.Tests.{ne-eqb}
-use Rattle.planner.specs.Range.{outside, raisedOf}
+use Rattle.problem.specs.Range.{outside, raisedOf}
 use Rattle.workcase.specs.State.{Draft}
 use Rattle.workcase.specs.Calls.{edited, withDemand, withSupply, withCost, withEntry, resized}
 use Rattle.workcase.specs.Store.{suppliesAt, demandsAt, costsAt, ceilingsAt, tableAt, costIn, entriesFor, draftIn}

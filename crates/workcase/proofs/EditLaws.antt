@@ -12,9 +12,9 @@ use lib.IntN.{ℤ}
 use lib.ListN.{length, getD, set, length-set}
 use lib.Seq.{getD-set-other}
 use borrow.Author.Tests.{ltb-true, ltb-false, eq-eqb, ne-eqb, not-false}
-use Rattle.planner.specs.Range.{outside, raisedOf}
-use Rattle.planner.specs.Outcome.{Outcome, refuseIf, _orElse_}
-use Rattle.planner.proofs.TestsPassed.{first-passes, second-passes, refuseIf-none, either-first, either-second}
+use Rattle.problem.specs.Range.{outside, raisedOf}
+use Rattle.problem.specs.Outcome.{Outcome, refuseIf, _orElse_}
+use Rattle.problem.proofs.TestsPassed.{first-passes, second-passes, refuseIf-none, either-first, either-second}
 use Rattle.workcase.specs.State.{Draft}
 use Rattle.workcase.specs.Calls.{editDemand, editSupply, editCost, editEntry, refuseWhen, absent, leastRun, refusalIn, acted, withCase, withDemand, withSupply, withCost, withEntry}
 use Rattle.workcase.specs.Store.{suppliesAt, demandsAt, costsAt, tableAt, inCase, width, slot, draftIn, stateAt, sources, terminals, opens, heldIn, entriesFor, entriesIn, zeroed, extended, writes}

@@ -9,8 +9,8 @@ use lib.Dec.{ltb}
 use lib.IntN.{ℤ}
 use lib.ListN.{length}
 use borrow.Author.Tests.{lt-ltb, le-ltb}
-use Rattle.planner.specs.Range.{outside}
-use Rattle.planner.specs.Outcome.{Outcome, refused, refuseIf, _orElse_}
+use Rattle.problem.specs.Range.{outside}
+use Rattle.problem.specs.Outcome.{Outcome, refused, refuseIf, _orElse_}
 use Rattle.workcase.specs.State.{Draft, State}
 use Rattle.workcase.specs.Calls.{editDemand, editSupply, editCost, editEntry, refuseWhen, absent, leastRun, refusalIn}
 use Rattle.workcase.specs.Store.{stateAt, draftIn, entriesIn}

@@ -12,9 +12,9 @@ use lib.ListN.{length, getD, take, drop, replicate, length-append, length-drop, 
 use lib.Seq.{paste, take-at, drop-at, drop-append-add, drop-drop, take-length}
 use borrow.Author.Tests.{le-leb, lt-ltb, le-ltb}
 use Rattle.transport.specs.Curve.{written}
-use Rattle.planner.specs.Range.{raisedOf}
-use Rattle.planner.specs.Outcome.{Outcome, refused, refuseIf, _orElse_, formRefusal}
-use Rattle.planner.proofs.TestsPassed.{formed, first-decides, second-decides}
+use Rattle.problem.specs.Range.{raisedOf}
+use Rattle.problem.specs.Outcome.{Outcome, refused, refuseIf, _orElse_, formRefusal}
+use Rattle.problem.proofs.TestsPassed.{formed, first-decides, second-decides}
 use Rattle.workcase.specs.State.{Draft, State, lentWith, entered}
 use Rattle.workcase.specs.Calls.{absent}
 use Rattle.workcase.specs.Store.{cellsFor, suppliesAt, demandsAt, costsAt, ceilingsAt, tableAt, inCase, width, slot, costIn, entriesFor, draftIn, markIn, stateAt, opens, heldIn, header, cellsOf}

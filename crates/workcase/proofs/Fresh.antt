@@ -11,12 +11,12 @@ use lib.IntN.{ℤ, pos}
 use lib.ListN.{length, getD, set, replicate, length-set, length-append, length-replicate}
 use lib.Seq.{getD-set-same, getD-set-other, length-take-le}
 use borrow.Author.Tests.{ltb-false, eq-eqb, ne-eqb}
-use Rattle.planner.specs.Range.{outside}
-use Rattle.planner.specs.Outcome.{Outcome, refuseIf, _orElse_, formRefusal}
-use Rattle.planner.proofs.TestsPassed.{Formed, formed, first-passes, second-passes, second-decides, refuseIf-none}
-use Rattle.planner.proofs.FirstFailing.{above-none, outside-none}
-use Rattle.planner.proofs.TestParts.{amounts-pass, runs-pass, ceilings-pass}
-use Rattle.planner.proofs.FormTests.{by-none}
+use Rattle.problem.specs.Range.{outside}
+use Rattle.problem.specs.Outcome.{Outcome, refuseIf, _orElse_, formRefusal}
+use Rattle.problem.proofs.TestsPassed.{Formed, formed, first-passes, second-passes, second-decides, refuseIf-none}
+use Rattle.problem.proofs.FirstFailing.{above-none, outside-none}
+use Rattle.problem.proofs.TestParts.{amounts-pass, runs-pass, ceilings-pass}
+use Rattle.casetests.proofs.FormTests.{by-none}
 use Rattle.workcase.specs.State.{Draft, State, lentWith, entered}
 use Rattle.workcase.specs.Calls.{Call, editDemand, editSupply, editCost, editEntry, setMark, goBack}
 use Rattle.workcase.specs.Calls.{refuseWhen, absent, leastRun, resized, refusalIn, acted, unless, step, run, edited, withCase, withDemand, withSupply, withCost, withEntry, held}

@@ -7,8 +7,8 @@ use Prim.Native.Nat.{ℕ, _+_}
 use native.Mathlib.Omega.{arith}
 use lib.IntN.{ℤ}
 use lib.ListN.{set}
-use Rattle.planner.specs.Outcome.{Outcome, refused, refuseIf, _orElse_}
-use Rattle.planner.proofs.TestsPassed.{first-passes, second-passes, refuseIf-none}
+use Rattle.problem.specs.Outcome.{Outcome, refused, refuseIf, _orElse_}
+use Rattle.problem.proofs.TestsPassed.{first-passes, second-passes, refuseIf-none}
 use Rattle.workcase.specs.declared.opened.Opened.the-variants.{Held, Closed}
 use Rattle.workcase.specs.State.{State}
 use Rattle.workcase.specs.Calls.{Call, editCost, setMark, goBack, refuseWhen, absent, unset, refusalIn, acted, unless, step}

@@ -10,7 +10,7 @@ use lib.Dec.{eqb, ltb, leb}
 use lib.ListN.{length, getD, set, length-set}
 use lib.Seq.{getD-set-same, getD-set-other}
 use borrow.Author.Tests.{leb-true, le-ltb, ltb-false, eq-eqb, ne-eqb}
-use Rattle.planner.proofs.TestsPassed.{either-first, either-second}
+use Rattle.problem.proofs.TestsPassed.{either-first, either-second}
 use Rattle.workcase.specs.State.{Draft, State}
 use Rattle.workcase.specs.Calls.{absent, withCase, held, unset, acted, setMark, goBack}
 use Rattle.workcase.specs.Store.{cellsFor, width, slot, draftIn, markIn, stateAt, sources, terminals, opens, heldIn, copied}

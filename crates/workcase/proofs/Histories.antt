@@ -4,8 +4,8 @@ use mathlib.Core.Path.{_≡_, refl, sym, ap, _∙_}
 use mathlib.Core.Option.{Option, none, some}
 use mathlib.Core.List.{List, [], _∷_}
 use Prim.Native.Nat.{ℕ}
-use Rattle.planner.specs.Case.{Case}
-use Rattle.planner.specs.Outcome.{Outcome, planned, refused}
+use Rattle.problem.specs.Case.{Case}
+use Rattle.problem.specs.Outcome.{Outcome, planned, refused}
 use Rattle.planner.specs.Answer.{Slices, Answered}
 use Rattle.workcase.specs.State.{Draft, State, lentWith, entered}
 use Rattle.workcase.specs.Calls.{Call, step, run}

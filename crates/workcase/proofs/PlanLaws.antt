@@ -6,9 +6,8 @@ use Prim.Native.Nat.{ℕ, _+_, _-_, _*_, _≤_}
 use native.Mathlib.Omega.{arith}
 use lib.IntN.{ℤ}
 use lib.ListN.{length, getD, take, drop}
-use Rattle.planner.specs.Case.{Case}
-use Rattle.planner.specs.Outcome.{Outcome, refused}
-use Rattle.planner.specs.Verdict.{lent}
+use Rattle.problem.specs.Case.{Case, lent}
+use Rattle.problem.specs.Outcome.{Outcome, refused}
 use Rattle.planner.specs.Answer.{Slices, Answered}
 use Rattle.workcase.specs.declared.opened.Opened.the-variants.{Held, Closed}
 use Rattle.workcase.specs.State.{Draft, State, lentWith}

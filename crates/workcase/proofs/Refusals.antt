@@ -7,7 +7,7 @@ use Prim.Native.Nat.{ℕ, _+_, _≤_, _<_}
 use lib.Dec.{ltb, eqb}
 use lib.ListN.{getD}
 use borrow.Author.Tests.{lt-ltb, eq-eqb, ne-eqb}
-use Rattle.planner.specs.Outcome.{Outcome, refused, refuseIf, _orElse_}
+use Rattle.problem.specs.Outcome.{Outcome, refused, refuseIf, _orElse_}
 use Rattle.workcase.specs.State.{State}
 use Rattle.workcase.specs.Calls.{Call, setMark, goBack, refuseWhen, absent, unset, refusalIn}
 use Rattle.workcase.specs.Store.{stateAt, markIn, writes}

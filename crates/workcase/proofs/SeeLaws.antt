@@ -11,7 +11,7 @@ use lib.ListN.{length, take, drop, length-map}
 use lib.Seq.{paste}
 use borrow.Author.Tests.{lt-ltb, le-ltb}
 use Rattle.transport.specs.Curve.{written}
-use Rattle.planner.specs.Outcome.{Outcome, refused, refuseIf}
+use Rattle.problem.specs.Outcome.{Outcome, refused, refuseIf}
 use Rattle.workcase.specs.declared.opened.Opened.the-variants.{Held, Closed}
 use Rattle.workcase.specs.State.{Draft, State}
 use Rattle.workcase.specs.Store.{suppliesAt, demandsAt, costsAt, ceilingsAt, tableAt, inCase, costIn, entriesIn, stateAt, sources, terminals, heldIn}

@@ -6,8 +6,8 @@ use Prim.Native.Nat.{ℕ, _+_, _-_, _*_}
 use lib.Dec.{eqb, ltb}
 use lib.IntN.{ℤ}
 use lib.ListN.{length, set, take, replicate}
-use Rattle.planner.specs.Range.{outside}
-use Rattle.planner.specs.Outcome.{Outcome, refused, refuseIf, _orElse_}
+use Rattle.problem.specs.Range.{outside}
+use Rattle.problem.specs.Outcome.{Outcome, refused, refuseIf, _orElse_}
 use Rattle.workcase.specs.State.{Draft, State}
 
 -- sources, terminals and marks are numbered from 1, entries from 0

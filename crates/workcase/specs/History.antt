@@ -2,7 +2,7 @@
 use mathlib.Core.Option.{Option}
 use mathlib.Core.List.{List, [], _∷_}
 use Prim.Native.Nat.{ℕ}
-use Rattle.planner.specs.Outcome.{Outcome}
+use Rattle.problem.specs.Outcome.{Outcome}
 use Rattle.workcase.specs.Calls.{Call}
 use Rattle.workcase.specs.Promise.{Performed}
 

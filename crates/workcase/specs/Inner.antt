@@ -8,8 +8,8 @@ use Prim.Native.Nat.{ℕ, _+_, _*_, _≤_, _<_}
 use lib.Dec.{eqb}
 use lib.IntN.{ℤ}
 use lib.ListN.{length, getD}
-use Rattle.planner.specs.Range.{AllInside}
-use Rattle.planner.specs.Outcome.{Outcome}
+use Rattle.problem.specs.Range.{AllInside}
+use Rattle.problem.specs.Outcome.{Outcome}
 use Rattle.workcase.specs.declared.opened.Opened.{Opened}
 use Rattle.workcase.specs.declared.opened.Opened.the-variants.{Held, Closed}
 use Rattle.workcase.specs.State.{Draft}

@@ -2,7 +2,7 @@
 use mathlib.Core.Path.{_≡_}
 use mathlib.Core.Option.{Option, none, some}
 use Prim.Native.Nat.{ℕ}
-use Rattle.planner.specs.Outcome.{Outcome, refused, outcomeOf}
+use Rattle.problem.specs.Outcome.{Outcome, refused, outcomeOf}
 use Rattle.planner.specs.Answer.{Slices, Answered}
 use Rattle.workcase.specs.State.{State, lentWith}
 

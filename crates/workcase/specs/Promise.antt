@@ -6,7 +6,7 @@ use Prim.Native.Nat.{ℕ}
 use lib.Dec.{ltb}
 use lib.ListN.{length}
 use Rattle.transport.specs.Curve.{written}
-use Rattle.planner.specs.Outcome.{Outcome, refused, refuseIf, _orElse_, formRefusal}
+use Rattle.problem.specs.Outcome.{Outcome, refused, refuseIf, _orElse_, formRefusal}
 use Rattle.workcase.specs.State.{Draft, State, lentWith, entered}
 use Rattle.workcase.specs.Calls.{Call, refusalIn, step}
 use Rattle.workcase.specs.Store.{heldIn, sources, terminals, writes, cellsFor, cellsOf}

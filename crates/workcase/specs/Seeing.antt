@@ -8,7 +8,7 @@ use lib.Dec.{ltb}
 use lib.IntN.{ℤ}
 use lib.ListN.{length}
 use Rattle.transport.specs.Curve.{written}
-use Rattle.planner.specs.Outcome.{Outcome, refused, refuseIf}
+use Rattle.problem.specs.Outcome.{Outcome, refused, refuseIf}
 use Rattle.workcase.specs.State.{Draft, State}
 
 -- 11 for a lent slice that is too short

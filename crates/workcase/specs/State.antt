@@ -3,7 +3,7 @@ use mathlib.Core.Option.{Option, none}
 use mathlib.Core.List.{List}
 use Prim.Native.Nat.{ℕ}
 use lib.IntN.{ℤ}
-use Rattle.planner.specs.Case.{Case}
+use Rattle.problem.specs.Case.{Case}
 
 -- a whole case, without the slices that a plan is written to
 pub record Draft : Type 0 where

@@ -9,7 +9,7 @@ use lib.Dec.{eqb, leb}
 use lib.IntN.{ℤ, subℕ}
 use lib.ListN.{length, getD, set, take, drop, replicate}
 use lib.Seq.{paste}
-use Rattle.planner.specs.Range.{raisedOf}
+use Rattle.problem.specs.Range.{raisedOf}
 use Rattle.workcase.specs.State.{Draft, State}
 use Rattle.workcase.specs.Calls.{Call, editDemand, editSupply, editCost, editEntry, setMark, goBack, absent}
 

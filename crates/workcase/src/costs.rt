@@ -6,7 +6,7 @@ ghost use Prim.Native.Nat.{_+_, _≤_};
 ghost use lib.ListN.{length, take};
 ghost use lib.Seq.{paste};
 ghost use Rattle.transport.specs.Curve.{written};
-ghost use Rattle.planner.specs.Range.{outside, raisedOf, AllInside};
+ghost use Rattle.problem.specs.Range.{outside, raisedOf, AllInside};
 ghost use Rattle.workcase.specs.Store.{costIn};
 
 // The cell of a unit cost.

@@ -2,7 +2,7 @@
 ghost use mathlib.Core.Path.{_≡_};
 ghost use Prim.Native.Nat.{_+_, _-_, _≤_};
 ghost use lib.ListN.{length, set};
-ghost use Rattle.planner.specs.Verdict.{verdict};
+ghost use Rattle.casetests.specs.Verdict.{verdict};
 ghost use Rattle.workcase.specs.Store.{suppliesAt, inCase, zeroed, entriesIn, extended};
 ghost use Rattle.workcase.specs.Calls.{editDemand, editSupply, editCost, editEntry};
 ghost use Rattle.workcase.specs.Inner.{Open, Acted, runIn};
@@ -13,8 +13,8 @@ use crate::layout::SUPPLIES;
 use crate::layout::costs_at;
 use crate::layout::demands_at;
 use crate::layout::table_at;
-use planner::Verdict;
-use planner::out_of_range;
+use casetests::tests::Verdict;
+use casetests::tests::out_of_range;
 
 pub fn put_demand(m: usize, n: usize, j: usize, value: u64, store: &mut [u64]) -> Verdict
     requires { ⌜ Open m n (now store) ⌝ }

@@ -1,6 +1,6 @@
 // A working case with marks 1 to 8, in a lent store.
 ghost use lib.ListN.{length};
-ghost use Rattle.planner.specs.Verdict.{verdict};
+ghost use Rattle.casetests.specs.Verdict.{verdict};
 ghost use Rattle.planner.specs.Answer.{outcome, slices};
 ghost use Rattle.workcase.specs.Store.{heldIn};
 ghost use Rattle.workcase.specs.Planning.{PlannedFrom};
@@ -21,9 +21,9 @@ use crate::opened::open_store;
 use crate::planning::plan_open;
 use crate::seeing::show_table;
 use crate::seeing::show_tariff;
+use casetests::tests::Verdict;
+use casetests::tests::form_test;
 use planner::Answer;
-use planner::Verdict;
-use planner::form_test;
 
 mod costs;
 mod edits;

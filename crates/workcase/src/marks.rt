@@ -2,13 +2,13 @@
 ghost use mathlib.Core.Path.{_≡_};
 ghost use lib.ListN.{drop};
 ghost use lib.Seq.{paste};
-ghost use Rattle.planner.specs.Verdict.{verdict};
+ghost use Rattle.casetests.specs.Verdict.{verdict};
 ghost use Rattle.workcase.specs.Calls.{setMark, goBack};
 ghost use Rattle.workcase.specs.Inner.{Open, Acted, Apart, Slots};
 ghost use Rattle.workcase.specs.Store.{copied};
 use crate::layout::slot_start;
 use crate::layout::slot_width;
-use planner::Verdict;
+use casetests::tests::Verdict;
 
 // Copies a range of cells to another, apart from it.
 fn copy_cells(from: usize, to: usize, count: usize, store: &mut [u64])

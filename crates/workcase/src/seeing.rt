@@ -1,7 +1,7 @@
 // What of an open store is shown.
 ghost use mathlib.Core.Path.{_≡_};
 ghost use lib.ListN.{length};
-ghost use Rattle.planner.specs.Verdict.{verdict};
+ghost use Rattle.casetests.specs.Verdict.{verdict};
 ghost use Rattle.workcase.specs.Store.{stateAt};
 ghost use Rattle.workcase.specs.Seeing.{tariffRefusal, tableRefusal, shownUnless};
 ghost use Rattle.workcase.specs.Inner.{Open};
@@ -13,7 +13,7 @@ use crate::layout::ceilings_at;
 use crate::layout::costs_at;
 use crate::layout::demands_at;
 use crate::layout::table_at;
-use planner::Verdict;
+use casetests::tests::Verdict;
 
 // Copies unit costs, supplies and demands.
 pub fn show_tariff(

@@ -2,7 +2,7 @@
 use mathlib.Core.Path.{_≡_, ap}
 use lib.ListN.{length}
 use Rattle.tablebounds.specs.Answers.{outcome}
-use Rattle.planner.proofs.MachineIntegers.{read-back}
+use Rattle.problem.proofs.MachineIntegers.{read-back}
 use Rattle.boundsfile.proofs.Bounding.{known-ready, by-known, by-refusal}
 use borrow.Author.Needs.{needs}
 use Rattle.boundsfile.proofs.print_case.Statement.{statement}

@@ -6,7 +6,7 @@ use native.Mathlib.Omega.{arith}
 use borrow.Author.Count.{below-more}
 use denote.Ref.{now}
 use lib.ListN.{length, getD}
-use Rattle.planner.specs.Case.{Case}
+use Rattle.problem.specs.Case.{Case}
 use Rattle.planner.specs.Judge.{freeCase, judged, caseRefusal}
 use Rattle.casetext.proofs.Writes.{entries-form, entries-high, entries-pass}
 use borrow.Author.Needs.{needs}

@@ -4,7 +4,7 @@ use mathlib.Core.Option.{none}
 use Prim.Native.Nat.{ℕ}
 use native.Mathlib.Omega.{arith}
 use denote.Ref.{now}
-use Rattle.planner.specs.Case.{Case}
+use Rattle.problem.specs.Case.{Case}
 use Rattle.planner.specs.Judge.{freeCase, judged}
 use Rattle.casetext.specs.Writing.{entriesRefusal}
 use Rattle.casetext.proofs.RoundTrip.{tariff-room, table-room}

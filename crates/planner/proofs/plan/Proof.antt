@@ -4,9 +4,9 @@ use mathlib.Core.Path.{_≡_, sym, ap, _∙_}
 use mathlib.Core.Option.{none}
 use lib.ListN.{length}
 use denote.Ref.{now}
-use Rattle.planner.specs.Outcome.{formRefusal}
-use Rattle.planner.specs.Case.{Case}
-use Rattle.planner.specs.Verdict.{lent, verdict}
+use Rattle.problem.specs.Outcome.{formRefusal}
+use Rattle.problem.specs.Case.{Case, lent}
+use Rattle.casetests.specs.Verdict.{verdict}
 use Rattle.planner.proofs.EngineAnswer.{refuses}
 use Rattle.planner.proofs.LaterTests.{form-decides, amounts, unbalanced, on-balance}
 use Rattle.planner.proofs.plan.Statement.{statement}

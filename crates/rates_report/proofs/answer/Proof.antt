@@ -3,7 +3,7 @@ use mathlib.Core.Path.{refl, ap, _∙_}
 use mathlib.Core.List.{List}
 use Prim.Native.Nat.{ℕ}
 use lib.Dec.{lit≤}
-use Rattle.planner.specs.Outcome.{outcomeOf}
+use Rattle.problem.specs.Outcome.{outcomeOf}
 use Rattle.ratetable.proofs.Filling.{fills-whole}
 use Rattle.rates_report.specs.Report.{reportWith, report}
 use Rattle.rates_report.proofs.Given.{given}

@@ -1,7 +1,7 @@
 -- `tablebounds::possible_splits` meets its contract, by the planner's. Assumes nothing.
 use mathlib.Core.Path.{sym, ap, _∙_}
 use denote.Ref.{now}
-use Rattle.planner.specs.Case.{Case}
+use Rattle.problem.specs.Case.{Case}
 use Rattle.planner.specs.Answer.{outcome}
 use Rattle.tablebounds.specs.Answers.{lowCase}
 use Rattle.tablebounds.proofs.Judging.{refuse, handed-on, listed}

@@ -3,8 +3,8 @@ use mathlib.Core.Path.{_≡_, sym, ap, _∙_}
 use mathlib.Core.Option.{none}
 use native.Mathlib.Omega.{arith}
 use denote.Ref.{now}
-use Rattle.planner.specs.Outcome.{formRefusal}
-use Rattle.planner.specs.Verdict.{verdict}
+use Rattle.problem.specs.Outcome.{formRefusal}
+use Rattle.casetests.specs.Verdict.{verdict}
 use Rattle.workcase.specs.State.{Draft, lentWith}
 use Rattle.workcase.specs.Inner.{draft}
 use Rattle.workcase.proofs.Entering.{entry-form, entry-size, entry-short, entry-sized, entry-done}

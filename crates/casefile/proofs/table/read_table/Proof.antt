@@ -16,8 +16,8 @@ use Rattle.casefile.proofs.table.read_table.Statement.{statement}
 use Rattle.casefile.proofs.table.read_table.Tie as tie
 use Rattle.casefile.proofs.table.read_table.Reads as reads
 use Rattle.casefile.proofs.table.read_table.Lts as lts
-use Rattle.casefile.proofs.after.read_after.Reads as read-after-reads
-use Rattle.casefile.proofs.field.read_field.Reads as read-field-reads
+use Rattle.caseform.proofs.after.read_after.Reads as read-after-reads
+use Rattle.caseform.proofs.field.read_field.Reads as read-field-reads
 use Rattle.casefile.proofs.store.put_signed.Reads as put-signed-reads
 use Rattle.casefile.proofs.table.Tally.source.Reads as source-reads
 use Rattle.casefile.proofs.table.Tally.start.Reads as start-reads

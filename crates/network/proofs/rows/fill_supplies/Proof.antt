@@ -13,7 +13,7 @@ use Rattle.network.specs.Reduce.{nodeOf, sourceOf}
 use Rattle.network.specs.Build.{Put, laneIn, costIn, haveIn, stockIn, flowIn, cellOf}
 use Rattle.network.proofs.Regroup.{cond-same, cond-other}
 use Rattle.network.proofs.RowLaws.{put-none, put-next, put-all}
-use Rattle.planner.proofs.MachineIntegers.{read-back}
+use Rattle.problem.proofs.MachineIntegers.{read-back}
 use mathlib.Core.Path.{subst}
 use Rattle.network.proofs.rows.fill_supplies.Statement.{statement}
 use Rattle.network.proofs.rows.fill_supplies.Tie as tie

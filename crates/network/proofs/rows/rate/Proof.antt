@@ -15,7 +15,7 @@ use Rattle.network.proofs.Regroup.{cond-same, cond-other}
 use Rattle.network.proofs.RowLaws.{put-none, put-next, put-all}
 use mir.Syntax.{w64}
 use mir.ValLaws.{toZ-ofZ}
-use Rattle.planner.proofs.MachineIntegers.{read-back}
+use Rattle.problem.proofs.MachineIntegers.{read-back}
 use Rattle.network.proofs.rows.rate.Statement.{statement}
 use Rattle.network.proofs.rows.rate.Tie as tie
 use Rattle.network.proofs.rows.rate.Reads as reads

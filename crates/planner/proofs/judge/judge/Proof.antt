@@ -4,9 +4,9 @@ use mathlib.Core.Option.{none}
 use Prim.Native.Nat.{ℕ}
 use native.Mathlib.Omega.{arith}
 use denote.Ref.{now}
-use Rattle.planner.specs.Case.{Case}
-use Rattle.planner.specs.Outcome.{formRefusal}
-use Rattle.planner.specs.Verdict.{verdict}
+use Rattle.problem.specs.Case.{Case}
+use Rattle.problem.specs.Outcome.{formRefusal}
+use Rattle.casetests.specs.Verdict.{verdict}
 use Rattle.planner.specs.Judge.{freeCase}
 use Rattle.planner.specs.Ready.{OnBalance}
 use Rattle.planner.proofs.LaterTests.{amounts, on-balance}

@@ -10,12 +10,12 @@ use lib.ListN.{length, take}
 use lib.IntN.{subℕ}
 use denote.Ref.{now}
 use Rattle.transport.specs.Curve.{written}
-use Rattle.planner.specs.Range.{lower}
-use Rattle.planner.specs.Case.{Case}
-use Rattle.planner.specs.Verdict.{lent, verdict}
-use Rattle.planner.proofs.TestsPassed.{Formed, Roomy, roomy}
-use Rattle.planner.proofs.RaisedCurve.{added}
-use Rattle.planner.proofs.MachineIntegers.{read-back}
+use Rattle.problem.specs.Range.{lower}
+use Rattle.problem.specs.Case.{Case, lent}
+use Rattle.casetests.specs.Verdict.{verdict}
+use Rattle.problem.proofs.TestsPassed.{Formed, Roomy, roomy}
+use Rattle.problem.proofs.RaisedCurve.{added}
+use Rattle.problem.proofs.MachineIntegers.{read-back}
 use Rattle.planner.proofs.EngineAnswer.{Prepared, prepare, ready, OnSplits, Accepts, form-of, whole-most, runs-most, drums-most, costs-inside, narrow-ceilings, narrow-supplies, narrow-demands, demand-sum, refused-27, on-splits, sweep-ready, answered, refuses, told, gap, few-stops, found-moderate, freight-moderate, total-moderate}
 use Rattle.planner.proofs.LaterTests.{within, by-splits, accepts}
 use Rattle.planner.proofs.solve.solve.Statement.{statement}

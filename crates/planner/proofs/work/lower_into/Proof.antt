@@ -2,7 +2,7 @@
 use mathlib.Core.Path.{_∙_}
 use Prim.Native.Nat.{_≤_, _-_}
 use native.Mathlib.Omega.{arith}
-use Rattle.planner.proofs.MachineIntegers.{read-back}
+use Rattle.problem.proofs.MachineIntegers.{read-back}
 use Rattle.planner.proofs.LoweredCells.{Lowering, lower-start, lower-next, lower-long, lower-end}
 use Rattle.planner.proofs.work.lower_into.Statement.{statement}
 use Rattle.planner.proofs.work.lower_into.Tie as tie

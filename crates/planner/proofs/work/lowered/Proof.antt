@@ -5,7 +5,7 @@ use borrow.Author.Needs.{needs}
 use mir.Syntax.{w64}
 use mir.Val.{SFits, toZ, ofZ}
 use mir.ValLaws.{toZ-ofZ}
-use Rattle.planner.proofs.MachineIntegers.{lowered-is, sub-fits}
+use Rattle.problem.proofs.MachineIntegers.{lowered-is, sub-fits}
 use Rattle.planner.proofs.work.lowered.Statement.{statement}
 use Rattle.planner.proofs.work.lowered.Tie as tie
 

@@ -5,10 +5,10 @@ use Prim.Native.Nat.{_≤_, _-_}
 use native.Mathlib.Omega.{arith}
 use denote.Ref.{now}
 use lib.ListN.{length, getD, length-map}
-use Rattle.planner.proofs.MachineIntegers.{read-back}
-use Rattle.planner.specs.Range.{outside, raisedOf}
+use Rattle.problem.proofs.MachineIntegers.{read-back}
+use Rattle.problem.specs.Range.{outside, raisedOf}
 use Rattle.planner.proofs.CellCopies.{Copying, copy-start, copy-next, copy-end}
-use Rattle.planner.proofs.RaisedLists.{map-at}
+use Rattle.problem.proofs.RaisedLists.{map-at}
 use Rattle.planner.proofs.work.raise_into.Statement.{statement}
 use Rattle.planner.proofs.work.raise_into.Tie as tie
 

@@ -6,8 +6,8 @@ use native.Mathlib.Omega.{arith}
 use denote.Ref.{now}
 use mathlib.Core.List.{map}
 use lib.ListN.{length, length-map}
-use Rattle.planner.specs.Range.{raisedOf}
-use Rattle.planner.proofs.RaisedLists.{part-long, inside-part, map-part}
+use Rattle.problem.specs.Range.{raisedOf}
+use Rattle.problem.proofs.RaisedLists.{part-long, inside-part, map-part}
 use Rattle.planner.proofs.CellCopies.{Moving, move-start, move-next, move-end, row-within, row-start}
 use Rattle.planner.proofs.work.raise_rows.Statement.{statement}
 use Rattle.planner.proofs.work.raise_rows.Tie as tie

@@ -6,7 +6,7 @@ use lib.Signed.{nonNeg}
 use lib.Dec.{T}
 use mir.Syntax.{w32}
 use mir.Val.{Fits}
-use Rattle.planner.proofs.MachineIntegers.{raised-is, raised-sum, small-fits, stored}
+use Rattle.problem.proofs.MachineIntegers.{raised-is, raised-sum, small-fits, stored}
 use Rattle.planner.proofs.work.raised.Statement.{statement}
 use Rattle.planner.proofs.work.raised.Tie as tie
 

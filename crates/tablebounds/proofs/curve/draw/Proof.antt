@@ -5,7 +5,7 @@ use native.Mathlib.Omega.{arith}
 use lib.IntN.{ℤ, pos}
 use lib.ListN.{length, getD, length-set}
 use denote.Ref.{now}
-use Rattle.planner.proofs.MachineIntegers.{read-back}
+use Rattle.problem.proofs.MachineIntegers.{read-back}
 use Rattle.tablebounds.specs.Heights.{height, Moderate, Drawn, Drawing}
 use Rattle.tablebounds.proofs.Passes.{drawn-first, line-at, stretch-at}
 use Rattle.tablebounds.proofs.curve.draw.Statement.{statement}

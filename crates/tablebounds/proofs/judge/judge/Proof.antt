@@ -4,7 +4,7 @@ use Prim.Native.Nat.{_≤_}
 use native.Mathlib.Omega.{arith}
 use lib.ListN.{length}
 use denote.Ref.{now}
-use Rattle.planner.specs.Case.{Case}
+use Rattle.problem.specs.Case.{Case}
 use Rattle.tablebounds.specs.Heights.{found}
 use Rattle.tablebounds.specs.Answers.{Outcome, lowCase, Answered}
 use Rattle.tablebounds.proofs.Judging.{some-cell, first-cell, last-cell, drawing, draws, in-order, at-most, in-low, in-high, wrong-long, bad-in, bad-place, too-short, low-summed, high-summed, settled}

@@ -6,7 +6,7 @@ use lib.IntN.{ℤ, subℕ}
 use lib.ListN.{length}
 use denote.Ref.{now}
 use Rattle.transport.specs.Curve.{written}
-use Rattle.planner.proofs.MachineIntegers.{read-back}
+use Rattle.problem.proofs.MachineIntegers.{read-back}
 use Rattle.tablebounds.specs.Heights.{marksBy}
 use Rattle.tablebounds.specs.Answers.{known, settledOf}
 use Rattle.tablebounds.proofs.Passes.{least-small}

@@ -5,7 +5,7 @@ use lib.IntN.{ℤ}
 use borrow.Author.Needs.{needs}
 use mir.Syntax.{w64}
 use mir.Val.{SFits}
-use Rattle.planner.proofs.MachineIntegers.{lowered-is, sub-fits}
+use Rattle.problem.proofs.MachineIntegers.{lowered-is, sub-fits}
 use Rattle.trials.proofs.money.lowered.Statement.{statement}
 use Rattle.trials.proofs.money.lowered.Tie as tie
 

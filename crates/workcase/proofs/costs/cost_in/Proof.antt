@@ -5,7 +5,7 @@ use lib.IntN.{ℤ}
 use mir.Syntax.{w64}
 use mir.Val.{SFits, toZ, ofZ}
 use mir.ValLaws.{toZ-ofZ}
-use Rattle.planner.proofs.MachineIntegers.{lowered-is, sub-fits}
+use Rattle.problem.proofs.MachineIntegers.{lowered-is, sub-fits}
 use Rattle.workcase.proofs.CostLaws.{cost-low, cost-high}
 use borrow.Author.Needs.{needs}
 use Rattle.workcase.proofs.costs.cost_in.Statement.{statement}

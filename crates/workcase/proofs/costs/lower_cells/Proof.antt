@@ -5,7 +5,7 @@ use Prim.Native.Nat.{_≤_, _-_}
 use native.Mathlib.Omega.{arith}
 use denote.Ref.{now}
 use lib.ListN.{length}
-use Rattle.planner.proofs.MachineIntegers.{read-back}
+use Rattle.problem.proofs.MachineIntegers.{read-back}
 use Rattle.workcase.specs.Store.{costIn}
 use Rattle.workcase.proofs.Copies.{Filling, filling-start, filling-length}
 use Rattle.workcase.proofs.CostLaws.{lower-next, lower-fits, lower-end}

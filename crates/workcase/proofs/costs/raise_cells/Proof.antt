@@ -5,8 +5,8 @@ use Prim.Native.Nat.{_≤_, _-_}
 use native.Mathlib.Omega.{arith}
 use lib.ListN.{length, length-map}
 use denote.Ref.{now}
-use Rattle.planner.specs.Range.{outside, raisedOf}
-use Rattle.planner.proofs.MachineIntegers.{read-back}
+use Rattle.problem.specs.Range.{outside, raisedOf}
+use Rattle.problem.proofs.MachineIntegers.{read-back}
 use Rattle.workcase.proofs.Copies.{Filling, filling-start, filling-length, filling-end}
 use Rattle.workcase.proofs.CostLaws.{raise-next, raise-fits}
 use Rattle.workcase.proofs.costs.raise_cells.Statement.{statement}

@@ -6,7 +6,7 @@ use lib.Signed.{nonNeg}
 use lib.Dec.{T}
 use mir.Syntax.{w64}
 use mir.Val.{Fits}
-use Rattle.planner.proofs.MachineIntegers.{raised-is, raised-sum, small-fits, stored}
+use Rattle.problem.proofs.MachineIntegers.{raised-is, raised-sum, small-fits, stored}
 use Rattle.workcase.proofs.costs.raised.Statement.{statement}
 use Rattle.workcase.proofs.costs.raised.Tie as tie
 

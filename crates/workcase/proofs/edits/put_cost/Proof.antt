@@ -4,7 +4,7 @@ use native.Mathlib.Omega.{arith}
 use mir.Syntax.{w64}
 use mir.Val.{toZ, ofZ}
 use mir.ValLaws.{toZ-ofZ}
-use Rattle.planner.specs.Range.{outside, raisedOf}
+use Rattle.problem.specs.Range.{outside, raisedOf}
 use denote.Ref.{now}
 use Prim.Native.Nat.{_+_, _-_, _*_}
 use Rattle.workcase.specs.Store.{costsAt, writes}

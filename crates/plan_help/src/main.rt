@@ -1,4 +1,0 @@
-// The command asked for help: it writes nothing to standard output.
-fn main() {
-    command::run();
-}

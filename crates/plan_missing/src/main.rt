@@ -1,4 +1,0 @@
-// The command on files of which the second is missing: refusal 20.
-fn main() {
-    command::run();
-}

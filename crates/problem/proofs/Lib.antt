@@ -1,0 +1,17 @@
+pub mod Example
+pub mod Cases
+pub mod FirstFailing
+pub mod Integers
+pub mod RaisedFreight
+pub mod MachineIntegers
+pub mod RaisedLists
+pub mod TestsPassed
+pub mod RefusalNumbers
+pub mod Splits
+pub mod RaisedCurve
+pub mod Promise
+pub mod TotalBounds
+pub mod CellRows
+pub mod TestParts
+pub mod WithoutCeilings
+pub mod Unchanged

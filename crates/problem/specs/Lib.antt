@@ -1,0 +1,9 @@
+pub mod Integer
+pub mod Freight
+pub mod Range
+pub mod Case
+pub mod Plans
+pub mod Outcome
+pub mod Promise
+pub mod Bends
+pub mod LentTests
