@@ -21,6 +21,15 @@ extern "C" {
 #define YADVORKHUL_REPORT_CELLS 2
 #define YADVORKHUL_WORTH_CELLS 2
 #define YADVORKHUL_SHORT_REPORT 34
+#define YADVORKHUL_MOST_STORE 73908 /* the cells of the largest store, of 32 sources and 64 terminals */
+
+/* Who calls: the role that is handed to every call on a working case. */
+enum yadvorkhul_role {
+    YADVORKHUL_PLANNER = 1, /* may do all */
+    YADVORKHUL_PLANT = 2,   /* may edit entries, see the tariff and the table */
+    YADVORKHUL_DEPOT = 3,   /* may edit demands and supplies, the first supply aside, and see the tariff */
+    YADVORKHUL_READER = 4   /* may see the tariff */
+};
 
 /* Plans a case, or refuses it. Any numbers and any lengths may be passed; nothing else is required of them.
 
@@ -108,6 +117,80 @@ uint64_t yadvorkhul_bounds(size_t m, size_t n, uint64_t run1, uint64_t run2,
                            uint64_t *answers, size_t answers_cells,
                            uint64_t *report, size_t report_cells,
                            int64_t *worth, size_t worth_cells);
+
+/* A working case with marks 1 to 8, in a store that the caller keeps: yadvorkhul_store_cells(m, n) cells, which need not be
+   cleared. yadvorkhul_enter puts a case into it; between calls it stays as the last call left it. Its cells are no business of
+   the caller's: they hold every production entry, so whoever must not see these must not be handed the store. That the role
+   is that of the person who asks is for the caller to see to.
+
+   Sources, terminals and marks are counted from 1 here, entries from 0. Each function answers 0 where it has done what it
+   says, or the number of the first test that fails, with its place in the first cell of report; nothing else is then
+   changed. report has at least YADVORKHUL_REPORT_CELLS cells: else the answer is YADVORKHUL_SHORT_REPORT, and nothing is done.
+   What is said above of pointers holds here too; slices that are written overlap nothing.
+
+     31   before all else, entering aside: a deed that the role may not do, or no role (place 0)
+     11   then: the store holds no working case (place 0)
+     24   a mark outside 1 to 8, or an edit at a source, terminal, lane or entry that the case lacks (place 0)
+     25   going back to a mark that was never set (place the mark)
+     4    a demand or supply above 4,000 (place the source, or m + the terminal)
+     5    a unit cost out of range (place the lane, from 1 in the order of the costs)
+     23   a supply below its plant's least run (place the plant) */
+
+/* How many cells a store for m sources and n terminals must have; 0 where no case has that size. */
+size_t yadvorkhul_store_cells(size_t m, size_t n);
+
+/* Enters a case, passed as to yadvorkhul_plan; no mark is set. Answers 0, or the number of the first of the tests 1 to 6 that
+   fails (with 23 after 4 and 26 after 5), or 11 where the store is too short. Balance and entries are judged when the case is
+   planned. */
+uint64_t yadvorkhul_enter(size_t m, size_t n, uint64_t run1, uint64_t run2,
+                          const int64_t *costs, size_t costs_cells,
+                          const uint64_t *supplies, size_t supplies_cells,
+                          const uint64_t *demands, size_t demands_cells,
+                          const uint64_t *ceilings, size_t ceilings_cells,
+                          const uint64_t *table, size_t table_cells,
+                          uint64_t *store, size_t store_cells,
+                          uint64_t *report, size_t report_cells);
+
+/* Edits. Another first supply lengthens the table with zeros, or cuts it. An entry may be any number. */
+uint64_t yadvorkhul_edit_demand(size_t role, size_t terminal, uint64_t value, uint64_t *store, size_t store_cells,
+                                uint64_t *report, size_t report_cells);
+uint64_t yadvorkhul_edit_supply(size_t role, size_t source, uint64_t value, uint64_t *store, size_t store_cells,
+                                uint64_t *report, size_t report_cells);
+uint64_t yadvorkhul_edit_cost(size_t role, size_t source, size_t terminal, int64_t value, uint64_t *store, size_t store_cells,
+                              uint64_t *report, size_t report_cells);
+uint64_t yadvorkhul_edit_entry(size_t role, size_t split, uint64_t value, uint64_t *store, size_t store_cells,
+                               uint64_t *report, size_t report_cells);
+
+/* Sets a mark: it holds the whole case as it is now, whatever it held before. */
+uint64_t yadvorkhul_set_mark(size_t role, size_t mark, uint64_t *store, size_t store_cells,
+                             uint64_t *report, size_t report_cells);
+
+/* Makes the case what it was when the mark was last set; all marks keep theirs. */
+uint64_t yadvorkhul_go_back(size_t role, size_t mark, uint64_t *store, size_t store_cells,
+                            uint64_t *report, size_t report_cells);
+
+/* Plans the working case: plan, splits, freights, report and worth as for yadvorkhul_plan, which the case as it is now would be
+   passed to. It needs about 138 kB of stack, and no heap. */
+uint64_t yadvorkhul_plan_case(size_t role, const uint64_t *store, size_t store_cells,
+                              uint64_t *plan, size_t plan_cells,
+                              uint64_t *splits, size_t splits_cells,
+                              int64_t *freights, size_t freights_cells,
+                              uint64_t *report, size_t report_cells,
+                              int64_t *worth, size_t worth_cells);
+
+/* Copies the tariff as it is now: m × n unit costs, m supplies and n demands. Later cells keep their contents; 11 where a slice
+   is too short. */
+uint64_t yadvorkhul_see_tariff(size_t role, const uint64_t *store, size_t store_cells,
+                               int64_t *costs, size_t costs_cells,
+                               uint64_t *supplies, size_t supplies_cells,
+                               uint64_t *demands, size_t demands_cells,
+                               uint64_t *report, size_t report_cells);
+
+/* Copies the entries as they are now, one more than the first supply. Later cells keep their contents; 11 where the slice is
+   too short: YADVORKHUL_MOST_SPLITS cells are always enough. */
+uint64_t yadvorkhul_see_table(size_t role, const uint64_t *store, size_t store_cells,
+                              uint64_t *table, size_t table_cells,
+                              uint64_t *report, size_t report_cells);
 
 #ifdef __cplusplus
 }

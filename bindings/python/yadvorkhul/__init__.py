@@ -1,6 +1,6 @@
 """The proved two-plant production and freight planner, for Python.
 
-    >>> from yadvorkhul import bounds, plan, rates
+    >>> from yadvorkhul import Role, WorkingCase, bounds, plan, rates
     >>> p = plan(costs=[[2, 6], [5, 3], [1, 4]], supplies=[3, 3, 1], demands=[3, 2], table=[99, 20, 24, 20])
     >>> p.split, p.total, p.freight
     (3, 33, 13)
@@ -36,6 +36,13 @@ Where each production entry is known between a low and a high one only, `bounds`
     >>> b.first, b.possible, b.smallest, b.largest
     (1, [True, False, True], 33, 34)
 
+A `WorkingCase` takes edits, marks and returns, each with the `Role` of who asks, and is planned as it is then (see `yadvorkhul.work`):
+
+    >>> work = WorkingCase([[2, 6], [5, 3], [1, 4]], [3, 3, 1], [3, 2], [99, 20, 24, 20])
+    >>> work.edit_demand(Role.DEPOT, 2, 3)
+    >>> work.plan(Role.PLANNER).total
+    36
+
 `page(case)` gives a page for a browser and for paper, `python3 -m yadvorkhul --help` shows the same functions as a command.
 
 The shared object is made from the proved archive by `bindings/python/build`. Nothing checks the declarations here against
@@ -48,6 +55,7 @@ from typing import List, NamedTuple, Optional, Tuple
 
 __all__ = ["bounds", "bounds_into", "plan", "plan_into", "rates", "rates_into", "Bounds", "Plan", "Refusal", "SHORT_REPORT"]
 __all__ += ["Case", "page", "offers"]
+__all__ += ["Role", "Tariff", "WorkingCase"]
 
 MOST_SOURCES = 32
 MOST_TERMINALS = 64
@@ -72,9 +80,12 @@ _MEANINGS = {
     21: "a byte of a file cannot stand there, or the file ends too soon",
     22: "a record has another count of fields than it should",
     23: "a least run is above its plant's supply",
+    24: "a mark outside 1 to 8, or an edit at a source, terminal, lane or entry that the case lacks",
+    25: "going back to a mark that was never set",
     26: "the ceilings are not one for each lane, or a ceiling is above 4,000",
     27: "no plan is within both the ceilings and the least runs",
     28: "the high table is not as long as the low one, or an entry is below its low one or above 1,000,000,000",
+    31: "the role may not do this",
     SHORT_REPORT: "the report or the worth has fewer than two cells",
 }
 
@@ -268,3 +279,6 @@ def bounds(costs, supplies, demands, low, high, runs=(0, 0), ceilings=None) -> B
         raise Refusal(number, report[0])
     (first, count), (smallest, largest) = report, worth
     return Bounds(first, [mark == 1 for mark in answers[:count]], smallest, largest)
+
+
+from .work import Role, Tariff, WorkingCase  # noqa: E402  (it uses what stands above)

@@ -62,15 +62,19 @@
 //! assert_eq!((bounds.first, bounds.possible), (1, vec![true, false, true]));
 //! ```
 //!
-//! What is proved are the functions behind [`plan_into`], [`rates_into`] and [`bounds_into`]. Nothing checks their declarations here
-//! against the Rattle source; the tests of this crate compare the planner with an independent one on many cases, each rate with its
-//! rule, and the bounds with all tables between them.
+//! A [`WorkingCase`] takes edits, marks and returns, each call with the [`Role`] of who asks, and is planned as it is then.
+//!
+//! What is proved are the functions behind [`plan_into`], [`rates_into`], [`bounds_into`] and those of [`work`]. Nothing checks their
+//! declarations here against the Rattle source; the tests of this crate compare the planner with an independent one on many cases, each
+//! rate with its rule, the bounds with all tables between them, and random histories of a working case with whole copies.
 
 mod rates;
 mod refusal;
+pub mod work;
 
 pub use rates::{rates, rates_into};
 pub use refusal::Refusal;
+pub use work::{Role, Tariff, WorkingCase};
 
 /// Most sources of a case: two plants and thirty depots.
 pub const MOST_SOURCES: usize = 32;

@@ -18,7 +18,7 @@ use std::fmt;
 /// ```
 #[derive(Clone, Copy, Debug, PartialEq, Eq)]
 pub struct Refusal {
-    /// 1 to 9, 11, 23, 26 or 27; of bounds 28 too.
+    /// 1 to 9, 11, 23, 26 or 27; of bounds 28 too; of a working case also 24, 25 and 31.
     pub number: u64,
     /// Where the test fails, as the number has it; 0 where it names no place.
     pub place: u64,
@@ -41,9 +41,14 @@ impl Refusal {
             9 => "a table entry at a split in use is above 1,000,000,000",
             11 => "a lent slice is too short for the plan or the stops",
             23 => "a least run is above its plant's supply",
+            24 => "a mark outside 1 to 8, or an edit at a source, terminal, lane or entry that the case lacks",
+            25 => "going back to a mark that was never set",
             26 => "the ceilings are not one for each lane, or a ceiling is above 4,000",
             27 => "no plan is within both the ceilings and the least runs",
-            28 => "the high table is not as long as the low one, or an entry is below its low one or above 1,000,000,000",
+            28 => {
+                "the high table is not as long as the low one, or an entry is below its low one or above 1,000,000,000"
+            }
+            31 => "the role may not do this",
             _ => "a number that this wrapper does not know",
         }
     }
@@ -70,10 +75,15 @@ impl Refusal {
             9 => format!("look at table entry {place}"),
             11 => "lend m × n cells for the plan and one for each split for the stops".to_string(),
             23 => format!("look at the least run of plant {place}"),
+            24 => format!(
+                "there are {m} sources and {n} terminals, counted from 1, and entries from 0 to plant 1's supply"
+            ),
+            25 => format!("set mark {place} first"),
             26 if place == 0 => format!("{m} sources and {n} terminals need {} ceilings", m * n),
             26 => format!("look at the ceiling {}", self.lane()),
             27 => "look for closed or narrow lanes of a depot, a terminal or a plant that has a least run".to_string(),
             28 => format!("look at the high table's length, then at its entry {place}"),
+            31 => "ask somebody whose role may".to_string(),
             _ => "no place is named".to_string(),
         }
     }

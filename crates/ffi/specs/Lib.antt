@@ -1,3 +1,4 @@
 pub mod Report
 pub mod Rated
 pub mod Bounds
+pub mod Work

@@ -11,6 +11,8 @@ ghost use Rattle.ffi.specs.Report.{numberOf, reportOf, worthOf, Exported
 use planner::Answer;
 
 pub mod bounds;
+pub mod seen;
+pub mod work;
 
 // Writes the report and the worth of an answer; its number.
 fn tell(answer: Answer, report: &mut [u64], worth: &mut [i64]) -> u64

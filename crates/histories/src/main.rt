@@ -1,27 +1,25 @@
 // Runs random histories of edits, marks and returns on a working case, and holds each answer and each plan to a plain model that keeps whole copies.
 ghost use mathlib.Core.Path.{_≡_};
 ghost use lib.ListN.{length};
-use crate::draws::next;
-use crate::draws::request;
 use crate::model::CEILINGS;
 use crate::model::Copy;
 use crate::model::RUN1;
 use crate::model::RUN2;
-use crate::model::Request;
 use crate::model::edited;
 use crate::model::first_case;
 use crate::model::refusal;
 use crate::plans::plan_both;
-use crate::tally::agreed;
-use crate::tally::count;
-use crate::tally::line;
-use crate::tally::number_of;
+use compare::agreed;
+use compare::count;
+use compare::draws::Request;
+use compare::draws::drawn;
+use compare::line;
+use compare::next;
+use compare::passed;
 use casetests::tests::Verdict;
 
-mod draws;
 mod model;
 mod plans;
-mod tally;
 
 const HISTORIES: u64 = 2_000;
 
@@ -108,11 +106,11 @@ fn run_history(
     let mut case = first_case();
     let mut marks = [case; 8];
     let mut set = [0u64; 8];
-    let entered = number_of(enter(case, store));
+    let entered = passed(enter(case, store));
     count(calls, entered);
     let mut k: u64 = 0;
     while k < CALLS {
-        let r = request(seed);
+        let r = drawn(seed);
         seed = next(next(next(next(next(seed)))));
         let told = agreed(call(r, store), refusal(case, set, r));
         count(calls, told);

@@ -1,4 +1,5 @@
 // A plain working case of 3 sources and 2 terminals: whole copies, and the refusals as the paper has them.
+use compare::draws::Request;
 use casetests::tests::Verdict;
 
 pub const RUN1: u64 = 1;
@@ -12,15 +13,6 @@ pub struct Copy {
     pub demands: [u64; 2],
     pub costs: [i64; 6],
     pub table: [u64; 12],
-}
-
-// Kinds: 0 demand, 1 supply, 2 unit cost, 3 entry, 4 set mark, 5 go back.
-pub struct Request {
-    pub kind: u64,
-    pub a: usize,
-    pub b: usize,
-    pub amount: u64,
-    pub cost: i64,
 }
 
 pub fn first_case() -> Copy {

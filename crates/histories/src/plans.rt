@@ -3,109 +3,14 @@ use crate::model::CEILINGS;
 use crate::model::Copy;
 use crate::model::RUN1;
 use crate::model::RUN2;
+use compare::answers_agreed;
+use compare::same_slices;
 use planner::Answer;
-
-fn same_cells(p: &[u64], q: &[u64]) -> bool {
-    if p.len() != q.len() {
-        return false;
-    }
-    let mut k: usize = 0;
-    while k < p.len() {
-        if k < q.len() {
-            if p[k] != q[k] {
-                return false;
-            }
-        }
-        k += 1;
-    }
-    true
-}
-
-fn same_freights(p: &[i64], q: &[i64]) -> bool {
-    if p.len() != q.len() {
-        return false;
-    }
-    let mut k: usize = 0;
-    while k < p.len() {
-        if k < q.len() {
-            if p[k] != q[k] {
-                return false;
-            }
-        }
-        k += 1;
-    }
-    true
-}
-
-// Two plans are the same, or two refusals.
-fn same_answers(x: Answer, y: Answer) -> bool {
-    match x {
-        Answer::Planned {
-            split,
-            total,
-            freight,
-            stops,
-        } => same_plan(split, total, freight, stops, y),
-        Answer::Refused { number, place } => same_refusal(number, place, y),
-    }
-}
-
-fn same_plan(split: u64, total: i64, freight: i64, stops: usize, y: Answer) -> bool {
-    match y {
-        Answer::Planned {
-            split: s,
-            total: t,
-            freight: f,
-            stops: k,
-        } => same_numbers(split, s, total, t) && same_numbers(stops as u64, k as u64, freight, f),
-        Answer::Refused { number, place } => false,
-    }
-}
-
-fn same_numbers(a: u64, b: u64, c: i64, d: i64) -> bool {
-    if a != b {
-        return false;
-    }
-    c == d
-}
-
-fn same_refusal(number: u64, place: u64, y: Answer) -> bool {
-    match y {
-        Answer::Planned {
-            split,
-            total,
-            freight,
-            stops,
-        } => false,
-        Answer::Refused {
-            number: k,
-            place: p,
-        } => {
-            if number != k {
-                return false;
-            }
-            place == p
-        }
-    }
-}
 
 // How many entries the model's table has.
 fn entries(c: Copy) -> usize {
     let first = c.supplies[0];
     if first < 11 { first as usize + 1 } else { 12 }
-}
-
-// The number of the refusal, or 0 for a plan.
-fn told(x: Answer) -> u64 {
-    match x {
-        Answer::Planned {
-            split,
-            total,
-            freight,
-            stops,
-        } => 0,
-        Answer::Refused { number, place } => number,
-    }
 }
 
 // Plans the model's copy.
@@ -153,8 +58,8 @@ pub fn plan_both(store: &[u64], c: Copy) -> u64 {
     let table = c.table;
     let x = workcase::plan_case(store, &mut p, &mut s, &mut f);
     let y = plan_copy(c, &table, &mut q, &mut t, &mut g);
-    if same_answers(x, y) && same_cells(&p, &q) && same_cells(&s, &t) && same_freights(&f, &g) {
-        return told(x);
+    if same_slices(&p, &q, &s, &t, &f, &g) {
+        return answers_agreed(x, y);
     }
     100
 }

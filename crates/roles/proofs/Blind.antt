@@ -12,12 +12,12 @@ use lib.IntN.{ℤ}
 use lib.ListN.{length}
 use Rattle.problem.specs.Outcome.{Outcome, refused, refuseIf, _orElse_}
 use Rattle.planner.specs.Answer.{Slices}
-use Rattle.workcase.specs.State.{Draft, State}
-use Rattle.workcase.specs.Calls.{Call, editDemand, editSupply, editCost, editEntry, setMark, goBack, leastRun, refusalIn, acted, unless, step}
-use Rattle.workcase.specs.Store.{heldIn}
-use Rattle.workcase.specs.Promise.{answerTo, steps}
-use Rattle.workcase.specs.Planning.{outcomeIn}
-use Rattle.workcase.specs.Seeing.{tariffRefusal, tariffAnswer, tableAnswer, costsIn, suppliesIn, demandsIn, tableIn, shownUnless}
+use Rattle.casestore.specs.State.{Draft, State}
+use Rattle.casestore.specs.Calls.{Call, editDemand, editSupply, editCost, editEntry, setMark, goBack, leastRun, refusalIn, acted, unless, step}
+use Rattle.casestore.specs.Store.{heldIn}
+use Rattle.casestore.specs.Promise.{answerTo, steps}
+use Rattle.casestore.specs.Planning.{outcomeIn}
+use Rattle.casestore.specs.Seeing.{tariffRefusal, tariffAnswer, tableAnswer, costsIn, suppliesIn, demandsIn, tableIn, shownUnless}
 use Rattle.roles.specs.Roles.{noRole, barred, barredFirst}
 use Rattle.roles.specs.Deeds.{Deed, work, seeTariff, seeTable, plan, column, first, test31}
 use Rattle.roles.specs.Promise.{answerBy, unlessHeld, stepsBy, outcomeUnless, PerformedBy, PlannedBy, TariffSeen, TableSeen}

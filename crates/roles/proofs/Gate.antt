@@ -11,12 +11,12 @@ use borrow.Author.Tests.{not-true, not-false}
 use Rattle.problem.specs.Outcome.{Outcome, refused, refuseIf, _orElse_}
 use Rattle.planner.specs.Answer.{Slices, Answered}
 use Rattle.problem.proofs.TestsPassed.{first-decides, second-decides}
-use Rattle.workcase.specs.State.{State}
-use Rattle.workcase.specs.Calls.{Call, editCost}
-use Rattle.workcase.specs.Store.{heldIn}
-use Rattle.workcase.specs.Promise.{answerTo, steps, Performed}
-use Rattle.workcase.specs.Planning.{outcomeIn, PlannedFrom}
-use Rattle.workcase.specs.Seeing.{tariffAnswer, tableAnswer, TariffShown, TableShown}
+use Rattle.casestore.specs.State.{State}
+use Rattle.casestore.specs.Calls.{Call, editCost}
+use Rattle.casestore.specs.Store.{heldIn}
+use Rattle.casestore.specs.Promise.{answerTo, steps, Performed}
+use Rattle.casestore.specs.Planning.{outcomeIn, PlannedFrom}
+use Rattle.casestore.specs.Seeing.{tariffAnswer, tableAnswer, TariffShown, TableShown}
 use Rattle.roles.specs.Roles.{barred, barredFirst}
 use Rattle.roles.specs.Deeds.{Deed, work, seeTariff, seeTable, plan, column, first, test31}
 use Rattle.roles.specs.Promise.{answerBy, unlessHeld, stepsBy, PerformedBy, outcomeUnless, PlannedBy, TariffSeen, TableSeen}

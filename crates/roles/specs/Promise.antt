@@ -7,12 +7,12 @@ use lib.IntN.{ℤ}
 use lib.ListN.{length}
 use Rattle.problem.specs.Outcome.{Outcome, refused, _orElse_}
 use Rattle.planner.specs.Answer.{Slices, Answered}
-use Rattle.workcase.specs.State.{State, lentWith}
-use Rattle.workcase.specs.Calls.{Call}
-use Rattle.workcase.specs.Store.{heldIn, sources, terminals, writes}
-use Rattle.workcase.specs.Promise.{answerTo, steps, cellsUnless}
-use Rattle.workcase.specs.Planning.{outcomeIn}
-use Rattle.workcase.specs.Seeing.{tariffAnswer, tableAnswer, shownUnless, costsIn, suppliesIn, demandsIn, tableIn}
+use Rattle.casestore.specs.State.{State, lentWith}
+use Rattle.casestore.specs.Calls.{Call}
+use Rattle.casestore.specs.Store.{heldIn, sources, terminals, writes}
+use Rattle.casestore.specs.Promise.{answerTo, steps, cellsUnless}
+use Rattle.casestore.specs.Planning.{outcomeIn}
+use Rattle.casestore.specs.Seeing.{tariffAnswer, tableAnswer, shownUnless, costsIn, suppliesIn, demandsIn, tableIn}
 use Rattle.roles.specs.Deeds.{Deed, work, seeTariff, seeTable, plan, test31}
 
 -- the answer to a call: 31 first of all

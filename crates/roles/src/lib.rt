@@ -2,8 +2,8 @@
 ghost use lib.ListN.{length};
 ghost use Rattle.casetests.specs.Verdict.{verdict};
 ghost use Rattle.planner.specs.Answer.{outcome, slices};
-ghost use Rattle.workcase.specs.Store.{heldIn};
-ghost use Rattle.workcase.specs.Calls.{editDemand, editSupply, editCost, editEntry, setMark, goBack};
+ghost use Rattle.casestore.specs.Store.{heldIn};
+ghost use Rattle.casestore.specs.Calls.{editDemand, editSupply, editCost, editEntry, setMark, goBack};
 ghost use Rattle.roles.specs.Promise.{PerformedBy, PlannedBy, TariffSeen, TableSeen};
 use crate::table::may;
 use crate::table::may_supply;

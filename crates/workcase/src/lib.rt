@@ -1,38 +1,52 @@
 // A working case with marks 1 to 8, in a lent store.
+ghost use mathlib.Core.Path.{_≡_};
 ghost use lib.ListN.{length};
 ghost use Rattle.casetests.specs.Verdict.{verdict};
 ghost use Rattle.planner.specs.Answer.{outcome, slices};
-ghost use Rattle.workcase.specs.Store.{heldIn};
-ghost use Rattle.workcase.specs.Planning.{PlannedFrom};
-ghost use Rattle.workcase.specs.Calls.{editDemand, editSupply, editCost, editEntry, setMark, goBack};
-ghost use Rattle.workcase.specs.Promise.{Performed, Entered};
-ghost use Rattle.workcase.specs.Seeing.{TariffShown, TableShown};
-ghost use Rattle.workcase.specs.Inner.{draft};
-use crate::edits::put_cost;
-use crate::edits::put_demand;
-use crate::edits::put_entry;
-use crate::edits::put_supply;
-use crate::entry::put_case;
-use crate::layout::cells_for;
-use crate::marks::put_back;
-use crate::marks::put_mark;
-use crate::opened::Opened;
-use crate::opened::open_store;
+ghost use Rattle.casestore.specs.Store.{heldIn, cellsToLend};
+ghost use Rattle.casestore.specs.Planning.{PlannedFrom};
+ghost use Rattle.casestore.specs.Calls.{editDemand, editSupply, editCost, editEntry, setMark, goBack};
+ghost use Rattle.casestore.specs.Promise.{Performed, Entered};
+ghost use Rattle.casestore.specs.Seeing.{TariffShown, TableShown};
+ghost use Rattle.casestore.specs.Inner.{draft};
 use crate::planning::plan_open;
 use crate::seeing::show_table;
 use crate::seeing::show_tariff;
+use casestore::edits::put_cost;
+use casestore::edits::put_demand;
+use casestore::edits::put_entry;
+use casestore::edits::put_supply;
+use casestore::entry::put_case;
+use casestore::layout::cells_for;
+use casestore::marks::put_back;
+use casestore::marks::put_mark;
+use casestore::opened::Opened;
+use casestore::opened::open_store;
+use planner::Answer;
 use casetests::tests::Verdict;
 use casetests::tests::form_test;
-use planner::Answer;
 
-mod costs;
-mod edits;
-mod entry;
-mod layout;
-mod marks;
-mod opened;
 mod planning;
 mod seeing;
+
+// How many cells to lend for a case of m sources and n terminals; 0 for a size that no case has.
+pub fn store_cells(m: usize, n: usize) -> usize
+    ensures { λ r. ⌜ r ≡ cellsToLend m n ⌝ }
+{
+    if m < 2 {
+        return 0;
+    }
+    if 32 < m {
+        return 0;
+    }
+    if n < 1 {
+        return 0;
+    }
+    if 64 < n {
+        return 0;
+    }
+    cells_for(m, n)
+}
 
 // Enters a case with its least runs and ceilings; no mark is set.
 pub fn enter(

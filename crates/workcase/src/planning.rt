@@ -1,18 +1,18 @@
 // Planning from an open store.
 ghost use lib.ListN.{length};
 ghost use Rattle.planner.specs.Answer.{outcome, slices, Answered};
-ghost use Rattle.workcase.specs.State.{lentWith};
-ghost use Rattle.workcase.specs.Store.{stateAt};
-ghost use Rattle.workcase.specs.Inner.{Open};
-use crate::costs::costs_of;
-use crate::edits::entries;
-use crate::layout::RUN1;
-use crate::layout::RUN2;
-use crate::layout::SUPPLIES;
-use crate::layout::ceilings_at;
-use crate::layout::costs_at;
-use crate::layout::demands_at;
-use crate::layout::table_at;
+ghost use Rattle.casestore.specs.State.{lentWith};
+ghost use Rattle.casestore.specs.Store.{stateAt};
+ghost use Rattle.casestore.specs.Inner.{Open};
+use casestore::costs::costs_of;
+use casestore::edits::entries;
+use casestore::layout::RUN1;
+use casestore::layout::RUN2;
+use casestore::layout::SUPPLIES;
+use casestore::layout::ceilings_at;
+use casestore::layout::costs_at;
+use casestore::layout::demands_at;
+use casestore::layout::table_at;
 use planner::Answer;
 
 pub fn plan_open(

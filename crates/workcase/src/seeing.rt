@@ -2,17 +2,17 @@
 ghost use mathlib.Core.Path.{_≡_};
 ghost use lib.ListN.{length};
 ghost use Rattle.casetests.specs.Verdict.{verdict};
-ghost use Rattle.workcase.specs.Store.{stateAt};
-ghost use Rattle.workcase.specs.Seeing.{tariffRefusal, tableRefusal, shownUnless};
-ghost use Rattle.workcase.specs.Inner.{Open};
-use crate::costs::lower_cells;
-use crate::edits::entries;
-use crate::entry::put_cells;
-use crate::layout::SUPPLIES;
-use crate::layout::ceilings_at;
-use crate::layout::costs_at;
-use crate::layout::demands_at;
-use crate::layout::table_at;
+ghost use Rattle.casestore.specs.Store.{stateAt};
+ghost use Rattle.casestore.specs.Seeing.{tariffRefusal, tableRefusal, shownUnless};
+ghost use Rattle.casestore.specs.Inner.{Open};
+use casestore::costs::lower_cells;
+use casestore::edits::entries;
+use casestore::entry::put_cells;
+use casestore::layout::SUPPLIES;
+use casestore::layout::ceilings_at;
+use casestore::layout::costs_at;
+use casestore::layout::demands_at;
+use casestore::layout::table_at;
 use casetests::tests::Verdict;
 
 // Copies unit costs, supplies and demands.

@@ -1,6 +1,6 @@
 -- `roles::edit_cost` meets its contract. Assumes nothing.
 use mathlib.Core.Path.{refl}
-use Rattle.workcase.specs.Calls.{editCost}
+use Rattle.casestore.specs.Calls.{editCost}
 use Rattle.roles.specs.Deeds.{work, column, first}
 use mir.Syntax.{w64}
 use mir.ValLaws.{toZ-ofZ}

@@ -1,6 +1,6 @@
 -- `roles::edit_demand` meets its contract. Assumes nothing.
 use mathlib.Core.Path.{refl}
-use Rattle.workcase.specs.Calls.{editDemand}
+use Rattle.casestore.specs.Calls.{editDemand}
 use Rattle.roles.specs.Deeds.{work, column, first}
 use Rattle.roles.proofs.Gate.{let-in, kept-out, by-call, by-role}
 use borrow.Author.Needs.{needs}

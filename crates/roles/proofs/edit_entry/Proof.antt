@@ -1,6 +1,6 @@
 -- `roles::edit_entry` meets its contract. Assumes nothing.
 use mathlib.Core.Path.{refl}
-use Rattle.workcase.specs.Calls.{editEntry}
+use Rattle.casestore.specs.Calls.{editEntry}
 use Rattle.roles.specs.Deeds.{work, column, first}
 use Rattle.roles.proofs.Gate.{let-in, kept-out, by-call, by-role}
 use borrow.Author.Needs.{needs}

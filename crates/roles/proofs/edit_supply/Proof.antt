@@ -1,5 +1,5 @@
 -- `roles::edit_supply` meets its contract. Assumes nothing.
-use Rattle.workcase.specs.Calls.{editSupply}
+use Rattle.casestore.specs.Calls.{editSupply}
 use Rattle.roles.specs.Deeds.{work, column, first}
 use Rattle.roles.proofs.Gate.{let-in-first, kept-out-first, by-call, by-role}
 use borrow.Author.Needs.{needs}

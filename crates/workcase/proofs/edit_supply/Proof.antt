@@ -1,9 +1,9 @@
 -- `workcase::edit_supply` meets its contract. Assumes nothing.
 use mathlib.Core.Path.{sym, _∙_}
 use borrow.Author.Needs.{needs}
-use Rattle.workcase.proofs.Opening.{opened}
-use Rattle.workcase.proofs.Gate.{by-closed, by-work}
-use Rattle.workcase.proofs.EditLaws.{supply-faithful}
+use Rattle.casestore.proofs.Opening.{opened}
+use Rattle.casestore.proofs.Gate.{by-closed, by-work}
+use Rattle.casestore.proofs.EditLaws.{supply-faithful}
 use Rattle.workcase.proofs.edit_supply.Statement.{statement}
 use Rattle.workcase.proofs.edit_supply.Tie as tie
 

@@ -5,9 +5,9 @@ use native.Mathlib.Omega.{arith}
 use denote.Ref.{now}
 use Rattle.problem.specs.Outcome.{formRefusal}
 use Rattle.casetests.specs.Verdict.{verdict}
-use Rattle.workcase.specs.State.{Draft, lentWith}
-use Rattle.workcase.specs.Inner.{draft}
-use Rattle.workcase.proofs.Entering.{entry-form, entry-size, entry-short, entry-sized, entry-done}
+use Rattle.casestore.specs.State.{Draft, lentWith}
+use Rattle.casestore.specs.Inner.{draft}
+use Rattle.casestore.proofs.Entering.{entry-form, entry-size, entry-short, entry-sized, entry-done}
 use borrow.Author.Needs.{needs}
 use Rattle.workcase.proofs.enter.Statement.{statement}
 use Rattle.workcase.proofs.enter.Tie as tie

@@ -1,7 +1,7 @@
 -- `workcase::see_table` meets its contract. Assumes nothing.
 use mathlib.Core.Path.{sym, _∙_}
-use Rattle.workcase.proofs.Opening.{opened}
-use Rattle.workcase.proofs.SeeLaws.{table-closed, table-work}
+use Rattle.casestore.proofs.Opening.{opened}
+use Rattle.casestore.proofs.SeeLaws.{table-closed, table-work}
 use borrow.Author.Needs.{needs}
 use Rattle.workcase.proofs.see_table.Statement.{statement}
 use Rattle.workcase.proofs.see_table.Tie as tie

@@ -1,7 +1,7 @@
 -- `workcase::see_tariff` meets its contract. Assumes nothing.
 use mathlib.Core.Path.{sym, _∙_}
-use Rattle.workcase.proofs.Opening.{opened}
-use Rattle.workcase.proofs.SeeLaws.{tariff-closed, tariff-work}
+use Rattle.casestore.proofs.Opening.{opened}
+use Rattle.casestore.proofs.SeeLaws.{tariff-closed, tariff-work}
 use borrow.Author.Needs.{needs}
 use Rattle.workcase.proofs.see_tariff.Statement.{statement}
 use Rattle.workcase.proofs.see_tariff.Tie as tie

@@ -3,9 +3,9 @@ use mathlib.Core.Path.{refl}
 use Prim.Native.Nat.{_+_, _-_}
 use native.Mathlib.Omega.{arith}
 use denote.Ref.{now}
-use Rattle.workcase.proofs.Parts.{part-length}
-use Rattle.workcase.proofs.Cells.{room-0, lanes-few, few-entries}
-use Rattle.workcase.proofs.SeeLaws.{short-table, long-table, table-shown}
+use Rattle.casestore.proofs.Parts.{part-length}
+use Rattle.casestore.proofs.Cells.{room-0, lanes-few, few-entries}
+use Rattle.casestore.proofs.SeeLaws.{short-table, long-table, table-shown}
 use borrow.Author.Needs.{needs}
 use Rattle.workcase.proofs.seeing.show_table.Statement.{statement}
 use Rattle.workcase.proofs.seeing.show_table.Tie as tie
