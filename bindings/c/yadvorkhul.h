@@ -21,6 +21,8 @@ extern "C" {
 #define YADVORKHUL_REPORT_CELLS 2
 #define YADVORKHUL_WORTH_CELLS 2
 #define YADVORKHUL_SHORT_REPORT 34
+#define YADVORKHUL_MOST_NODES 32     /* of a network */
+#define YADVORKHUL_MOST_ARCS 64
 #define YADVORKHUL_MOST_STORE 73908 /* the cells of the largest store, of 32 sources and 64 terminals */
 
 /* Who calls: the role that is handed to every call on a working case. */
@@ -191,6 +193,37 @@ uint64_t yadvorkhul_see_tariff(size_t role, const uint64_t *store, size_t store_
 uint64_t yadvorkhul_see_table(size_t role, const uint64_t *store, size_t store_cells,
                               uint64_t *table, size_t table_cells,
                               uint64_t *report, size_t report_cells);
+
+/* Finds a least-cost whole flow of a network in DIMACS form, where a table replaces the cost of one arc. Any bytes, numbers and
+   lengths may be passed.
+
+   bytes      the file: lines c, p min, n and a, each ended by LF
+   place      the arc whose cost the table replaces, by its place among the a lines, from 1
+   table      one entry more than that arc's ceiling: entry x is the cost of x units on it, 0 to 1,000,000,000, of any shape
+   flow       gets the flow on each arc, in file order
+   starts     gets each arc's start, in file order; ends, ceilings and costs likewise. Give these five YADVORKHUL_MOST_ARCS cells
+   report     at least one cell; gets in its first
+                the count of arcs          where the answer is 0
+                the place of the refusal   where it is another
+   worth      at least one cell; gets the total in its first where the answer is 0
+
+   Of the flows with the least total one with the smallest flow on the named arc is given; ties that are left are the program's.
+
+   Answers 0, or the number of the first test that fails: 29 for a line that is not of the form (place: the line, from 1; a missing
+   one is the one after the last); 30 for a size, range, node number, arc place or table length outside the limits, two n lines for
+   one node, one of the five slices shorter than the arcs, or an arc from a node to itself (place 0); 27 where no flow exists
+   (place 0); or YADVORKHUL_SHORT_REPORT, before all else. On a refusal all cells but the report's first keep their contents. All
+   cells that are not named here keep theirs always. What is said above of pointers holds here too, the bytes' aside, which may lie
+   anywhere; it needs about 255 kB of stack, and no heap. */
+uint64_t yadvorkhul_flow(const uint8_t *bytes, size_t bytes_cells, size_t place,
+                         const uint64_t *table, size_t table_cells,
+                         uint64_t *flow, size_t flow_cells,
+                         uint64_t *starts, size_t starts_cells,
+                         uint64_t *ends, size_t ends_cells,
+                         uint64_t *ceilings, size_t ceilings_cells,
+                         int64_t *costs, size_t costs_cells,
+                         uint64_t *report, size_t report_cells,
+                         int64_t *worth, size_t worth_cells);
 
 #ifdef __cplusplus
 }

@@ -23,7 +23,29 @@ fn prove() -> PathBuf {
     let here = PathBuf::from(std::env::var_os("CARGO_MANIFEST_DIR").expect("set by cargo"));
     let root = here.join("../..").canonicalize().expect("the repository's root");
     println!("cargo:rerun-if-changed={}", root.join("crates.txt").display());
-    for name in ["transport", "residual", "paths", "augment", "reachability", "canonical", "range", "stretch", "sweep", "planner", "tablebounds", "casestore", "workcase", "roles", "ratetable", "ffi"] {
+    for name in [
+        "transport",
+        "residual",
+        "paths",
+        "augment",
+        "reachability",
+        "canonical",
+        "range",
+        "stretch",
+        "sweep",
+        "problem",
+        "casetests",
+        "planner",
+        "tablebounds",
+        "casestore",
+        "workcase",
+        "roles",
+        "ratetable",
+        "dimacs",
+        "network",
+        "arcs",
+        "ffi",
+    ] {
         for part in ["src", "specs", "proofs"] {
             let folder = root.join("crates").join(name).join(part);
             if Path::new(&folder).exists() {

@@ -1,6 +1,6 @@
 """The proved two-plant production and freight planner, for Python.
 
-    >>> from yadvorkhul import Role, WorkingCase, bounds, plan, rates
+    >>> from yadvorkhul import Role, WorkingCase, bounds, flow, plan, rates
     >>> p = plan(costs=[[2, 6], [5, 3], [1, 4]], supplies=[3, 3, 1], demands=[3, 2], table=[99, 20, 24, 20])
     >>> p.split, p.total, p.freight
     (3, 33, 13)
@@ -43,6 +43,12 @@ A `WorkingCase` takes edits, marks and returns, each with the `Role` of who asks
     >>> work.plan(Role.PLANNER).total
     36
 
+A network in DIMACS form, one of whose arcs has a table of costs, is planned by `flow`:
+
+    >>> found = flow(b"p min 2 2\\nn 1 3\\nn 2 -3\\na 1 2 0 2 5\\na 1 2 0 3 1\\n", place=2, table=[0, 4, 6, 20])
+    >>> found.total, [(arc.start, arc.end, arc.flow) for arc in found.arcs]
+    (11, [(1, 2, 1), (1, 2, 2)])
+
 `page(case)` gives a page for a browser and for paper, `python3 -m yadvorkhul --help` shows the same functions as a command.
 
 The shared object is made from the proved archive by `bindings/python/build`. Nothing checks the declarations here against
@@ -56,6 +62,7 @@ from typing import List, NamedTuple, Optional, Tuple
 __all__ = ["bounds", "bounds_into", "plan", "plan_into", "rates", "rates_into", "Bounds", "Plan", "Refusal", "SHORT_REPORT"]
 __all__ += ["Case", "page", "offers"]
 __all__ += ["Role", "Tariff", "WorkingCase"]
+__all__ += ["flow", "flow_into", "Arc", "Flow", "FlowRefusal"]
 
 MOST_SOURCES = 32
 MOST_TERMINALS = 64
@@ -282,3 +289,4 @@ def bounds(costs, supplies, demands, low, high, runs=(0, 0), ceilings=None) -> B
 
 
 from .work import Role, Tariff, WorkingCase  # noqa: E402  (it uses what stands above)
+from .networks import Arc, Flow, FlowRefusal, flow, flow_into  # noqa: E402  it uses what is declared above

@@ -5,17 +5,17 @@ The reader here is not proved; the program's is (`crates/casefile`). `test_files
 
 from typing import List, NamedTuple, Optional
 
-from . import Case, Plan, Refusal
+from . import Case, Flow, Plan, Refusal
 
 LONGEST = 65_536
-TARIFF, PRODUCTION = "tariff", "production"
+TARIFF, PRODUCTION, NETWORK = "tariff", "production", "network"
 CR, LF, QUOTE, COMMA, MINUS, ZERO, NINE = 13, 10, 34, 44, 45, 48, 57
 
 
 class File(NamedTuple):
     """A file as it was read; `data` is None where it could not be opened or read."""
 
-    kind: str  # TARIFF or PRODUCTION
+    kind: str  # TARIFF, PRODUCTION or NETWORK
     path: str
     data: Optional[bytes]
 
@@ -162,6 +162,14 @@ def plan_text(case: Case, plan: Plan) -> str:
     lines = ["source,terminal,amount,cost", f"0,0,{plan.split},{case.table[plan.split]}"]
     for i, (amounts, costs) in enumerate(zip(plan.amounts, case.costs), 1):
         lines += [f"{i},{j},{x},{x * c}" for j, (x, c) in enumerate(zip(amounts, costs), 1)]
+    return "".join(line + "\r\n" for line in lines)
+
+
+def flow_text(flow: Flow, place: int, table: List[int]) -> str:
+    """The flow as the program `flow` prints it: the total, then every arc with the flow on it and what is paid there."""
+    paid = [table[arc.flow] if k == place else arc.flow * arc.cost for k, arc in enumerate(flow.arcs, 1)]
+    lines = ["total", f"{flow.total}", "start,end,flow,cost"]
+    lines += [f"{arc.start},{arc.end},{arc.flow},{cost}" for arc, cost in zip(flow.arcs, paid)]
     return "".join(line + "\r\n" for line in lines)
 
 

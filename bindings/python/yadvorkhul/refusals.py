@@ -3,6 +3,7 @@
 from typing import List, NamedTuple, Optional, Tuple
 
 from . import Case, Refusal
+from .dimacs import cause_of_limits, cause_of_line, cause_of_none
 from .files import COMMA, CR, LF, MINUS, NINE, QUOTE, TARIFF, ZERO, File, FileRefusal, formed, read_records
 from .words import counted, grouped
 
@@ -22,6 +23,12 @@ _ADVICE = {
     23: "Lower the run or raise that plant's supply; 0 is no run.",
     26: "Give one ceiling for each lane, in the order of the costs; 4,000 where there is none.",
     27: "Look for a terminal, a depot or a plant with a least run whose lanes together are too narrow, then for groups of them; raise a ceiling or lower a run.",
+}
+
+_NETWORK_ADVICE = {
+    27: "Look for a node whose arcs together are too narrow, then for groups of them; raise a ceiling or change a supply.",
+    29: "A line is c with any words, p min NODES ARCS, n NODE SUPPLY or a START END 0 CEILING COST, in this order, its fields parted by spaces, and ends in LF.",
+    30: "Look at that number; plan in a larger unit or a larger coin if it is right.",
 }
 
 
@@ -251,3 +258,31 @@ def explain(refusal: Refusal, case: Optional[Case] = None, tariff: Optional[File
     if isinstance(refusal, FileRefusal):
         return _explain_file(refusal)
     return explain_case(refusal, case, tariff, production)
+
+
+def _line_spot(file: File, number: int, cause: str) -> Spot:
+    """A whole line of a network's file; the one after the last is empty."""
+    data = file.data
+    low = sum(len(line) + 1 for line in data.split(b"\n")[: number - 1])
+    end = data.find(b"\n", low)
+    high = len(data) if end < 0 else end
+    return Spot(file, low, number, 1, _name(data, low), cause, _lines(data, low, max(high, low + 1)))
+
+
+def explain_network(refusal: Refusal, file: File, place: int, table: List[int]) -> Explained:
+    """Refusal 27, 29 or 30 of a network, its named arc and the table; or one of a file."""
+    if isinstance(refusal, FileRefusal):
+        return _explain_file(refusal)
+    number, line = refusal.number, refusal.place
+    name, spot = f"the network file {file.path}", None
+    if number == 29:
+        spot = _line_spot(file, line, cause_of_line(file.data, line))
+        text = _shown(file.data[spot.offset :].split(b"\n")[0][:_WIDE])
+        sentence = f"line {line} of {name} is not of the form: {text}." if text else f"line {line} of {name} is not of the form: it is empty."
+    elif number == 30:
+        cause = cause_of_limits(file.data, place, table)
+        sentence = f"{name}, the named arc or the table is outside the limits" + (f": there is {cause}." if cause else ".")
+    else:
+        cause = cause_of_none(file.data)
+        sentence = f"no flow of {name} meets the supplies within the ceilings" + (f": there is {cause}." if cause else ".")
+    return Explained(number, line, sentence, _NETWORK_ADVICE[number], [], spot)

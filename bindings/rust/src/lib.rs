@@ -62,16 +62,20 @@
 //! assert_eq!((bounds.first, bounds.possible), (1, vec![true, false, true]));
 //! ```
 //!
-//! A [`WorkingCase`] takes edits, marks and returns, each call with the [`Role`] of who asks, and is planned as it is then.
+//! A [`WorkingCase`] takes edits, marks and returns, each call with the [`Role`] of who asks, and is planned as it is then. A network in DIMACS
+//! form, one of whose arcs has a table of costs, is planned by [`flow`].
 //!
-//! What is proved are the functions behind [`plan_into`], [`rates_into`], [`bounds_into`] and those of [`work`]. Nothing checks their
-//! declarations here against the Rattle source; the tests of this crate compare the planner with an independent one on many cases, each
-//! rate with its rule, the bounds with all tables between them, and random histories of a working case with whole copies.
+//! What is proved are the functions behind [`plan_into`], [`rates_into`], [`bounds_into`], [`flow_into`] and those of [`work`]. Nothing checks
+//! their declarations here against the Rattle source; the tests of this crate compare the planner with an independent one on many cases, each
+//! rate with its rule, the bounds with all tables between them, random histories of a working case with whole copies, and the flow with all
+//! flows and with another method.
 
+mod flow;
 mod rates;
 mod refusal;
 pub mod work;
 
+pub use flow::{flow, flow_into, Arc, Flow, FlowRefusal, MOST_ARCS, MOST_NODES};
 pub use rates::{rates, rates_into};
 pub use refusal::Refusal;
 pub use work::{Role, Tariff, WorkingCase};

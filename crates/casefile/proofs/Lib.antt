@@ -9,3 +9,4 @@ pub mod FileRefusals
 pub mod Printing
 pub mod EqualCases
 pub mod StoredCase
+pub mod EntriesAlone

@@ -3,3 +3,4 @@ pub mod Tallies
 pub mod CaseFiles
 pub mod Printed
 pub mod Cuts
+pub mod Entries

@@ -13,11 +13,18 @@ ghost use Prim.Native.Nat.{min, _+_, _-_, _*_, _≤_};
 ghost use lib.IntN.{natAbs};
 ghost use lib.ListN.{length, take};
 ghost use lib.Seq.{sets};
+ghost use Rattle.casefile.specs.Entries.{EntriesStored};
 ghost use Rattle.casefile.specs.CaseFiles.{costRows, supplyRows, Shared, onRefused, CaseStored};
 
 // The counts of sources, terminals and production entries, or a refusal.
 pub enum CaseAnswer {
     Case { m: usize, n: usize, entries: usize },
+    Refused { number: u64, place: usize },
+}
+
+// The count of a production table's entries, or a refusal.
+pub enum Entries {
+    Read { count: usize },
     Refused { number: u64, place: usize },
 }
 
@@ -125,4 +132,19 @@ pub fn read_case(
     share(&cells, m, n, costs, supplies, demands);
     share_entries(&held, entries, table);
     CaseAnswer::Case { m, n, entries }
+}
+
+// Reads a production file alone. Stores at most 4,002 entries, as far as there are cells.
+pub fn read_entries(production: &[u8], table: &mut [u64]) -> Entries
+    ensures { λ r. ⌜ EntriesStored (now (production .entry)) (now (table .entry)) (now (table .exit)) r ⌝ }
+{
+    let mut held = entry_blank();
+    let p = read_table(Kind::Production, production, &mut held);
+    match p {
+        Table::Whole { records, fields: _ } => {
+            share_entries(&held, records, table);
+            Entries::Read { count: records }
+        }
+        Table::Refused { number, place } => Entries::Refused { number, place },
+    }
 }

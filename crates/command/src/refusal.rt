@@ -168,7 +168,7 @@ fn explain_record(record: u64, bytes: &[u8], wanted: u64) {
 }
 
 // The refusals of a file, by its bytes and how many fields each of its records should have.
-fn explain_file(number: u64, place: u64, file: &[u8], path: &[u8], bytes: &[u8], wanted: u64) {
+pub fn explain_file(number: u64, place: u64, file: &[u8], path: &[u8], bytes: &[u8], wanted: u64) {
     if number == 22 {
         say_with(b"record ", place, b" of ");
     }

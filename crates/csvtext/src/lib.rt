@@ -10,6 +10,7 @@ ghost use Rattle.csvtext.specs.Text.{decimal, signedText, fieldText, rec
 ghost use Rattle.csvtext.specs.Writing.{Written, Printable, Narrow, NarrowCosts, Fits, Says, PlanWritten};
 
 pub mod bounds;
+pub mod flow;
 
 // Writes a byte, and gives the next offset.
 pub fn put_byte(out: &mut [u8], at: usize, b: u8) -> usize

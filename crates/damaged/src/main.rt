@@ -1,15 +1,13 @@
 // Runs pairs of files through the planner's file reader, and holds each answer to the refusal and place that the scope gives.
 // The pairs stand in the file `stdin`, a row each; its first lines say how a row is read.
-mod parts;
 mod report;
-mod text;
 mod trial;
 
-use crate::parts::after;
-use crate::parts::byte;
-use crate::parts::first;
 use crate::report::report;
 use crate::trial::trial;
+use rowtext::parts::after;
+use rowtext::parts::byte;
+use rowtext::parts::first;
 
 // The row between two offsets, if it is one: an empty line and a line that begins with # are none.
 fn run_line(tally: &mut [u64; 32], line: &[u8]) {

@@ -1,7 +1,7 @@
 // The counts of the tally, a line each.
 use crate::trial::CASES;
 use crate::trial::DIFFERENCES;
-use crate::trial::cell;
+use rowtext::tally::cell;
 
 fn say(name: &[u8], n: u64) {
     io::write_all(1, name);

@@ -1,14 +1,15 @@
 // One trial: the files of a row, and the answer expected.
-use crate::parts::after;
-use crate::parts::before;
-use crate::parts::field;
-use crate::parts::first;
-use crate::parts::number;
-use crate::text::add;
 use casefile::planned::plan_files;
 use casetext::Texts;
 use casetext::rewrite::rewrite_files;
 use check::same;
+use rowtext::parts::after;
+use rowtext::parts::before;
+use rowtext::parts::field;
+use rowtext::parts::first;
+use rowtext::parts::number;
+use rowtext::tally::count;
+use rowtext::text::add;
 
 // The tally: the answers by number, then these.
 pub const CASES: usize = 24;
@@ -175,21 +176,6 @@ fn run_files(row: &[u8]) -> Given {
         edit_of(row, b"production", 3),
     );
     plan_both(row, first(&tariff, m), first(&production, n))
-}
-
-// The cell k, or 0 past the end.
-pub fn cell(tally: &[u64; 32], k: usize) -> u64 {
-    if k < 32 { tally[k] } else { 0 }
-}
-
-// Adds one to the cell k.
-fn count(tally: &mut [u64; 32], k: usize) {
-    let n = cell(tally, k);
-    if n < u64::MAX {
-        if k < 32 {
-            tally[k] = n + 1;
-        }
-    }
 }
 
 // Writes a row that is answered otherwise.

@@ -1,2 +1,3 @@
 pub mod Reports
 pub mod WorkReports
+pub mod FlowReports

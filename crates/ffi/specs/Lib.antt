@@ -2,3 +2,4 @@ pub mod Report
 pub mod Rated
 pub mod Bounds
 pub mod Work
+pub mod Flow

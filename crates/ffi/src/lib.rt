@@ -11,6 +11,7 @@ ghost use Rattle.ffi.specs.Report.{numberOf, reportOf, worthOf, Exported
 use planner::Answer;
 
 pub mod bounds;
+pub mod flow;
 pub mod seen;
 pub mod work;
 

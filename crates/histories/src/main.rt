@@ -9,6 +9,7 @@ use crate::model::edited;
 use crate::model::first_case;
 use crate::model::refusal;
 use crate::plans::plan_both;
+use casetests::tests::Verdict;
 use compare::agreed;
 use compare::count;
 use compare::draws::Request;
@@ -16,7 +17,6 @@ use compare::draws::drawn;
 use compare::line;
 use compare::next;
 use compare::passed;
-use casetests::tests::Verdict;
 
 mod model;
 mod plans;

@@ -1,6 +1,6 @@
 // A plain working case of 3 sources and 2 terminals: whole copies, and the refusals as the paper has them.
-use compare::draws::Request;
 use casetests::tests::Verdict;
+use compare::draws::Request;
 
 pub const RUN1: u64 = 1;
 

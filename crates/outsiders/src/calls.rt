@@ -1,4 +1,5 @@
 // One call on two stores: the number of the refusal, 0 where it is done, or 100 where any answer or lent cell differs.
+use casetests::tests::Verdict;
 use compare::agreed;
 use compare::answers_agreed;
 use compare::below;
@@ -7,7 +8,6 @@ use compare::draws::drawn;
 use compare::next;
 use compare::same_cells;
 use compare::same_slices;
-use casetests::tests::Verdict;
 
 // An edit, a mark or a return.
 fn call(who: usize, r: Request, store: &mut [u64]) -> Verdict {

@@ -4,12 +4,12 @@ ghost use mathlib.Core.Path.{_≡_};
 ghost use lib.ListN.{length};
 use crate::calls::call_both;
 use crate::calls::plan_both;
+use casetests::tests::Verdict;
 use compare::below;
 use compare::count;
 use compare::line;
 use compare::next;
 use compare::passed;
-use casetests::tests::Verdict;
 
 mod calls;
 

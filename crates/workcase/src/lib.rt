@@ -22,9 +22,9 @@ use casestore::marks::put_back;
 use casestore::marks::put_mark;
 use casestore::opened::Opened;
 use casestore::opened::open_store;
-use planner::Answer;
 use casetests::tests::Verdict;
 use casetests::tests::form_test;
+use planner::Answer;
 
 mod planning;
 mod seeing;

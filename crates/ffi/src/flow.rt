@@ -1,0 +1,55 @@
+// The least-cost flow of a network in DIMACS form, for callers outside Rattle: numbers and slices only.
+ghost use mathlib.Core.Path.{_≡_};
+ghost use Prim.Native.Nat.{_≤_};
+ghost use lib.ListN.{length};
+ghost use Rattle.transport.specs.Curve.{written};
+ghost use Rattle.network.specs.Judged.{outcome, slicesOf};
+ghost use Rattle.ffi.specs.Flow.{numberOf, reportOf, worthOf, FlowExported};
+use network::Answer;
+
+// Writes the report and the worth of an answer to a file of so many arcs; its number.
+fn tell_flow(answer: Answer, arcs: u64, report: &mut [u64], worth: &mut [i64]) -> u64
+    requires { ⌜ (1 ≤ length (now report)) × (1 ≤ length (now worth)) ⌝ }
+    ensures { λ r. ⌜ (r ≡ numberOf (outcome answer)) × (now (report .exit) ≡ written (reportOf arcs (outcome answer)) (now (report .entry))) × (now (worth .exit) ≡ written (worthOf (outcome answer)) (now (worth .entry))) ⌝ }
+{
+    match answer {
+        Answer::Carried { total } => {
+            report[0] = arcs;
+            worth[0] = total;
+            0
+        }
+        Answer::Refused { number, place } => {
+            report[0] = place;
+            number
+        }
+    }
+}
+
+// Finds the least-cost flow of the network in a DIMACS file, where the table replaces the cost of the arc named by its place from 1: 0 where
+// there is one, else the number of the refusal. The flow and the arcs go to the front of their slices. The report's first cell gets the count of
+// arcs, or the refusal's place, that of the worth the total. Where either has no cell the answer is 34.
+#[no_mangle]
+pub extern "C" fn yadvorkhul_flow(
+    bytes: &[u8],
+    place: usize,
+    table: &[u64],
+    flow: &mut [u64],
+    starts: &mut [u64],
+    ends: &mut [u64],
+    ceilings: &mut [u64],
+    costs: &mut [i64],
+    report: &mut [u64],
+    worth: &mut [i64],
+) -> u64
+    ensures { λ r. ⌜ FlowExported (now (bytes .entry)) place (now (table .entry)) (slicesOf (now (flow .entry)) (now (starts .entry)) (now (ends .entry)) (now (ceilings .entry)) (now (costs .entry))) (slicesOf (now (flow .exit)) (now (starts .exit)) (now (ends .exit)) (now (ceilings .exit)) (now (costs .exit))) (now (report .entry)) (now (report .exit)) (now (worth .entry)) (now (worth .exit)) r ⌝ }
+{
+    if report.len() < 1 {
+        return 34;
+    }
+    if worth.len() < 1 {
+        return 34;
+    }
+    let answer = network::cheapest_flow(bytes, place, table, flow, starts, ends, ceilings, costs);
+    let count = arcs::count::arcs_in(bytes);
+    tell_flow(answer, count, report, worth)
+}
