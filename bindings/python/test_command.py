@@ -95,6 +95,45 @@ class Command(unittest.TestCase):
             due = "smallest,largest\r\n-3,9\r\nsplit,possible\r\n1,1\r\n2,0\r\n"
             self.assertEqual(run_here("bounds", tariff, production, production), (0, due, ""))
 
+    def test_flow(self):
+        lines = b"p min 4 5\nn 1 5\nn 4 -5\na 1 2 0 4 3\na 1 3 0 3 1\na 3 2 0 2 -1\na 2 4 0 5 2\na 3 4 0 2 9\n"
+        with tempfile.TemporaryDirectory() as folder:
+            network, table = os.path.join(folder, "net.min"), os.path.join(folder, "table.csv")
+            with open(table, "wb") as out:
+                out.write(b"0\r\n10\r\n12\r\n14\r\n16\r\n40\r\n")
+
+            def asked(data, arc="4", costs=table):
+                with open(network, "wb") as out:
+                    out.write(data)
+                return run("flow", network, arc, costs)
+
+            due = "total\r\n32\r\nstart,end,flow,cost\r\n1,2,2,6\r\n1,3,3,3\r\n3,2,2,-2\r\n2,4,4,16\r\n3,4,1,9\r\n"
+            self.assertEqual(asked(lines), (0, due, ""))
+            status, printed, said = asked(lines.replace(b"n 1 5", b"n 1 05"))
+            self.assertEqual((status, printed), (1, "refusal,place\r\n29,2\r\n"))
+            self.assertIn(f"line 2 of the network file {network} is not of the form: n 1 05. Here stands a number with 0 in front.", said)
+            status, printed, said = asked(lines, "1")
+            self.assertEqual((status, printed), (1, "refusal,place\r\n30,0\r\n"))
+            self.assertIn("a table of 6 entries for arc 1, whose ceiling is 4", said)
+            status, printed, said = asked(lines.replace(b"n 1 5", b"n 1 4"))
+            self.assertEqual((status, printed), (1, "refusal,place\r\n27,0\r\n"))
+            self.assertIn("a sum of all supplies of -1", said)
+            status, printed, said = asked(lines, "4", os.path.join(folder, "none.csv"))
+            self.assertEqual((status, printed), (1, "refusal,place\r\n20,0\r\n"))
+            self.assertIn("none.csv cannot be opened", said)
+            status, printed, said = run("flow", os.path.join(folder, "none.min"), "4", table)
+            self.assertEqual((status, printed), (1, "refusal,place\r\n20,0\r\n"))
+            self.assertIn("the network file", said)
+            # the form of the network, the table's file, then the limits
+            status, printed, _ = asked(lines.replace(b"n 1 5", b"n 1 05"), "1", os.path.join(folder, "none.csv"))
+            self.assertEqual((status, printed), (1, "refusal,place\r\n29,2\r\n"))
+            status, printed, _ = asked(lines, "9", os.path.join(folder, "none.csv"))
+            self.assertEqual((status, printed), (1, "refusal,place\r\n20,0\r\n"))
+            for odd in ("one", "", "12345", "\u0664"):
+                status, printed, said = asked(lines, odd)
+                self.assertEqual((status, printed), (1, "refusal,place\r\n30,0\r\n"))
+            self.assertEqual(asked(lines, "0004"), (0, due, ""))
+
     def test_page_without_libraries(self):
         for name in ("jinja2", "matplotlib"):
             with mock.patch.dict(sys.modules, {name: None}):

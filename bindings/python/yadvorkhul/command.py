@@ -6,14 +6,15 @@ refusal, 2 for a wrong use, 3 where this build or this Python lacks what is need
 
 import argparse
 import json
+import re
 import sys
 from typing import Callable, NamedTuple
 
 import yadvorkhul
 
 from . import Case, Refusal
-from .files import PRODUCTION, TARIFF, open_file, plan_text, read_case, read_records, refusal_text
-from .refusals import explain
+from .files import LONGEST, NETWORK, PRODUCTION, TARIFF, FileRefusal, flow_text, open_file, plan_text, read_case, read_records, refusal_text
+from .refusals import Explained, explain, explain_network
 
 REFUSED, WRONG_USE, LACKING = 1, 2, 3
 
@@ -72,7 +73,10 @@ def _given(arguments):
 
 def _say(refusal: Refusal, case=None, tariff=None, production=None) -> int:
     """A refusal on standard error, as a sentence with the place and its usual cause."""
-    told = explain(refusal, case, tariff, production)
+    return _told(explain(refusal, case, tariff, production))
+
+
+def _told(told: Explained) -> int:
     cause = f" Here stands {told.spot.cause}." if told.spot and told.spot.cause else ""
     print(f"Refusal {told.number}: {told.sentence}{cause} {told.advice}", file=sys.stderr)
     return REFUSED
@@ -154,12 +158,45 @@ def _run_rates(arguments) -> int:
     return 0
 
 
+def _add_flow(parser):
+    parser.add_argument("network", help="the network in DIMACS form: c, p min, n and a lines")
+    parser.add_argument("arc", help="the arc whose cost the table replaces, by its place among the a lines, from 1")
+    parser.add_argument("table", help="the costs of that arc, in the form of a production table: an entry for each flow from 0 to its ceiling")
+
+
+def _formed(network):
+    """Refusal 20 or 29 of a network's file: its form is judged before the table's file, the rest after it."""
+    if network.data is None or len(network.data) > LONGEST:
+        raise FileRefusal(20, 0, network)
+    try:
+        yadvorkhul.flow(network.data, 0, [])
+    except Refusal as refusal:
+        if refusal.number == 29:
+            raise
+
+
+def _run_flow(arguments) -> int:
+    """Prints the total, then for each arc its start, its end, the flow on it and what that costs."""
+    network, entries = open_file(NETWORK, arguments.network), []
+    # as in the program `flow`: what is not one to four digits names no arc
+    arc = int(arguments.arc) if re.fullmatch("[0-9]{1,4}", arguments.arc) else 0
+    try:
+        _formed(network)
+        entries = [record[0].value for record in read_records(open_file(PRODUCTION, arguments.table))]
+        found = yadvorkhul.flow(network.data, arc, entries)
+    except Refusal as refusal:
+        _print(refusal_text(refusal))
+        return _told(explain_network(refusal, network, arc, entries))
+    _print(flow_text(found, arc, entries))
+    return 0
+
+
 SUBCOMMANDS = [
     Subcommand("plan", "yadvorkhul_plan", "print the plan, as the program plan does", _files, _run_plan),
     Subcommand("page", "yadvorkhul_plan", "write a page with the plan and the curve, or with the refusal", _add_page, _run_page),
     Subcommand("bounds", "yadvorkhul_bounds", "tell which splits can be the cheapest, from two production tables", _add_bounds, _run_bounds),
     Subcommand("rates", "yadvorkhul_rates", "print a production table of square-root rates", _add_rates, _run_rates),
-    Subcommand("flow", "yadvorkhul_flow", "plan a network in DIMACS form", None, None),
+    Subcommand("flow", "yadvorkhul_flow", "print the least-cost flow of a network in DIMACS form, as the program flow does", _add_flow, _run_flow),
 ]
 
 
