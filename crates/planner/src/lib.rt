@@ -26,8 +26,9 @@ pub enum Answer {
     },
 }
 
-// Plans a lent case, or refuses it by a number and a place.
-pub fn plan(
+// Plans a lent case, or refuses it by a number and a place; in step 1 by the simplex where quick says so. The answer is the same.
+pub fn plan_by(
+    quick: bool,
     m: usize,
     n: usize,
     run1: u64,
@@ -59,6 +60,7 @@ pub fn plan(
     match made_of(run1, run2, supplies, demands) {
         Made::Unbalanced(number) => Answer::Refused { number, place: 0 },
         Made::Drums(made) => solve(
+            quick,
             m,
             n,
             run1,
@@ -74,4 +76,38 @@ pub fn plan(
             freights,
         ),
     }
+}
+
+// Plans a lent case, or refuses it by a number and a place.
+pub fn plan(
+    m: usize,
+    n: usize,
+    run1: u64,
+    run2: u64,
+    costs: &[i64],
+    supplies: &[u64],
+    demands: &[u64],
+    ceilings: &[u64],
+    table: &[u64],
+    plan: &mut [u64],
+    splits: &mut [u64],
+    freights: &mut [i64],
+) -> Answer
+    ensures { λ r. ⌜ Answered (lent m n run1 run2 (now (costs .entry)) (now (supplies .entry)) (now (demands .entry)) (now (ceilings .entry)) (now (table .entry)) (length (now (plan .entry))) (length (now (splits .entry))) (length (now (freights .entry)))) (outcome r) (slices (now (plan .entry)) (now (splits .entry)) (now (freights .entry))) (slices (now (plan .exit)) (now (splits .exit)) (now (freights .exit))) ⌝ }
+{
+    plan_by(
+        true,
+        m,
+        n,
+        run1,
+        run2,
+        costs,
+        supplies,
+        demands,
+        ceilings,
+        table,
+        plan,
+        splits,
+        freights,
+    )
 }

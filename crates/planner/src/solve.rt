@@ -14,12 +14,13 @@ use crate::work::wanted;
 use casetests::tests::Verdict;
 use casetests::tests::splits_test;
 use casetests::tests::sum_of;
-use range::begin::begin;
+use range::begin::begin_by;
 use sweep::curve::sweep;
 
 // Prepares the working arrays with raised costs, has the engine find the first and the last split, tests 27, 9 and 11, has the engine sweep
-// the splits, copies the plan out and lowers freights and total.
+// the splits, copies the plan out and lowers freights and total. Whether step 1 tries the simplex does not show in the answer.
 pub fn solve(
+    quick: bool,
     m: usize,
     n: usize,
     run1: u64,
@@ -46,7 +47,8 @@ pub fn solve(
     let mut x = [0u32; 2048];
     let mut serves = [0u32; 64];
     let mut pot = [0u32; 96];
-    let range = begin(
+    let range = begin_by(
+        quick,
         m,
         n,
         &cost,

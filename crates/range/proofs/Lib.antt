@@ -4,3 +4,4 @@ pub mod PlantShift
 pub mod FirstSplit
 pub mod LastSplit
 pub mod SplitRange
+pub mod CheckedPlan

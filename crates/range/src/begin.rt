@@ -1,6 +1,6 @@
 // The first and the last split that have a plan within the ceilings.
 ghost use Rattle.range.specs.Range.{BeginReady, Ranged};
-use super::base::first_plan;
+use super::quick::cheapest_first;
 use super::reach::last;
 use paths::search::smaller;
 
@@ -12,8 +12,9 @@ pub struct Range {
 }
 
 // The first and the last split of a prepared case that have a plan within the ceilings; a cheapest plan at the first goes into x, with its
-// potentials and the lanes in use.
-pub fn begin(
+// potentials and the lanes in use. Whether the simplex is tried does not show in what is promised.
+pub fn begin_by(
+    quick: bool,
     m: usize,
     n: usize,
     cost: &[u32; 2048],
@@ -30,9 +31,8 @@ pub fn begin(
     requires { ⌜ BeginReady m n (now cost) (now cap) (now supply) (now demand) run0 run1 made ⌝ }
     ensures { λ r. ⌜ Ranged m n (now (cost .entry)) (now (cap .entry)) (now (supply .entry)) (now (demand .entry)) run0 run1 made (now (x .exit)) (now (serves .exit)) (now (pot .exit)) (r .found) (r .lo) (r .hi) ⌝ }
 {
-    *x = [0u32; 2048];
-    *serves = [0u32; 64];
-    let first = first_plan(
+    let first = cheapest_first(
+        quick,
         m,
         n,
         cost,
@@ -61,4 +61,39 @@ pub fn begin(
         lo: 0,
         hi: 0,
     }
+}
+
+// The same with the simplex.
+pub fn begin(
+    m: usize,
+    n: usize,
+    cost: &[u32; 2048],
+    cap: &[u32; 2048],
+    supply: &[u32; 32],
+    demand: &[u32; 96],
+    run0: u32,
+    run1: u32,
+    made: u32,
+    x: &mut [u32; 2048],
+    serves: &mut [u32; 64],
+    pot: &mut [u32; 96],
+) -> Range
+    requires { ⌜ BeginReady m n (now cost) (now cap) (now supply) (now demand) run0 run1 made ⌝ }
+    ensures { λ r. ⌜ Ranged m n (now (cost .entry)) (now (cap .entry)) (now (supply .entry)) (now (demand .entry)) run0 run1 made (now (x .exit)) (now (serves .exit)) (now (pot .exit)) (r .found) (r .lo) (r .hi) ⌝ }
+{
+    begin_by(
+        true,
+        m,
+        n,
+        cost,
+        cap,
+        supply,
+        demand,
+        run0,
+        run1,
+        made,
+        x,
+        serves,
+        pot,
+    )
 }

@@ -1,4 +1,5 @@
 // Step 1, and the first and the last split that have a plan within the ceilings.
 mod base;
 pub mod begin;
+mod quick;
 mod reach;

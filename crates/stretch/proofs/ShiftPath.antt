@@ -4,16 +4,20 @@ use mathlib.Core.List.{List}
 use Prim.Native.Nat.{ℕ, _-_, _≤_, _<_}
 use native.Mathlib.Decide.{ℕ-discrete, decLt}
 use native.Mathlib.Omega.{arith}
+use lib.ListN.{set, replicate}
 use Rattle.residual.specs.Cells.{cells}
 use Rattle.residual.specs.Network.{Net, get}
 use Rattle.residual.specs.Labels.{Book, far}
-use Rattle.paths.specs.Search.{Sound, Near, Label, Stuck, Searched}
+use Rattle.paths.specs.Search.{Sound, Near, Label, Stuck, Searched, Labelled}
 use Rattle.augment.specs.Send.{SendReady}
 use Rattle.augment.specs.PathWalk.{WalkReady}
-use Rattle.stretch.specs.Stretch.{ShiftReady, PathDone}
+use Rattle.cuts.specs.Follow.{Followed}
+use Rattle.stretch.specs.Stretch.{ShiftReady, Reached, PathDone}
 use Rattle.paths.proofs.SearchCut.{cut-greatest}
 use Rattle.augment.proofs.Delivery.{lower-ready, stroll-ready, push-ready, mark-ready, pushed, delivered, after}
+use Rattle.cuts.proofs.TreePath.{tree-path}
 use Rattle.range.proofs.PlantShift.{Only, swing-ready, swing-over}
+use Rattle.range.proofs.LastSplit.{only}
 use Rattle.stretch.proofs.PathLanes.{lanes}
 use Rattle.stretch.proofs.PathArcs.{route}
 
@@ -79,3 +83,13 @@ module _ {N : Net} {p room x : List ℕ} {limit : ℕ} {B : Book} {g : ℕ}
 
       label : Label N 0 (Near p (B .dist) 1) p 96 limit B 1
       label = reached .found one .label 1 one (reached .found one .goal)
+
+-- a search that has room at plant 1 only finds plant 1
+pub reached-by : {N : Net} {p x T P : List ℕ} {limit g : ℕ} → ShiftReady N p x limit → Labelled N p (set (replicate 96 0) 1 limit) 0 limit T P g
+    → Reached N p limit T P
+reached-by {limit = limit} k q = record { hops = q .hops; widths = q .widths; searched = reached k (only limit) (q .searched) }
+
+-- the path of a tree
+pub tree-reached : {N : Net} {p x T P : List ℕ} {limit : ℕ} → ShiftReady N p x limit → Followed N p T P → Reached N p limit T P
+tree-reached {limit = limit} k q =
+    tree-path (k .swinging .sound) q limit (k .some) (set (replicate 96 0) 1 limit) (omega (arith, only limit .one, k .some))

@@ -3,13 +3,14 @@
 use mathlib.Core.Path.{_≡_}
 use mathlib.Core.List.{List}
 use Prim.Native.Nat.{ℕ, _+_, _-_, _≤_, _<_}
-use lib.ListN.{length, getD}
+use lib.ListN.{length, getD, set, replicate}
 use Rattle.transport.specs.Plan.{row, col, freight, Under}
 use Rattle.transport.specs.theory.Slackness.{Slack}
 use Rattle.transport.specs.theory.AtSplit.{At, Least}
 use Rattle.transport.specs.theory.PathFlow.{Flow}
 use Rattle.residual.specs.Cells.{cells}
 use Rattle.residual.specs.Network.{Net, get, again}
+use Rattle.paths.specs.Search.{Labelled}
 use Rattle.augment.specs.LaneMarks.{Trail}
 use Rattle.augment.specs.Potentials.{LowerReady, Lowered}
 use Rattle.augment.specs.PathWalk.{Walkable, Walked}
@@ -29,6 +30,10 @@ pub record ShiftReady (N : Net) (p x : List ℕ) (limit : ℕ) : Type 0 where
   pub some : 0 < limit
   pub left : limit ≤ row (N .n) (N .x) 1
   pub end : Some (N .m) (N .n) (N .u) (row (N .n) (N .x)) (col (N .m) (N .x)) (row (N .n) (N .x) 0 + limit) (row (N .n) (N .x) 1 - limit)
+
+-- a path from plant 0 to plant 1, by its labels, as a search finds it where plant 1 alone has room
+abbrev pub Reached : Net → List ℕ → ℕ → List ℕ → List ℕ → Type 0
+Reached N p limit dist prev = Labelled N p (set (replicate 96 0) 1 limit) 0 limit dist prev 1
 
 -- t drums went over from plant 1 to plant 0, and left z, which is slack under the potentials p'
 pub record Part (N : Net) (p' z : List ℕ) (t : ℕ) : Type 0 where

@@ -2,7 +2,7 @@
 ghost use Rattle.residual.specs.Network.{net};
 ghost use Rattle.residual.specs.LanesInUse.{Covers};
 ghost use Rattle.paths.specs.Search.{Wanted};
-ghost use Rattle.stretch.specs.Stretch.{ShiftReady, PathDone, KeepReady, KeepDone, HoldDone, StretchReady, StretchDone};
+ghost use Rattle.stretch.specs.Stretch.{ShiftReady, Reached, PathDone, KeepReady, KeepDone, HoldDone, StretchReady, StretchDone};
 use super::scan::scan;
 use super::undo::undo;
 use crate::Incumbent;
@@ -10,6 +10,7 @@ use augment::send::lower;
 use augment::send::mark;
 use augment::send::measure;
 use augment::send::push;
+use cuts::follow::follow;
 use paths::search::search;
 
 // A path from plant 1 to plant 2: δ, how many drums can go along it, its arcs, its reduced cost, and for each node
@@ -20,6 +21,46 @@ pub struct Path {
     pub gap: u32,
     pub dist: [u32; 96],
     pub prev: [u32; 96],
+}
+
+// For each node of a path the distance and the node before it.
+pub struct Labels {
+    pub dist: [u32; 96],
+    pub prev: [u32; 96],
+}
+
+// A cheapest path from plant 1 to plant 2 in the residual network: that of the tree, where it leads there over open and tight arcs, else one that is
+// searched for, and the tree has none any more.
+fn reach(
+    m: usize,
+    n: usize,
+    cost: &[u32; 2048],
+    cap: &[u32; 2048],
+    limit: u32,
+    demand: &[u32; 96],
+    x: &[u32; 2048],
+    serves: &[u32; 64],
+    pot: &[u32; 96],
+    up: &mut [u32; 128],
+) -> Labels
+    requires { ⌜ ShiftReady (net m n (now cost) (now cap) (now x)) (now pot) (now x) limit ⌝ }
+    requires { ⌜ Wanted (net m n (now cost) (now cap) (now x)) (now demand) ⌝ }
+    requires { ⌜ Covers m n (now x) (now serves) ⌝ }
+    ensures { λ r. ⌜ Reached (net m n (now (cost .entry)) (now (cap .entry)) (now (x .entry))) (now (pot .entry)) limit (r .dist) (r .prev) ⌝ }
+{
+    let tree = follow(m, n, cost, cap, x, pot, up);
+    if tree.whole {
+        let dist = tree.dist;
+        let prev = tree.prev;
+        return Labels { dist, prev };
+    }
+    up[1] = 96;
+    let mut room = [0u32; 96];
+    room[1] = limit;
+    let found = search(m, n, cost, x, cap, serves, pot, &room, demand, 0, limit);
+    let dist = found.dist;
+    let prev = found.prev;
+    Labels { dist, prev }
 }
 
 // A cheapest path from plant 1 to plant 2 in the residual network, and δ: its smallest ceiling, or limit if that is less.
@@ -33,15 +74,14 @@ fn find_path(
     x: &[u32; 2048],
     serves: &[u32; 64],
     pot: &[u32; 96],
+    up: &mut [u32; 128],
 ) -> Path
     requires { ⌜ ShiftReady (net m n (now cost) (now cap) (now x)) (now pot) (now x) limit ⌝ }
     requires { ⌜ Wanted (net m n (now cost) (now cap) (now x)) (now demand) ⌝ }
     requires { ⌜ Covers m n (now x) (now serves) ⌝ }
     ensures { λ r. ⌜ PathDone (net m n (now (cost .entry)) (now (cap .entry)) (now (x .entry))) (now (pot .entry)) (now (x .entry)) limit (r .dist) (r .prev) (r .count) (r .gap) (r .delta) ⌝ }
 {
-    let mut room = [0u32; 96];
-    room[1] = limit;
-    let found = search(m, n, cost, x, cap, serves, pot, &room, demand, 0, limit);
+    let found = reach(m, n, cost, cap, limit, demand, x, serves, pot, up);
     let dist = found.dist;
     let prev = found.prev;
     let way = measure(&prev, 0, 1, limit, x, cap);
@@ -95,7 +135,7 @@ pub struct Moved {
 }
 
 // One stretch from split y, whose plan x has the given freight, at most limit drums further, which are left to u. The incumbent's plan is kept,
-// with its potentials.
+// with its potentials. The path is that of the tree, where it has one.
 pub fn stretch(
     m: usize,
     n: usize,
@@ -112,6 +152,7 @@ pub fn stretch(
     pot: &mut [u32; 96],
     kept: &mut [u32; 2048],
     prices: &mut [u32; 96],
+    up: &mut [u32; 128],
 ) -> Moved
     requires { ⌜ StretchReady (net m n (now cost) (now cap) (now x)) (now pot) (now x) (now table) y freight limit best ⌝ }
     requires { ⌜ Wanted (net m n (now cost) (now cap) (now x)) (now demand) ⌝ }
@@ -121,7 +162,7 @@ pub fn stretch(
 {
     // 1° A cheapest path from plant 1 to plant 2 in the residual network, and δ: the smallest ceiling on it, or what is left to u if that is less.
     // The cost of the path is what the potentials say: gain less loss.
-    let path = find_path(m, n, cost, cap, limit, demand, x, serves, pot);
+    let path = find_path(m, n, cost, cap, limit, demand, x, serves, pot, up);
     let delta = path.delta;
     let count = path.count;
     let gap = path.gap;

@@ -9,7 +9,9 @@ use Rattle.transport.specs.Plan.{Table, row, col, freight, Under}
 use Rattle.transport.specs.theory.AtSplit.{At}
 use Rattle.residual.specs.Cells.{cells}
 use Rattle.residual.specs.Network.{net, get}
+use Rattle.residual.specs.LanesInUse.{Covers}
 use Rattle.canonical.specs.Canonize.{CanonReady}
+use Rattle.cuts.specs.Advance.{Advanced}
 use Rattle.range.specs.engine.PlantShift.{Swinging}
 use Rattle.stretch.specs.Scan.{along}
 use Rattle.stretch.specs.Stretch.{StretchReady, StretchDone}
@@ -31,6 +33,21 @@ plan-at {m} {n} {c} {u} {d} {a} {b} {y} {v} {x} z two t e long under worth = rec
   columns = λ j h. t .demands j (omega arith) h;
   under = under;
   worth = worth;
+}
+
+-- the potentials after cuts
+swing-on : {m n : ℕ} {cost x p serves serves' p' : List ℕ} {P : ℕ} (cap : List ℕ) → Swinging (net m n cost cap x) P p x → Covers m n x serves
+    → Advanced m n cost x serves p serves' p' → Swinging (net m n cost cap x) (get p' 1) p' x
+swing-on cap k c a = record {
+  sound = a .sound cap c (k .sound);
+  under = k .under;
+  ceilings = k .ceilings;
+  long-x = k .long-x;
+  long-p = a .long;
+  plants = k .plants;
+  one = refl;
+  high = omega (arith, k .one, k .high, a .up 1 (omega arith));
+  floor = λ v h. omega (arith, k .floor v h, a .up v h);
 }
 
 module _ {m n : ℕ} {cost cap x₀ p₀ : List ℕ} {lo hi v : ℕ} {table splits freights : List ℕ} (r : ClimbReady m n cost cap x₀ p₀ lo hi v table splits freights) where
@@ -65,6 +82,17 @@ module _ {m n : ℕ} {cost cap x₀ p₀ : List ℕ} {lo hi v : ℕ} {table spli
       }
 
   module _ {x p kept held : List ℕ} {y value : ℕ} {b : Incumbent} (s : Standing m n cost cap x₀ x p kept held y value b) where
+    -- with the potentials after cuts
+    pub stand-on : {serves serves' p' : List ℕ} → Covers m n x serves → Advanced m n cost x serves p serves' p' → Standing m n cost cap x₀ x p' kept held y value b
+    stand-on c a = record {
+      swinging = swing-on cap (s .swinging) c a;
+      at = s .at;
+      worth = s .worth;
+      plan = s .plan;
+      ready = s .ready;
+      behind = s .behind;
+    }
+
     -- the least freight at y
     pub here : y ≤ hi → curveFrom m n cost cap x₀ y ≡ value
     here h =

@@ -13,6 +13,8 @@ ghost use Rattle.sweep.specs.engine.StopsPassed.{NoteReady, Noted, Marke
 ghost use Rattle.sweep.specs.engine.Climb.{bothIn, ClimbReady};
 use super::freight::freight_of;
 use canonical::canon::canonize;
+use cuts::advance::advance;
+use cuts::grow::grow;
 use stretch::Incumbent;
 use stretch::stretch::stretch;
 
@@ -60,7 +62,7 @@ pub struct Curve {
     pub stops: usize,
 }
 
-// Step 3 of report 4.1: from a cheapest plan x at lo, with its potentials and its freight, stretch by stretch up to hi.
+// Step 3 of report 4.1: from a cheapest plan x at lo, with its potentials and its freight, stretch by stretch up to hi, on the tree as far as it goes.
 fn climb(
     m: usize,
     n: usize,
@@ -77,6 +79,9 @@ fn climb(
     serves: &mut [u32; 64],
     pot: &mut [u32; 96],
     kept: &mut [u32; 2048],
+    up: &mut [u32; 128],
+    rows: &mut [u32; 128],
+    cols: &mut [u64; 128],
 ) -> Curve
     requires { ⌜ ClimbReady m n (now cost) (now cap) (now x) (now pot) lo hi freight (now table) (now splits) (now freights) ⌝ }
     requires { ⌜ Wanted (net m n (now cost) (now cap) (now x)) (now demand) ⌝ }
@@ -97,8 +102,9 @@ fn climb(
     let mut count: usize = 0;
     let mut rise: u64 = 0;
     let mut fall: u64 = 0;
-    // Step 3, which ends where the split is hi.
+    // Step 3, which ends where the split is hi. Before each stretch the tree is cut until its path has room.
     while y < hi {
+        advance(m, n, cost, x, serves, pot, up, rows, cols);
         let left = (hi - y) as u32;
         let moved = stretch(
             m,
@@ -116,6 +122,7 @@ fn climb(
             pot,
             kept,
             &mut prices,
+            up,
         );
         let stop = turn(y, lo, moved.gain, moved.loss, rise, fall);
         count = mark(stop, count, y, value, splits, freights);
@@ -160,6 +167,10 @@ pub fn sweep(
     ensures { λ r. ⌜ Swept m n (byRow 64 (now (cost .entry))) (byRow 64 (now (cap .entry))) made (amountIn (now (supply .entry))) (demandIn (now (demand .entry))) lo hi (now (table .entry)) (now (splits .entry)) (now (freights .entry)) (now (splits .exit)) (now (freights .exit)) (now (kept .exit)) (r .split) (r .total) (r .freight) (r .stops) ⌝ }
 {
     let freight = freight_of(m, n, cost, x);
+    let mut up = [0u32; 128];
+    let mut rows = [0u32; 128];
+    let mut cols = [0u64; 128];
+    grow(m, n, cost, serves, pot, &mut up, &mut rows, &mut cols);
     climb(
         m,
         n,
@@ -176,5 +187,8 @@ pub fn sweep(
         serves,
         pot,
         kept,
+        &mut up,
+        &mut rows,
+        &mut cols,
     )
 }

@@ -8,6 +8,7 @@ use Rattle.transport.specs.Plan.{Table, row, col, Under}
 use Rattle.transport.specs.theory.AtSplit.{Same, At}
 use Rattle.residual.specs.Cells.{cells}
 use Rattle.residual.specs.Network.{Net, get, again}
+use Rattle.residual.specs.LanesInUse.{Covers}
 use Rattle.range.specs.engine.Shipment.{Stocked}
 
 pub record BaseReady (N : Net) (room x : List ℕ) : Type 0 where
@@ -66,3 +67,8 @@ pub record FirstDone (N : Net) (a : ℕ → ℕ) (room : List ℕ) (run0 run1 d 
 pub record FirstPlan (N : Net) (a : ℕ → ℕ) (room : List ℕ) (run0 run1 d : ℕ) (p' x' : List ℕ) (found : Bool) (split : ℕ) : Type 0 where
   pub unmet : List ℕ
   pub done : FirstDone N a room run0 run1 d p' unmet x' found split
+
+-- the same with the lanes in use, where a plan was found; where none was, nothing is said
+pub record Quick (N : Net) (a : ℕ → ℕ) (room : List ℕ) (run0 run1 d : ℕ) (p' x' s : List ℕ) (found : Bool) (split : ℕ) : Type 0 where
+  pub plan : found ≡ true → FirstPlan N a room run0 run1 d p' x' true split
+  pub covers : found ≡ true → Covers (N .m) (N .n) x' s

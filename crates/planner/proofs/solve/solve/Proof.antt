@@ -44,10 +44,10 @@ prepared : (c : tie.After-wanted) → Prepared (the (c .before .before .before .
 prepared c = prepare (c .before .before .before .before .before .before .before .before .before .before .pre) (c .before .before .before .raised-rows .ensures) (c .before .before .ceiling-rows .ensures) (c .before .supplied .ensures) (c .wanted .ensures)
 
 -- past test 27, and past 9 and 11
-on : (c : tie.Else1) → OnSplits (the (c .before .before .before .before .before .before .before .before .before .before .before .before .before .before .before .before .before .before .before .before .before)) (c .before .before .begin .result .lo) (c .before .before .begin .result .hi) (c .before .before .before .before .before .before .before .before .before .before .before .before .before .before .before .before .before .before .before .before .before .args .made)
-on c = on-splits (c .before .before .before .before .before .before .before .before .before .before .before .before .before .before .before .before .before .before .before .before .before .pre) (prepared (c .before .before .before .before .before .before .before .before .before .before .before)) (c .before .before .begin .ensures) (not-false _ (c .if1 .left))
+on : (c : tie.Else1) → OnSplits (the (c .before .before .before .before .before .before .before .before .before .before .before .before .before .before .before .before .before .before .before .before .before)) (c .before .before .begin-by .result .lo) (c .before .before .begin-by .result .hi) (c .before .before .before .before .before .before .before .before .before .before .before .before .before .before .before .before .before .before .before .before .before .args .made)
+on c = on-splits (c .before .before .before .before .before .before .before .before .before .before .before .before .before .before .before .before .before .before .before .before .before .pre) (prepared (c .before .before .before .before .before .before .before .before .before .before .before)) (c .before .before .begin-by .ensures) (not-false _ (c .if1 .left))
 
-passed : (c : tie.After-enum-told) → Accepts (the (c .before .before .before .before .before .before .before .before .before .before .before .before .before .before .before .before .before .before .before .before .before .before .before .before)) (c .before .before .before .before .before .begin .result .lo) (c .before .before .before .before .before .begin .result .hi) (c .before .before .before .before .before .before .before .before .before .before .before .before .before .before .before .before .before .before .before .before .before .before .before .before .args .made)
+passed : (c : tie.After-enum-told) → Accepts (the (c .before .before .before .before .before .before .before .before .before .before .before .before .before .before .before .before .before .before .before .before .before .before .before .before)) (c .before .before .before .before .before .begin-by .result .lo) (c .before .before .before .before .before .begin-by .result .hi) (c .before .before .before .before .before .before .before .before .before .before .before .before .before .before .before .before .before .before .before .before .before .before .before .before .args .made)
 passed c = accepts (on (c .before .before .before)) (sym (c .before .before .splits-test .ensures) ∙ ap verdict (c .enum-told .given .1))
 
 room : (c : tie.After-enum-told) → Roomy (the (c .before .before .before .before .before .before .before .before .before .before .before .before .before .before .before .before .before .before .before .before .before .before .before .before))
@@ -74,17 +74,17 @@ mul-added c = omega (arith, few (c .before .before .before .before .before .befo
 cast-all : tie.Need-cast-all
 cast-all c = omega (arith, whole-most (c .before .before .before .before .before .before .before .before .before .before .before .pre))
 
-cast-begin : tie.Need-cast-begin
-cast-begin c = omega (arith, runs-most (c .before .before .before .before .before .before .before .before .before .before .before .before .before .before .before .pre))
+cast-begin-by : tie.Need-cast-begin-by
+cast-begin-by c = omega (arith, runs-most (c .before .before .before .before .before .before .before .before .before .before .before .before .before .before .before .pre))
 
-cast-begin-2 : tie.Need-cast-begin-2
-cast-begin-2 c = omega (arith, runs-most (c .before .before .before .before .before .before .before .before .before .before .before .before .before .before .before .pre))
+cast-begin-by-2 : tie.Need-cast-begin-by-2
+cast-begin-by-2 c = omega (arith, runs-most (c .before .before .before .before .before .before .before .before .before .before .before .before .before .before .before .pre))
 
-begin-requires : tie.Need-begin-requires
-begin-requires c κs = ready (c .before .before .before .before .before .before .before .before .before .before .before .before .before .before .before .before .before .before .pre) (prepared (c .before .before .before .before .before .before .before .before))
+begin-by-requires : tie.Need-begin-by-requires
+begin-by-requires c κs = ready (c .before .before .before .before .before .before .before .before .before .before .before .before .before .before .before .before .before .before .pre) (prepared (c .before .before .before .before .before .before .before .before))
 
 returns : tie.Need-returns
-returns c = refuses _ _ _ _ (refused-27 (c .before .before .before .before .before .before .before .before .before .before .before .before .before .before .before .before .before .before .before .before .before .pre) (prepared (c .before .before .before .before .before .before .before .before .before .before .before)) (c .before .before .begin .ensures) (not-true _ (c .if1 .taken)))
+returns c = refuses _ _ _ _ (refused-27 (c .before .before .before .before .before .before .before .before .before .before .before .before .before .before .before .before .before .before .before .before .before .pre) (prepared (c .before .before .before .before .before .before .before .before .before .before .before)) (c .before .before .begin-by .ensures) (not-true _ (c .if1 .taken)))
 
 mul-splits-test : tie.Need-mul-splits-test
 mul-splits-test c = let f = form (c .before .before .before .before .before .before .before .before .before .before .before .before .before .before .before .before .before .before .before .before .before) in omega (arith, mul-le-mul (f .few-sources) (f .few-terminals))
@@ -105,7 +105,7 @@ slice-aggregate-sweep : tie.Need-slice-aggregate-sweep
 slice-aggregate-sweep c = search needs
 
 sweep-requires : tie.Need-sweep-requires
-sweep-requires c κs = (c .before .before .before .before .before .before .before .before .before .before .before .before .before .before .before .begin .ensures .begun (not-false _ (c .before .before .before .before .before .before .before .before .before .before .before .before .before .if1 .left)), sweep-ready (passed (c .before .before .before .before .before .before .before .before .before .before)) (prepared (c .before .before .before .before .before .before .before .before .before .before .before .before .before .before .before .before .before .before .before .before .before .before .before .before)) _ _ refl refl)
+sweep-requires c κs = (c .before .before .before .before .before .before .before .before .before .before .before .before .before .before .before .begin-by .ensures .begun (not-false _ (c .before .before .before .before .before .before .before .before .before .before .before .before .before .if1 .left)), sweep-ready (passed (c .before .before .before .before .before .before .before .before .before .before)) (prepared (c .before .before .before .before .before .before .before .before .before .before .before .before .before .before .before .before .before .before .before .before .before .before .before .before)) _ _ refl refl)
 
 gather-rows-requires : tie.Need-gather-rows-requires
 gather-rows-requires c κs = let f = form (c .before .before .before .before .before .before .before .before .before .before .before .before .before .before .before .before .before .before .before .before .before .before .before .before .before .before .before .before .before .before .before .before .before .before .before .before .before .before .before .before) in (f .few-sources, f .few-terminals, room (c .before .before .before .before .before .before .before .before .before .before .before .before .before .before .before .before) .plan-room, c .before .before .before .before .before .sweep .ensures .plan .long)
@@ -162,9 +162,9 @@ solve-spec =
     sum-of-requires
     mul-added
     cast-all
-    cast-begin
-    cast-begin-2
-    begin-requires
+    cast-begin-by
+    cast-begin-by-2
+    begin-by-requires
     returns
     mul-splits-test
     splits-test-requires

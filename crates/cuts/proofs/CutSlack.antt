@@ -1,0 +1,96 @@
+-- The cut keeps a plan slack: no tree is in it. Assumes nothing.
+use mathlib.Core.Path.{_≡_, refl, sym, ap, _∙_}
+use mathlib.Core.Bool.{Bool, true, false}
+use mathlib.Core.List.{List}
+use Prim.Native.Nat.{ℕ, zero, suc, _+_, _-_, _≤_, _<_}
+use native.Mathlib.Decide.{ℕ-discrete}
+use native.Mathlib.Omega.{arith}
+use Rattle.transport.specs.Plan.{Table}
+use Rattle.transport.specs.theory.Slackness.{Lane, Slack}
+use Rattle.residual.specs.Cells.{cells}
+use Rattle.residual.specs.Network.{net, get}
+use Rattle.residual.specs.Bits.{bit}
+use Rattle.residual.specs.LanesInUse.{Covers}
+use Rattle.paths.specs.Search.{Sound}
+use Rattle.cuts.specs.Cut.{has, share, Shut, CutReady, Lows, Low, Rose, Lifted, Shifted}
+use Rattle.residual.proofs.Bits.{bit-most}
+
+pub share-in : (d b : ℕ) → b ≡ 1 → share d b ≡ d
+unfolding share
+share-in d zero e = absurd (omega arith)
+share-in d (suc b) e = refl
+
+pub share-out : (d b : ℕ) → b ≡ 0 → share d b ≡ 0
+unfolding share
+share-out d zero e = refl
+share-out d (suc b) e = absurd (omega arith)
+
+pub share-most : (d b : ℕ) → share d b ≤ d
+unfolding share
+share-most d zero = omega arith
+share-most d (suc b) = omega arith
+
+-- one lane, from a source that is in the part where r is 1 to a terminal that is where s is 1
+lane-cut : (c u x p q d r s : ℕ) → r ≤ 1 → s ≤ 1 → Lane c u x p q → (0 < x → s ≡ 0 → r ≡ 0) → (r ≡ 0 → s ≡ 1 → x < u → q + d ≤ c + p)
+    → Lane c u x (p + share d r) (q + share d s)
+lane-cut c u x p q d r s hr hs l shut low = go (ℕ-discrete r 0) (ℕ-discrete s 0)
+  where
+    go : Dec (r ≡ 0) → Dec (s ≡ 0) → Lane c u x (p + share d r) (q + share d s)
+    -- outside: nothing changes
+    go (yes a) (yes b) = record {
+      ahead = λ o. omega (arith, l .ahead o, share-out d s b);
+      back = λ o. omega (arith, l .back o, share-out d r a);
+    }
+    -- into the part: d is no more than the lane's reduced cost
+    go (yes a) (no b) = record {
+      ahead = λ o. omega (arith, low a (omega arith) o, share-most d s);
+      back = λ o. omega (arith, l .back o, share-out d r a);
+    }
+    -- out of the part: the lane is not in use
+    go (no a) (yes b) = record {
+      ahead = λ o. omega (arith, l .ahead o, share-out d s b);
+      back = λ o. absurd (a (shut o b));
+    }
+    -- inside: both ends rise
+    go (no a) (no b) = record {
+      ahead = λ o. omega (arith, l .ahead o, share-in d r (omega arith), share-most d s);
+      back = λ o. omega (arith, l .back o, share-in d s (omega arith), share-most d r);
+    }
+
+-- the cut lemma
+pub cut-slack : (m n : ℕ) (c u x : Table) (p q p' q' : ℕ → ℕ) (d : ℕ) (r s : ℕ → ℕ) → ((i : ℕ) → r i ≤ 1) → ((j : ℕ) → s j ≤ 1) → Slack m n c u x p q
+    → ((i j : ℕ) → i < m → j < n → 0 < x i j → s j ≡ 0 → r i ≡ 0)
+    → ((i j : ℕ) → i < m → j < n → r i ≡ 0 → s j ≡ 1 → x i j < u i j → q j + d ≤ c i j + p i)
+    → ((i : ℕ) → i < m → p' i ≡ p i + share d (r i)) → ((j : ℕ) → j < n → q' j ≡ q j + share d (s j)) → Slack m n c u x p' q'
+cut-slack m n c u x p q p' q' d r s hr hs k shut low e f i j a b =
+    rw (e i a, f j b)
+    (lane-cut (c i j) (u i j) (x i j) (p i) (q j) d (r i) (s j) (hr i) (hs j) (k i j a b) (shut i j a b) (low i j a b))
+
+pub shift-none : {m n : ℕ} {cost serves p : List ℕ} → CutReady m n cost p → Shifted m n cost serves p p
+shift-none r = record { long = r .long; up = λ v h. omega arith; high = r .high; sound = λ cap x c s. s }
+
+-- the whole cut, from what its parts found
+pub shift-cut : {m n rows cols : ℕ} {cost serves p p' acc : List ℕ} {key : ℕ} → CutReady m n cost p → Shut n rows cols serves → Lows m n rows cost p acc
+    → Low cols acc p n key → 800000000 ≤ key → Rose m n rows cols (key - 800000000) p p' → Shifted m n cost serves p p'
+shift-cut {m} {n} {rows} {cols} {cost} {serves} {p} {p'} {acc} {key} r shut low far h q = record {
+  long = q .long;
+  up = q .up;
+  high = q .high;
+  sound = λ cap x c s. record {
+    sources = s .sources;
+    terminals = s .terminals;
+    costs = s .costs;
+    slack =
+        cut-slack m n (cells cost) (cells cap) (cells x) (λ i. get p i) (λ j. get p (32 + j)) (λ i. get p' i) (λ j. get p' (32 + j)) (key - 800000000)
+        (λ i. has rows i) (λ j. has cols j) (λ i. bit-most rows i) (λ j. bit-most cols j) (s .slack)
+        (λ i j a b o e. shut .each i j b e (c .serving i j a b o))
+        (λ i j a b e f o. omega (arith, low .low i j a b e, far .each j b f, s .slack i j a b .ahead o))
+        (q .source) (q .terminal);
+    high = q .high;
+  };
+}
+
+pub shift-lift : {m n rows cols : ℕ} {cost serves p p' acc : List ℕ} {key : ℕ} (made : Bool) → CutReady m n cost p → Shut n rows cols serves
+    → Lows m n rows cost p acc → Low cols acc p n key → 800000000 ≤ key → Lifted m n rows cols (key - 800000000) p p' made → Shifted m n cost serves p p'
+shift-lift true r shut low far h q = shift-cut r shut low far h (q .rose refl)
+shift-lift false r shut low far h q = rw (q .same refl) (shift-none r)

@@ -1,0 +1,5 @@
+pub mod PartBits
+pub mod CutSlack
+pub mod CutSteps
+pub mod TreePath
+pub mod Advancing

@@ -1,0 +1,61 @@
+-- `cuts::advance::advance` meets its contract. Assumes nothing.
+use Prim.Native.Nat.{_-_, _≤_}
+use native.Mathlib.Omega.{arith}
+use Rattle.cuts.proofs.Advancing.{advance-start, advance-next, advance-ready}
+use borrow.Author.Needs.{needs}
+use Rattle.cuts.specs.Advance.{Advanced}
+use Rattle.cuts.proofs.advance.advance.Statement.{statement}
+use Rattle.cuts.proofs.advance.advance.Tie as tie
+
+abbrev Inv-loop : tie.InvT-loop
+Inv-loop m n cost x serves₀ pot₀ up₀ rows₀ cols₀ left₀ serves pot up rows cols left = (left ≤ 200) × Advanced m n cost x serves₀ pot₀ serves pot
+
+abbrev μ-loop : tie.MeasureT-loop
+μ-loop m n cost x serves₀ pot₀ up₀ rows₀ cols₀ left₀ serves pot up rows cols left = left
+
+loop-holds : tie.Need-loop-holds Inv-loop μ-loop
+loop-holds c = (omega arith, advance-start (c .pre))
+
+blocked-requires : tie.Need-blocked-requires Inv-loop μ-loop
+blocked-requires c κs = search needs
+
+returns : tie.Need-returns Inv-loop μ-loop
+returns c = c .before .before .before .before .loop .inv .1
+
+step-requires : tie.Need-step-requires Inv-loop μ-loop
+step-requires c κs = advance-ready (c .before .before .before .before .before .before .before .before .before .before .pre) (c .before .before .before .before .before .before .before .before .before .loop .inv .1)
+
+element-write-up : tie.Need-element-write-up Inv-loop μ-loop
+element-write-up c = search needs
+
+returns-2 : tie.Need-returns-2 Inv-loop μ-loop
+returns-2 c = advance-next (c .before .before .before .before .before .before .before .before .before .before .before .loop .inv .1) (c .before .step .ensures)
+
+sub-left : tie.Need-sub-left Inv-loop μ-loop
+sub-left c = search needs
+
+loop-less : tie.Need-loop-less Inv-loop μ-loop
+loop-less c = search needs
+
+loop-again : tie.Need-loop-again Inv-loop μ-loop
+loop-again c = (omega (arith, c .before .before .before .before .before .before .before .before .before .before .before .loop .inv .0), advance-next (c .before .before .before .before .before .before .before .before .before .before .before .loop .inv .1) (c .before .step .ensures))
+
+returns-3 : tie.Need-returns-3 Inv-loop μ-loop
+returns-3 c = c .before .loop .inv .1
+
+pub advance-spec : {M : Type 1} → statement M
+advance-spec =
+    tie.close
+    (tie.spec
+    Inv-loop
+    μ-loop
+    loop-holds
+    blocked-requires
+    returns
+    step-requires
+    element-write-up
+    returns-2
+    sub-left
+    loop-less
+    loop-again
+    returns-3)

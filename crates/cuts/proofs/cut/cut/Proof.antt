@@ -1,0 +1,41 @@
+-- `cuts::cut::cut` meets its contract. Assumes nothing.
+use Prim.Native.Nat.{_-_, _≤_}
+use native.Mathlib.Omega.{arith}
+use Rattle.cuts.proofs.CutSlack.{shift-none, shift-lift}
+use borrow.Author.Tests.{not-false}
+use borrow.Author.Needs.{needs}
+use Rattle.cuts.proofs.cut.cut.Statement.{statement}
+use Rattle.cuts.proofs.cut.cut.Tie as tie
+
+closed-requires : tie.Need-closed-requires
+closed-requires c κs = search needs
+
+returns : tie.Need-returns
+returns c = shift-none (c .before .before .pre)
+
+lows-requires : tie.Need-lows-requires
+lows-requires c κs = search needs
+
+least-requires : tie.Need-least-requires
+least-requires c κs = search needs
+
+returns-2 : tie.Need-returns-2
+returns-2 c = shift-none (c .before .before .before .before .before .before .before .before .before .pre)
+
+lift-requires : tie.Need-lift-requires
+lift-requires c κs = search needs
+
+returns-3 : tie.Need-returns-3
+returns-3 c = shift-lift _ (c .before .before .before .before .before .before .before .before .before .before .before .before .pre) (c .before .before .before .before .before .before .before .before .before .before .before .closed .ensures (not-false _ (c .before .before .before .before .before .before .before .before .before .before .if1 .left))) (c .before .before .before .before .before .before .before .before .lows .ensures) (c .before .before .before .before .before .least .ensures) (c .before .before .before .if2 .left) (c .lift .ensures)
+
+pub cut-spec : {M : Type 1} → statement M
+cut-spec =
+    tie.close
+    (tie.spec
+    closed-requires
+    returns
+    lows-requires
+    least-requires
+    returns-2
+    lift-requires
+    returns-3)

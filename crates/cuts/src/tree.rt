@@ -1,0 +1,92 @@
+// The spanning tree, as arrays of 128 cells, so that an index under % 128 is in bounds: source i is node i, terminal j is node 32 + j, 96 stands for
+// none. The tree hangs from source 0: up[v] is the node above v, rows[v] and cols[v] have the sources and the terminals of the part that hangs
+// from v, v with it. The functions are proved to be safe and to end; nothing is promised of the tree.
+
+// No node.
+pub const NONE: u32 = 96;
+
+// Each node by itself.
+pub fn alone(rows: &mut [u32; 128], cols: &mut [u64; 128]) {
+    for j in 0..64 {
+        if j < 32 {
+            rows[j] = 1u32 << j % 32;
+        }
+        cols[32 + j] = 1u64 << j;
+    }
+}
+
+// A part is taken off the nodes from one up to source 0, where they have it, or put on them, where they have not.
+fn turn_over(
+    from: u32,
+    r: u32,
+    c: u64,
+    up: &[u32; 128],
+    rows: &mut [u32; 128],
+    cols: &mut [u64; 128],
+) {
+    let mut a = from;
+    let mut left: u32 = 96;
+    while 0 < left {
+        if a == 0 {
+            return;
+        }
+        let v = (a % 128) as usize;
+        rows[v] = rows[v] ^ r;
+        cols[v] = cols[v] ^ c;
+        a = up[v];
+        left = left - 1;
+    }
+}
+
+// Turns the way from e up to v round, so that the part r, c that hung by v hangs by e from host.
+fn turn_round(
+    v: u32,
+    e: u32,
+    host: u32,
+    r: u32,
+    c: u64,
+    up: &mut [u32; 128],
+    rows: &mut [u32; 128],
+    cols: &mut [u64; 128],
+) {
+    let mut a = e;
+    let mut above = host;
+    let mut off_rows: u32 = 0;
+    let mut off_cols: u64 = 0;
+    let mut left: u32 = 96;
+    while 0 < left {
+        let w = (a % 128) as usize;
+        let next = up[w];
+        let next_rows = rows[w];
+        let next_cols = cols[w];
+        up[w] = above;
+        rows[w] = r & (r ^ off_rows);
+        cols[w] = c & (c ^ off_cols);
+        if a == v {
+            return;
+        }
+        off_rows = next_rows;
+        off_cols = next_cols;
+        above = a;
+        a = next;
+        left = left - 1;
+    }
+}
+
+// The part below v leaves the node above it and hangs from host by its node e.
+pub fn rehang(
+    v: u32,
+    e: u32,
+    host: u32,
+    up: &mut [u32; 128],
+    rows: &mut [u32; 128],
+    cols: &mut [u64; 128],
+) {
+    let k = (v % 128) as usize;
+    let r = rows[k];
+    let c = cols[k];
+    let above = up[k];
+    turn_over(above, r, c, up, rows, cols);
+    turn_over(host, r, c, up, rows, cols);
+    turn_round(v, e, host, r, c, up, rows, cols);
+}

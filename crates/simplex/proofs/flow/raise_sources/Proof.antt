@@ -1,0 +1,65 @@
+-- `simplex::flow::raise_sources` is safe and ends. Assumes nothing.
+use Prim.Native.Nat.{_-_, _≤_}
+use native.Mathlib.Omega.{arith}
+use borrow.Author.Needs.{needs}
+use Prim.Native.Nat.{_^_, _<_}
+use lib.Bits.{and-le-r}
+use Rattle.simplex.proofs.flow.raise_sources.Statement.{statement}
+use Rattle.simplex.proofs.flow.raise_sources.Tie as tie
+
+abbrev Inv-loop : tie.InvT-loop
+Inv-loop part d p₀ rest₀ p rest = rest < 2 ^ 32
+
+abbrev μ-loop : tie.MeasureT-loop
+μ-loop part d p₀ rest₀ p rest = rest
+
+loop-holds : tie.Need-loop-holds Inv-loop μ-loop
+loop-holds c = search needs
+
+cast-i : tie.Need-cast-i Inv-loop μ-loop
+cast-i c = search needs
+
+mul-p : tie.Need-mul-p Inv-loop μ-loop
+mul-p c = search needs
+
+element-copy-out-p : tie.Need-element-copy-out-p Inv-loop μ-loop
+element-copy-out-p c = search needs
+
+add-p : tie.Need-add-p Inv-loop μ-loop
+add-p c = search needs
+
+mul-p-2 : tie.Need-mul-p-2 Inv-loop μ-loop
+mul-p-2 c = search needs
+
+element-write-p : tie.Need-element-write-p Inv-loop μ-loop
+element-write-p c = search needs
+
+sub-rest : tie.Need-sub-rest Inv-loop μ-loop
+sub-rest c = search needs
+
+loop-less : tie.Need-loop-less Inv-loop μ-loop
+loop-less c = omega (arith, and-le-r (c .before .before .loop .rest) (c .before .before .loop .rest - 1))
+
+loop-again : tie.Need-loop-again Inv-loop μ-loop
+loop-again c = omega (arith, and-le-r (c .before .before .loop .rest) (c .before .before .loop .rest - 1))
+
+returns : tie.Need-returns Inv-loop μ-loop
+returns c = search needs
+
+pub raise-sources-spec : {M : Type 1} → statement M
+raise-sources-spec =
+    tie.close
+    (tie.spec
+    Inv-loop
+    μ-loop
+    loop-holds
+    cast-i
+    mul-p
+    element-copy-out-p
+    add-p
+    mul-p-2
+    element-write-p
+    sub-rest
+    loop-less
+    loop-again
+    returns)

@@ -1,0 +1,95 @@
+-- `simplex::start::rest` is safe and ends. Assumes nothing.
+use Prim.Native.Nat.{_-_, _≤_}
+use native.Mathlib.Omega.{arith}
+use borrow.Author.Needs.{needs}
+use Rattle.simplex.proofs.start.rest.Statement.{statement}
+use Rattle.simplex.proofs.start.rest.Tie as tie
+
+abbrev Inv-loop : tie.InvT-loop
+Inv-loop n first want order₀ up₀ rows₀ cols₀ flow₀ count₀ j₀ order up rows cols flow count j = j ≤ 64
+
+abbrev μ-loop : tie.MeasureT-loop
+μ-loop n first want order₀ up₀ rows₀ cols₀ flow₀ count₀ j₀ order up rows cols flow count j = 64 - j
+
+loop-holds : tie.Need-loop-holds Inv-loop μ-loop
+loop-holds c = search needs
+
+add-if2 : tie.Need-add-if2 Inv-loop μ-loop
+add-if2 c = search needs
+
+mul-if2 : tie.Need-mul-if2 Inv-loop μ-loop
+mul-if2 c = search needs
+
+element-copy-out-if2 : tie.Need-element-copy-out-if2 Inv-loop μ-loop
+element-copy-out-if2 c = search needs
+
+add-hang : tie.Need-add-hang Inv-loop μ-loop
+add-hang c = search needs
+
+cast-hang : tie.Need-cast-hang Inv-loop μ-loop
+cast-hang c = search needs
+
+mul-hang : tie.Need-mul-hang Inv-loop μ-loop
+mul-hang c = search needs
+
+element-copy-out-hang : tie.Need-element-copy-out-hang Inv-loop μ-loop
+element-copy-out-hang c = search needs
+
+hang-requires : tie.Need-hang-requires Inv-loop μ-loop
+hang-requires c κs = search needs
+
+add-order : tie.Need-add-order Inv-loop μ-loop
+add-order c = search needs
+
+cast-order : tie.Need-cast-order Inv-loop μ-loop
+cast-order c = search needs
+
+cast-order-2 : tie.Need-cast-order-2 Inv-loop μ-loop
+cast-order-2 c = search needs
+
+mul-order : tie.Need-mul-order Inv-loop μ-loop
+mul-order c = search needs
+
+element-write-order : tie.Need-element-write-order Inv-loop μ-loop
+element-write-order c = search needs
+
+add-count : tie.Need-add-count Inv-loop μ-loop
+add-count c = search needs
+
+add-j : tie.Need-add-j Inv-loop μ-loop
+add-j c = search needs
+
+loop-less : tie.Need-loop-less Inv-loop μ-loop
+loop-less c = search needs
+
+loop-again : tie.Need-loop-again Inv-loop μ-loop
+loop-again c = search needs
+
+returns : tie.Need-returns Inv-loop μ-loop
+returns c = search needs
+
+pub rest-spec : {M : Type 1} → statement M
+rest-spec =
+    tie.close
+    (tie.spec
+    Inv-loop
+    μ-loop
+    loop-holds
+    add-if2
+    mul-if2
+    element-copy-out-if2
+    add-hang
+    cast-hang
+    mul-hang
+    element-copy-out-hang
+    hang-requires
+    add-order
+    cast-order
+    cast-order-2
+    mul-order
+    element-write-order
+    add-count
+    add-j
+    loop-less
+    loop-again
+    returns)

@@ -1,0 +1,155 @@
+// The simplex: from a first tree, pivot after pivot, to one with no lane that is too cheap; and the plan and the potentials of a tree.
+ghost use mathlib.Core.Path.{_≡_};
+ghost use lib.ListN.{length};
+use super::flow::pivot;
+use super::price::least;
+use super::start::start;
+use super::tree::lane;
+
+// The source that is looked at, and how many in a row had no lane that is too cheap.
+struct Turn {
+    row: u32,
+    clean: u32,
+}
+
+fn next(row: u32, m: u32) -> u32 {
+    let r = row % 32 + 1;
+    if r == m { 0 } else { r }
+}
+
+// A pivot at the source's cheapest lane, where it is too cheap; else on to the next source.
+fn step(
+    m: u32,
+    now: Turn,
+    cost: &[u32; 2048],
+    up: &mut [u32; 128],
+    rows: &mut [u32; 128],
+    cols: &mut [u64; 128],
+    flow: &mut [u32; 128],
+    p: &mut [u32; 32],
+    key: &mut [u32; 64],
+) -> Turn {
+    let row = now.row;
+    let l = least(row, cost, key);
+    let s = l / 64 + p[(row % 32) as usize] % 33_554_432;
+    if 33_554_432 <= s {
+        return Turn {
+            row: next(row, m),
+            clean: now.clean % 64 + 1,
+        };
+    }
+    pivot(
+        row,
+        32 + l % 64,
+        33_554_432 - s,
+        up,
+        rows,
+        cols,
+        flow,
+        p,
+        key,
+    );
+    Turn { row, clean: 0 }
+}
+
+// Until no source has a lane that is too cheap, 20,000 turns at most.
+fn simplex(
+    m: u32,
+    cost: &[u32; 2048],
+    up: &mut [u32; 128],
+    rows: &mut [u32; 128],
+    cols: &mut [u64; 128],
+    flow: &mut [u32; 128],
+    p: &mut [u32; 32],
+    key: &mut [u32; 64],
+) {
+    let mut now = Turn { row: 0, clean: 0 };
+    let mut left: u32 = 20_000;
+    while 0 < left {
+        if m <= now.clean {
+            return;
+        }
+        now = step(m, now, cost, up, rows, cols, flow, p, key);
+        left = left - 1;
+    }
+}
+
+// What the lanes of the tree carry.
+fn carried(up: &[u32; 128], flow: &[u32; 128], x: &mut [u32; 2048])
+    requires { ⌜ length (now x) ≡ 2048 ⌝ }
+    ensures { λ _. ⌜ length (now (x .exit)) ≡ 2048 ⌝ }
+{
+    for v in 0..96 {
+        let u = up[v];
+        let k = lane(v as u32, u);
+        x[k] = if u < 96 { flow[v] } else { x[k] };
+    }
+}
+
+// The potentials of the sources, from 600,000,000 on.
+fn source_potentials(p: &[u32; 32], pot: &mut [u32; 96])
+    requires { ⌜ length (now pot) ≡ 96 ⌝ }
+    ensures { λ _. ⌜ length (now (pot .exit)) ≡ 96 ⌝ }
+{
+    for i in 0..32 {
+        pot[i] = 600_000_000 + p[i] % 33_554_432;
+    }
+}
+
+// The same of the terminals.
+fn terminal_potentials(key: &[u32; 64], pot: &mut [u32; 96])
+    requires { ⌜ length (now pot) ≡ 96 ⌝ }
+    ensures { λ _. ⌜ length (now (pot .exit)) ≡ 96 ⌝ }
+{
+    for j in 0..64 {
+        pot[32 + j] = 633_554_432 - key[j] % 2_147_483_648 / 64;
+    }
+}
+
+// A cheapest plan at these amounts into x, where there is one, and its potentials.
+pub fn solve(
+    m: usize,
+    n: usize,
+    cost: &[u32; 2048],
+    amounts: &[u32; 32],
+    demand: &[u32; 96],
+    x: &mut [u32; 2048],
+    pot: &mut [u32; 96],
+)
+    ensures { λ _. ⌜ (length (now (x .exit)) ≡ 2048) × (length (now (pot .exit)) ≡ 96) ⌝ }
+{
+    let mut up = [0u32; 128];
+    let mut rows = [0u32; 128];
+    let mut cols = [0u64; 128];
+    let mut flow = [0u32; 128];
+    let mut p = [0u32; 32];
+    let mut key = [0u32; 64];
+    start(
+        m,
+        n,
+        cost,
+        amounts,
+        demand,
+        &mut up,
+        &mut rows,
+        &mut cols,
+        &mut flow,
+        &mut p,
+        &mut key,
+    );
+    simplex(
+        (m % 64) as u32,
+        cost,
+        &mut up,
+        &mut rows,
+        &mut cols,
+        &mut flow,
+        &mut p,
+        &mut key,
+    );
+    *x = [0u32; 2048];
+    carried(&up, &flow, x);
+    *pot = [600_000_000u32; 96];
+    source_potentials(&p, pot);
+    terminal_potentials(&key, pot);
+}

@@ -1,0 +1,142 @@
+// The spanning tree, and what one change of it does.
+ghost use Prim.Native.Nat.{_<_};
+
+// No node.
+pub const NONE: u32 = 96;
+
+// The cell of the lane between a source and a terminal, whichever of v and u it is.
+pub fn lane(v: u32, u: u32) -> usize
+    ensures { λ r. ⌜ r < 2048 ⌝ }
+{
+    let source = if v < 32 { v } else { u };
+    let terminal = if v < 32 { u } else { v };
+    ((source % 32) * 64 + (terminal % 128 + 32) % 64) as usize
+}
+
+// Hangs a node, with the part below it, from host by a lane that carries amount.
+pub fn hang(
+    child: u32,
+    host: u32,
+    amount: u32,
+    up: &mut [u32; 128],
+    rows: &mut [u32; 128],
+    cols: &mut [u64; 128],
+    flow: &mut [u32; 128],
+) {
+    let v = (child % 128) as usize;
+    let u = (host % 128) as usize;
+    up[v] = host;
+    flow[v] = amount;
+    rows[u] = rows[u] | rows[v];
+    cols[u] = cols[u] | cols[v];
+}
+
+// Takes a part off from the node where it hung and from those above it, below stop.
+fn take_off(
+    from: u32,
+    stop: u32,
+    r: u32,
+    c: u64,
+    up: &[u32; 128],
+    rows: &mut [u32; 128],
+    cols: &mut [u64; 128],
+) {
+    let mut a = from;
+    let mut left: u32 = 96;
+    while 0 < left {
+        if a == stop {
+            return;
+        }
+        let v = (a % 128) as usize;
+        rows[v] = rows[v] & (u32::MAX - r);
+        cols[v] = cols[v] & (u64::MAX - c);
+        a = up[v];
+        left = left - 1;
+    }
+}
+
+// Adds a part to the node where it hangs now and to those above it, below stop.
+fn put_on(
+    from: u32,
+    stop: u32,
+    r: u32,
+    c: u64,
+    up: &[u32; 128],
+    rows: &mut [u32; 128],
+    cols: &mut [u64; 128],
+) {
+    let mut a = from;
+    let mut left: u32 = 96;
+    while 0 < left {
+        if a == stop {
+            return;
+        }
+        let v = (a % 128) as usize;
+        rows[v] = rows[v] | r;
+        cols[v] = cols[v] | c;
+        a = up[v];
+        left = left - 1;
+    }
+}
+
+// Turns the way from e up to v round, so that the part r, c that hung by v hangs by e from host.
+fn turn_round(
+    v: u32,
+    e: u32,
+    host: u32,
+    amount: u32,
+    r: u32,
+    c: u64,
+    up: &mut [u32; 128],
+    rows: &mut [u32; 128],
+    cols: &mut [u64; 128],
+    flow: &mut [u32; 128],
+) {
+    let mut a = e;
+    let mut above = host;
+    let mut moved = amount;
+    let mut off_rows: u32 = 0;
+    let mut off_cols: u64 = 0;
+    let mut left: u32 = 96;
+    while 0 < left {
+        let w = (a % 128) as usize;
+        let next = up[w];
+        let next_rows = rows[w];
+        let next_cols = cols[w];
+        let next_flow = flow[w];
+        up[w] = above;
+        flow[w] = moved;
+        rows[w] = r & (r ^ off_rows);
+        cols[w] = c & (c ^ off_cols);
+        if a == v {
+            return;
+        }
+        off_rows = next_rows;
+        off_cols = next_cols;
+        moved = next_flow;
+        above = a;
+        a = next;
+        left = left - 1;
+    }
+}
+
+// The part below v leaves the node above it and hangs from host by its node e; nothing changes from stop upwards.
+pub fn rehang(
+    v: u32,
+    e: u32,
+    host: u32,
+    stop: u32,
+    amount: u32,
+    up: &mut [u32; 128],
+    rows: &mut [u32; 128],
+    cols: &mut [u64; 128],
+    flow: &mut [u32; 128],
+) {
+    let k = (v % 128) as usize;
+    let r = rows[k];
+    let c = cols[k];
+    let from = up[k];
+    take_off(from, stop, r, c, up, rows, cols);
+    put_on(host, stop, r, c, up, rows, cols);
+    turn_round(v, e, host, amount, r, c, up, rows, cols, flow);
+}

@@ -1,0 +1,44 @@
+-- `slackcheck::check::good` meets its contract. Assumes nothing.
+use Prim.Native.Nat.{_-_, _≤_}
+use native.Mathlib.Omega.{arith}
+use mathlib.Core.Path.{_≡_, sym}
+use mathlib.Core.Bool.{true≢false}
+use Prim.Native.Nat.{ℕ, _+_, _<_}
+use borrow.Author.Count.{below-more}
+use Rattle.residual.specs.Cells.{cells}
+use Rattle.residual.specs.Network.{get}
+use Rattle.transport.specs.Plan.{row, col}
+use Rattle.slackcheck.specs.Checked.{Good, RowsChecked, ColumnsChecked}
+use Rattle.slackcheck.proofs.Checking.{not-false, row-none, row-next, col-none, col-next}
+use borrow.Author.Needs.{needs}
+use Rattle.slackcheck.proofs.check.good.Statement.{statement}
+use Rattle.slackcheck.proofs.check.good.Tie as tie
+
+levels-good-requires : tie.Need-levels-good-requires
+levels-good-requires c κs = search needs
+
+returns : tie.Need-returns
+returns c = λ e. absurd (true≢false (sym e))
+
+rows-good-requires : tie.Need-rows-good-requires
+rows-good-requires c κs = (c .before .before .pre .0, (c .before .before .pre .1, c .before .levels-good .ensures (not-false _ (c .if1 .left))))
+
+returns-2 : tie.Need-returns-2
+returns-2 c = λ e. absurd (true≢false (sym e))
+
+columns-good-requires : tie.Need-columns-good-requires
+columns-good-requires c κs = search needs
+
+returns-3 : tie.Need-returns-3
+returns-3 c = λ e. record { levels = c .before .before .before .before .levels-good .ensures (not-false _ (c .before .before .before .if1 .left)); rows = c .before .before .rows-good .ensures (not-false _ (c .before .if2 .left)); columns = c .columns-good .ensures e }
+
+pub good-spec : {M : Type 1} → statement M
+good-spec =
+    tie.close
+    (tie.spec
+    levels-good-requires
+    returns
+    rows-good-requires
+    returns-2
+    columns-good-requires
+    returns-3)

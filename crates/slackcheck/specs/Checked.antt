@@ -1,0 +1,50 @@
+-- What the check of a plan x with potentials p finds: amounts of the sources, demands of the terminals, every lane slack. Assumes nothing.
+use mathlib.Core.Path.{_≡_}
+use mathlib.Core.List.{List}
+use Prim.Native.Nat.{ℕ, _+_, _≤_, _<_}
+use Rattle.transport.specs.Plan.{Table, row, col}
+use Rattle.transport.specs.Curve.{amountsAt}
+use Rattle.transport.specs.theory.Slackness.{Lane}
+use Rattle.residual.specs.Cells.{cells}
+use Rattle.residual.specs.Network.{get}
+
+-- a lane of unit cost c, ceiling u and amount x between potentials p and q: within its ceiling and slack
+pub record Good (c u x p q : ℕ) : Type 0 where
+  pub under : x ≤ u
+  pub slack : Lane c u x p q
+
+-- the potentials are within the bounds of step 1
+pub record Levels (p : List ℕ) : Type 0 where
+  pub low : (v : ℕ) → v < 96 → 416000000 ≤ get p v
+  pub high : (v : ℕ) → v < 96 → get p v ≤ 800000000
+
+-- what the check asks
+pub record CheckReady (m n : ℕ) (c : Table) : Type 0 where
+  pub sources : m ≤ 32
+  pub terminals : n ≤ 64
+  pub costs : (i j : ℕ) → i < m → j < n → c i j ≤ 2000000
+
+-- of one source
+pub record RowReady (n : ℕ) (c : Table) (p : List ℕ) (i : ℕ) : Type 0 where
+  pub source : i < 32
+  pub terminals : n ≤ 64
+  pub costs : (j : ℕ) → j < n → c i j ≤ 2000000
+  pub high : get p i ≤ 800000000
+
+-- source i sends its amount on good lanes
+pub record RowChecked (n : ℕ) (c u x : Table) (p : List ℕ) (i amount : ℕ) : Type 0 where
+  pub sent : row n x i ≡ amount
+  pub lanes : (j : ℕ) → j < n → Good (c i j) (u i j) (x i j) (get p i) (get p (32 + j))
+
+-- the sources below m do, and the terminals below n get their demands
+abbrev pub RowsChecked : ℕ → Table → Table → Table → List ℕ → (ℕ → ℕ) → ℕ → Type 0
+RowsChecked n c u x p a m = (i : ℕ) → i < m → RowChecked n c u x p i (a i)
+
+abbrev pub ColumnsChecked : ℕ → Table → List ℕ → ℕ → Type 0
+ColumnsChecked m x demand n = (j : ℕ) → j < n → col m x j ≡ get demand (32 + j)
+
+-- at split y of what both plants make, d
+pub record Checked (m n : ℕ) (cost cap supply demand : List ℕ) (d y : ℕ) (x p : List ℕ) : Type 0 where
+  pub levels : Levels p
+  pub rows : RowsChecked n (cells cost) (cells cap) (cells x) p (amountsAt d (λ i. get supply i) y) m
+  pub columns : ColumnsChecked m (cells x) demand n

@@ -1,0 +1,174 @@
+// The check of a plan and its potentials.
+ghost use mathlib.Core.Path.{_≡_};
+ghost use mathlib.Core.Bool.{true};
+ghost use Prim.Native.Nat.{ℕ, _≤_, _<_};
+ghost use Rattle.transport.specs.Plan.{row, col};
+ghost use Rattle.transport.specs.Curve.{amountsAt};
+ghost use Rattle.residual.specs.Cells.{cells};
+ghost use Rattle.residual.specs.Network.{get};
+ghost use Rattle.slackcheck.specs.Checked.{Good, Levels, CheckReady, RowReady, RowChecked, RowsChecked, ColumnsChecked, Checked};
+
+// Is a lane within its ceiling and slack: no terminal's potential is above its source's and the unit cost, and it is equal where drums go?
+fn lane_good(cost: u32, cap: u32, amount: u32, p: u32, q: u32) -> bool
+    requires { ⌜ (cost ≤ 2000000) × (p ≤ 800000000) ⌝ }
+    ensures { λ r. ⌜ (r ≡ true → Good cost cap amount p q) ⌝ }
+{
+    if cap < amount {
+        return false;
+    }
+    if cost + p < q {
+        return false;
+    }
+    if amount == 0 {
+        return true;
+    }
+    if q < cost + p {
+        return false;
+    }
+    true
+}
+
+// Does source i send this amount, on lanes that are slack?
+fn row_good(
+    n: usize,
+    i: usize,
+    amount: u32,
+    cost: &[u32; 2048],
+    cap: &[u32; 2048],
+    x: &[u32; 2048],
+    pot: &[u32; 96],
+) -> bool
+    requires { ⌜ RowReady n (cells (now cost)) (now pot) i ⌝ }
+    ensures { λ r. ⌜ (r ≡ true → RowChecked n (cells (now (cost .entry))) (cells (now (cap .entry))) (cells (now (x .entry))) (now (pot .entry)) i amount) ⌝ }
+{
+    let p = pot[i];
+    let mut left = amount;
+    for j in 0..n {
+        let k = i * 64 + j;
+        let part = x[k];
+        if !lane_good(cost[k], cap[k], part, p, pot[32 + j]) {
+            return false;
+        }
+        if left < part {
+            return false;
+        }
+        left = left - part;
+    }
+    if 0 < left {
+        return false;
+    }
+    true
+}
+
+// What source i sends at a split of what both plants make.
+fn amount_at(i: usize, split: u32, made: u32, supply: &[u32; 32]) -> u32
+    requires { ⌜ (i < 32) × (split ≤ made) ⌝ }
+    ensures { λ r. ⌜ r ≡ amountsAt made (λ k. get (now (supply .entry)) k) split i ⌝ }
+{
+    if i == 0 {
+        return split;
+    }
+    if i == 1 {
+        return made - split;
+    }
+    supply[i]
+}
+
+// Do all sources?
+fn rows_good(
+    m: usize,
+    n: usize,
+    split: u32,
+    made: u32,
+    supply: &[u32; 32],
+    cost: &[u32; 2048],
+    cap: &[u32; 2048],
+    x: &[u32; 2048],
+    pot: &[u32; 96],
+) -> bool
+    requires { ⌜ CheckReady m n (cells (now cost)) ⌝ }
+    requires { ⌜ split ≤ made ⌝ }
+    requires { ⌜ Levels (now pot) ⌝ }
+    ensures { λ r. ⌜ (r ≡ true → RowsChecked n (cells (now (cost .entry))) (cells (now (cap .entry))) (cells (now (x .entry))) (now (pot .entry)) (amountsAt made (λ k. get (now (supply .entry)) k) split) m) ⌝ }
+{
+    for i in 0..m {
+        let amount = amount_at(i, split, made, supply);
+        if !row_good(n, i, amount, cost, cap, x, pot) {
+            return false;
+        }
+    }
+    true
+}
+
+// Does terminal j get this amount?
+fn column_good(m: usize, j: usize, amount: u32, x: &[u32; 2048]) -> bool
+    requires { ⌜ (m ≤ 32) × (j < 64) ⌝ }
+    ensures { λ r. ⌜ (r ≡ true → col m (cells (now (x .entry))) j ≡ amount) ⌝ }
+{
+    let mut left = amount;
+    for i in 0..m {
+        let part = x[i * 64 + j];
+        if left < part {
+            return false;
+        }
+        left = left - part;
+    }
+    if 0 < left {
+        return false;
+    }
+    true
+}
+
+// Do all terminals get their demands?
+fn columns_good(m: usize, n: usize, demand: &[u32; 96], x: &[u32; 2048]) -> bool
+    requires { ⌜ (m ≤ 32) × (n ≤ 64) ⌝ }
+    ensures { λ r. ⌜ (r ≡ true → ColumnsChecked m (cells (now (x .entry))) (now (demand .entry)) n) ⌝ }
+{
+    for j in 0..n {
+        if !column_good(m, j, demand[32 + j], x) {
+            return false;
+        }
+    }
+    true
+}
+
+// Are all potentials where step 1 leaves them?
+fn levels_good(pot: &[u32; 96]) -> bool
+    ensures { λ r. ⌜ (r ≡ true → Levels (now (pot .entry))) ⌝ }
+{
+    for v in 0..96 {
+        if pot[v] < 416_000_000 {
+            return false;
+        }
+        if 800_000_000 < pot[v] {
+            return false;
+        }
+    }
+    true
+}
+
+// Is x a plan at this split within the ceilings, and slack?
+pub fn good(
+    m: usize,
+    n: usize,
+    split: u32,
+    made: u32,
+    supply: &[u32; 32],
+    demand: &[u32; 96],
+    cost: &[u32; 2048],
+    cap: &[u32; 2048],
+    x: &[u32; 2048],
+    pot: &[u32; 96],
+) -> bool
+    requires { ⌜ CheckReady m n (cells (now cost)) ⌝ }
+    requires { ⌜ split ≤ made ⌝ }
+    ensures { λ r. ⌜ (r ≡ true → Checked m n (now (cost .entry)) (now (cap .entry)) (now (supply .entry)) (now (demand .entry)) made split (now (x .entry)) (now (pot .entry))) ⌝ }
+{
+    if !levels_good(pot) {
+        return false;
+    }
+    if !rows_good(m, n, split, made, supply, cost, cap, x, pot) {
+        return false;
+    }
+    columns_good(m, n, demand, x)
+}
