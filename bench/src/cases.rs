@@ -14,6 +14,11 @@ pub enum Kind {
 impl Kind {
     pub const ALL: [Kind; 6] = [Kind::Uniform, Kind::Few, Kind::Two, Kind::Plane, Kind::Rebates, Kind::Ceilings];
 
+    /// Is it one of the kinds that the goals are about?
+    pub fn in_goals(self) -> bool {
+        matches!(self, Kind::Uniform | Kind::Few | Kind::Plane)
+    }
+
     pub fn name(self) -> &'static str {
         match self {
             Kind::Uniform => "uniform",

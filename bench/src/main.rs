@@ -1,4 +1,4 @@
-//! Measures the proved planner against the same method in plain Rust and against LEMON's NetworkSimplex, on the same cases in
+//! Measures the proved planner against one in plain Rust that has path searches alone and against LEMON's NetworkSimplex, on the same cases in
 //! one run, and prints a table of ratios.
 
 mod cases;
@@ -59,7 +59,7 @@ fn preface(cases: u64, repeats: u32) -> String {
          (all splits: one pass). Release builds (-O3), no processor-specific flags, answers compared cell by cell and split by split.\n\
          Buffers: the lent slices are cleared before each call, outside the clock; the planners' own working arrays are filled inside it.\n\
          LEMON: graph, costs and solver are made before the clock starts; a solve sets the supplies of one split and runs.\n\
-         a = proved planner, whole answer; b = same method in plain Rust; c = LEMON NetworkSimplex, one split; d = LEMON, every split.\n"
+         a = proved planner, whole answer; b = by path searches alone, in plain Rust; c = LEMON NetworkSimplex, one split; d = LEMON, every split.\n"
     )
 }
 
@@ -85,18 +85,29 @@ fn row(line: &Line) -> String {
     )
 }
 
-/// What was aimed at: at 32 x 64 no longer than one solve of one split, and 500 times faster than split by split.
+/// What is aimed at for costs that are uniform, of few values or distances in a plane: a whole answer in 0.7 of one solve of one split
+/// at 32 x 64 and 3,000 splits, in 0.9 with 4,000 splits and at 16 x 32; 500 times faster than split by split, of whatever kind.
 fn goals(lines: &[Line]) -> String {
-    let full: Vec<&Times> =
-        lines.iter().filter(|l| l.shape.m == 32 && l.shape.steps == 3_000).map(|l| &l.times).collect();
-    let worst = full.iter().map(|t| t.proved / t.one).fold(0.0, f64::max);
-    let least = full.iter().map(|t| t.all / t.proved).fold(f64::INFINITY, f64::min);
     let met = |yes: bool| if yes { "met" } else { "not met" };
-    format!(
-        "Goals at 32x64, u - l = 3000: a / c at most 1: {} (worst {worst:.2}); d / a at least 500: {} (least {least:.0}).",
-        met(worst <= 1.0),
-        met(least >= 500.0)
-    )
+    let worst = |m: usize, steps: u64| {
+        let one = |l: &&Line| l.shape.m == m && l.shape.steps == steps && l.shape.kind.in_goals();
+        lines.iter().filter(one).map(|l| l.times.proved / l.times.one).fold(0.0, f64::max)
+    };
+    let least = lines
+        .iter()
+        .filter(|l| l.shape.m == 32 && l.shape.steps == 3_000)
+        .map(|l| l.times.all / l.times.proved)
+        .fold(f64::INFINITY, f64::min);
+    let mut text = String::from("Goals:");
+    for (m, steps, most) in [(32, 3_000, 0.7), (32, 4_000, 0.9), (16, 3_000, 0.9)] {
+        let ratio = worst(m, steps);
+        text += &format!(
+            " a / c at most {most} at {m}x{}, u - l = {steps}: {} (worst {ratio:.2});",
+            2 * m,
+            met(ratio <= most)
+        );
+    }
+    text + &format!(" d / a at least 500 at 32x64, u - l = 3000: {} (least {least:.0}).", met(least >= 500.0))
 }
 
 fn csv(lines: &[Line]) -> String {

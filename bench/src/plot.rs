@@ -13,7 +13,7 @@ struct Series {
 const SERIES: [Series; 4] = [
     Series { name: "LEMON, every split", colour: "#b45f06", time: |t| t.all },
     Series { name: "proved planner, whole answer", colour: "#1c4587", time: |t| t.proved },
-    Series { name: "same method in plain Rust", colour: "#6aa84f", time: |t| t.plain },
+    Series { name: "path searches alone, plain Rust", colour: "#6aa84f", time: |t| t.plain },
     Series { name: "LEMON, one split", colour: "#cc0000", time: |t| t.one },
 ];
 

@@ -1,5 +1,6 @@
-//! The proved planner's method in plain Rust: the same functions, arrays and widths, with Rust's own checks in place of the
-//! proofs. It answers as the proved one does, in the same cells.
+//! The planner in plain Rust with path searches alone, in step 1 and from split to split: what the proved planner falls back to where
+//! a check of the simplex or of its tree fails. The same functions, arrays and widths, with Rust's own checks in place of the proofs.
+//! It answers as the proved one does, in the same cells.
 
 mod canon;
 mod engine;
