@@ -5,8 +5,8 @@ use Prim.Native.Nat.{ℕ, zero, suc, _≤_, _<_}
 use native.Mathlib.Omega.{arith}
 use lib.ListN.{length, set, drop, length-set}
 use Rattle.transport.specs.Curve.{written}
-use Rattle.network.specs.Reduce.{cells}
-use Rattle.network.proofs.Cells.{cells-length}
+use Rattle.flowproblem.specs.Reduce.{cells}
+use Rattle.flowproblem.proofs.Cells.{cells-length}
 
 module _ {A : Type 0} where
   -- the first i cells are f's, the later ones as they were

@@ -1,3 +1,1 @@
-pub mod CountLaws
-pub mod FoundLaws
 pub mod Front

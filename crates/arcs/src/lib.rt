@@ -1,28 +1,20 @@
 // The least-cost flow of a network in DIMACS form, with the arcs in a lent slice of structs.
-use crate::find::Found;
-use crate::find::answer_in;
-use crate::find::arc_at;
-use crate::find::count_in;
 use crate::find::find;
+use arclist::Arc;
+use arclist::find::Found;
+use arclist::find::answer_in;
+use arclist::find::arc_at;
+use arclist::find::count_in;
 use network::Answer;
 ghost use mathlib.Core.Path.{_≡_};
 ghost use Prim.Native.Nat.{_≤_};
 ghost use lib.ListN.{length};
 ghost use Rattle.transport.specs.Curve.{written};
 ghost use Rattle.network.specs.Judged.{outcome};
-ghost use Rattle.network.specs.Reduce.{cells};
-ghost use Rattle.arcs.specs.Lent.{arcAt, ArcsAnswered};
+ghost use Rattle.flowproblem.specs.Reduce.{cells};
+ghost use Rattle.arclist.specs.Lent.{arcAt, ArcsAnswered};
 
-pub mod count;
 pub mod find;
-
-// An arc as its line says it: the numbers of its two nodes, from 1, its ceiling and its cost.
-pub struct Arc {
-    pub start: u64,
-    pub end: u64,
-    pub ceiling: u64,
-    pub cost: i64,
-}
 
 // Writes the first n arcs that were found to the front of the slice.
 fn write(arcs: &mut [Arc], found: Found, n: usize)

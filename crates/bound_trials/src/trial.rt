@@ -10,8 +10,8 @@ use crate::expect::first_split;
 use crate::expect::others;
 use crate::number::first_cells;
 use crate::number::level;
-use tablebounds::Answer;
 use tablebounds::possible_splits;
+use tablemarks::Answer;
 
 // The number of the refusal, 0 of none; whether the answer is the one wanted; how many splits there are, how many can be the cheapest, and
 // how many tables were tried.

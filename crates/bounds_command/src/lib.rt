@@ -4,12 +4,12 @@ use boundsfile::bounds_files;
 use boundsfile::low_stands;
 use casefile::planned::Printed;
 use check::same;
-use command::file::file_room;
-use command::file::first;
-use command::file::read_file;
-use command::message::say;
-use command::message::say_with;
 use command::refusal::explain;
+use filebytes::file::file_room;
+use filebytes::file::first;
+use filebytes::file::read_file;
+use filebytes::message::say;
+use filebytes::message::say_with;
 ghost use mathlib.Core.Path.{_≡_};
 ghost use lib.ListN.{length};
 

@@ -15,24 +15,25 @@ use lib.Seq.{sets, take-at, take-all, sets-eq, length-sets, length-take-le}
 use Rattle.transport.specs.Listing.{upFrom}
 use Rattle.transport.proofs.ListMembers.{upFrom-length}
 use Rattle.csvtext.specs.Text.{refusalText}
-use Rattle.csvtext.specs.Bounds.{boundsText, MarksFit}
+use Rattle.answertext.specs.Bounds.{boundsText, MarksFit}
 use Rattle.problem.specs.Case.{Case, supply, leastSplit, greatestSplit}
 use Rattle.problem.specs.Outcome.{firstFrom}
 use Rattle.problem.specs.Outcome as planner
-use Rattle.casefile.specs.declared.case.CaseAnswer.{CaseAnswer}
-use Rattle.casefile.specs.declared.case.CaseAnswer.the-variants as answers
+use Rattle.filecase.specs.declared.case.CaseAnswer.{CaseAnswer}
+use Rattle.filecase.specs.declared.case.CaseAnswer.the-variants as answers
 use Rattle.casefile.specs.declared.planned.Printed.{Printed}
-use Rattle.casefile.specs.CaseFiles.{caseAnswer, entriesIn, CaseStored}
-use Rattle.casefile.specs.Printed.{recordsOf, filedCase, fileCase, Told}
+use Rattle.filecase.specs.CaseFiles.{caseAnswer, entriesIn, CaseStored, recordsOf}
+use Rattle.filecase.specs.Entries.{entriesOf}
+use Rattle.casefile.specs.Printed.{filedCase, fileCase, Told}
 use Rattle.casefile.specs.Cuts.{cutCase, Stored}
-use Rattle.casefile.proofs.CaseLengths.{both-stand}
+use Rattle.filecase.proofs.CaseLengths.{both-stand}
 use Rattle.casefile.proofs.FileRefusals.{Alike}
 use Rattle.planner.proofs.Judging.{cut-ceilings}
 use Rattle.casefile.proofs.StoredCase.{few-lanes, cut-alike}
-use Rattle.tablebounds.specs.Tables.{after, leastTotal, mark, marks}
-use Rattle.tablebounds.specs.Answers.{Outcome, known, refused, badEntry, place28, laterOf, outcomeOf, Answered}
-use Rattle.tablebounds.proofs.Planned.{Ready, ready}
-use Rattle.boundsfile.specs.Bounded.{entriesOf, caseOutcome, filesThen, filesOutcome, OutcomePrinted, CasePrinted, HighPrinted, FilesPrinted}
+use Rattle.tablemarks.specs.Tables.{after, leastTotal, mark, marks}
+use Rattle.tablemarks.specs.Answers.{Outcome, known, refused, badEntry, place28, laterOf, outcomeOf, Answered}
+use Rattle.tablemarks.proofs.Planned.{Ready, ready}
+use Rattle.boundsfile.specs.Bounded.{caseOutcome, filesThen, filesOutcome, OutcomePrinted, CasePrinted, HighPrinted, FilesPrinted}
 
 -- ---- an outcome
 

@@ -6,21 +6,16 @@ use mathlib.Core.List.{List}
 use Prim.Native.Nat.{ℕ}
 use lib.IntN.{ℤ}
 use Rattle.csvtext.specs.Text.{refusalText}
-use Rattle.csvtext.specs.Bounds.{boundsText}
+use Rattle.answertext.specs.Bounds.{boundsText}
 use Rattle.problem.specs.Case as planner-case
-use Rattle.caseform.specs.declared.Kind.the-variants.{Production}
-use Rattle.casefile.specs.declared.case.CaseAnswer.{CaseAnswer}
-use Rattle.casefile.specs.declared.case.CaseAnswer.the-variants.{Case, Refused}
+use Rattle.filecase.specs.declared.case.CaseAnswer.{CaseAnswer}
+use Rattle.filecase.specs.declared.case.CaseAnswer.the-variants.{Case, Refused}
 use Rattle.casefile.specs.declared.planned.Printed.{Printed}
-use Rattle.caseform.specs.Records.{formOf}
-use Rattle.casefile.specs.CaseFiles.{entriesIn, caseAnswer}
-use Rattle.casefile.specs.Printed.{recordsOf, fileCase, sourcesTold, terminalsTold, Told}
-use Rattle.tablebounds.specs.Tables.{marks}
-use Rattle.tablebounds.specs.Answers.{Outcome, known, refused, outcomeOf}
-
--- the entries of a production file
-unfoldable pub entriesOf : List ℕ → List ℕ
-entriesOf p = entriesIn (recordsOf (formOf Production p))
+use Rattle.filecase.specs.CaseFiles.{caseAnswer}
+use Rattle.filecase.specs.Entries.{entriesOf}
+use Rattle.casefile.specs.Printed.{fileCase, sourcesTold, terminalsTold, Told}
+use Rattle.tablemarks.specs.Tables.{marks}
+use Rattle.tablemarks.specs.Answers.{Outcome, known, refused, outcomeOf}
 
 -- the outcome of a case with a high table; there is a cell for each split of the longest table
 abbrev pub caseOutcome : planner-case.Case → List ℕ → Outcome

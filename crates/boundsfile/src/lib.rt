@@ -2,22 +2,22 @@
 ghost use mathlib.Core.Path.{_≡_};
 ghost use Prim.Native.Nat.{min, _≤_};
 ghost use lib.ListN.{length, take};
-ghost use Rattle.csvtext.specs.Bounds.{boundsText, MarksFit};
-ghost use Rattle.casefile.specs.CaseFiles.{caseAnswer};
+ghost use Rattle.answertext.specs.Bounds.{boundsText, MarksFit};
+ghost use Rattle.filecase.specs.CaseFiles.{caseAnswer};
 ghost use Rattle.casefile.specs.Printed.{filedCase, Told};
 ghost use Rattle.casefile.specs.Cuts.{cutCase, Stored};
 ghost use Rattle.boundsfile.specs.Bounded.{CasePrinted, HighPrinted, FilesPrinted, bothStand};
-use casefile::case::CaseAnswer;
-use casefile::case::read_case;
+use answertext::bounds::put_bounds;
 use casefile::planned::Printed;
-use casefile::planned::cost_cells;
-use casefile::planned::entry_cells;
-use casefile::planned::lane_ceilings;
 use casefile::planned::print_refusal;
-use casefile::planned::stop_cells;
-use csvtext::bounds::put_bounds;
-use tablebounds::Answer;
+use filecase::case::CaseAnswer;
+use filecase::case::read_case;
+use filecase::cells::cost_cells;
+use filecase::cells::entry_cells;
+use filecase::cells::lane_ceilings;
+use filecase::cells::stop_cells;
 use tablebounds::possible_splits;
+use tablemarks::Answer;
 
 fn smaller(a: usize, b: usize) -> usize
     ensures { λ r. ⌜ r ≡ min a b ⌝ }

@@ -6,10 +6,10 @@ use lib.ListN.{length}
 use lib.Seq.{sets}
 use Rattle.problem.specs.Case as planner-case
 use Rattle.problem.specs.Outcome.{Outcome, planned, refused, outcomeOf}
-use Rattle.casefile.specs.declared.case.CaseAnswer.{CaseAnswer}
-use Rattle.casefile.specs.declared.case.CaseAnswer.the-variants.{Case}
+use Rattle.filecase.specs.declared.case.CaseAnswer.{CaseAnswer}
+use Rattle.filecase.specs.declared.case.CaseAnswer.the-variants.{Case}
 use Rattle.casefile.specs.declared.planned.Printed.{Printed}
-use Rattle.casefile.specs.CaseFiles.{caseAnswer}
+use Rattle.filecase.specs.CaseFiles.{caseAnswer}
 use Rattle.casefile.specs.Printed.{fileCase, fileOutcome, outcomeFor, OutcomePrinted, FilesPrinted, outcomeText, filesText}
 
 -- the text of an outcome, and its length

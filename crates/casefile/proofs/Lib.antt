@@ -1,12 +1,4 @@
-pub mod FieldIntegers
-pub mod FieldCounts
-pub mod FieldLoop
-pub mod Examples
-pub mod RecordShares
-pub mod TariffCase
-pub mod CaseLengths
 pub mod FileRefusals
 pub mod Printing
 pub mod EqualCases
 pub mod StoredCase
-pub mod EntriesAlone

@@ -16,13 +16,13 @@ use Rattle.casetests.specs.declared.limits.Checked.{Checked}
 use Rattle.casetests.specs.declared.limits.Checked.the-variants as checks
 use Rattle.casetests.proofs.FormTests.{Limits, lanes, in-limits, by-size}
 use Rattle.planner.proofs.Judging.{cut-ceilings}
-use Rattle.casefile.specs.declared.case.CaseAnswer.{CaseAnswer}
-use Rattle.casefile.specs.declared.case.CaseAnswer.the-variants as answers
+use Rattle.filecase.specs.declared.case.CaseAnswer.{CaseAnswer}
+use Rattle.filecase.specs.declared.case.CaseAnswer.the-variants as answers
 use Rattle.casefile.specs.declared.planned.Printed.{Printed}
-use Rattle.casefile.specs.CaseFiles.{costsIn, suppliesIn, demandsIn, entriesIn, caseAnswer, TariffStored, CaseStored}
+use Rattle.filecase.specs.CaseFiles.{costsIn, suppliesIn, demandsIn, entriesIn, caseAnswer, TariffStored, CaseStored}
 use Rattle.casefile.specs.Printed.{filedCase, caseOf, fileCase, fileOutcome, Told, PlanPrinted, OutcomePrinted, CasePrinted, FilesPrinted}
 use Rattle.casefile.specs.Cuts.{cutCase, Stored}
-use Rattle.casefile.proofs.CaseLengths.{BothStand, both-stand}
+use Rattle.filecase.proofs.CaseLengths.{BothStand, both-stand}
 use Rattle.casefile.proofs.Printing.{printed-refusal}
 use Rattle.casefile.proofs.FileRefusals.{Alike, alike-equal, alike-refused, alike-long}
 

@@ -1,7 +1,6 @@
 -- What is printed of two files: the case that they are, its outcome, and the bytes. Assumes nothing.
 use mathlib.Core.Path.{_≡_}
-use mathlib.Core.Bool.{Bool, true, false}
-use mathlib.Core.List.{List, []}
+use mathlib.Core.List.{List}
 use Prim.Native.Nat.{ℕ, _*_}
 use lib.IntN.{ℤ}
 use lib.ListN.{length, replicate}
@@ -13,18 +12,11 @@ use Rattle.problem.specs.Outcome.{Outcome, planned, refused, outcomeOf}
 use Rattle.problem.specs.Promise.{Cheapest}
 use Rattle.problem.specs.Case.{lent}
 use Rattle.caseform.specs.declared.Kind.the-variants.{Tariff, Production}
-use Rattle.casefile.specs.declared.table.Table.{Table}
-use Rattle.casefile.specs.declared.table.Table.the-variants as tables
-use Rattle.casefile.specs.declared.case.CaseAnswer.{CaseAnswer}
-use Rattle.casefile.specs.declared.case.CaseAnswer.the-variants.{Case, Refused}
+use Rattle.filecase.specs.declared.case.CaseAnswer.{CaseAnswer}
+use Rattle.filecase.specs.declared.case.CaseAnswer.the-variants.{Case, Refused}
 use Rattle.casefile.specs.declared.planned.Printed.{Printed}
-use Rattle.caseform.specs.Records.{Form, whole, broken, formOf}
-use Rattle.casefile.specs.CaseFiles.{sourcesIn, terminalsIn, costsIn, suppliesIn, demandsIn, entriesIn, caseAnswer}
-
--- the records of a file, none where it has not the form
-abbrev pub recordsOf : Form → List (List ℤ)
-recordsOf (whole rs) = rs
-recordsOf (broken place) = []
+use Rattle.caseform.specs.Records.{formOf}
+use Rattle.filecase.specs.CaseFiles.{recordsOf, sourcesIn, terminalsIn, costsIn, suppliesIn, demandsIn, entriesIn, caseAnswer}
 
 -- a case as files give it: the least runs are 0, and there is room for 2,048 lanes and 4,001 stops
 abbrev pub filedCase : ℕ → ℕ → List ℤ → List ℕ → List ℕ → List ℕ → List ℕ → planner-case.Case
@@ -93,8 +85,3 @@ outcomeText c (refused number place) = refusalText number place
 -- the bytes that two files get, from the files alone
 abbrev pub filesText : List ℕ → List ℕ → List ℕ
 filesText t p = outcomeText (fileCase t p) (fileOutcome t p)
-
--- a file is not refused by 20 to 22
-abbrev pub stands : Table → Bool
-stands (tables.Whole records fields) = true
-stands (tables.Refused number place) = false

@@ -1,5 +1,2 @@
-// Reads a planning case from its two CSV files.
-pub mod case;
+// Plans the case that two CSV files are, and prints the plan.
 pub mod planned;
-mod store;
-mod table;

@@ -1,21 +1,21 @@
 // From two files to the printed plan.
-use crate::case::CaseAnswer;
-use crate::case::read_case;
-use crate::store::smaller;
-use crate::table::Table;
-use crate::table::read_table;
-use caseform::Kind;
-use csvtext::put_plan;
 use csvtext::put_refusal;
+use filecase::case::CaseAnswer;
+use filecase::case::read_case;
+use filecase::cells::cost_cells;
+use filecase::cells::entry_cells;
+use filecase::cells::freight_cells;
+use filecase::cells::lane_ceilings;
+use filecase::cells::lane_cells;
+use filecase::cells::stop_cells;
+use filetable::store::smaller;
 use planner::Answer;
-ghost use mathlib.Core.Path.{_≡_};
+use plantext::put_plan;
 ghost use Prim.Native.Nat.{_*_, _≤_};
-ghost use lib.ListN.{length, take, replicate};
+ghost use lib.ListN.{length, take};
 ghost use Rattle.csvtext.specs.Text.{planText, refusalText};
 ghost use Rattle.csvtext.specs.Writing.{Fits};
-ghost use Rattle.caseform.specs.declared.Kind.the-variants as kinds;
-ghost use Rattle.casefile.specs.Files.{tableOf};
-ghost use Rattle.casefile.specs.Printed.{filedCase, Told, CasePrinted, FilesPrinted, stands};
+ghost use Rattle.casefile.specs.Printed.{filedCase, Told, CasePrinted, FilesPrinted};
 ghost use Rattle.casefile.specs.Cuts.{cutCase, Stored};
 
 // What was printed: the text's length; 0, or the refusal's number and place; m and n of the case, 0 where a file is refused.
@@ -25,38 +25,6 @@ pub struct Printed {
     pub place: u64,
     pub sources: usize,
     pub terminals: usize,
-}
-
-// Cells for the amounts of 32 sources and 64 terminals.
-fn lane_cells() -> [u64; 2048] {
-    [0; 2048]
-}
-
-// Cells for their unit costs.
-pub fn cost_cells() -> [i64; 2048] {
-    [0; 2048]
-}
-
-// The ceiling 4,000 on every lane: no amount of an accepted case passes it.
-pub fn lane_ceilings() -> [u64; 2048]
-    ensures { λ r. ⌜ r ≡ replicate 2048 4000 ⌝ }
-{
-    [4_000; 2048]
-}
-
-// One cell more than the longest table has entries.
-pub fn entry_cells() -> [u64; 4002] {
-    [0; 4002]
-}
-
-// Cells for the stops of the longest table.
-pub fn stop_cells() -> [u64; 4001] {
-    [0; 4001]
-}
-
-// Cells for the freights at these stops.
-fn freight_cells() -> [i64; 4001] {
-    [0; 4001]
 }
 
 // Prints a refusal of a case of m sources and n terminals.
@@ -196,23 +164,5 @@ pub fn plan_files(tariff: &[u8], production: &[u8], out: &mut [u8]) -> Printed
         CaseAnswer::Case { m, n, entries } => {
             print_stored(m, n, entries, &costs, &supplies, &demands, &table, out)
         }
-    }
-}
-
-// Whether the tariff is accepted by 20 to 22: a refusal by these is then about the production file.
-pub fn tariff_stands(tariff: &[u8]) -> bool
-    ensures { λ r. ⌜ r ≡ stands (tableOf kinds.Tariff (now (tariff .entry))) ⌝ }
-{
-    let mut cells = [0i64; 1];
-    let t = read_table(Kind::Tariff, tariff, &mut cells);
-    match t {
-        Table::Whole {
-            records: _,
-            fields: _,
-        } => true,
-        Table::Refused {
-            number: _,
-            place: _,
-        } => false,
     }
 }

@@ -12,7 +12,5 @@ pub mod Refusals
 pub mod Zeros
 pub mod EditLaws
 pub mod EditRefusals
-pub mod PlanLaws
-pub mod Histories
 pub mod Fresh
 pub mod SeeLaws

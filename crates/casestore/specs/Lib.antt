@@ -3,6 +3,4 @@ pub mod Calls
 pub mod Store
 pub mod Promise
 pub mod Inner
-pub mod Planning
-pub mod History
 pub mod Seeing

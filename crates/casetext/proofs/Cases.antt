@@ -12,14 +12,14 @@ use lib.ListN.{length, getD, take, replicate, length-append}
 use lib.Seq.{take-at, getD-at}
 use Rattle.caseform.specs.declared.Kind.{Kind}
 use Rattle.caseform.specs.declared.Kind.the-variants.{Tariff, Production}
-use Rattle.casefile.specs.declared.table.Table.the-variants.{Whole}
+use Rattle.filetable.specs.declared.table.Table.the-variants.{Whole}
 use Rattle.caseform.specs.Records.{Form, whole, formOf}
-use Rattle.casefile.specs.Files.{pick, wanted, oddFrom, judged, judge, pickTable, tableOf, inOrder}
-use Rattle.casefile.specs.CaseFiles.{sourcesIn, terminalsIn, sourceRecords, costsIn, suppliesIn, demandsIn, entriesIn}
+use Rattle.filetable.specs.Files.{pick, wanted, oddFrom, judged, judge, pickTable, tableOf, inOrder}
+use Rattle.filecase.specs.CaseFiles.{sourcesIn, terminalsIn, sourceRecords, costsIn, suppliesIn, demandsIn, entriesIn}
 use Rattle.casefile.specs.Printed.{filedCase, caseOf}
-use Rattle.casefile.proofs.TariffCase.{Even}
-use Rattle.casetext.specs.Texts.{tab, sourceRecord, tariffRecords, productionRecords}
-use Rattle.casetext.proofs.Tabs.{tab-length, tab-ext, tab-list, tab-map, tab-rows, tab-ones}
+use Rattle.filecase.proofs.TariffCase.{Even}
+use Rattle.tarifftext.specs.Texts.{tab, sourceRecord, tariffRecords, productionRecords}
+use Rattle.tarifftext.proofs.Tabs.{tab-length, tab-ext, tab-list, tab-map, tab-rows, tab-ones}
 
 even-snoc : (w : ℕ) (rs : List (List ℤ)) (r : List ℤ) → Even w rs → length r ≡ w → Even w (rs ++ (r ∷ []))
 even-snoc w [] r e h = (h, tt)

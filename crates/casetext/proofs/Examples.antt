@@ -7,7 +7,7 @@ use Rattle.csvtext.specs.Text.{digitsOf, decimal, signedText, fieldText, record
 use Rattle.csvtext.specs.Column.{columnText}
 use Rattle.problem.specs.Case.{Case}
 use Rattle.planner.specs.Judge.{freeCase}
-use Rattle.casetext.specs.Texts.{costsText, listText, lineText, sourceText, sourcesText, demandsText, tariffOf, productionOf, tariffText, productionText}
+use Rattle.tarifftext.specs.Texts.{costsText, listText, lineText, sourceText, sourcesText, demandsText, tariffOf, productionOf, tariffText, productionText}
 
 -- case A
 abbrev case-A : Case

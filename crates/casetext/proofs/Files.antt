@@ -17,15 +17,15 @@ use Rattle.problem.proofs.TestParts.{no-place}
 use Rattle.problem.proofs.Promise.{refused-outcome}
 use Rattle.caseform.specs.declared.Kind.the-variants.{Tariff, Production}
 use Rattle.caseform.specs.Records.{Form, whole, broken, formOf}
-use Rattle.casefile.specs.Files.{inOrder}
-use Rattle.casefile.specs.declared.case.CaseAnswer.{CaseAnswer}
-use Rattle.casefile.specs.declared.case.CaseAnswer.the-variants as read-answers
-use Rattle.casefile.specs.CaseFiles.{entriesIn, caseAnswer}
-use Rattle.casefile.specs.Printed.{recordsOf, caseOf, fileCase, outcomeFor, fileOutcome}
+use Rattle.filetable.specs.Files.{inOrder}
+use Rattle.filecase.specs.declared.case.CaseAnswer.{CaseAnswer}
+use Rattle.filecase.specs.declared.case.CaseAnswer.the-variants as read-answers
+use Rattle.filecase.specs.CaseFiles.{entriesIn, caseAnswer, recordsOf}
+use Rattle.casefile.specs.Printed.{caseOf, fileCase, outcomeFor, fileOutcome}
 use Rattle.casetext.specs.declared.Texts.the-variants as answers
-use Rattle.casetext.specs.Texts.{tariffText, productionText}
+use Rattle.tarifftext.specs.Texts.{tariffText, productionText}
 use Rattle.casetext.specs.Writing.{test32, test33, entriesRefusal, writeRefusal, fileRefusal, unlessRefused, TextsTold, CaseWritten}
-use Rattle.casetext.proofs.FileNumbers.{sizes-at, all-in-order, form-small}
+use Rattle.tarifftext.proofs.FileNumbers.{sizes-at, all-in-order, form-small}
 use Rattle.casetext.proofs.RoundTrip.{caseAlone, tariff-short, production-short, round-trip}
 use Rattle.casetext.proofs.Writes.{entries-form, write-tested, write-room}
 

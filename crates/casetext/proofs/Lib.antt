@@ -1,12 +1,7 @@
-pub mod Going
-pub mod Tabs
-pub mod Forms
-pub mod Lengths
 pub mod Cases
 pub mod RoundTrip
 pub mod Writes
 pub mod Rewrites
-pub mod FileNumbers
 pub mod Nine
 pub mod Files
 pub mod Stored

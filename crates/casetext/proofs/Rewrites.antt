@@ -16,16 +16,16 @@ use Rattle.casetests.specs.declared.limits.Checked.the-variants as checks
 use Rattle.planner.specs.Judge.{caseRefusal, freeCase}
 use Rattle.casetests.proofs.FormTests.{Limits, in-limits, by-size}
 use Rattle.planner.proofs.Judging.{case-form}
-use Rattle.casefile.specs.declared.case.CaseAnswer.{CaseAnswer}
-use Rattle.casefile.specs.declared.case.CaseAnswer.the-variants as answers
-use Rattle.casefile.specs.CaseFiles.{caseAnswer, CaseStored}
+use Rattle.filecase.specs.declared.case.CaseAnswer.{CaseAnswer}
+use Rattle.filecase.specs.declared.case.CaseAnswer.the-variants as answers
+use Rattle.filecase.specs.CaseFiles.{caseAnswer, CaseStored}
 use Rattle.casefile.specs.Printed.{fileCase}
 use Rattle.casefile.specs.Cuts.{cutCase, Stored}
 use Rattle.casefile.proofs.FileRefusals.{Alike}
 use Rattle.casefile.proofs.StoredCase.{cut-alike}
 use Rattle.casetext.specs.declared.Texts.{Texts}
 use Rattle.casetext.specs.declared.Texts.the-variants as texts
-use Rattle.casetext.specs.Texts.{tariffText, productionText}
+use Rattle.tarifftext.specs.Texts.{tariffText, productionText}
 use Rattle.casetext.specs.Writing.{writeRefusal, fileRefusal, TextsTold, CaseWritten, FilesRewritten}
 use Rattle.casetext.proofs.Writes.{entries-form, write-tested, told-refused}
 

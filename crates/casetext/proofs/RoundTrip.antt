@@ -15,16 +15,16 @@ use Rattle.problem.proofs.TestsPassed.{first-passes, second-passes, some≢none
 use Rattle.planner.proofs.Judging.{case-formed}
 use Rattle.casefile.proofs.Printing.{small-cost}
 use Rattle.caseform.specs.declared.Kind.the-variants.{Tariff, Production}
-use Rattle.casefile.specs.declared.table.Table.the-variants.{Whole}
-use Rattle.casefile.specs.declared.case.CaseAnswer.the-variants as answers
+use Rattle.filetable.specs.declared.table.Table.the-variants.{Whole}
+use Rattle.filecase.specs.declared.case.CaseAnswer.the-variants as answers
 use Rattle.caseform.specs.Records.{whole, formOf}
-use Rattle.casefile.specs.Files.{wanted, tableOf}
-use Rattle.casefile.specs.CaseFiles.{caseAnswer, answerOf}
-use Rattle.casefile.specs.Printed.{recordsOf, filedCase, caseOf, fileCase}
-use Rattle.casetext.specs.Texts.{tariffText, productionText, tariffRecords, productionRecords}
+use Rattle.filetable.specs.Files.{wanted, tableOf}
+use Rattle.filecase.specs.CaseFiles.{caseAnswer, answerOf, recordsOf}
+use Rattle.casefile.specs.Printed.{filedCase, caseOf, fileCase}
+use Rattle.tarifftext.specs.Texts.{tariffText, productionText, tariffRecords, productionRecords}
 use Rattle.casetext.specs.Writing.{test32, entriesRefusal}
-use Rattle.casetext.proofs.Forms.{Small, tariff-form, production-form}
-use Rattle.casetext.proofs.Lengths.{tariff-most, production-most}
+use Rattle.tarifftext.proofs.Forms.{Small, tariff-form, production-form}
+use Rattle.tarifftext.proofs.Lengths.{tariff-most, production-most}
 use Rattle.casetext.proofs.Cases.{table-whole, tariff-even, tariff-count, tariff-wanted, case-is, production-even, production-count}
 
 -- the same sources, terminals, costs, supplies, demands and table, taken with least runs 0 and ceilings 4,000, with the cells that files have for an answer

@@ -9,11 +9,11 @@ use native.Mathlib.Omega.{arith}
 use lib.Seq.{sets, take-all}
 use Rattle.problem.specs.Case.{Case}
 use Rattle.problem.specs.Outcome.{outcomeOf}
-use Rattle.casefile.specs.declared.case.CaseAnswer.{CaseAnswer}
-use Rattle.casefile.specs.declared.case.CaseAnswer.the-variants as answers
-use Rattle.casefile.specs.CaseFiles.{entriesIn, CaseStored, caseAnswer}
+use Rattle.filecase.specs.declared.case.CaseAnswer.{CaseAnswer}
+use Rattle.filecase.specs.declared.case.CaseAnswer.the-variants as answers
+use Rattle.filecase.specs.CaseFiles.{entriesIn, CaseStored, caseAnswer}
 use Rattle.casefile.specs.Printed.{fileCase, fileOutcome, outcomeFor}
-use Rattle.casetext.specs.Texts.{tariffText, productionText, tariffRecords, productionRecords}
+use Rattle.tarifftext.specs.Texts.{tariffText, productionText, tariffRecords, productionRecords}
 use Rattle.casetext.specs.Writing.{entriesRefusal}
 use Rattle.casetext.proofs.Cases.{entries-are, costs-are, supplies-are, demands-are}
 use Rattle.casetext.proofs.RoundTrip.{caseAlone, form-passes, table-room, tariff-reads, production-reads, both-stand, round-trip}

@@ -1,35 +1,24 @@
 -- What the parts of the writer of a case write, and how its tests decide. Assumes nothing.
-use mathlib.Core.Path.{_≡_, refl, ap, sym, _∙_, subst}
-use mathlib.Core.Bool.{Bool, true, false, _||_}
+use mathlib.Core.Path.{_≡_, refl, ap, sym, _∙_}
 use mathlib.Core.Option.{Option, none, some}
-use mathlib.Core.List.{List, [], _∷_, _++_}
-use Prim.Native.Nat.{ℕ, _+_, _*_, _≤_, _<_}
+use mathlib.Core.List.{List}
+use Prim.Native.Nat.{ℕ, _≤_, _<_}
 use native.Mathlib.Omega.{arith}
 use borrow.Author.Tests.{lt-ltb, le-ltb}
 use lib.Dec.{ltb}
-use lib.IntN.{ℤ}
-use lib.ListN.{length, getD}
+use lib.ListN.{length}
 use lib.Seq.{sets}
 use Rattle.csvtext.specs.Writing.{Written}
-use Rattle.csvtext.proofs.DecimalTexts.{then, widen}
 use Rattle.problem.specs.Case.{Case, entry}
-use Rattle.problem.specs.Outcome.{Outcome, refused, refuseIf, refuseAt, firstFrom, _orElse_}
+use Rattle.problem.specs.Outcome.{Outcome, refused}
 use Rattle.planner.specs.Judge.{caseRefusal}
 use Rattle.problem.proofs.FirstFailing.{first-none, first-some}
 use Rattle.problem.proofs.TestsPassed.{some≢none, first-decides, second-decides}
 use Rattle.problem.proofs.TestParts.{or-true, met, unmet, at-place, no-place}
 use Rattle.casetext.specs.declared.Texts.{Texts}
 use Rattle.casetext.specs.declared.Texts.the-variants as answers
-use Rattle.casetext.specs.Texts.{costsText, lineText, sourceText, tariffText, productionText}
-use Rattle.casetext.specs.Writing.{test32, test33, entriesRefusal, writeRefusal, refusal, unlessRefused, TextsTold, CaseWritten}
-
--- a source's record
-pub source-written :
-    (costs : List ℤ) (supplies : List ℕ) (n start i : ℕ) {a b c : List ℕ} {next mid end : ℕ} → start ≡ i * n → n ≤ 64 → Written a b next mid (costsText costs start n) (21 * n) →
-    Written b c mid end (lineText (getD supplies i 0)) 22 → Written a c next end (sourceText costs supplies n (i * n) i) 1366
-unfolding sourceText
-source-written costs supplies n start i {a} {b} {c} {next} {mid} {end} e few first second =
-    subst (λ (k : ℕ). Written a c next end (costsText costs k n ++ lineText (getD supplies i 0)) 1366) e (widen (omega arith) (then first second))
+use Rattle.tarifftext.specs.Texts.{tariffText, productionText}
+use Rattle.casetext.specs.Writing.{test32, test33, entriesRefusal, writeRefusal, refusal, TextsTold, CaseWritten}
 
 -- tests 1 to 9, then 32
 module _ (c : Case) where

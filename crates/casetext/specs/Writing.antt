@@ -10,13 +10,13 @@ use lib.Seq.{sets}
 use Rattle.problem.specs.Case.{Case, entry}
 use Rattle.problem.specs.Outcome.{Outcome, refused, refuseIf, refuseAt, firstFrom, _orElse_}
 use Rattle.planner.specs.Judge.{caseRefusal}
-use Rattle.casefile.specs.declared.case.CaseAnswer.{CaseAnswer}
-use Rattle.casefile.specs.declared.case.CaseAnswer.the-variants as answers
-use Rattle.casefile.specs.CaseFiles.{caseAnswer}
+use Rattle.filecase.specs.declared.case.CaseAnswer.{CaseAnswer}
+use Rattle.filecase.specs.declared.case.CaseAnswer.the-variants as answers
+use Rattle.filecase.specs.CaseFiles.{caseAnswer}
 use Rattle.casefile.specs.Printed.{fileCase}
 use Rattle.casetext.specs.declared.Texts.{Texts}
 use Rattle.casetext.specs.declared.Texts.the-variants.{Written, Refused}
-use Rattle.casetext.specs.Texts.{tariffText, productionText}
+use Rattle.tarifftext.specs.Texts.{tariffText, productionText}
 
 -- a table entry above 9,999,999,999, which no field can hold; place y
 unfoldable pub test32 : Case → Option Outcome

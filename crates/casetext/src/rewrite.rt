@@ -1,8 +1,8 @@
 // Two files read and written again in the one form of their case.
 use crate::Texts;
 use crate::write_case;
-use casefile::case::CaseAnswer;
-use casefile::case::read_case;
+use filecase::case::CaseAnswer;
+use filecase::case::read_case;
 ghost use mathlib.Core.Path.{_≡_};
 ghost use Prim.Native.Nat.{min, _*_};
 ghost use lib.ListN.{take};

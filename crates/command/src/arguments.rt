@@ -1,8 +1,8 @@
 // The arguments, and the usage text.
-use crate::file::first;
 use crate::file::plan_paths;
-use crate::message::say;
 use check::same;
+use filebytes::file::first;
+use filebytes::message::say;
 
 // Writes the usage text to standard error.
 pub fn usage() {

@@ -1,6 +1,6 @@
 // The usual cause of refusal 21, where the byte at its place tells it.
-use crate::message::say;
 use crate::place::record_at;
+use filebytes::message::say;
 
 // The byte at an offset, or 0 where there is none.
 pub fn byte_at(bytes: &[u8], at: usize) -> u8 {

@@ -1,61 +1,18 @@
 // Reads the files, plans, and writes the answer.
-use crate::message::say;
 use crate::refusal::explain;
 use casefile::planned::plan_files;
+use filebytes::file::file_room;
+use filebytes::file::first;
+use filebytes::file::read_file;
+use filebytes::message::say;
 ghost use mathlib.Core.Path.{_≡_};
 ghost use lib.ListN.{length};
-
-// Room for the longest file that is read, and one byte more.
-pub fn file_room() -> [u8; 65537]
-    ensures { λ r. ⌜ 65537 ≡ length r ⌝ }
-{
-    [0; 65537]
-}
 
 // Room for the longest plan: the header, the production record and 2,048 lanes.
 fn text_room() -> [u8; 174265]
     ensures { λ r. ⌜ 174265 ≡ length r ⌝ }
 {
     [0; 174265]
-}
-
-// The first n bytes; all where there are no more.
-pub fn first(s: &[u8], n: usize) -> &[u8] {
-    if s.len() < n {
-        return s;
-    }
-    &s[0..n]
-}
-
-// Reads to the end of the file or of the room, and gives how many bytes there are; the whole room where a read fails.
-fn read_all(fd: i32, room: &mut [u8]) -> usize {
-    let mut at: usize = 0;
-    while at < room.len() {
-        let got = libc::read(fd, &mut room[at..]);
-        if got < 0 {
-            return room.len();
-        }
-        let more = io::count(got, room);
-        if more == 0 {
-            return at;
-        }
-        if room.len() - at <= more {
-            return room.len();
-        }
-        at += more;
-    }
-    at
-}
-
-// Reads a file, and gives how many bytes of the room it takes: the whole room where it is not opened, not read or too long.
-pub fn read_file(path: &[u8], room: &mut [u8]) -> usize {
-    let fd = os::open_read(path);
-    if fd < 0 {
-        return room.len();
-    }
-    let size = read_all(fd, room);
-    libc::close(fd);
-    size
 }
 
 // Plans two files' bytes, and writes the answer.

@@ -1,5 +1,5 @@
 // Where in a file a byte stands: records and fields from 1, by the line ends and the commas before it.
-use crate::file::first;
+use filebytes::file::first;
 
 // The number after n; the largest number has none, and stands for itself.
 pub fn next(n: u64) -> u64 {

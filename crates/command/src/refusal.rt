@@ -3,16 +3,16 @@ use crate::cause::byte_at;
 use crate::cause::byte_before;
 use crate::cause::is_digit;
 use crate::cause::say_cause;
-use crate::message::say;
-use crate::message::say_number;
-use crate::message::say_with;
 use crate::place::field_at;
 use crate::place::field_start;
 use crate::place::next;
 use crate::place::record_at;
 use crate::place::record_end;
 use casefile::planned::Printed;
-use casefile::planned::tariff_stands;
+use filebytes::message::say;
+use filebytes::message::say_number;
+use filebytes::message::say_with;
+use filetable::table::tariff_stands;
 
 // Refusal 4: a supply by its source, or a demand by its terminal.
 fn explain_amount(place: u64, m: u64) {

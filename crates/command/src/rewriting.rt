@@ -1,11 +1,11 @@
 // The command `tidy`: two files written again in the one form of their case.
 use crate::file::answer;
-use crate::file::file_room;
-use crate::file::first;
-use crate::file::read_file;
-use crate::message::say;
 use casetext::Texts;
 use casetext::rewrite::rewrite_files;
+use filebytes::file::file_room;
+use filebytes::file::first;
+use filebytes::file::read_file;
+use filebytes::message::say;
 
 // Writes the usage text to standard error.
 pub fn tidy_usage() {

@@ -1,16 +1,13 @@
 // Prints as CSV into a lent slice, as far as there is room.
-pub mod column;
-
 ghost use mathlib.Core.List.{[], _∷_};
-ghost use Prim.Native.Nat.{_+_, _*_, _≤_, _<_, _^_};
+ghost use Prim.Native.Nat.{_≤_, _<_, _^_};
 ghost use mathlib.Core.Path.{_≡_};
 ghost use lib.IntN.{pos, natAbs};
 ghost use lib.ListN.{length};
-ghost use Rattle.csvtext.specs.Text.{decimal, signedText, fieldText, recordText, rowText, lanesText, planText, refusalText};
-ghost use Rattle.csvtext.specs.Writing.{Written, Printable, Narrow, NarrowCosts, Fits, Says, PlanWritten};
+ghost use Rattle.csvtext.specs.Text.{decimal, signedText, fieldText, recordText, refusalText};
+ghost use Rattle.csvtext.specs.Writing.{Written, Narrow, NarrowCosts, Says};
 
-pub mod bounds;
-pub mod flow;
+pub mod column;
 
 // Writes a byte, and gives the next offset.
 pub fn put_byte(out: &mut [u8], at: usize, b: u8) -> usize
@@ -78,7 +75,7 @@ pub fn put_signed_field(out: &mut [u8], at: usize, v: i64, b: u8) -> usize
 }
 
 // Writes a record of two numbers.
-fn put_pair(out: &mut [u8], at: usize, a: u64, b: u64) -> usize
+pub fn put_pair(out: &mut [u8], at: usize, a: u64, b: u64) -> usize
     requires { ⌜ at < 2 ^ 61 ⌝ }
     ensures { λ r. ⌜ Written (now (out .entry)) (now (out .exit)) at r (recordText (pos a ∷ pos b ∷ [])) 43 ⌝ }
 {
@@ -88,7 +85,7 @@ fn put_pair(out: &mut [u8], at: usize, a: u64, b: u64) -> usize
 }
 
 // Writes a record of four numbers.
-fn put_record(out: &mut [u8], at: usize, a: u64, b: u64, c: u64, d: u64) -> usize
+pub fn put_record(out: &mut [u8], at: usize, a: u64, b: u64, c: u64, d: u64) -> usize
     requires { ⌜ at < 2 ^ 60 ⌝ }
     ensures { λ r. ⌜ Written (now (out .entry)) (now (out .exit)) at r (recordText (pos a ∷ pos b ∷ pos c ∷ pos d ∷ [])) 85 ⌝ }
 {
@@ -98,7 +95,7 @@ fn put_record(out: &mut [u8], at: usize, a: u64, b: u64, c: u64, d: u64) -> usiz
 }
 
 // Writes a lane: three numbers and an integer.
-fn put_lane(out: &mut [u8], at: usize, a: u64, b: u64, c: u64, d: i64) -> usize
+pub fn put_lane(out: &mut [u8], at: usize, a: u64, b: u64, c: u64, d: i64) -> usize
     requires { ⌜ at < 2 ^ 60 ⌝ }
     ensures { λ r. ⌜ Written (now (out .entry)) (now (out .exit)) at r (recordText (pos a ∷ pos b ∷ pos c ∷ d ∷ [])) 85 ⌝ }
 {
@@ -110,7 +107,7 @@ fn put_lane(out: &mut [u8], at: usize, a: u64, b: u64, c: u64, d: i64) -> usize
 }
 
 // Writes bytes as they are.
-fn put_bytes(out: &mut [u8], at: usize, text: &[u8]) -> usize
+pub fn put_bytes(out: &mut [u8], at: usize, text: &[u8]) -> usize
     requires { ⌜ at < 2 ^ 60 ⌝ }
     requires { ⌜ length (now text) ≤ 100 ⌝ }
     ensures { λ r. ⌜ Written (now (out .entry)) (now (out .exit)) at r (now (text .entry)) 100 ⌝ }
@@ -121,47 +118,8 @@ fn put_bytes(out: &mut [u8], at: usize, text: &[u8]) -> usize
     at + text.len()
 }
 
-// Writes the lanes of source i, whose first has the place start in row order.
-fn put_row(
-    out: &mut [u8],
-    at: usize,
-    i: usize,
-    start: usize,
-    n: usize,
-    costs: &[i64],
-    plan: &[u64],
-) -> usize
-    requires { ⌜ (at < 2 ^ 50) × (i < 32) × (n ≤ 64) ⌝ }
-    requires { ⌜ Printable (now costs) (now plan) start (start + n) ⌝ }
-    ensures { λ r. ⌜ Written (now (out .entry)) (now (out .exit)) at r (rowText (now (costs .entry)) (now (plan .entry)) n i start) (85 * n) ⌝ }
-{
-    let mut next = at;
-    for j in 0..n {
-        let k = start + j;
-        let amount = plan[k];
-        let cost = amount as i64 * costs[k];
-        next = put_lane(out, next, i as u64 + 1, j as u64 + 1, amount, cost);
-    }
-    next
-}
-
-// Writes all lanes in row order.
-fn put_lanes(out: &mut [u8], at: usize, m: usize, n: usize, costs: &[i64], plan: &[u64]) -> usize
-    requires { ⌜ (at < 2 ^ 40) × (m ≤ 32) × (n ≤ 64) ⌝ }
-    requires { ⌜ Printable (now costs) (now plan) 0 (m * n) ⌝ }
-    ensures { λ r. ⌜ Written (now (out .entry)) (now (out .exit)) at r (lanesText (now (costs .entry)) (now (plan .entry)) m n) (5440 * m) ⌝ }
-{
-    let mut next = at;
-    let mut start: usize = 0;
-    for i in 0..m {
-        next = put_row(out, next, i, start, n, costs, plan);
-        start = start + n;
-    }
-    next
-}
-
 // Are there count numbers, each below 2^32?
-fn narrow(s: &[u64], count: usize) -> bool
+pub fn narrow(s: &[u64], count: usize) -> bool
     ensures { λ r. ⌜ Says (Narrow count (now (s .entry))) r ⌝ }
 {
     if s.len() < count {
@@ -176,7 +134,7 @@ fn narrow(s: &[u64], count: usize) -> bool
 }
 
 // Are there count integers, each of less than 2^31 either way?
-fn narrow_costs(s: &[i64], count: usize) -> bool
+pub fn narrow_costs(s: &[i64], count: usize) -> bool
     ensures { λ r. ⌜ Says (NarrowCosts count (now (s .entry))) r ⌝ }
 {
     if s.len() < count {
@@ -188,61 +146,6 @@ fn narrow_costs(s: &[i64], count: usize) -> bool
         }
     }
     true
-}
-
-// Can the plan be printed?
-fn fits(m: usize, n: usize, costs: &[i64], plan: &[u64]) -> bool
-    ensures { λ r. ⌜ Says (Fits m n (now (costs .entry)) (now (plan .entry))) r ⌝ }
-{
-    if 32 < m {
-        return false;
-    }
-    if 64 < n {
-        return false;
-    }
-    if narrow_costs(costs, m * n) {
-        return narrow(plan, m * n);
-    }
-    false
-}
-
-// Writes a plan that fits: the header, the production record and all lanes. Gives the length of the text.
-fn put_fitting(
-    out: &mut [u8],
-    m: usize,
-    n: usize,
-    costs: &[i64],
-    plan: &[u64],
-    split: u64,
-    entry: u64,
-) -> usize
-    requires { ⌜ (m ≤ 32) × (n ≤ 64) ⌝ }
-    requires { ⌜ Printable (now costs) (now plan) 0 (m * n) ⌝ }
-    ensures { λ r. ⌜ Written (now (out .entry)) (now (out .exit)) 0 r (planText m n (now (costs .entry)) (now (plan .entry)) split «entry») (185 + 5440 * m) ⌝ }
-{
-    let header = b"source,terminal,amount,cost\r\n";
-    let first = put_bytes(out, 0, header);
-    let lanes = put_record(out, first, 0, 0, split, entry);
-    put_lanes(out, lanes, m, n, costs, plan)
-}
-
-// Writes a plan: the header, the production record and all lanes. Gives the length of the text; 0, and nothing is written, where there are
-// more than 32 sources or 64 terminals, lanes are missing, a lane has 2^32 drums or more, or a unit cost is 2^31 or more either way.
-pub fn put_plan(
-    out: &mut [u8],
-    m: usize,
-    n: usize,
-    costs: &[i64],
-    plan: &[u64],
-    split: u64,
-    entry: u64,
-) -> usize
-    ensures { λ r. ⌜ PlanWritten (Fits m n (now (costs .entry)) (now (plan .entry))) (now (out .entry)) (now (out .exit)) r (planText m n (now (costs .entry)) (now (plan .entry)) split «entry») (185 + 5440 * m) ⌝ }
-{
-    if fits(m, n, costs, plan) {
-        return put_fitting(out, m, n, costs, plan, split, entry);
-    }
-    0
 }
 
 // Writes a refusal. Gives the length of the text.

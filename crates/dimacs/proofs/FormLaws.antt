@@ -1,18 +1,17 @@
 -- The lines of a file one after the other, and the counts that stand for what was read. Assumes nothing.
-use mathlib.Core.Path.{_≡_, refl, sym, ap, ap₂, _∙_, subst}
-use mathlib.Core.Bool.{Bool, true, false, cond, true≢false}
+use mathlib.Core.Path.{_≡_, refl, sym, ap, _∙_, subst}
+use mathlib.Core.Bool.{Bool, true, false, cond}
 use mathlib.Core.Option.{Option, none, some}
 use mathlib.Core.List.{List, [], _∷_, _++_, append-assoc, append-nil}
-use Prim.Native.Nat.{ℕ, zero, suc, _+_, _-_, _≤_, _<_}
+use Prim.Native.Nat.{ℕ, suc, _+_, _-_, _≤_, _<_}
 use native.Mathlib.Numerals.{add-one}
-use native.Mathlib.Decide.{decLt, ℕ-discrete}
+use native.Mathlib.Decide.{decLt}
 use native.Mathlib.Omega.{arith}
 use lib.Dec.{eqb, ltb}
 use lib.IntN.{ℤ}
 use lib.ListN.{length, getD, take, drop, length-append, length-drop}
 use lib.Seq.{drop-cons, take-suc, take-all, getD-drop}
-use borrow.Author.Tests.{eq-eqb, ne-eqb, lt-ltb, le-ltb, ltb-true, ltb-false}
-use Rattle.dimacs.specs.declared.form.Form as form-answer
+use borrow.Author.Tests.{eq-eqb, ne-eqb, lt-ltb, le-ltb}
 use Rattle.dimacs.specs.declared.form.Form.the-variants as forms
 use Rattle.dimacs.specs.declared.form.Tally.{Tally}
 use Rattle.dimacs.specs.declared.form.Next as next-answer
@@ -20,7 +19,7 @@ use Rattle.dimacs.specs.declared.form.Next.the-variants as nexts
 use Rattle.dimacs.specs.declared.line.Line as line-answer
 use Rattle.dimacs.specs.declared.line.Line.the-variants as lines
 use Rattle.dimacs.specs.Bytes.{_>>=_}
-use Rattle.dimacs.specs.Form.{before, pieces, ArcLine, NodeLine, Line, lineOf, File, file, Stage, opening, reading, isEmpty, onlyIf, step, Form, whole, broken, atEnd, last, run, formOf}
+use Rattle.dimacs.specs.Form.{before, pieces, ArcLine, Line, lineOf, File, file, Stage, opening, reading, isEmpty, onlyIf, step, Form, broken, atEnd, last, run, formOf}
 use Rattle.dimacs.specs.Arc.{arc}
 use Rattle.dimacs.specs.Reader.{withSign}
 use Rattle.dimacs.specs.LineReader.{onLine, WholeLine}

@@ -5,3 +5,4 @@ pub mod Places
 pub mod Machine
 pub mod LinesLaws
 pub mod StoreLaws
+pub mod Examples

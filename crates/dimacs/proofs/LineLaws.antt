@@ -1,12 +1,11 @@
 -- The parts of a line, one after the other. Assumes nothing.
-use mathlib.Core.Path.{_≡_, refl, sym, ap, ap₂, _∙_, subst}
-use mathlib.Core.Bool.{Bool, true, false}
+use mathlib.Core.Path.{_≡_, refl, sym, ap, _∙_, subst}
+use mathlib.Core.Bool.{Bool}
 use mathlib.Core.Option.{Option, none, some}
 use mathlib.Core.List.{List, [], _∷_}
-use Prim.Native.Nat.{ℕ, zero, suc, _+_, _≤_, _<_, _^_}
+use Prim.Native.Nat.{ℕ, _+_, _≤_, _<_, _^_}
 use native.Mathlib.Decide.{decLt}
 use native.Mathlib.Omega.{arith}
-use lib.Dec.{eqb}
 use lib.IntN.{ℤ}
 use lib.ListN.{length, getD, drop}
 use borrow.Author.Tests.{eq-eqb, ne-eqb}
@@ -19,10 +18,10 @@ use Rattle.dimacs.specs.declared.line.Line.the-variants as lines
 use Rattle.dimacs.specs.declared.line.Offset.{Offset}
 use Rattle.dimacs.specs.declared.line.Offset.the-variants as offsets
 use Rattle.dimacs.specs.Arc.{arc}
-use Rattle.dimacs.specs.Bytes.{Got, got, _>>=_, gap, word, field, signedField}
-use Rattle.dimacs.specs.Form.{Line, comment, problem, node, arcLine, ending, problemLine, nodeLine, arcOf, lineOf}
+use Rattle.dimacs.specs.Bytes.{got, _>>=_, gap, word, field, signedField}
+use Rattle.dimacs.specs.Form.{Line, problem, node, arcLine, ending, problemLine, nodeLine, arcOf, lineOf}
 use Rattle.dimacs.specs.Reader.{SpacesRead, onNumber, numberEnds, NumberRead, withSign, onSigned, signedEnds, SignedRead}
-use Rattle.dimacs.specs.LineReader.{minWord, onOffset, offsetEnds, MinRead, onLine, Small, LineRead, WholeLine}
+use Rattle.dimacs.specs.LineReader.{minWord, onOffset, offsetEnds, MinRead, LineRead, WholeLine}
 use Rattle.dimacs.proofs.Fronts.{there, front, nothing, gap-none, gap-some}
 
 -- ---- one thing after the other

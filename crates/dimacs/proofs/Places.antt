@@ -1,17 +1,17 @@
 -- The place of refusal 29: some file of the form begins with the lines before it, and none with these and that line. Assumes nothing.
-use mathlib.Core.Path.{_≡_, refl, sym, ap, ap₂, _∙_, subst}
+use mathlib.Core.Path.{_≡_, refl, sym, ap, _∙_, subst}
 use mathlib.Core.Bool.{Bool, true, false}
 use mathlib.Core.Option.{Option, none, some}
 use mathlib.Core.List.{List, [], _∷_, _++_}
 use Prim.Native.Nat.{ℕ, zero, suc, _+_, _-_, _≤_, _<_}
 use native.Mathlib.Omega.{arith}
 use lib.Dec.{eqb, ltb}
-use lib.IntN.{ℤ, pos}
+use lib.IntN.{pos}
 use lib.ListN.{length, length-append}
 use borrow.Author.Tests.{eq-eqb, ne-eqb, eqb-true, eqb-false, lt-ltb, ltb-true}
 use Rattle.dimacs.specs.Arc.{arc}
 use Rattle.dimacs.specs.Bytes.{_>>=_, digits, counting, number, signed, spaces, gap, word, field, signedField}
-use Rattle.dimacs.specs.Form.{before, pieces, ArcLine, NodeLine, Line, comment, problem, node, arcLine, ending, problemLine, nodeLine, arcOf, lineOf, File, file, Stage, opening, reading, isEmpty, onlyIf, step, Form, whole, broken, wholeIf, atEnd, last, run, formOf}
+use Rattle.dimacs.specs.Form.{before, pieces, ArcLine, Line, comment, problem, node, arcLine, ending, problemLine, nodeLine, arcOf, lineOf, File, file, Stage, opening, reading, isEmpty, onlyIf, step, Form, whole, broken, wholeIf, atEnd, last, run, formOf}
 use Rattle.dimacs.proofs.FormLaws.{run-on, run-wrong, some-piece}
 
 -- ---- lines and bytes

@@ -2,9 +2,9 @@
 use mathlib.Core.Path.{_≡_, refl, sym, ap, ap₂, _∙_, subst}
 use mathlib.Core.Logic.{_⊎_, inl, inr, ⊎-elim}
 use mathlib.Core.Bool.{Bool, true, false, cond, _||_}
-use mathlib.Core.Option.{Option, none, some}
+use mathlib.Core.Option.{none, some}
 use mathlib.Core.List.{List, [], _∷_, _++_, append-nil}
-use Prim.Native.Nat.{ℕ, zero, suc, _+_, _-_, _≤_, _<_, _^_}
+use Prim.Native.Nat.{ℕ, suc, _≤_, _<_, _^_}
 use native.Mathlib.Decide.{ℕ-discrete, decLt}
 use native.Mathlib.Omega.{arith}
 use lib.Dec.{eqb, ltb}
@@ -13,20 +13,16 @@ use lib.ListN.{length, getD, set, length-set, length-append, List·getD-append}
 use lib.Seq.{getD-set-same, getD-set-other, getD-append-seam}
 use borrow.Author.Tests.{eqb-true, eq-eqb, ne-eqb, lt-ltb, le-ltb}
 use Rattle.dimacs.specs.declared.form.Form as form-answer
-use Rattle.dimacs.specs.declared.form.Form.the-variants as forms
 use Rattle.dimacs.specs.declared.form.Tally.{Tally}
-use Rattle.dimacs.specs.declared.form.Next.the-variants as nexts
 use Rattle.dimacs.specs.declared.line.Line as line-answer
 use Rattle.dimacs.specs.declared.line.Line.the-variants as lines
-use Rattle.dimacs.specs.declared.store.Reading.the-variants as readings
 use Rattle.dimacs.specs.Arc.{Arc}
 use Rattle.dimacs.specs.Bytes.{_>>=_}
-use Rattle.dimacs.specs.Form.{ArcLine, NodeLine, File, file, Stage, opening, reading, isEmpty, onlyIf, step, Form, whole, broken, wholeIf, atEnd, formOf}
+use Rattle.dimacs.specs.Form.{ArcLine, NodeLine, file, Stage, opening, reading, isEmpty, onlyIf, step, Form, wholeIf, atEnd, formOf}
 use Rattle.dimacs.specs.Lines.{supplyIn, anyOf, noNode, twice, badArc}
-use Rattle.dimacs.specs.Reader.{withSign}
-use Rattle.dimacs.specs.LineReader.{onLine, Small}
+use Rattle.dimacs.specs.LineReader.{onLine}
 use Rattle.dimacs.specs.FormReader.{tallyOf, endOf}
-use Rattle.dimacs.specs.Stored.{nodeIn, arcIn, noLine, arcOn, HeldBy, ArcsRead, listedNode, NodesRead, FileRead, flagged, ReadAs}
+use Rattle.dimacs.specs.Stored.{nodeIn, arcIn, noLine, arcOn, HeldBy, ArcsRead, listedNode, NodesRead, flagged, ReadAs}
 use Rattle.dimacs.proofs.FormLaws.{Stands, SoFar, end-closed, end-short, end-whole}
 use Rattle.dimacs.proofs.LinesLaws.{or-first, or-next, any-joined, any-more, twice-more, supply-more, other-supply}
 

@@ -1,3 +1,1 @@
-pub mod Reports
 pub mod WorkReports
-pub mod FlowReports

@@ -13,8 +13,8 @@ use Rattle.problem.specs.Outcome.{Outcome}
 use Rattle.planner.specs.Answer.{Slices}
 use Rattle.casestore.specs.State.{State}
 use Rattle.casestore.specs.Calls.{editCost}
-use Rattle.roles.specs.Promise.{PerformedBy, PlannedBy}
-use Rattle.ffi.specs.Report.{numberOf, reportOf, worthOf, shortReport, Untold}
+use Rattle.roletable.specs.Promise.{PerformedBy, PlannedBy}
+use Rattle.reports.specs.Report.{numberOf, reportOf, worthOf, shortReport, Untold}
 use Rattle.ffi.specs.Work.{verdictNumber, verdictReport, CallTold, CallUntold, CallExported, outcomeBy, PlanTold, PlanExported}
 
 module _ (answer : Option Outcome) (Done : Option Outcome → Type 0) (Kept : Type 0) (report : List ℕ) where

@@ -14,11 +14,11 @@ use Rattle.casestore.specs.State.{Draft, State}
 use Rattle.casestore.specs.Calls.{Call}
 use Rattle.casestore.specs.Store.{heldIn}
 use Rattle.casestore.specs.Promise.{entryRefusal, Entered}
-use Rattle.casestore.specs.Planning.{outcomeIn}
+use Rattle.caseplans.specs.Planning.{outcomeIn}
 use Rattle.casestore.specs.Seeing.{tariffAnswer, tableAnswer}
-use Rattle.roles.specs.Deeds.{seeTariff, seeTable, plan, test31}
-use Rattle.roles.specs.Promise.{answerBy, PerformedBy, outcomeUnless, PlannedBy, TariffSeen, TableSeen}
-use Rattle.ffi.specs.Report.{numberOf, reportOf, worthOf, shortReport, Untold}
+use Rattle.roletable.specs.Deeds.{seeTariff, seeTable, plan, test31}
+use Rattle.roletable.specs.Promise.{answerBy, PerformedBy, outcomeUnless, PlannedBy, TariffSeen, TableSeen}
+use Rattle.reports.specs.Report.{numberOf, reportOf, worthOf, shortReport, Untold}
 
 -- 0 where a call is done, else the refusal's number
 abbrev pub verdictNumber : Option Outcome → ℕ

@@ -1,36 +1,7 @@
 // The splits that can be the cheapest, for callers outside Rattle: numbers and slices only.
-ghost use mathlib.Core.Path.{_≡_};
-ghost use Prim.Native.Nat.{_≤_};
-ghost use lib.ListN.{length};
-ghost use Rattle.transport.specs.Curve.{written};
-ghost use Rattle.tablebounds.specs.Answers.{outcome, lowCase};
-ghost use Rattle.ffi.specs.Bounds.{numberOf, reportOf, worthOf, BoundsExported};
-use tablebounds::Answer;
-
-// Writes the report and the worth of an answer; its number.
-fn tell_bounds(answer: Answer, report: &mut [u64], worth: &mut [i64]) -> u64
-    requires { ⌜ (2 ≤ length (now report)) × (2 ≤ length (now worth)) ⌝ }
-    ensures { λ r. ⌜ (r ≡ numberOf (outcome answer)) × (now (report .exit) ≡ written (reportOf (outcome answer)) (now (report .entry))) × (now (worth .exit) ≡ written (worthOf (outcome answer)) (now (worth .entry))) ⌝ }
-{
-    match answer {
-        Answer::Known {
-            first,
-            count,
-            smallest,
-            largest,
-        } => {
-            report[0] = first;
-            report[1] = count as u64;
-            worth[0] = smallest;
-            worth[1] = largest;
-            0
-        }
-        Answer::Refused { number, place } => {
-            report[0] = place;
-            number
-        }
-    }
-}
+ghost use Rattle.tablemarks.specs.Answers.{lowCase};
+ghost use Rattle.reports.specs.Bounds.{BoundsExported};
+use reports::bounds::tell_bounds;
 
 // Tells which splits of a lent case can be the cheapest with entries between the low and the high table: 0 where the answers are given, else
 // the number of the refusal. The report's first cells get the first split and the count of splits, or the refusal's place, those of the worth

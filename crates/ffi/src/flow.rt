@@ -1,29 +1,7 @@
 // The least-cost flow of a network in DIMACS form, for callers outside Rattle: numbers and slices only.
-ghost use mathlib.Core.Path.{_≡_};
-ghost use Prim.Native.Nat.{_≤_};
-ghost use lib.ListN.{length};
-ghost use Rattle.transport.specs.Curve.{written};
-ghost use Rattle.network.specs.Judged.{outcome, slicesOf};
-ghost use Rattle.ffi.specs.Flow.{numberOf, reportOf, worthOf, FlowExported};
-use network::Answer;
-
-// Writes the report and the worth of an answer to a file of so many arcs; its number.
-fn tell_flow(answer: Answer, arcs: u64, report: &mut [u64], worth: &mut [i64]) -> u64
-    requires { ⌜ (1 ≤ length (now report)) × (1 ≤ length (now worth)) ⌝ }
-    ensures { λ r. ⌜ (r ≡ numberOf (outcome answer)) × (now (report .exit) ≡ written (reportOf arcs (outcome answer)) (now (report .entry))) × (now (worth .exit) ≡ written (worthOf (outcome answer)) (now (worth .entry))) ⌝ }
-{
-    match answer {
-        Answer::Carried { total } => {
-            report[0] = arcs;
-            worth[0] = total;
-            0
-        }
-        Answer::Refused { number, place } => {
-            report[0] = place;
-            number
-        }
-    }
-}
+ghost use Rattle.network.specs.Judged.{slicesOf};
+ghost use Rattle.reports.specs.Flow.{FlowExported};
+use reports::flow::tell_flow;
 
 // Finds the least-cost flow of the network in a DIMACS file, where the table replaces the cost of the arc named by its place from 1: 0 where
 // there is one, else the number of the refusal. The flow and the arcs go to the front of their slices. The report's first cell gets the count of
@@ -50,6 +28,6 @@ pub extern "C" fn yadvorkhul_flow(
         return 34;
     }
     let answer = network::cheapest_flow(bytes, place, table, flow, starts, ends, ceilings, costs);
-    let count = arcs::count::arcs_in(bytes);
+    let count = arclist::count::arcs_in(bytes);
     tell_flow(answer, count, report, worth)
 }

@@ -1,44 +1,16 @@
 // The planner for callers outside Rattle: numbers and slices only.
 mod rates;
 
-ghost use mathlib.Core.Path.{_≡_};
-ghost use Prim.Native.Nat.{_≤_};
 ghost use lib.ListN.{length};
-ghost use Rattle.transport.specs.Curve.{written};
 ghost use Rattle.problem.specs.Case.{lent};
-ghost use Rattle.planner.specs.Answer.{outcome, slices};
-ghost use Rattle.ffi.specs.Report.{numberOf, reportOf, worthOf, Exported};
-use planner::Answer;
+ghost use Rattle.planner.specs.Answer.{slices};
+ghost use Rattle.reports.specs.Report.{Exported};
+use reports::tell;
 
 pub mod bounds;
 pub mod flow;
 pub mod seen;
 pub mod work;
-
-// Writes the report and the worth of an answer; its number.
-fn tell(answer: Answer, report: &mut [u64], worth: &mut [i64]) -> u64
-    requires { ⌜ (2 ≤ length (now report)) × (2 ≤ length (now worth)) ⌝ }
-    ensures { λ r. ⌜ (r ≡ numberOf (outcome answer)) × (now (report .exit) ≡ written (reportOf (outcome answer)) (now (report .entry))) × (now (worth .exit) ≡ written (worthOf (outcome answer)) (now (worth .entry))) ⌝ }
-{
-    match answer {
-        Answer::Planned {
-            split,
-            total,
-            freight,
-            stops,
-        } => {
-            report[0] = split;
-            report[1] = stops as u64;
-            worth[0] = total;
-            worth[1] = freight;
-            0
-        }
-        Answer::Refused { number, place } => {
-            report[0] = place;
-            number
-        }
-    }
-}
 
 // Plans a lent case: 0 where there is a plan, else the number of the refusal. The report's first cells get split and count of stops, or the
 // refusal's place, those of the worth total and freight. Where either has fewer than two cells the answer is 34.

@@ -4,8 +4,8 @@ ghost use lib.ListN.{length};
 ghost use Rattle.planner.specs.Answer.{slices};
 ghost use Rattle.casestore.specs.Store.{heldIn};
 ghost use Rattle.ffi.specs.Work.{PlanExported, TariffExported, TableExported};
-use crate::tell;
 use crate::work::tell_verdict;
+use reports::tell;
 
 // Plans the working case: answers, report and worth as for a lent case.
 #[no_mangle]

@@ -2,12 +2,12 @@
 // output, and says what a refusal means on standard error.
 use casefile::planned::Printed;
 use check::same;
-use command::file::file_room;
-use command::file::first;
-use command::file::read_file;
-use command::message::say;
-use command::message::say_with;
 use command::refusal::explain_file;
+use filebytes::file::file_room;
+use filebytes::file::first;
+use filebytes::file::read_file;
+use filebytes::message::say;
+use filebytes::message::say_with;
 use flowtext::flow_files;
 ghost use mathlib.Core.Path.{_≡_};
 ghost use lib.ListN.{length};

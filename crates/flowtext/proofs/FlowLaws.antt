@@ -12,27 +12,28 @@ use lib.Signed.{ltZ}
 use lib.ListN.{length, getD, take, drop, length-map, List·getD-map, List·getD-append, length-append, length-drop}
 use lib.Seq.{sets, length-sets, sets-eq, take-at, take-all, length-take-le}
 use Rattle.csvtext.specs.Text.{refusalText}
-use Rattle.csvtext.specs.Flow.{FlowFits}
+use Rattle.answertext.specs.Flow.{FlowFits}
 use Rattle.caseform.specs.declared.Kind.the-variants.{Production}
-use Rattle.casefile.specs.declared.case.Entries.{Entries}
-use Rattle.casefile.specs.declared.case.Entries.the-variants as entries
+use Rattle.filecase.specs.declared.case.Entries.{Entries}
+use Rattle.filecase.specs.declared.case.Entries.the-variants as entries
 use Rattle.casefile.specs.declared.planned.Printed.{Printed}
-use Rattle.casefile.specs.Files.{tableOf}
+use Rattle.filetable.specs.Files.{tableOf}
 use Rattle.casefile.specs.Printed.{Told}
-use Rattle.casefile.specs.Entries.{entriesOf, entriesFor, EntriesStored}
+use Rattle.filecase.specs.Entries.{entriesOf, entriesFor, EntriesStored}
 use Rattle.dimacs.specs.Arc.{Arc, arc}
 use Rattle.dimacs.specs.Form.{File, Form, whole, broken, formOf}
 use Rattle.dimacs.specs.Lines.{anyOf}
-use Rattle.network.specs.Network.{Network, arcCount, ceiling, cost, listed}
-use Rattle.network.specs.Answer.{arcsOf, networkOf, Room, Outcome, carried, refused, outcomeOf, judged, limited, outOfLimits, badFile, badName, tooShort, flowOutcome, flows, leastTotal}
-use Rattle.network.specs.Promise.{Slices, roomOf, Given, Answered}
-use Rattle.network.proofs.Listed.{or-left, or-right, none-of}
-use Rattle.network.proofs.Answers.{answer-29, answer-30}
-use Rattle.network.proofs.Limits.{Proper, proper, four, count-is, few-arcs}
+use Rattle.flowproblem.specs.Network.{Network, arcCount, ceiling, cost, listed}
+use Rattle.flowproblem.specs.Answer.{arcsOf, networkOf, Room, Outcome, carried, refused, outcomeOf, judged, limited, outOfLimits, badFile, badName, tooShort, flowOutcome, flows, leastTotal}
+use Rattle.flowproblem.specs.Promise.{Slices, roomOf, Given, Answered}
+use Rattle.flowproblem.proofs.Listed.{none-of}
+use Rattle.flowproblem.proofs.Answers.{answer-29, answer-30}
+use Rattle.flowproblem.proofs.Limits.{Proper, proper, four, count-is, few-arcs}
 use Rattle.flowtext.specs.declared.Counted.{Counted}
 use Rattle.flowtext.specs.declared.Counted.the-variants as counts
 use Rattle.flowtext.specs.Printing.{placeOf, room, networkOutcome, tableThen, tableOutcome, formThen, filesOutcome, flowBytes, FlowPrinted, OutcomePrinted, NetworkPrinted, TablePrinted, FilesPrinted}
 use Rattle.flowtext.specs.Cuts.{CountIs, CountedIs, chargeIn, ArcsCut, cutText}
+use Rattle.problem.proofs.TestsPassed.{either-first, either-second}
 
 -- ---- an outcome
 
@@ -77,13 +78,13 @@ module _ (place : ℕ) (table : List ℕ) (f : File) (total : ℤ) (count : ℕ)
     (given : Given f place table total before after) where
   bad : badFile f ≡ false
   unfolding outOfLimits
-  bad = or-left _ _ limits
+  bad = either-first _ _ limits
 
   name : (ltb place 1 ≡ false) × (ltb (arcCount (networkOf f)) place ≡ false) × (not (eqb (length table) (ceiling (networkOf f) (place - 1) + 1)) ≡ false) × (anyOf (λ e. ltb 1000000000 e) table ≡ false)
   unfolding outOfLimits badName
   name =
       four (ltb place 1) (ltb (arcCount (networkOf f)) place) (not (eqb (length table) (ceiling (networkOf f) (place - 1) + 1))) (anyOf (λ e. ltb 1000000000 e) table)
-      (or-left _ _ (or-right (badFile f) _ limits))
+      (either-first _ _ (either-second (badFile f) _ limits))
 
   arcs-long : length (arcsOf f) ≡ count
   arcs-long = length-map (f .arcs) (λ v. v .arc) ∙ sym counted

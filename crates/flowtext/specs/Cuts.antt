@@ -4,7 +4,7 @@ use mathlib.Core.List.{List}
 use Prim.Native.Nat.{ℕ, _-_, _≤_, _<_}
 use lib.IntN.{ℤ}
 use lib.ListN.{length, getD, take}
-use Rattle.csvtext.specs.Flow.{flowText, FlowFits}
+use Rattle.answertext.specs.Flow.{flowText, FlowFits}
 use Rattle.dimacs.specs.Form.{File, whole, broken, formOf}
 use Rattle.flowtext.specs.declared.Counted as counted-answer
 use Rattle.flowtext.specs.declared.Counted.the-variants as counts

@@ -7,21 +7,21 @@ use lib.Dec.{ltb}
 use lib.IntN.{ℤ}
 use lib.ListN.{length}
 use Rattle.csvtext.specs.Text.{refusalText}
-use Rattle.csvtext.specs.Flow.{flowText}
+use Rattle.answertext.specs.Flow.{flowText}
 use Rattle.ratesfile.specs.declared.Output.{Output}
 use Rattle.ratesfile.specs.declared.Output.the-variants.{UpTo, Unclear}
 use Rattle.ratesfile.specs.File.{outputOf}
 use Rattle.caseform.specs.declared.Kind.the-variants.{Production}
-use Rattle.casefile.specs.declared.case.Entries.{Entries}
-use Rattle.casefile.specs.declared.case.Entries.the-variants as entries
+use Rattle.filecase.specs.declared.case.Entries.{Entries}
+use Rattle.filecase.specs.declared.case.Entries.the-variants as entries
 use Rattle.casefile.specs.declared.planned.Printed.{Printed}
-use Rattle.casefile.specs.Files.{tableOf}
+use Rattle.filetable.specs.Files.{tableOf}
 use Rattle.casefile.specs.Printed.{Told}
-use Rattle.casefile.specs.Entries.{entriesOf, entriesFor}
+use Rattle.filecase.specs.Entries.{entriesOf, entriesFor}
 use Rattle.dimacs.specs.Arc.{Arc}
 use Rattle.dimacs.specs.Form.{File, Form, whole, broken, formOf}
-use Rattle.network.specs.Network.{listed, CheapestFlow}
-use Rattle.network.specs.Answer.{arcsOf, networkOf, Room, Outcome, carried, refused, outcomeOf}
+use Rattle.flowproblem.specs.Network.{listed, CheapestFlow}
+use Rattle.flowproblem.specs.Answer.{arcsOf, networkOf, Room, Outcome, carried, refused, outcomeOf}
 
 -- the place of the arc, from 1, that a text of one to four digits names; 0, which is none, of any other text
 abbrev pub placeFor : Output → ℕ

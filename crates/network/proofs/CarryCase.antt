@@ -1,8 +1,8 @@
 -- The slices that the code makes are the case of the network, and the plan's cells are read back as its flow. Assumes nothing.
 use mathlib.Core.Path.{_≡_, refl, sym, ap, ap₂, _∙_, subst}
 use mathlib.Core.Logic.{_≢_}
-use mathlib.Core.Bool.{Bool, true, false, not, cond, _||_}
-use mathlib.Core.List.{List, [], _∷_, _++_}
+use mathlib.Core.Bool.{false, not, cond}
+use mathlib.Core.List.{List, _∷_, _++_}
 use Prim.Native.Nat.{ℕ, zero, suc, _+_, _-_, _*_, _≤_, _<_}
 use native.Mathlib.Nat.{suc-mul, mul-le-mul-right, mul-le-mul}
 use native.Mathlib.Numerals.{add-one}
@@ -23,26 +23,27 @@ use Rattle.problem.specs.Plans.{rowSum, planFor}
 use Rattle.problem.specs.Promise.{Cheapest, Bounded}
 use Rattle.problem.proofs.MachineIntegers.{read-back}
 use Rattle.dimacs.specs.Arc.{Arc}
-use Rattle.network.specs.Network.{Network, arcCount, arcAt, start, end, ceiling, listed, NoFlow}
-use Rattle.network.specs.Reduce.{cells, rowsOf, nodeOf, sourceOf, node, source, stock, laneCost, laneCeiling, want, entryAt, caseOf, flowAt, flowOf}
-use Rattle.network.specs.Sound.{Sound}
-use Rattle.network.specs.Build.{Filled, Put, RowsAre, wantIn, laneIn, costIn, entryIn, stockIn, flowIn, underAt}
-use Rattle.network.specs.Answer.{anyBelow, uneven}
-use Rattle.network.specs.Slices.{netOf}
+use Rattle.flowproblem.specs.Network.{Network, arcCount, arcAt, start, end, ceiling, NoFlow}
+use Rattle.flowproblem.specs.Reduce.{cells, rowsOf, nodeOf, sourceOf, node, source, stock, laneCost, laneCeiling, want, entryAt, caseOf, flowAt, flowOf}
+use Rattle.flowproblem.specs.Sound.{Sound}
+use Rattle.flowcase.specs.Build.{Filled, Put, RowsAre, wantIn, laneIn, costIn, entryIn, stockIn, flowIn, underAt}
+use Rattle.flowproblem.specs.Answer.{anyBelow, uneven}
+use Rattle.flowcase.specs.Slices.{netOf}
 use Rattle.network.specs.Ready.{Arcs, Amounts, Named, CarriedAs, CarriedIs}
 use Rattle.network.specs.declared.carry.Found.{Found}
 use Rattle.network.specs.declared.carry.Found.the-variants as founds
 use Rattle.network.specs.declared.carry.Carried.{Carried}
 use Rattle.network.specs.declared.carry.Carried.the-variants as carrieds
 use Rattle.network.specs.Found.{FoundAs, FoundIs}
-use Rattle.network.proofs.Cells.{cells-length, node-below, source-below}
-use Rattle.network.proofs.Listed.{or-left, or-right, or-both, below-none}
-use Rattle.network.proofs.Limits.{Proper, sound}
-use Rattle.network.proofs.Reduction.{cheapest-flow, no-flow}
-use Rattle.network.proofs.RowLaws.{cells-list, rows-list, put-list}
-use Rattle.network.proofs.SliceLaws as slices
-use Rattle.network.proofs.CaseLaws.{first-supply, case-formed, case-entries}
+use Rattle.flowproblem.proofs.Cells.{cells-length, node-below, source-below}
+use Rattle.flowproblem.proofs.Listed.{or-both, below-none}
+use Rattle.flowproblem.proofs.Limits.{Proper, sound}
+use Rattle.flowproblem.proofs.Reduction.{cheapest-flow, no-flow}
+use Rattle.flowcase.proofs.RowLaws.{cells-list, rows-list, put-list}
+use Rattle.flowcase.proofs.SliceLaws as slices
+use Rattle.flowproblem.proofs.CaseLaws.{first-supply, case-formed, case-entries}
 use Rattle.network.proofs.CarryLaws.{bounded-fits, no-plan-there}
+use Rattle.problem.proofs.TestsPassed.{either-first, either-second}
 
 front : {A : Type 0} (k : ℕ) (l : List A) → take (k - 0) (drop 0 l) ≡ take k l
 front k l = ap (λ (n : ℕ). take n l) (let q : k - 0 ≡ k = omega arith in q)
@@ -66,7 +67,7 @@ module _ (gives takes starts ends ceilings : List ℕ) (costs : List ℤ) (A : A
 
   inside-parts : (z : ℤ) → outside z ≡ false → (ltZ z (negℤ (pos 1000000)) ≡ false) × (ltZ (pos 1000000) z ≡ false)
   unfolding outside
-  inside-parts z e = (or-left (ltZ z (negℤ (pos 1000000))) (ltZ (pos 1000000) z) e, or-right (ltZ z (negℤ (pos 1000000))) (ltZ (pos 1000000) z) e)
+  inside-parts z e = (either-first (ltZ z (negℤ (pos 1000000))) (ltZ (pos 1000000) z) e, either-second (ltZ z (negℤ (pos 1000000))) (ltZ (pos 1000000) z) e)
 
   pub proper-of : Proper network
   proper-of = record {

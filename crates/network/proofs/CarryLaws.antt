@@ -1,21 +1,19 @@
 -- The planner's answer to a network's case. Assumes nothing.
-use mathlib.Core.Path.{_≡_, refl, sym, ap, ap₂, _∙_, subst}
-use mathlib.Core.Logic.{_≢_, _⊎_, inl, inr}
-use mathlib.Core.Bool.{Bool, true, false, not, cond, _||_}
-use mathlib.Core.Option.{Option, none, some}
-use mathlib.Core.List.{List, _++_}
-use Prim.Native.Nat.{ℕ, zero, suc, _+_, _-_, _*_, _≤_, _<_, _^_}
+use mathlib.Core.Path.{_≡_, sym, ap, _∙_, subst}
+use mathlib.Core.Logic.{_⊎_, inl, inr}
+use mathlib.Core.Option.{none, some}
+use mathlib.Core.List.{List}
+use Prim.Native.Nat.{ℕ, _+_, _*_, _≤_, _<_, _^_}
 use native.Mathlib.Omega.{arith}
 use lib.Dec.{ltb, leb→le}
 use lib.IntN.{ℤ, pos, negsuc}
 use lib.Signed.{mag}
 use mir.Syntax.{w64}
 use mir.Val.{toZ, ofZ}
-use lib.ListN.{length, getD}
 use borrow.Author.Tests.{le-ltb}
-use Rattle.problem.specs.Case.{Case, supply as supplyOf, entry, leastSplit, greatestSplit, steps, lent}
-use Rattle.problem.specs.Outcome.{Outcome, refused, refusalOf, outcomeOf, formRefusal, test7, test8, test27, test9, test11, _orElse_}
-use Rattle.problem.specs.Promise.{Cheapest, NoPlan, Bounded, Unbalanced, BalanceRule}
+use Rattle.problem.specs.Case.{Case, entry, leastSplit, steps, lent}
+use Rattle.problem.specs.Outcome.{Outcome, refused, refusalOf, outcomeOf, formRefusal, test7, test8, test27, test9, test11}
+use Rattle.problem.specs.Promise.{NoPlan, Bounded, Unbalanced, BalanceRule}
 use Rattle.planner.specs.Answer.{Answered, Slices, outcome}
 use Rattle.planner.specs.declared.Answer.{Answer}
 use Rattle.planner.specs.declared.Answer.the-variants.{Planned, Refused}
@@ -25,7 +23,7 @@ use Rattle.network.specs.Found.{FoundAs}
 use Rattle.problem.proofs.FirstFailing.{first-none, above-none, outside-none}
 use Rattle.problem.proofs.TestsPassed.{Formed, second-decides, first-decides, refuseIf-cases}
 use Rattle.problem.proofs.TestParts.{unmet, no-place, amounts-pass, runs-pass, ceilings-pass}
-use Rattle.casetests.proofs.FormTests.{Limits, lanes, by-none}
+use Rattle.casetests.proofs.FormTests.{lanes, by-none}
 use Rattle.problem.proofs.Promise.{from7, from8, from27, from9, outcome-refused}
 use Rattle.problem.proofs.MachineIntegers.{read-back}
 use Rattle.problem.proofs.Splits.{greatest-most}

@@ -1,12 +1,11 @@
 -- The network that the cells hold is the file's, and the answer to it the file's answer. Assumes nothing.
 use mathlib.Core.Path.{_≡_, refl, sym, ap, ap₂, _∙_, subst}
-use mathlib.Core.Logic.{_≢_}
-use mathlib.Core.Bool.{Bool, true, false, not, cond, _||_}
-use mathlib.Core.List.{List, [], _∷_, _++_, map}
-use Prim.Native.Nat.{ℕ, zero, suc, _+_, _-_, _≤_, _<_}
+use mathlib.Core.Bool.{Bool, true, false, _||_}
+use mathlib.Core.List.{List, [], map}
+use Prim.Native.Nat.{ℕ, suc, _-_, _≤_, _<_}
 use native.Mathlib.Decide.{decLt}
 use native.Mathlib.Omega.{arith}
-use lib.Dec.{eqb, ltb}
+use lib.Dec.{ltb}
 use lib.IntN.{ℤ, pos, subℕ}
 use lib.Signed.{ltZ}
 use lib.ListN.{length, getD, take, drop, replicate, length-map, length-replicate, getD-replicate, List·getD-map}
@@ -14,28 +13,29 @@ use lib.Seq.{ext-getD, length-take-le, getD-take}
 use borrow.Author.Tests.{lt-ltb, le-ltb, ltb-false}
 use Rattle.problem.specs.Range.{outside}
 use Rattle.dimacs.specs.Arc.{Arc, arc}
-use Rattle.dimacs.specs.Form.{ArcLine, NodeLine, File, Form, whole, broken, formOf}
+use Rattle.dimacs.specs.Form.{ArcLine, NodeLine, File, whole, broken, formOf}
 use Rattle.dimacs.specs.Lines.{supplyIn, anyOf, noNode, twice, badArc}
 use Rattle.dimacs.specs.Stored.{noLine, ArcsRead, NodesRead, FileRead, ReadAs, ReadIs}
 use Rattle.dimacs.proofs.LinesLaws.{or-true}
 use Rattle.dimacs.specs.declared.store.Reading.{Reading}
 use Rattle.dimacs.specs.declared.store.Reading.the-variants as readings
 use Rattle.transport.specs.Curve.{written}
-use Rattle.network.specs.Network.{Network, arcCount, amount, CheapestFlow}
-use Rattle.network.specs.Reduce.{cells}
-use Rattle.network.specs.Answer.{arcsOf, networkOf, anyBelow, Room, tooShort, badFile, badName, outOfLimits, flows, leastTotal, Outcome, carried, refused, flowOutcome, limited, outcomeOf}
-use Rattle.network.specs.Promise as promise
-use Rattle.network.specs.Promise.{Slices, roomOf, Answered}
-use Rattle.network.specs.Slices.{netOf}
+use Rattle.flowproblem.specs.Network.{Network, amount, CheapestFlow}
+use Rattle.flowproblem.specs.Reduce.{cells}
+use Rattle.flowproblem.specs.Answer.{arcsOf, networkOf, anyBelow, tooShort, badFile, badName, outOfLimits, flows, leastTotal, Outcome, carried, refused, flowOutcome, limited, outcomeOf}
+use Rattle.flowproblem.specs.Promise as promise
+use Rattle.flowproblem.specs.Promise.{Slices, roomOf, Answered}
+use Rattle.flowcase.specs.Slices.{netOf}
 use Rattle.network.specs.Ready.{Arcs}
-use Rattle.network.specs.Judged.{beyond, judgedNet, Given, Told, Judged}
-use Rattle.network.proofs.Cells.{cells-length, cells-at}
-use Rattle.network.proofs.Listed.{or-left, or-right, or-both, none-of}
-use Rattle.network.proofs.Limits.{Passes, passes}
-use Rattle.network.proofs.Parts.{startsOf, endsOf, ceilingsOf, costsOf}
-use Rattle.network.proofs.SliceLaws as slices
+use Rattle.network.specs.Judged.{beyond, judgedNet, Given, Judged}
+use Rattle.flowproblem.proofs.Cells.{cells-length, cells-at}
+use Rattle.flowproblem.proofs.Listed.{or-both, none-of, or-regroup}
+use Rattle.flowproblem.proofs.Limits.{Passes, passes}
+use Rattle.flowcase.proofs.Parts.{startsOf, endsOf, ceilingsOf, costsOf}
+use Rattle.flowcase.proofs.SliceLaws as slices
 use Rattle.network.proofs.CarryCase.{cells-ext}
-use Rattle.network.proofs.Answers.{answer-29, answer-30, answer-limited}
+use Rattle.flowproblem.proofs.Answers.{answer-29, answer-30, answer-limited}
+use Rattle.problem.proofs.TestsPassed.{either-first, either-second}
 
 -- ---- what the reader said
 
@@ -123,12 +123,8 @@ module _ (f : File) (nodes arcs : ℕ) (odd bad : Bool) (tails heads caps : List
             ∙ sym (ap (λ (b : Bool). b || (ltb 64 (length (f .arcs)) || (none-named || (twice (f .supplies) || anyOf (badArc (f .nodes)) (f .arcs))))) (lt-ltb 32 (f .nodes) l))
         | no l ↦
             ap₂ (λ (o b : Bool). ltb 32 (f .nodes) || (ltb 64 (length (f .arcs)) || (o || b))) (R .node-lines .flag (omega arith)) (R .arc-lines .flag)
-            ∙ ap (λ (b : Bool). ltb 32 (f .nodes) || (ltb 64 (length (f .arcs)) || b)) (regroup none-named (twice (f .supplies)) (anyOf (badArc (f .nodes)) (f .arcs)))
+            ∙ ap (λ (b : Bool). ltb 32 (f .nodes) || (ltb 64 (length (f .arcs)) || b)) (or-regroup none-named (twice (f .supplies)) (anyOf (badArc (f .nodes)) (f .arcs)))
       ]
-    where
-      regroup : (a b c : Bool) → ((a || b) || c) ≡ (a || (b || c))
-      regroup true b c = refl
-      regroup false b c = refl
 
   abbrev over : Bool
   over = anyBelow (f .nodes) (λ i. ltZ (pos 4000) (amount (networkOf f) i))
@@ -157,17 +153,17 @@ module _ (f : File) (nodes arcs : ℕ) (odd bad : Bool) (tails heads caps : List
     lines-fine = sym flags-are ∙ sym fine
 
     pub few-nodes : nodes ≤ 32
-    few-nodes = ltb-false 32 nodes (or-left (ltb 32 nodes) (ltb 64 arcs || (odd || bad)) (sym fine))
+    few-nodes = ltb-false 32 nodes (either-first (ltb 32 nodes) (ltb 64 arcs || (odd || bad)) (sym fine))
 
     pub few-arcs : arcs ≤ 64
-    few-arcs = ltb-false 64 arcs (or-left (ltb 64 arcs) (odd || bad) (or-right (ltb 32 nodes) (ltb 64 arcs || (odd || bad)) (sym fine)))
+    few-arcs = ltb-false 64 arcs (either-first (ltb 64 arcs) (odd || bad) (either-second (ltb 32 nodes) (ltb 64 arcs || (odd || bad)) (sym fine)))
 
     arcs-fine : anyOf (badArc (f .nodes)) (f .arcs) ≡ false
     arcs-fine =
-        or-right (twice (f .supplies)) (anyOf (badArc (f .nodes)) (f .arcs))
-        (or-right none-named (twice (f .supplies) || anyOf (badArc (f .nodes)) (f .arcs))
-        (or-right (ltb 64 (length (f .arcs))) (none-named || (twice (f .supplies) || anyOf (badArc (f .nodes)) (f .arcs)))
-        (or-right (ltb 32 (f .nodes)) (ltb 64 (length (f .arcs)) || (none-named || (twice (f .supplies) || anyOf (badArc (f .nodes)) (f .arcs)))) lines-fine)))
+        either-second (twice (f .supplies)) (anyOf (badArc (f .nodes)) (f .arcs))
+        (either-second none-named (twice (f .supplies) || anyOf (badArc (f .nodes)) (f .arcs))
+        (either-second (ltb 64 (length (f .arcs))) (none-named || (twice (f .supplies) || anyOf (badArc (f .nodes)) (f .arcs)))
+        (either-second (ltb 32 (f .nodes)) (ltb 64 (length (f .arcs)) || (none-named || (twice (f .supplies) || anyOf (badArc (f .nodes)) (f .arcs)))) lines-fine)))
 
     -- the parts that are handed on
     part-long : {A : Type 0} (k : ℕ) (l : List A) → k ≤ length l → length (take (k - 0) (drop 0 l)) ≡ k

@@ -1,8 +1,8 @@
 -- The tests of a network in slices, and what each way out of them is answered. Assumes nothing.
 use mathlib.Core.Path.{_≡_, refl, sym, ap, ap₂, _∙_, subst}
-use mathlib.Core.Bool.{Bool, true, false, not, cond, _||_, true≢false}
+use mathlib.Core.Bool.{Bool, true, false, not, _||_}
 use mathlib.Core.List.{List, [], _∷_, _++_}
-use Prim.Native.Nat.{ℕ, zero, suc, _+_, _-_, _*_, _≤_, _<_}
+use Prim.Native.Nat.{ℕ, zero, suc, _+_, _-_, _≤_, _<_}
 use native.Mathlib.Decide.{decLt}
 use native.Mathlib.Omega.{arith}
 use lib.Dec.{eqb, ltb}
@@ -16,22 +16,22 @@ use Rattle.transport.specs.Curve.{written}
 use Rattle.dimacs.specs.Arc.{Arc, arc}
 use Rattle.dimacs.specs.Lines.{anyOf}
 use Rattle.dimacs.proofs.LinesLaws.{or-true}
-use Rattle.network.specs.Network.{Network, arcCount, ceiling, amount, NoFlow, CheapestFlow}
-use Rattle.network.specs.Reduce.{cells}
-use Rattle.network.specs.Build.{Put, cellOf, haveIn, overAt, underAt, dearAt}
-use Rattle.network.specs.Answer.{anyBelow, Room, tooShort, badName, flows, leastTotal, Outcome, carried, refused, flowOutcome, uneven}
-use Rattle.network.specs.Promise.{Slices, roomOf}
-use Rattle.network.specs.Slices.{netOf}
+use Rattle.flowproblem.specs.Network.{Network, arcCount, ceiling, amount, NoFlow}
+use Rattle.flowproblem.specs.Reduce.{cells}
+use Rattle.flowcase.specs.Build.{Put, cellOf, haveIn, overAt, underAt, dearAt}
+use Rattle.flowproblem.specs.Answer.{anyBelow, Room, tooShort, badName, flows, leastTotal, carried, refused, flowOutcome, uneven}
+use Rattle.flowproblem.specs.Promise.{Slices, roomOf}
+use Rattle.flowcase.specs.Slices.{netOf}
 use Rattle.network.specs.Ready.{Arcs, Amounts, Named, CarriedAs}
 use Rattle.network.specs.declared.carry.Carried.the-variants as carrieds
 use Rattle.network.specs.Judged.{beyond, judgedNet, badNameIn, unevenIn, Given, Holding, Told, Judged}
-use Rattle.network.proofs.Cells.{cells-length, cells-at}
-use Rattle.network.proofs.Listed.{or-left, or-right, or-both, none-below, carried-is, none-is}
-use Rattle.network.proofs.Limits.{Proper, uneven-none, four}
-use Rattle.network.proofs.RowLaws.{put-list}
-use Rattle.network.proofs.SliceLaws as slices
-use Rattle.network.proofs.Parts.{ceilingsOf}
+use Rattle.flowproblem.proofs.Cells.{cells-length, cells-at}
+use Rattle.flowproblem.proofs.Listed.{or-both, none-below, carried-is, none-is, or-regroup}
+use Rattle.flowproblem.proofs.Limits.{Proper, uneven-none, four}
+use Rattle.flowcase.proofs.RowLaws.{put-list}
+use Rattle.flowcase.proofs.SliceLaws as slices
 use Rattle.network.proofs.CarryCase.{proper-of}
+use Rattle.problem.proofs.TestsPassed.{either-first, either-second}
 
 -- ---- the small tests
 
@@ -82,11 +82,7 @@ below-front zero p = turn (p 0)
     turn : (a : Bool) → (false || a) ≡ (a || false)
     turn true = refl
     turn false = refl
-below-front (suc k) p = ap (λ (b : Bool). b || p (suc k)) (below-front k p) ∙ regroup (p 0) (anyBelow k (λ i. p (suc i))) (p (suc k))
-  where
-    regroup : (a b c : Bool) → ((a || b) || c) ≡ (a || (b || c))
-    regroup true b c = refl
-    regroup false b c = refl
+below-front (suc k) p = ap (λ (b : Bool). b || p (suc k)) (below-front k p) ∙ or-regroup (p 0) (anyBelow k (λ i. p (suc i))) (p (suc k))
 
 any-listed : (p : ℕ → Bool) (l : List ℕ) → anyBelow (length l) (λ i. p (getD l i 0)) ≡ anyOf p l
 unfolding anyOf anyBelow
@@ -218,15 +214,15 @@ module _ (gives takes haves starts ends ceilings : List ℕ) (costs : List ℤ) 
       ends-room = omega (arith, A .ends-long, ltb-false (length (before .ends)) (length starts) (shorts .2))
 
       pub ceilings-room : length ceilings ≤ length (before .ceilings)
-      ceilings-room = omega (arith, A .ceilings-long, ltb-false (length (before .ceilings)) (length starts) (or-left (ltb (room .ceilings) (length starts)) (ltb (room .costs) (length starts)) (shorts .3)))
+      ceilings-room = omega (arith, A .ceilings-long, ltb-false (length (before .ceilings)) (length starts) (either-first (ltb (room .ceilings) (length starts)) (ltb (room .costs) (length starts)) (shorts .3)))
 
       pub costs-room : length costs ≤ length (before .costs)
-      costs-room = omega (arith, A .costs-long, ltb-false (length (before .costs)) (length starts) (or-right (ltb (room .ceilings) (length starts)) (ltb (room .costs) (length starts)) (shorts .3)))
+      costs-room = omega (arith, A .costs-long, ltb-false (length (before .costs)) (length starts) (either-second (ltb (room .ceilings) (length starts)) (ltb (room .costs) (length starts)) (shorts .3)))
 
       pub amounts-there : false ≡ unevenIn gives takes haves → Amounts gives takes haves ends ceilings
       amounts-there u =
           let sums = not (eqb (sum (length gives) (λ i. getD gives i 0)) (sum (length takes) (λ i. getD takes i 0))) in
-          let n = or-right sums (anyBelow (length haves) (underAt haves takes)) (sym u) in
+          let n = either-second sums (anyBelow (length haves) (underAt haves takes)) (sym u) in
           record {
             few = G .few;
             takes-long = G .takes-long;
@@ -235,7 +231,7 @@ module _ (gives takes haves starts ends ceilings : List ℕ) (costs : List ℤ) 
             enough = λ i l. ltb-false (getD haves i 0) (getD takes i 0) (none-below (length haves) (underAt haves takes) n i (omega (arith, H .long)));
             most = λ i l. ltb-false (getD takes i 0 + 4000) (getD haves i 0) (none-below (length haves) (overAt haves takes) (sym o) i (omega (arith, H .long)));
             even =
-                eqb-true (sum (length gives) (λ i. getD gives i 0)) (sum (length takes) (λ i. getD takes i 0)) (not-false _ (or-left sums (anyBelow (length haves) (underAt haves takes)) (sym u)))
+                eqb-true (sum (length gives) (λ i. getD gives i 0)) (sum (length takes) (λ i. getD takes i 0)) (not-false _ (either-first sums (anyBelow (length haves) (underAt haves takes)) (sym u)))
                 ∙ ap (λ (n : ℕ). sum n (λ i. getD takes i 0)) (G .takes-long);
           }
 

@@ -11,11 +11,11 @@ use Rattle.transport.specs.Sum.{sum}
 use Rattle.transport.specs.Curve.{written}
 use Rattle.network.specs.declared.Answer as declared-answer
 use Rattle.network.specs.declared.Answer.the-variants as answers
-use Rattle.network.specs.Network.{Network, arcCount, amount, CheapestFlow}
-use Rattle.network.specs.Build.{AtMostAll, haveIn, overAt, underAt, dearAt}
-use Rattle.network.specs.Answer.{anyBelow, Room, tooShort, badName, flows, leastTotal, Outcome, carried, refused, flowOutcome}
-use Rattle.network.specs.Promise.{Slices, roomOf}
-use Rattle.network.specs.Slices.{netOf}
+use Rattle.flowproblem.specs.Network.{Network, arcCount, amount, CheapestFlow}
+use Rattle.flowcase.specs.Build.{AtMostAll, haveIn, overAt, underAt, dearAt}
+use Rattle.flowproblem.specs.Answer.{anyBelow, Room, tooShort, badName, flows, leastTotal, Outcome, carried, refused, flowOutcome}
+use Rattle.flowproblem.specs.Promise.{Slices, roomOf}
+use Rattle.flowcase.specs.Slices.{netOf}
 
 -- an answer in the paper's numbers and values
 abbrev pub outcome : declared-answer.Answer → Outcome

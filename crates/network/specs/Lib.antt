@@ -1,10 +1,3 @@
-pub mod Network
-pub mod Reduce
-pub mod Sound
-pub mod Answer
-pub mod Promise
-pub mod Build
-pub mod Slices
 pub mod Found
 pub mod Ready
 pub mod Judged

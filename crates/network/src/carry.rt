@@ -1,10 +1,10 @@
 // The planner asked for the cheapest plan of a network's case.
-use crate::build::fill_demands;
-use crate::build::fill_table;
-use crate::rows::cost_rows;
-use crate::rows::fill_flow;
-use crate::rows::fill_supplies;
-use crate::rows::lane_rows;
+use flowcase::build::fill_demands;
+use flowcase::build::fill_table;
+use flowcase::rows::cost_rows;
+use flowcase::rows::fill_flow;
+use flowcase::rows::fill_supplies;
+use flowcase::rows::lane_rows;
 use planner::Answer;
 use planner::plan;
 ghost use mathlib.Core.Path.{_≡_};
@@ -13,7 +13,7 @@ ghost use lib.ListN.{length};
 ghost use Rattle.problem.specs.Case.{lent};
 ghost use Rattle.network.specs.Found.{FoundIs};
 ghost use Rattle.network.specs.Ready.{Arcs, Amounts, Named, CarriedIs};
-ghost use Rattle.network.specs.Slices.{netOf};
+ghost use Rattle.flowcase.specs.Slices.{netOf};
 
 // The split and the total of the plan found, or nothing.
 pub enum Found {

@@ -2,21 +2,21 @@
 use crate::Answer;
 use crate::carry::Carried;
 use crate::carry::carry;
-use crate::checks::dear;
-use crate::checks::over;
-use crate::checks::sum_of;
-use crate::checks::under;
-use crate::rows::copy_costs;
-use crate::rows::copy_numbers;
-use crate::rows::fill_haves;
+use flowcase::checks::dear;
+use flowcase::checks::over;
+use flowcase::checks::sum_of;
+use flowcase::checks::under;
+use flowcase::rows::copy_costs;
+use flowcase::rows::copy_numbers;
+use flowcase::rows::fill_haves;
 ghost use mathlib.Core.Path.{_≡_};
 ghost use mathlib.Core.Bool.{_||_};
 ghost use Prim.Native.Nat.{ℕ, _≤_, _<_};
 ghost use lib.Dec.{ltb};
 ghost use lib.ListN.{length, getD};
-ghost use Rattle.network.specs.Build.{AtMostAll};
+ghost use Rattle.flowcase.specs.Build.{AtMostAll};
 ghost use Rattle.network.specs.Ready.{Arcs};
-ghost use Rattle.network.specs.Slices.{netOf};
+ghost use Rattle.flowcase.specs.Slices.{netOf};
 ghost use Rattle.network.specs.Judged.{outcome, badNameIn, unevenIn, Given, Holding, Judged, slicesOf};
 
 // Is the place none, or the table not of the named arc?

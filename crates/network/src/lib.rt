@@ -5,14 +5,11 @@ use dimacs::store::read_file;
 ghost use mathlib.Core.Path.{_≡_};
 ghost use mathlib.Core.Bool.{_||_};
 ghost use lib.Dec.{ltb};
-ghost use Rattle.network.specs.Promise.{Answered};
+ghost use Rattle.flowproblem.specs.Promise.{Answered};
 ghost use Rattle.network.specs.Judged.{outcome, slicesOf};
 
-pub mod build;
 pub mod carry;
-pub mod checks;
 pub mod judge;
-pub mod rows;
 
 // A flow was found, or the file is refused.
 pub enum Answer {

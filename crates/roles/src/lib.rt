@@ -4,13 +4,11 @@ ghost use Rattle.casetests.specs.Verdict.{verdict};
 ghost use Rattle.planner.specs.Answer.{outcome, slices};
 ghost use Rattle.casestore.specs.Store.{heldIn};
 ghost use Rattle.casestore.specs.Calls.{editDemand, editSupply, editCost, editEntry, setMark, goBack};
-ghost use Rattle.roles.specs.Promise.{PerformedBy, PlannedBy, TariffSeen, TableSeen};
-use crate::table::may;
-use crate::table::may_supply;
+ghost use Rattle.roletable.specs.Promise.{PerformedBy, PlannedBy, TariffSeen, TableSeen};
 use casetests::tests::Verdict;
 use planner::Answer;
-
-mod table;
+use roletable::table::may;
+use roletable::table::may_supply;
 
 // Alters the demand of terminal j.
 pub fn edit_demand(role: usize, j: usize, value: u64, store: &mut [u64]) -> Verdict

@@ -2,12 +2,12 @@
 use crate::draw::costs_of;
 use crate::draw::drawn;
 use crate::draw::numbers_of;
-use casefile::case::CaseAnswer;
-use casefile::case::read_case;
 use casetext::Texts;
 use casetext::rewrite::rewrite_files;
 use casetext::write_case;
 use check::same;
+use filecase::case::CaseAnswer;
+use filecase::case::read_case;
 ghost use Prim.Native.Nat.{_≤_};
 
 // The first n bytes, or numbers; all where there are no more.

@@ -1,35 +1,10 @@
 // From the planner's stops to the answers.
-ghost use mathlib.Core.Path.{_≡_};
-ghost use Prim.Native.Nat.{_≤_};
-ghost use lib.ListN.{length};
-ghost use Rattle.transport.specs.Curve.{written};
-ghost use Rattle.tablebounds.specs.Heights.{Summed, marksBy, leastSum};
-ghost use Rattle.tablebounds.specs.Answers.{outcome, settledOf, lowCase, Listed, Answered};
-use crate::Answer;
-use crate::curve::Found;
-use crate::curve::draw;
-use crate::curve::first_bad;
-use crate::curve::least_sum;
-use crate::curve::mark_all;
-use crate::curve::signed;
-
-// The answers from the curve and the two tables' parts at the splits.
-pub fn settle(lo: u64, curve: &[u64], lows: &[u64], highs: &[u64], answers: &mut [u64]) -> Answer
-    requires { ⌜ Summed (now curve) (now lows) × Summed (now curve) (now highs) × (length (now lows) ≤ length (now answers)) ⌝ }
-    ensures { λ r. ⌜ (outcome r ≡ settledOf lo (now (curve .entry)) (now (lows .entry)) (now (highs .entry))) × (now (answers .exit) ≡ written (marksBy (now (curve .entry)) (now (lows .entry)) (leastSum (now (curve .entry)) (now (highs .entry)))) (now (answers .entry))) ⌝ }
-{
-    let least = least_sum(curve, lows);
-    let most = least_sum(curve, highs);
-    mark_all(curve, lows, most, answers);
-    let smallest = signed(least);
-    let largest = signed(most);
-    Answer::Known {
-        first: lo,
-        count: lows.len(),
-        smallest,
-        largest,
-    }
-}
+ghost use Rattle.tablemarks.specs.Answers.{outcome, lowCase, Listed, Answered};
+use tablemarks::Answer;
+use tablemarks::curve::Found;
+use tablemarks::curve::draw;
+use tablemarks::curve::first_bad;
+use tablemarks::settle::settle;
 
 // Tests 28 and 11, and the answers, of a case that the planner gave its stops.
 pub fn judge(

@@ -1,23 +1,9 @@
 // Production cost known between two bounds: which splits can be the cheapest, and what the least total can be.
-ghost use Rattle.tablebounds.specs.Answers.{outcome, lowCase, Answered};
+ghost use Rattle.tablemarks.specs.Answers.{outcome, lowCase, Answered};
 use crate::judge::judge;
+use tablemarks::Answer;
 
-mod curve;
 mod judge;
-
-// The first split, how many splits there are, and the smallest and the largest that the least total can be; or the case is refused.
-pub enum Answer {
-    Known {
-        first: u64,
-        count: usize,
-        smallest: i64,
-        largest: i64,
-    },
-    Refused {
-        number: u64,
-        place: u64,
-    },
-}
 
 // Tells for each split, from the first up, whether it can be the cheapest with entries between the low and the high table.
 pub fn possible_splits(

@@ -45,29 +45,29 @@ use denote.Triple.Clauses.{ensured, lasts}
 use denote.Triple.Walked.{says, Stays, stay-none, stay-none-slice, gave-slice, walkOf, goes-none, goes-none-slice, goes-gave-slice, Walks, ends-at, walked, walk-meets}
 use denote.Exit.{yes}
 use Rattle.transport.specs.Curve.{written}
-use Rattle.network.specs.Reduce.{cells}
+use Rattle.flowproblem.specs.Reduce.{cells}
 use Rattle.network.specs.declared.Answer.{Answer}
 use Rattle.network.proofs.Answer as N
 use Rattle.network.proofs.Answer.Laws as N′
-use Rattle.arcs.specs.declared.Arc.{Arc}
-use Rattle.arcs.specs.declared.find.Found.{Found}
-use Rattle.arcs.specs.Lent.{arcAt, FoundIs}
-use Rattle.arcs.proofs.FoundLaws.{arcs-answered}
-use Rattle.arcs.proofs.Arc as T
-use Rattle.arcs.proofs.find.Found as F
-use Rattle.arcs.proofs.find.Found.Laws as F′
+use Rattle.arclist.specs.declared.Arc.{Arc}
+use Rattle.arclist.specs.declared.find.Found.{Found}
+use Rattle.arclist.specs.Lent.{arcAt, FoundIs}
+use Rattle.arclist.proofs.FoundLaws.{arcs-answered}
+use Rattle.arclist.proofs.Arc as T
+use Rattle.arclist.proofs.find.Found as F
+use Rattle.arclist.proofs.find.Found.Laws as F′
 use Rattle.arcs.proofs.find.find as find
 use Rattle.arcs.proofs.find.find.Symbol as find-def
 use Rattle.arcs.proofs.find.find.Symbol.{name as #arcs·find·find}
 use Rattle.arcs.proofs.find.find.Met as find-thm
-use Rattle.arcs.proofs.find.count_in as count-in
-use Rattle.arcs.proofs.find.count_in.Symbol as count-in-def
-use Rattle.arcs.proofs.find.count_in.Symbol.{name as #arcs·find·count-in}
-use Rattle.arcs.proofs.find.count_in.Met as count-in-thm
-use Rattle.arcs.proofs.find.answer_in as answer-in
-use Rattle.arcs.proofs.find.answer_in.Symbol as answer-in-def
-use Rattle.arcs.proofs.find.answer_in.Symbol.{name as #arcs·find·answer-in}
-use Rattle.arcs.proofs.find.answer_in.Met as answer-in-thm
+use Rattle.arclist.proofs.find.count_in as count-in
+use Rattle.arclist.proofs.find.count_in.Symbol as count-in-def
+use Rattle.arclist.proofs.find.count_in.Symbol.{name as #arclist·find·count-in}
+use Rattle.arclist.proofs.find.count_in.Met as count-in-thm
+use Rattle.arclist.proofs.find.answer_in as answer-in
+use Rattle.arclist.proofs.find.answer_in.Symbol as answer-in-def
+use Rattle.arclist.proofs.find.answer_in.Symbol.{name as #arclist·find·answer-in}
+use Rattle.arclist.proofs.find.answer_in.Met as answer-in-thm
 use Rattle.arcs.proofs.write as write
 use Rattle.arcs.proofs.write.Symbol as write-def
 use Rattle.arcs.proofs.write.Symbol.{name as #arcs·write}
@@ -273,8 +273,8 @@ module _ {M : Type 1} (𝓤 : URA M) (H : Heap 𝓤) (A : Atoms 𝓤) (W : Given
           nothing ! $ move ! (2 ∷ 0 ∷ []) $ fjoin ! $ move ! (2 ∷ 0 ∷ []) $ fjoin ! $ move ! (2 ∷ 0 ∷ []) $ fjoin ! $
           owned ! usize (Is usize) (uint-makes 𝓤 H A W w64) p _ (refl, p-fits) $ fjoin ! $ move ! (2 ∷ 0 ∷ []) $ fjoin ! $ done !
 
-  module _ (C : Calls 𝓤 H) (Λ : Loops 𝓤 H) (fm : FmC 𝓤 H (W .laws) C) (known-find : Triple 𝓤 (C #arcs·find·find) (Find 𝓤 H A mem run)) (known-count : Triple 𝓤 (C #arcs·find·count-in) (CountIn 𝓤 H A mem run))
-      (known-write : Triple 𝓤 (C #arcs·write) (Write 𝓤 H A mem run)) (known-answer : Triple 𝓤 (C #arcs·find·answer-in) (AnswerIn 𝓤 H A mem run)) (l₀ l₁ l₂ l₃ l₄ l₅ l₆ l₇ l₈ l₉ l₁₀ l₁₁ l₁₂ : ℕ) where
+  module _ (C : Calls 𝓤 H) (Λ : Loops 𝓤 H) (fm : FmC 𝓤 H (W .laws) C) (known-find : Triple 𝓤 (C #arcs·find·find) (Find 𝓤 H A mem run)) (known-count : Triple 𝓤 (C #arclist·find·count-in) (CountIn 𝓤 H A mem run))
+      (known-write : Triple 𝓤 (C #arcs·write) (Write 𝓤 H A mem run)) (known-answer : Triple 𝓤 (C #arclist·find·answer-in) (AnswerIn 𝓤 H A mem run)) (l₀ l₁ l₂ l₃ l₄ l₅ l₆ l₇ l₈ l₉ l₁₀ l₁₁ l₁₂ : ℕ) where
     abbrev En : Env 𝓤 H
     En = (answer′, l₀) ∷ (bytes′, l₁) ∷ (word, l₂) ∷ (table′, l₃) ∷ (flow′ (named 2), l₄) ∷ (arcs′ (named 3), l₅) ∷ (found′, l₆) ∷ (flow-ref, l₇) ∷ (flow′ erased, l₈) ∷ (word, l₉) ∷ (unit′, l₁₀) ∷ (arcs-ref, l₁₁) ∷ (arcs′ erased, l₁₂) ∷ []
 
@@ -348,8 +348,8 @@ module _ {M : Type 1} (𝓤 : URA M) (H : Heap 𝓤) (A : Atoms 𝓤) (W : Given
         peeks ! F.the-row (Is F.the-row) (shows 𝓤 H A F.the-row) r (w ∷ []) (λ r-is. land ! (from ! (stop !)) (init ! 19 refl (LL.lawful F.the-type F′.the-laws 𝓤 H A W .typed r _ r-is .0)) $
         drop ! $ by ! (writes r w r-is (zs .1 .1 .1 .0) f-is z-long)))))))
 
-  walk : (C : Calls 𝓤 H) (Λ : Loops 𝓤 H) → FmC 𝓤 H (W .laws) C → Triple 𝓤 (C #arcs·find·find) (Find 𝓤 H A mem run) → Triple 𝓤 (C #arcs·find·count-in) (CountIn 𝓤 H A mem run)
-      → Triple 𝓤 (C #arcs·write) (Write 𝓤 H A mem run) → Triple 𝓤 (C #arcs·find·answer-in) (AnswerIn 𝓤 H A mem run)
+  walk : (C : Calls 𝓤 H) (Λ : Loops 𝓤 H) → FmC 𝓤 H (W .laws) C → Triple 𝓤 (C #arcs·find·find) (Find 𝓤 H A mem run) → Triple 𝓤 (C #arclist·find·count-in) (CountIn 𝓤 H A mem run)
+      → Triple 𝓤 (C #arcs·write) (Write 𝓤 H A mem run) → Triple 𝓤 (C #arclist·find·answer-in) (AnswerIn 𝓤 H A mem run)
       → ent 𝓤 (onEntry 𝓤 H A top.signature κs qs a vals) (WpFn 𝓤 H C Λ code.function (vb ∷ vint w64 p ∷ vt ∷ vx ∷ vy ∷ []) Post)
   walk C Λ fm known-find known-count known-write known-answer =
       qed W (raw (onEntry 𝓤 H A top.signature κs qs a vals) ∷ []) ∵ enter ! C Λ code.function (vb ∷ vint w64 p ∷ vt ∷ vx ∷ vy ∷ []) _ $
@@ -360,8 +360,8 @@ module _ {M : Type 1} (𝓤 : URA M) (H : Heap 𝓤) (A : Atoms 𝓤) (W : Given
       move ! (26 ∷ []) $ by ! (begins C Λ fm known-find known-count known-write known-answer l₀ l₁ l₂ l₃ l₄ l₅ l₆ l₇ l₈ l₉ l₁₀ l₁₁ l₁₂))))))))))))))
 
 module _ {M : Type 1} (𝓤 : URA M) (H : Heap 𝓤) (A : Atoms 𝓤) (W : Given 𝓤 H A) (mem : Memory → SProp 𝓤) (run : Routine → Fun 𝓤) (𝓣 : Tables 𝓤 H)
-    (known-find : Triple 𝓤 (𝓣 .C #arcs·find·find) (Find 𝓤 H A mem run)) (known-count : Triple 𝓤 (𝓣 .C #arcs·find·count-in) (CountIn 𝓤 H A mem run))
-    (known-write : Triple 𝓤 (𝓣 .C #arcs·write) (Write 𝓤 H A mem run)) (known-answer : Triple 𝓤 (𝓣 .C #arcs·find·answer-in) (AnswerIn 𝓤 H A mem run)) where
+    (known-find : Triple 𝓤 (𝓣 .C #arcs·find·find) (Find 𝓤 H A mem run)) (known-count : Triple 𝓤 (𝓣 .C #arclist·find·count-in) (CountIn 𝓤 H A mem run))
+    (known-write : Triple 𝓤 (𝓣 .C #arcs·write) (Write 𝓤 H A mem run)) (known-answer : Triple 𝓤 (𝓣 .C #arclist·find·answer-in) (AnswerIn 𝓤 H A mem run)) where
   top-walks : Walks 𝓤 H A top.ended stayed (WpFn 𝓤 H (𝓣 .C) (𝓣 .Λ) code.function) (top.clauses 𝓤 H A mem run)
   top-walks = walked 𝓤 H A top.ended stayed (top.clauses 𝓤 H A mem run) (WpFn 𝓤 H (𝓣 .C) (𝓣 .Λ) code.function)
       (λ κs. (slice-vals, (uint-vals w64, (slice-vals, (slice-vals, (slice-vals, tt))))))
@@ -392,6 +392,6 @@ cheapest-flow-spec 𝓤 H 𝓜 𝓖 𝓡 =
     (tables 𝓤 H 𝓜 𝓡 code.env .C) (tables 𝓤 H 𝓜 𝓡 code.env .Λ) #arcs·cheapest-flow code.function (code.unfolded 𝓤 H 𝓜 𝓡)
     (top-meets 𝓤 H (𝓖 .A) (givenOf 𝓤 H 𝓜 𝓖) (𝓜 .mem) (𝓡 .run) (tablesOf 𝓤 H 𝓜 (tables 𝓤 H 𝓜 𝓡 code.env))
     (cited 𝓤 H (Find 𝓤 H (𝓖 .A) (𝓜 .mem) (𝓡 .run)) 𝓜 𝓡 code.env #arcs·find·find find-def.routine code.calls-arcs·find·find (find-thm.met 𝓤 H 𝓜 𝓖 𝓡))
-    (cited 𝓤 H (CountIn 𝓤 H (𝓖 .A) (𝓜 .mem) (𝓡 .run)) 𝓜 𝓡 code.env #arcs·find·count-in count-in-def.routine code.calls-arcs·find·count-in (count-in-thm.met 𝓤 H 𝓜 𝓖 𝓡))
+    (cited 𝓤 H (CountIn 𝓤 H (𝓖 .A) (𝓜 .mem) (𝓡 .run)) 𝓜 𝓡 code.env #arclist·find·count-in count-in-def.routine code.calls-arclist·find·count-in (count-in-thm.met 𝓤 H 𝓜 𝓖 𝓡))
     (cited 𝓤 H (Write 𝓤 H (𝓖 .A) (𝓜 .mem) (𝓡 .run)) 𝓜 𝓡 code.env #arcs·write write-def.routine code.calls-arcs·write (write-thm.met 𝓤 H 𝓜 𝓖 𝓡))
-    (cited 𝓤 H (AnswerIn 𝓤 H (𝓖 .A) (𝓜 .mem) (𝓡 .run)) 𝓜 𝓡 code.env #arcs·find·answer-in answer-in-def.routine code.calls-arcs·find·answer-in (answer-in-thm.met 𝓤 H 𝓜 𝓖 𝓡)))
+    (cited 𝓤 H (AnswerIn 𝓤 H (𝓖 .A) (𝓜 .mem) (𝓡 .run)) 𝓜 𝓡 code.env #arclist·find·answer-in answer-in-def.routine code.calls-arclist·find·answer-in (answer-in-thm.met 𝓤 H 𝓜 𝓖 𝓡)))

@@ -50,18 +50,18 @@ use denote.Triple.Table.{entered, cited}
 use denote.Triple.Clauses.{ensured, lasts}
 use denote.Triple.Walked.{says, needs, Stays, stay-slice, stay-none, walkOf, goes-slice, goes-none, Walks, ends-at, walked, walk-meets}
 use denote.Exit.{yes}
-use Rattle.arcs.specs.declared.Arc.{Arc}
-use Rattle.arcs.specs.declared.find.Found.{Found}
-use Rattle.arcs.specs.Lent.{arcAt}
+use Rattle.arclist.specs.declared.Arc.{Arc}
+use Rattle.arclist.specs.declared.find.Found.{Found}
+use Rattle.arclist.specs.Lent.{arcAt}
 use Rattle.arcs.proofs.Front.{front, front-none, front-next, front-length, front-written}
-use Rattle.arcs.proofs.Arc as T
-use Rattle.arcs.proofs.Arc.Laws as T′
-use Rattle.arcs.proofs.find.Found as F
-use Rattle.arcs.proofs.find.Found.Laws as F′
-use Rattle.arcs.proofs.find.arc_at as arc-at
-use Rattle.arcs.proofs.find.arc_at.Symbol as arc-at-def
-use Rattle.arcs.proofs.find.arc_at.Symbol.{name as #arcs·find·arc-at}
-use Rattle.arcs.proofs.find.arc_at.Met as arc-at-thm
+use Rattle.arclist.proofs.Arc as T
+use Rattle.arclist.proofs.Arc.Laws as T′
+use Rattle.arclist.proofs.find.Found as F
+use Rattle.arclist.proofs.find.Found.Laws as F′
+use Rattle.arclist.proofs.find.arc_at as arc-at
+use Rattle.arclist.proofs.find.arc_at.Symbol as arc-at-def
+use Rattle.arclist.proofs.find.arc_at.Symbol.{name as #arclist·find·arc-at}
+use Rattle.arclist.proofs.find.arc_at.Met as arc-at-thm
 use Rattle.arcs.proofs.write.Key.{name as #arcs·write}
 use Rattle.arcs.proofs.write as write
 use Rattle.arcs.proofs.write.Statement as stated
@@ -161,7 +161,7 @@ module _ {M : Type 1} (𝓤 : URA M) (H : Heap 𝓤) (A : Atoms 𝓤) (W : Given
   made : (i : ℕ) (r : Arc) → ent 𝓤 (ensured 𝓤 H A arc-at.ended (arc-at.clauses 𝓤 H A mem run) tt (f, (i, tt)) tt r) (fact 𝓤 (r ≡ arcAt f i))
   made i r = exE 𝓤 _ (λ ws. snd∗ 𝓤 (sem 𝓤 H A (lasts arc-at.ended tt (f, (i, tt)) ws)) (fact 𝓤 (r ≡ arcAt f i)))
 
-  module _ (𝓣 : Tables 𝓤 H) (known : Triple 𝓤 (𝓣 .C #arcs·find·arc-at) (ArcAt 𝓤 H A mem run)) (l₀ l₁ l₂ l₃ l₄ l₅ l₆ l₇ l₈ : ℕ) where
+  module _ (𝓣 : Tables 𝓤 H) (known : Triple 𝓤 (𝓣 .C #arclist·find·arc-at) (ArcAt 𝓤 H A mem run)) (l₀ l₁ l₂ l₃ l₄ l₅ l₆ l₇ l₈ : ℕ) where
     abbrev C : Calls 𝓤 H
     C = 𝓣 .C
 
@@ -273,7 +273,7 @@ module _ {M : Type 1} (𝓤 : URA M) (H : Heap 𝓤) (A : Atoms 𝓤) (W : Given
         rewrite ! 0 (λ (z : List Arc). ‵ (row R fullShare z b o)) (sym (front-none (arcAt f) ys)) refl $
         keep ! (0 ∷ 12 ∷ 10 ∷ 8 ∷ 6 ∷ 4 ∷ 18 ∷ 16 ∷ 14 ∷ 20 ∷ 1 ∷ 2 ∷ 3 ∷ 21 ∷ 19 ∷ 17 ∷ 15 ∷ 13 ∷ 11 ∷ 9 ∷ 7 ∷ 5 ∷ []) $ by ! loops)
 
-  walk : (𝓣 : Tables 𝓤 H) → Triple 𝓤 (𝓣 .C #arcs·find·arc-at) (ArcAt 𝓤 H A mem run) → ent 𝓤 (onEntry 𝓤 H A write.signature (κ, tt) (q, tt) a vals) (WpFn 𝓤 H (𝓣 .C) (𝓣 .Λ) code.function (s ∷ mach ∷ vint w64 n ∷ []) Post)
+  walk : (𝓣 : Tables 𝓤 H) → Triple 𝓤 (𝓣 .C #arclist·find·arc-at) (ArcAt 𝓤 H A mem run) → ent 𝓤 (onEntry 𝓤 H A write.signature (κ, tt) (q, tt) a vals) (WpFn 𝓤 H (𝓣 .C) (𝓣 .Λ) code.function (s ∷ mach ∷ vint w64 n ∷ []) Post)
   walk 𝓣 known =
       qed W ((‵ (flft κ q) ⊛ ‵ ftrue) ∷ ‵ (owns (MutSlice (named 0) κ R ∷ F.the-row ∷ usize ∷ []) a vals) ∷ []) ∵ enter ! (𝓣 .C) (𝓣 .Λ) code.function (s ∷ mach ∷ vint w64 n ∷ []) _ $
       alloc1 ! (λ l₀. alloc1 ! (λ l₁. alloc1 ! (λ l₂. alloc1 ! (λ l₃. alloc1 ! (λ l₄. alloc1 ! (λ l₅. alloc1 ! (λ l₆. alloc1 ! (λ l₇. alloc1 ! (λ l₈. alloc0 ! $ params1 ! $
@@ -281,7 +281,7 @@ module _ {M : Type 1} (𝓤 : URA M) (H : Heap 𝓤) (A : Atoms 𝓤) (W : Given
       -- [_8; …; _7; …; _6; …; _5; …; _4; …; _3; …; _2; …; _1; …; room for _0; …; the token; what arcs, found and n own]
       move ! (19 ∷ []) $ fsplit ! $ move ! (1 ∷ []) $ drop ! $ move ! (19 ∷ []) $ split ! $ move ! (1 ∷ []) $ drop ! $ move ! (1 ∷ 0 ∷ []) $ by ! (begins 𝓣 known l₀ l₁ l₂ l₃ l₄ l₅ l₆ l₇ l₈))))))))))
 
-module _ {M : Type 1} (𝓤 : URA M) (H : Heap 𝓤) (A : Atoms 𝓤) (W : Given 𝓤 H A) (mem : Memory → SProp 𝓤) (run : Routine → Fun 𝓤) (𝓣 : Tables 𝓤 H) (known : Triple 𝓤 (𝓣 .C #arcs·find·arc-at) (ArcAt 𝓤 H A mem run)) where
+module _ {M : Type 1} (𝓤 : URA M) (H : Heap 𝓤) (A : Atoms 𝓤) (W : Given 𝓤 H A) (mem : Memory → SProp 𝓤) (run : Routine → Fun 𝓤) (𝓣 : Tables 𝓤 H) (known : Triple 𝓤 (𝓣 .C #arclist·find·arc-at) (ArcAt 𝓤 H A mem run)) where
   write-walks : Walks 𝓤 H A write.ended stayed (WpFn 𝓤 H (𝓣 .C) (𝓣 .Λ) code.function) (write.clauses 𝓤 H A mem run)
   write-walks = walked 𝓤 H A write.ended stayed (write.clauses 𝓤 H A mem run) (WpFn 𝓤 H (𝓣 .C) (𝓣 .Λ) code.function)
       (λ κs. (slice-vals, (LL.vals F.the-type F′.the-laws, (uint-vals w64, tt)))) (λ κs. (mut-slice-tells (named 0) (κs .0) R, (LL.tells F.the-type F′.the-laws, (uint-tells w64, tt))))
@@ -299,4 +299,4 @@ write-spec 𝓤 H 𝓜 𝓖 𝓡 =
     entered 𝓤 H (tripleOf 𝓤 H (𝓖 .A) write.signature (write.spec 𝓤 H (𝓖 .A) (𝓜 .mem) (𝓡 .run)))
     (tables 𝓤 H 𝓜 𝓡 code.env .C) (tables 𝓤 H 𝓜 𝓡 code.env .Λ) #arcs·write code.function (code.unfolded 𝓤 H 𝓜 𝓡)
     (write-meets 𝓤 H (𝓖 .A) (givenOf 𝓤 H 𝓜 𝓖) (𝓜 .mem) (𝓡 .run) (tablesOf 𝓤 H 𝓜 (tables 𝓤 H 𝓜 𝓡 code.env))
-    (cited 𝓤 H (ArcAt 𝓤 H (𝓖 .A) (𝓜 .mem) (𝓡 .run)) 𝓜 𝓡 code.env #arcs·find·arc-at arc-at-def.routine code.calls-arcs·find·arc-at (arc-at-thm.met 𝓤 H 𝓜 𝓖 𝓡)))
+    (cited 𝓤 H (ArcAt 𝓤 H (𝓖 .A) (𝓜 .mem) (𝓡 .run)) 𝓜 𝓡 code.env #arclist·find·arc-at arc-at-def.routine code.calls-arclist·find·arc-at (arc-at-thm.met 𝓤 H 𝓜 𝓖 𝓡)))

@@ -1,7 +1,7 @@
 -- `boundsfile::print_case` meets its contract. Assumes nothing.
 use mathlib.Core.Path.{_≡_, ap}
 use lib.ListN.{length}
-use Rattle.tablebounds.specs.Answers.{outcome}
+use Rattle.tablemarks.specs.Answers.{outcome}
 use Rattle.problem.proofs.MachineIntegers.{read-back}
 use Rattle.boundsfile.proofs.Bounding.{known-ready, by-known, by-refusal}
 use borrow.Author.Needs.{needs}

@@ -1,5 +1,5 @@
 -- `ffi::yadvorkhul_plan` meets its contract, by the planner's promise. Assumes nothing.
-use Rattle.ffi.proofs.Reports.{by-short, by-worth, by-told}
+use Rattle.reports.proofs.Reports.{by-short, by-worth, by-told}
 use borrow.Author.Needs.{needs}
 use Rattle.ffi.proofs.yadvorkhul_plan.Statement.{statement}
 use Rattle.ffi.proofs.yadvorkhul_plan.Tie as tie

@@ -8,8 +8,8 @@ use Rattle.flowtext.proofs.print_with_table.Statement.{statement}
 use Rattle.flowtext.proofs.print_with_table.Tie as tie
 use Rattle.flowtext.proofs.print_with_table.Reads as reads
 use Rattle.flowtext.proofs.print_with_table.Lts as lts
-use Rattle.casefile.proofs.case.read_entries.Reads as read-entries-reads
-use Rattle.casefile.proofs.planned.entry_cells.Reads as entry-cells-reads
+use Rattle.filecase.proofs.case.read_entries.Reads as read-entries-reads
+use Rattle.filecase.proofs.cells.entry_cells.Reads as entry-cells-reads
 use Rattle.casefile.proofs.planned.print_refusal.Reads as print-refusal-reads
 use Rattle.flowtext.proofs.print_network.Reads as print-network-reads
 use Rattle.flowtext.proofs.read_place.Reads as read-place-reads

@@ -1,13 +1,14 @@
 -- `roles::edit_cost` meets its contract. Assumes nothing.
 use mathlib.Core.Path.{refl}
 use Rattle.casestore.specs.Calls.{editCost}
-use Rattle.roles.specs.Deeds.{work, column, first}
+use Rattle.roletable.specs.Deeds.{work, column, first}
 use mir.Syntax.{w64}
 use mir.ValLaws.{toZ-ofZ}
-use Rattle.roles.proofs.Gate.{let-in, kept-out, by-call, by-role, same-cost}
+use Rattle.roletable.proofs.Gate.{let-in, kept-out, by-call, by-role}
 use borrow.Author.Needs.{needs}
 use Rattle.roles.proofs.edit_cost.Statement.{statement}
 use Rattle.roles.proofs.edit_cost.Tie as tie
+use Rattle.casestore.proofs.Gate.{same-cost}
 
 may-requires : tie.Need-may-requires
 may-requires c κs = search needs

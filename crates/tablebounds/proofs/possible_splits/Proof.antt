@@ -3,8 +3,9 @@ use mathlib.Core.Path.{sym, ap, _∙_}
 use denote.Ref.{now}
 use Rattle.problem.specs.Case.{Case}
 use Rattle.planner.specs.Answer.{outcome}
-use Rattle.tablebounds.specs.Answers.{lowCase}
-use Rattle.tablebounds.proofs.Judging.{refuse, handed-on, listed}
+use Rattle.tablemarks.specs.Answers.{lowCase}
+use Rattle.tablemarks.proofs.Judging.{refuse, handed-on}
+use Rattle.tablebounds.proofs.Stops.{listed}
 use borrow.Author.Needs.{needs}
 use Rattle.tablebounds.proofs.possible_splits.Statement.{statement}
 use Rattle.tablebounds.proofs.possible_splits.Tie as tie

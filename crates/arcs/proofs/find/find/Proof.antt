@@ -5,7 +5,7 @@ use Prim.Native.Nat.{ℕ}
 use lib.IntN.{pos}
 use lib.ListN.{length-replicate}
 use borrow.Author.Needs.{needs}
-use Rattle.arcs.proofs.FoundLaws.{at-most-64, part-length, found}
+use Rattle.arclist.proofs.FoundLaws.{at-most-64, part-length, found}
 use Rattle.arcs.proofs.find.find.Statement.{statement}
 use Rattle.arcs.proofs.find.find.Tie as tie
 

@@ -8,9 +8,9 @@ use Rattle.casefile.proofs.planned.plan_files.Statement.{statement}
 use Rattle.casefile.proofs.planned.plan_files.Tie as tie
 use Rattle.casefile.proofs.planned.plan_files.Reads as reads
 use Rattle.casefile.proofs.planned.plan_files.Lts as lts
-use Rattle.casefile.proofs.case.read_case.Reads as read-case-reads
-use Rattle.casefile.proofs.planned.cost_cells.Reads as cost-cells-reads
-use Rattle.casefile.proofs.planned.entry_cells.Reads as entry-cells-reads
+use Rattle.filecase.proofs.case.read_case.Reads as read-case-reads
+use Rattle.filecase.proofs.cells.cost_cells.Reads as cost-cells-reads
+use Rattle.filecase.proofs.cells.entry_cells.Reads as entry-cells-reads
 use Rattle.casefile.proofs.planned.print_refusal.Reads as print-refusal-reads
 use Rattle.casefile.proofs.planned.print_stored.Reads as print-stored-reads
 

@@ -1,5 +1,5 @@
 -- `ffi::bounds::yadvorkhul_bounds` meets its contract, by that of `possible_splits`. Assumes nothing.
-use Rattle.ffi.proofs.Reports.{by-short-report, by-short-worth, by-bounds}
+use Rattle.reports.proofs.Reports.{by-short-report, by-short-worth, by-bounds}
 use borrow.Author.Needs.{needs}
 use Rattle.ffi.proofs.bounds.yadvorkhul_bounds.Statement.{statement}
 use Rattle.ffi.proofs.bounds.yadvorkhul_bounds.Tie as tie

@@ -1,5 +1,5 @@
 -- `ffi::flow::yadvorkhul_flow` meets its contract, by that of `cheapest_flow`. Assumes nothing.
-use Rattle.ffi.proofs.FlowReports.{by-short-report, by-short-worth, by-flow}
+use Rattle.reports.proofs.FlowReports.{by-short-report, by-short-worth, by-flow}
 use borrow.Author.Needs.{needs}
 use Rattle.ffi.proofs.flow.yadvorkhul_flow.Statement.{statement}
 use Rattle.ffi.proofs.flow.yadvorkhul_flow.Tie as tie

@@ -4,7 +4,7 @@ use denote.Ref.{now}
 use Rattle.transport.specs.Curve.{written}
 use Rattle.casetests.specs.Verdict.{verdict}
 use Rattle.ffi.specs.Work.{verdictNumber, verdictReport}
-use Rattle.ffi.proofs.Reports.{one-written}
+use Rattle.reports.proofs.Reports.{one-written}
 use borrow.Author.Needs.{needs}
 use Rattle.ffi.proofs.work.tell_verdict.Statement.{statement}
 use Rattle.ffi.proofs.work.tell_verdict.Tie as tie

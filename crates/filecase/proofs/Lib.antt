@@ -1,0 +1,4 @@
+pub mod RecordShares
+pub mod TariffCase
+pub mod CaseLengths
+pub mod EntriesAlone

@@ -1,0 +1,24 @@
+-- `filecase::case::share_entries` meets its contract. Assumes nothing.
+use mathlib.Core.Path.{sym}
+use borrow.Author.Needs.{needs}
+use Rattle.filecase.proofs.case.share_entries.Statement.{statement}
+use Rattle.filecase.proofs.case.share_entries.Tie as tie
+use Rattle.filecase.proofs.case.share_entries.Reads as reads
+use Rattle.filecase.proofs.case.share_entries.Lts as lts
+use Rattle.filetable.proofs.store.copy_sizes.Reads as copy-sizes-reads
+use Rattle.filetable.proofs.store.smaller.Reads as smaller-reads
+
+smaller-requires : tie.Need-smaller-requires
+smaller-requires c κs = search needs
+
+copy-sizes-requires : tie.Need-copy-sizes-requires
+copy-sizes-requires c κs = search needs
+
+same-length : tie.Need-same-length
+same-length c = search needs
+
+returns : tie.Need-returns
+returns c = rw (sym (c .before .before .before .before .smaller .ensures)) (c .before .before .copy-sizes .ensures)
+
+pub share-entries-spec : {M : Type 1} → statement M
+share-entries-spec = tie.close (tie.spec smaller-requires copy-sizes-requires same-length returns)

@@ -1,0 +1,2 @@
+pub mod CaseFiles
+pub mod Entries

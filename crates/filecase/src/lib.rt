@@ -1,0 +1,3 @@
+// Reads a planning case from its two CSV files.
+pub mod case;
+pub mod cells;

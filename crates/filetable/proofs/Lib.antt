@@ -1,0 +1,4 @@
+pub mod FieldIntegers
+pub mod FieldCounts
+pub mod FieldLoop
+pub mod Examples

@@ -1,0 +1,16 @@
+-- `filetable::table::expected` meets its contract. Assumes nothing.
+use mathlib.Core.Path.{refl, sym}
+use borrow.Author.Tests.{eq-eqb, ne-eqb}
+use Rattle.filetable.proofs.table.expected.Statement.{statement}
+use Rattle.filetable.proofs.table.expected.Tie as tie
+use Rattle.filetable.proofs.table.expected.Reads as reads
+use Rattle.filetable.proofs.table.expected.Lts as lts
+
+returns : tie.Need-returns
+returns c = rw (eq-eqb _ _ (c .if1 .taken)) refl
+
+returns-2 : tie.Need-returns-2
+returns-2 c = rw (ne-eqb _ _ (c .if1 .left)) refl
+
+pub expected-spec : {M : Type 1} → statement M
+expected-spec = tie.close (tie.spec returns returns-2)

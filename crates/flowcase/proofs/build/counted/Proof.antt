@@ -1,0 +1,15 @@
+-- `flowcase::build::counted` meets its contract. Assumes nothing.
+use Rattle.flowcase.proofs.Fills.{at-yes, at-no}
+use Rattle.flowcase.proofs.build.counted.Statement.{statement}
+use Rattle.flowcase.proofs.build.counted.Tie as tie
+use Rattle.flowcase.proofs.build.counted.Reads as reads
+use Rattle.flowcase.proofs.build.counted.Lts as lts
+
+returns : tie.Need-returns
+returns c = at-yes _ _ _ (c .if1 .taken)
+
+returns-2 : tie.Need-returns-2
+returns-2 c = at-no _ _ _ (c .if1 .left)
+
+pub counted-spec : {M : Type 1} → statement M
+counted-spec = tie.close (tie.spec returns returns-2)

@@ -1,0 +1,10 @@
+pub mod Regroup
+pub mod Carried
+pub mod Cells
+pub mod Balance
+pub mod Reduction
+pub mod Listed
+pub mod Limits
+pub mod Answers
+pub mod Examples
+pub mod CaseLaws

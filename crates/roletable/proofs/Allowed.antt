@@ -1,0 +1,45 @@
+-- The whole table with its exception, against the paper's sentences. Assumes nothing.
+use mathlib.Core.Path.{_≡_, refl}
+use mathlib.Core.Bool.{Bool, true, false}
+use mathlib.Core.List.{List, [], _∷_, map}
+use mathlib.Core.Option.{Option, none, some}
+use Prim.Native.Nat.{ℕ}
+use lib.IntN.{ℤ}
+use Rattle.transport.specs.Listing.{upFrom}
+use Rattle.problem.specs.Outcome.{Outcome, refuseIf}
+use Rattle.casestore.specs.Calls.{editDemand, editSupply, editCost, editEntry, setMark, goBack}
+use Rattle.roletable.specs.Roles.{noRole, barred, barredFirst}
+use Rattle.roletable.specs.Deeds.{Deed, work, seeTariff, seeTable, plan, column, first, test31}
+
+-- every kind of deed in the paper's order, whatever is edited to what; editing a_1 stands behind editing another supply
+unfoldable pub deeds : ℕ → ℕ → ℤ → ℕ → ℕ → List Deed
+deeds i j c y k =
+    work (editDemand j y)
+    ∷ work (editSupply 2 y)
+    ∷ work (editSupply 1 y)
+    ∷ work (editCost i j c)
+    ∷ work (editEntry y k)
+    ∷ seeTariff
+    ∷ seeTable
+    ∷ plan
+    ∷ work (setMark k)
+    ∷ work (goBack k)
+    ∷ []
+
+-- refusal 31 is not told
+unfoldable pub granted : Option Outcome → Bool
+granted none = true
+granted (some r) = false
+
+-- No role 0; a planner may do all; plant may edit entries and see tariff and table; depot may edit demand and supply, except a_1, and see the
+-- tariff; a reader may see the tariff; no role 5.
+pub as-said : (i j : ℕ) (c : ℤ) (y k : ℕ) → map (λ role. map (λ deed. granted (test31 role deed)) (deeds i j c y k)) (upFrom 0 6)
+    ≡ (false ∷ false ∷ false ∷ false ∷ false ∷ false ∷ false ∷ false ∷ false ∷ false ∷ [])
+    ∷ (true ∷ true ∷ true ∷ true ∷ true ∷ true ∷ true ∷ true ∷ true ∷ true ∷ [])
+    ∷ (false ∷ false ∷ false ∷ false ∷ true ∷ true ∷ true ∷ false ∷ false ∷ false ∷ [])
+    ∷ (true ∷ true ∷ false ∷ false ∷ false ∷ true ∷ false ∷ false ∷ false ∷ false ∷ [])
+    ∷ (false ∷ false ∷ false ∷ false ∷ false ∷ true ∷ false ∷ false ∷ false ∷ false ∷ [])
+    ∷ (false ∷ false ∷ false ∷ false ∷ false ∷ false ∷ false ∷ false ∷ false ∷ false ∷ [])
+    ∷ []
+unfolding deeds granted upFrom test31 refuseIf column first barred barredFirst noRole
+as-said i j c y k = refl

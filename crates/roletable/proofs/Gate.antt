@@ -1,0 +1,101 @@
+-- From what a call on the working case promises to what is promised by its role. Assumes nothing.
+use mathlib.Core.Path.{_≡_, refl, sym, ap, _∙_}
+use mathlib.Core.Bool.{Bool, true, false, not, _||_, _&&_}
+use mathlib.Core.Option.{Option, none, some}
+use mathlib.Core.List.{List}
+use Prim.Native.Nat.{ℕ}
+use native.Mathlib.Omega.{arith}
+use lib.IntN.{ℤ}
+use lib.ListN.{length}
+use borrow.Author.Tests.{not-true, not-false}
+use Rattle.problem.specs.Outcome.{Outcome, refused, refuseIf}
+use Rattle.planner.specs.Answer.{Slices}
+use Rattle.problem.proofs.TestsPassed.{first-decides, second-decides}
+use Rattle.casestore.specs.State.{State}
+use Rattle.casestore.specs.Calls.{Call}
+use Rattle.casestore.specs.Store.{heldIn}
+use Rattle.casestore.specs.Promise.{answerTo, steps, Performed}
+use Rattle.caseplans.specs.Planning.{outcomeIn, PlannedFrom}
+use Rattle.casestore.specs.Seeing.{tariffAnswer, tableAnswer, TariffShown, TableShown}
+use Rattle.roletable.specs.Roles.{barred, barredFirst}
+use Rattle.roletable.specs.Deeds.{Deed, work, seeTariff, seeTable, plan, column, first, test31}
+use Rattle.roletable.specs.Promise.{answerBy, unlessHeld, stepsBy, PerformedBy, outcomeUnless, PlannedBy, TariffSeen, TableSeen}
+
+-- ---- refusal 31 by the answer of the table's functions
+
+module _ (role : ℕ) (deed : Deed) where
+  pub let-in : (t : Bool) → t ≡ not (barred role (column deed)) → first deed ≡ false → t ≡ true → test31 role deed ≡ none
+  unfolding test31 refuseIf
+  let-in t e plain y = rw (not-true (barred role (column deed)) (sym e ∙ y), plain, test31) refl
+
+  pub kept-out : (t : Bool) → t ≡ not (barred role (column deed)) → t ≡ false → test31 role deed ≡ some (refused 31 0)
+  unfolding test31 refuseIf
+  kept-out t e y = rw (not-false (barred role (column deed)) (sym e ∙ y), test31) refl
+
+  pub let-in-first : (t : Bool) → t ≡ not (barred role (column deed) || (first deed && barredFirst role)) → t ≡ true → test31 role deed ≡ none
+  unfolding test31 refuseIf
+  let-in-first t e y = ap (refuseIf 31) (not-true (barred role (column deed) || (first deed && barredFirst role)) (sym e ∙ y))
+
+  pub kept-out-first : (t : Bool) → t ≡ not (barred role (column deed) || (first deed && barredFirst role)) → t ≡ false → test31 role deed ≡ some (refused 31 0)
+  unfolding test31 refuseIf
+  kept-out-first t e y = ap (refuseIf 31) (not-false (barred role (column deed) || (first deed && barredFirst role)) (sym e ∙ y))
+
+-- ---- edits, marks and returns
+
+module _ (role : ℕ) (call : Call) where
+  pub by-call : (before after : List ℕ) (r : Option Outcome) → test31 role (work call) ≡ none → Performed call before after r → PerformedBy role call before after r
+  unfolding answerBy stepsBy
+  by-call before after r e p = record {
+    answer = p .answer ∙ sym (second-decides (test31 role (work call)) (answerTo call (heldIn before)) e);
+    cells = p .cells;
+    state = p .state ∙ sym (ap (λ (o : Option Outcome). unlessHeld o (steps call (heldIn before)) (heldIn before)) e);
+  }
+
+  pub by-role : (before : List ℕ) → test31 role (work call) ≡ some (refused 31 0) → PerformedBy role call before before (some (refused 31 0))
+  unfolding answerBy stepsBy
+  by-role before e = record {
+    answer = sym (first-decides (test31 role (work call)) (answerTo call (heldIn before)) (refused 31 0) e);
+    cells = refl;
+    state = sym (ap (λ (o : Option Outcome). unlessHeld o (steps call (heldIn before)) (heldIn before)) e);
+  }
+
+-- ---- planning and seeing
+
+module _ (role : ℕ) (held : Option State) where
+  module _ (p q f : ℕ) where
+    pub plan-call : (r : Outcome) (before after : Slices) → test31 role plan ≡ none → PlannedFrom held p q f r before after → PlannedBy role held p q f r before after
+    plan-call r before after e w = record {
+      answer = w .answer ∙ sym (ap (λ (t : Option Outcome). outcomeUnless t (outcomeIn held p q f)) e);
+      work = λ s y g. w .work s g;
+      kept = w .kept;
+    }
+
+    pub plan-barred : (s : Slices) → test31 role plan ≡ some (refused 31 0) → PlannedBy role held p q f (refused 31 0) s s
+    plan-barred s e = record {
+      answer = ap (λ (t : Option Outcome). outcomeUnless t (outcomeIn held p q f)) (sym e);
+      work = λ x y z. let g : _≡_ {A = ℕ} 0 1 = cc in absurd (omega arith);
+      kept = λ _ _ _. refl;
+    }
+
+  pub tariff-call : (c c' : List ℤ) (s d s' d' : List ℕ) (r : Option Outcome) → test31 role seeTariff ≡ none → TariffShown held c s d c' s' d' r
+      → TariffSeen role held c s d c' s' d' r
+  tariff-call c c' s d s' d' r e w = record {
+    answer = w .answer ∙ sym (second-decides (test31 role seeTariff) (tariffAnswer (length c) (length s) (length d) held) e);
+    costs = w .costs;
+    supplies = w .supplies;
+    demands = w .demands;
+  }
+
+  pub tariff-barred : (c : List ℤ) (s d : List ℕ) → test31 role seeTariff ≡ some (refused 31 0) → TariffSeen role held c s d c s d (some (refused 31 0))
+  tariff-barred c s d e = record {
+    answer = sym (first-decides (test31 role seeTariff) (tariffAnswer (length c) (length s) (length d) held) (refused 31 0) e);
+    costs = refl;
+    supplies = refl;
+    demands = refl;
+  }
+
+  pub table-call : (t t' : List ℕ) (r : Option Outcome) → test31 role seeTable ≡ none → TableShown held t t' r → TableSeen role held t t' r
+  table-call t t' r e w = record { answer = w .answer ∙ sym (second-decides (test31 role seeTable) (tableAnswer (length t) held) e); table = w .table }
+
+  pub table-barred : (t : List ℕ) → test31 role seeTable ≡ some (refused 31 0) → TableSeen role held t t (some (refused 31 0))
+  table-barred t e = record { answer = sym (first-decides (test31 role seeTable) (tableAnswer (length t) held) (refused 31 0) e); table = refl }
