@@ -9,9 +9,8 @@ use lib.ListN.{length, getD}
 use Rattle.transport.specs.Curve.{written}
 use Rattle.dimacs.specs.Arc as file
 use Rattle.dimacs.specs.Form.{File, whole, formOf}
-use Rattle.flowproblem.specs.Network.{CheapestFlow}
 use Rattle.flowproblem.specs.Reduce.{cells}
-use Rattle.flowproblem.specs.Answer.{arcsOf, networkOf, Room, Outcome, carried, refused, outcomeOf}
+use Rattle.flowproblem.specs.Answer.{CheapestFlow, arcsOf, networkOf, Room, Outcome, carried, refused, outcomeOf}
 use Rattle.network.specs.Judged.{outcome}
 use Rattle.arclist.specs.declared.Arc.{Arc}
 use Rattle.arclist.specs.declared.find.Found.{Found}

@@ -8,13 +8,13 @@ use lib.Dec.{eqb, ltb}
 use lib.IntN.{ℤ}
 use lib.ListN.{length}
 use borrow.Author.Tests.{ltb-false}
-use Rattle.flowproblem.specs.Network.{Network, arcCount, ceiling, CheapestFlow}
+use Rattle.flowproblem.specs.Network.{Network, arcCount, ceiling}
 use Rattle.problem.specs.Promise.{Cheapest, NoPlan}
 use Rattle.flowproblem.specs.Reduce.{caseOf, flowOf}
 use Rattle.flowproblem.specs.Sound.{Sound}
 use Rattle.dimacs.specs.Form.{File, Form, whole, broken, formOf}
 use Rattle.dimacs.specs.Lines.{anyOf}
-use Rattle.flowproblem.specs.Answer.{networkOf, Room, badFile, badName, outOfLimits, flows, leastTotal, carried, refused, flowOutcome, limited, judged, outcomeOf, uneven}
+use Rattle.flowproblem.specs.Answer.{CheapestFlow, networkOf, Room, badFile, badName, outOfLimits, flows, leastTotal, carried, refused, flowOutcome, limited, judged, outcomeOf, uneven}
 use Rattle.flowproblem.proofs.Listed.{carried-is, none-is}
 use Rattle.flowproblem.proofs.Limits.{proper, sound, uneven-none, four}
 use Rattle.flowproblem.proofs.Reduction.{cheapest-flow, no-flow}

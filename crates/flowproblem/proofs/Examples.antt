@@ -4,14 +4,15 @@ use mathlib.Core.List.{List, [], _∷_, map, flatMap}
 use Prim.Native.Nat.{ℕ}
 use lib.IntN.{pos, negsuc}
 use Rattle.transport.specs.Sum.{sum}
-use Rattle.transport.specs.Listing.{upFrom, select}
+use Rattle.transport.specs.Listing.{upFrom, select, least}
 use Rattle.problem.specs.Integer.{eqZ, minℤ, sumℤ, leastℤ}
-use Rattle.flowproblem.specs.Network.{at, leaving, entering, ownCost, flowTotal, amount}
+use Rattle.dimacs.specs.Arc.{arc}
+use Rattle.flowproblem.specs.Network.{Network, at, leaving, entering, ownCost, flowTotal, amount}
 use Rattle.flowproblem.specs.Reduce.{cells}
 use Rattle.dimacs.specs.Bytes.{_>>=_, digits, counting, number, signed, spaces, gap, word, field, signedField}
 use Rattle.dimacs.specs.Form.{pieces, ending, problemLine, nodeLine, arcOf, lineOf, step, atEnd, last, run, formOf}
 use Rattle.dimacs.specs.Lines.{supplyIn, anyOf, twice}
-use Rattle.flowproblem.specs.Answer.{networkOf, anyBelow, Room, badFile, badName, outOfLimits, amountLists, flows, leastTotal, Outcome, carried, refused, limited, judged, outcomeOf}
+use Rattle.flowproblem.specs.Answer.{networkOf, anyBelow, Room, badFile, badName, outOfLimits, amountLists, flows, leastTotal, namedFlow, Outcome, carried, refused, limited, judged, outcomeOf}
 
 pub record Asked : Type 0 where
   pub bytes : List ℕ
@@ -163,3 +164,12 @@ answers =
 pub all-answers : map (λ (a : Asked). outcomeOf (a .bytes) (a .place) (a .table) (a .room)) answers ≡ map (λ (a : Asked). a .outcome) answers
 unfolding answers asked lent flatMap sum upFrom select eqZ minℤ sumℤ leastℤ at leaving entering ownCost flowTotal amount cells _>>=_ digits counting number signed spaces gap word field signedField pieces ending problemLine nodeLine arcOf lineOf step atEnd last run formOf supplyIn networkOf anyOf anyBelow twice badFile badName outOfLimits amountLists flows leastTotal limited judged outcomeOf
 all-answers = refl
+
+-- two arcs between the same nodes for one drum, the second at cost 4
+pub twoArcs : Network
+twoArcs = record { nodes = 2; supplies = pos 1 ∷ negsuc 0 ∷ []; arcs = arc 1 2 1 (pos 5) ∷ arc 1 2 1 (pos 4) ∷ [] }
+
+-- the first is named: at equal totals it carries nothing; where its table is cheaper by one, the drum
+pub smallest-named : map (namedFlow twoArcs 0) ((0 ∷ 4 ∷ []) ∷ (0 ∷ 3 ∷ []) ∷ []) ≡ (0 ∷ 1 ∷ [])
+unfolding twoArcs flatMap sum upFrom select least eqZ minℤ sumℤ leastℤ at leaving entering ownCost flowTotal anyBelow amountLists flows leastTotal namedFlow
+smallest-named = refl

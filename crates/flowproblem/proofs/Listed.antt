@@ -8,16 +8,16 @@ use native.Mathlib.Nat.{not-suc-le-zero, le-of-suc-le-suc}
 use native.Mathlib.Omega.{arith}
 use lib.Dec.{T, leb→le}
 use lib.IntN.{ℤ, pos, negsuc}
-use lib.Signed.{leZ, _≤ℤ_}
+use lib.Signed.{leZ, _≤ℤ_, _<ℤ_, <ℤ-irrefl}
 use lib.ListN.{length, getD}
 use borrow.Author.Tests.{not-true, not-false, eqb-true}
-use Rattle.transport.specs.Listing.{upFrom}
-use Rattle.transport.proofs.ListMembers.{flat-in, flat-out, select-in, select-out, upFrom-in, upFrom-out}
+use Rattle.transport.specs.Listing.{upFrom, select, least}
+use Rattle.transport.proofs.ListMembers.{flat-in, flat-out, select-in, select-out, upFrom-in, upFrom-out, least-le, least-in as least-in-list}
 use Rattle.problem.specs.Integer.{eqZ, minℤ, leastℤ}
 use Rattle.dimacs.specs.Arc.{Arc, arc}
-use Rattle.flowproblem.specs.Network.{Network, ceiling, Flow, flowTotal, CheapestFlow, NoFlow}
+use Rattle.flowproblem.specs.Network.{Network, ceiling, listed, Flow, flowTotal, NoFlow}
 use Rattle.dimacs.specs.Lines.{anyOf}
-use Rattle.flowproblem.specs.Answer.{anyBelow, amountLists, lost, flows, leastTotal, carried, refused, flowOutcome}
+use Rattle.flowproblem.specs.Answer.{CheapestFlow, anyBelow, amountLists, lost, flows, leastTotal, namedFlow, carried, refused, flowOutcome}
 use Rattle.problem.proofs.TestsPassed.{either-first, either-second}
 
 -- ---- tests over lists and numbers
@@ -173,15 +173,46 @@ least-is (a ∷ b ∷ l) v m h = step (λ k. least-is (b ∷ l) v k (λ w q. h w
 
 -- ---- the answer of a network within the limits
 
+module _ (g : Network) (named : ℕ) (table x : List ℕ) (total : ℤ) (flow : Flow g x) (own : flowTotal g named table x ≡ total)
+    (low : (z : List ℕ) → Flow g z → total ≤ℤ flowTotal g named table z) where
+  -- a flow that none is cheaper than has the least total
+  least-total-of : leastTotal g named table ≡ total
+  unfolding leastTotal
+  least-total-of =
+      least-is (map (flowTotal g named table) (flows g)) total (Memᴰ·cast (sym own) (Memᴰ·map (flowTotal g named table) (flow-listed g x flow)))
+      (λ w m.
+      let u = Memᴰ·of-map (flowTotal g named table) (flows g) m in
+      subst (λ (z : ℤ). total ≤ℤ z) (u .2) (low (u .0) (listed-flow g (u .0) (u .1))))
+
+  cheapest? : List ℕ → Bool
+  cheapest? z = eqZ (flowTotal g named table z) (leastTotal g named table)
+
+  -- the flow on the named arc that is smallest among the cheapest ones is that of one of them
+  some-least : (l : List (List ℕ)) (z : List ℕ) → List·Memᴰ z l → (w : List ℕ) × List·Memᴰ w l × (listed w named ≡ least (map (λ v. listed v named) l))
+  some-least [] z m = absurd (List·Memᴰ·not-nil m)
+  some-least (a ∷ l) z m = Memᴰ·of-map (λ v. listed v named) (a ∷ l) (least-in-list (listed a named) (map (λ v. listed v named) l))
+
+  -- where each flow with less on the named arc is dearer, what it has there is the definition's
+  pub named-flow : ((z : List ℕ) → Flow g z → listed z named < listed x named → total <ℤ flowTotal g named table z) → listed x named ≡ namedFlow g named table
+  unfolding namedFlow cheapest?
+  named-flow smaller =
+      let here = select-in cheapest? (flows g) (flow-listed g x flow) (true-eqZ _ _ (own ∙ sym least-total-of)) in
+      let t = some-least (select cheapest? (flows g)) x here in
+      let u = select-out cheapest? (flows g) (t .1) in
+      let other = listed-flow g (t .0) (u .0) in
+      let same : flowTotal g named table (t .0) ≡ total = eqZ-true _ _ (u .1) ∙ least-total-of in
+      meet (least-le _ (listed x named) (Memᴰ·map (λ v. listed v named) here)) (t .2) (λ l. <ℤ-irrefl (subst (λ (z : ℤ). total <ℤ z) same (smaller (t .0) other l)))
+    where
+      meet : {a b c : ℕ} → c ≤ a → b ≡ c → (b < a → ⊥) → a ≡ c
+      meet {a} {b} {c} h e k = step (native.Mathlib.Decide.ℕ-discrete a c)
+        where
+          step : Dec (a ≡ c) → a ≡ c
+          step (yes q) = q
+          step (no q) = absurd (k (omega (arith, h, e, q)))
+
 -- a cheapest flow has the least total
 pub least-total : (g : Network) (named : ℕ) (table x : List ℕ) (total : ℤ) → CheapestFlow g named table x total → leastTotal g named table ≡ total
-unfolding leastTotal
-least-total g named table x total c =
-    least-is (map (flowTotal g named table) (flows g)) total
-    (Memᴰ·cast (sym (c .own-total)) (Memᴰ·map (flowTotal g named table) (flow-listed g x (c .flow))))
-    (λ w m.
-    let u = Memᴰ·of-map (flowTotal g named table) (flows g) m in
-    subst (λ (z : ℤ). total ≤ℤ z) (u .2) (c .least (u .0) (listed-flow g (u .0) (u .1))))
+least-total g named table x total c = least-total-of g named table x total (c .flow) (c .own-total) (c .least)
 
 pub carried-is : (g : Network) (named : ℕ) (table x : List ℕ) (total : ℤ) → CheapestFlow g named table x total
     → flowOutcome (flows g) (leastTotal g named table) ≡ carried total

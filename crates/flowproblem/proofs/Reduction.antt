@@ -16,7 +16,8 @@ use Rattle.transport.specs.Sum.{sum}
 use Rattle.transport.specs.Plan.{byRow, row, col}
 use Rattle.transport.proofs.Sums.{sum-ext, sum-at}
 use Rattle.problem.specs.Integer.{sumℤ}
-use Rattle.flowproblem.specs.Network.{Network, arcCount, start, end, ceiling, cost, listed, Flow, ownCost, flowTotal, CheapestFlow, NoFlow}
+use Rattle.flowproblem.specs.Answer.{CheapestFlow}
+use Rattle.flowproblem.specs.Network.{Network, arcCount, start, end, ceiling, cost, listed, Flow, ownCost, flowTotal, NoFlow}
 use Rattle.problem.specs.Case.{Case, supply as supplyOf, entry}
 use Rattle.problem.specs.Freight.{ratesByRow, freightℤ}
 use Rattle.problem.specs.Plans.{freightOf, rowSum, columnSum, MeetsTP, planTotal}
@@ -26,6 +27,7 @@ use Rattle.flowproblem.specs.Sound.{Sound}
 use Rattle.flowproblem.proofs.Regroup.{cond-same, cond-other, at-same, at-other, sum-two-at, sumℤ-ext, sumℤ-swap, sumℤ-one}
 use Rattle.flowproblem.proofs.Carried.{Carries, sends, kept-last}
 use Rattle.flowproblem.proofs.Cells.{cells-length, cells-at, rows-length, rows-at, node-source, source-node, node-below, source-below, node-0, node-1, source-w, source-v, source-depot, depot-w, depot-v}
+use Rattle.flowproblem.proofs.Listed.{named-flow}
 use Rattle.flowproblem.proofs.Balance.{graph, stock-sum, KeptAt, kept-of, conserved-of}
 
 -- unit costs of a case, by source and terminal
@@ -395,14 +397,24 @@ module _ (g : Network) (k : ℕ) (table : List ℕ) (ok : Sound g k) where
   -- a cheapest plan of the case, at the smallest split where totals are equal, is a cheapest flow, with least on the named arc where totals are equal
   pub cheapest-flow : (plan : List ℕ) (split : ℕ) (total : ℤ) → Cheapest (caseOf g k table) plan split total
       → CheapestFlow g k table (flowOf g k plan) total
-  cheapest-flow plan split total p = record {
-    flow = flow-of-plan plan (p .plan);
-    own-total = sym (total-of-plan plan (p .plan)) ∙ p .own-total;
-    least = λ z f. subst (λ (t : ℤ). total ≤ℤ t) (total-of-flow z f) (p .least (planOf g k z) (plan-of-flow z f));
-    smaller = λ z f l.
-        subst (λ (t : ℤ). total <ℤ t) (total-of-flow z f)
-        (p .smaller (planOf g k z) (plan-of-flow z f) (omega (arith, step-of-flow z f, step-of-plan plan (p .plan), p .own-split)));
-  }
+  cheapest-flow plan split total p = record { flow = flow; own-total = own; least = low; smaller = less; on-named = named-flow g k table x total flow own low less }
+    where
+      x : List ℕ
+      x = flowOf g k plan
+
+      flow : Flow g x
+      flow = flow-of-plan plan (p .plan)
+
+      own : flowTotal g k table x ≡ total
+      own = sym (total-of-plan plan (p .plan)) ∙ p .own-total
+
+      low : (z : List ℕ) → Flow g z → total ≤ℤ flowTotal g k table z
+      low z f = subst (λ (t : ℤ). total ≤ℤ t) (total-of-flow z f) (p .least (planOf g k z) (plan-of-flow z f))
+
+      less : (z : List ℕ) → Flow g z → listed z k < listed x k → total <ℤ flowTotal g k table z
+      less z f l =
+          subst (λ (t : ℤ). total <ℤ t) (total-of-flow z f)
+          (p .smaller (planOf g k z) (plan-of-flow z f) (omega (arith, step-of-flow z f, step-of-plan plan (p .plan), p .own-split)))
 
   -- and the other way round
   pub cheapest-plan : (x : List ℕ) (total : ℤ) → CheapestFlow g k table x total

@@ -1,15 +1,16 @@
 -- The network that a file is, refusals 29, 30 and 27 in this order, and what a file with a named arc and a table is answered. Assumes nothing.
+use mathlib.Core.Path.{_≡_}
 use mathlib.Core.Bool.{Bool, true, false, not, cond, _||_}
 use mathlib.Core.List.{List, [], _∷_, _++_, map, flatMap}
-use Prim.Native.Nat.{ℕ, zero, suc, _+_, _-_}
+use Prim.Native.Nat.{ℕ, zero, suc, _+_, _-_, _<_}
 use lib.Dec.{eqb, ltb}
 use lib.IntN.{ℤ, pos, negℤ, subℕ}
-use lib.Signed.{ltZ}
+use lib.Signed.{ltZ, _≤ℤ_, _<ℤ_}
 use lib.ListN.{length}
-use Rattle.transport.specs.Listing.{upFrom, select}
+use Rattle.transport.specs.Listing.{upFrom, select, least}
 use Rattle.problem.specs.Integer.{eqZ, sumℤ, leastℤ}
 use Rattle.dimacs.specs.Arc.{Arc}
-use Rattle.flowproblem.specs.Network.{Network, arcCount, ceiling, supply, listed, leaving, entering, flowTotal, amount}
+use Rattle.flowproblem.specs.Network.{Network, arcCount, ceiling, supply, listed, leaving, entering, Flow, flowTotal, amount}
 use Rattle.flowproblem.specs.Reduce.{cells}
 use Rattle.dimacs.specs.Lines.{supplyIn, anyOf, noNode, twice, badArc}
 use Rattle.dimacs.specs.Form.{ArcLine, NodeLine, File, Form, whole, broken, formOf}
@@ -76,6 +77,19 @@ flows g = select (λ x. not (anyBelow (g .nodes) (lost g x))) (amountLists (g .a
 -- the least total of any flow
 unfoldable pub leastTotal : Network → ℕ → List ℕ → ℤ
 leastTotal g named table = leastℤ (map (flowTotal g named table) (flows g))
+
+-- the smallest flow on the named arc of the flows that have it
+unfoldable pub namedFlow : Network → ℕ → List ℕ → ℕ
+namedFlow g named table = least (map (λ x. listed x named) (select (λ x. eqZ (flowTotal g named table x) (leastTotal g named table)) (flows g)))
+
+-- x is a flow, the total is its own, no flow has a lower one, and each with less on the named arc has a higher one: so what it has there is the
+-- definition's
+pub record CheapestFlow (g : Network) (named : ℕ) (table x : List ℕ) (total : ℤ) : Type 0 where
+  pub flow : Flow g x
+  pub own-total : flowTotal g named table x ≡ total
+  pub least : (z : List ℕ) → Flow g z → total ≤ℤ flowTotal g named table z
+  pub smaller : (z : List ℕ) → Flow g z → listed z named < listed x named → total <ℤ flowTotal g named table z
+  pub on-named : listed x named ≡ namedFlow g named table
 
 -- ---- the answer
 

@@ -6,7 +6,6 @@ use mathlib.Core.List.{List}
 use Prim.Native.Nat.{ℕ, _+_, _-_, _≤_, _<_}
 use lib.Dec.{eqb}
 use lib.IntN.{ℤ, pos, subℕ, natAbs, _+ℤ_, _*ℤ_}
-use lib.Signed.{_≤ℤ_, _<ℤ_}
 use lib.ListN.{length, getD}
 use Rattle.transport.specs.Sum.{sum}
 use Rattle.dimacs.specs.Arc.{Arc, arc}
@@ -69,13 +68,6 @@ ownCost g named x k = cond (eqb k named) (pos 0) (cost g k *ℤ pos (listed x k)
 -- the total: cost times flow over all arcs but the named one, and the table's entry at the named arc's flow
 unfoldable pub flowTotal : Network → ℕ → List ℕ → List ℕ → ℤ
 flowTotal g named table x = sumℤ (arcCount g) (ownCost g named x) +ℤ pos (listed table (listed x named))
-
--- x is a flow, the total is its own, no flow has a lower one, and each with less on the named arc has a higher one
-pub record CheapestFlow (g : Network) (named : ℕ) (table x : List ℕ) (total : ℤ) : Type 0 where
-  pub flow : Flow g x
-  pub own-total : flowTotal g named table x ≡ total
-  pub least : (z : List ℕ) → Flow g z → total ≤ℤ flowTotal g named table z
-  pub smaller : (z : List ℕ) → Flow g z → listed z named < listed x named → total <ℤ flowTotal g named table z
 
 -- no flow
 abbrev pub NoFlow : Network → Type 0

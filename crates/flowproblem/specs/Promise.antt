@@ -6,9 +6,8 @@ use lib.IntN.{ℤ}
 use lib.ListN.{length}
 use Rattle.transport.specs.Curve.{written}
 use Rattle.dimacs.specs.Arc.{Arc}
-use Rattle.flowproblem.specs.Network.{CheapestFlow}
 use Rattle.dimacs.specs.Form.{File, whole, formOf}
-use Rattle.flowproblem.specs.Answer.{arcsOf, networkOf, Room, Outcome, carried, refused, outcomeOf}
+use Rattle.flowproblem.specs.Answer.{CheapestFlow, arcsOf, networkOf, Room, Outcome, carried, refused, outcomeOf}
 
 -- what the lent slices hold: the flow, and the arcs in file order
 pub record Slices : Type 0 where

@@ -20,8 +20,8 @@ use Rattle.casefile.specs.Printed.{Told}
 use Rattle.filecase.specs.Entries.{entriesOf, entriesFor}
 use Rattle.dimacs.specs.Arc.{Arc}
 use Rattle.dimacs.specs.Form.{File, Form, whole, broken, formOf}
-use Rattle.flowproblem.specs.Network.{listed, CheapestFlow}
-use Rattle.flowproblem.specs.Answer.{arcsOf, networkOf, Room, Outcome, carried, refused, outcomeOf}
+use Rattle.flowproblem.specs.Network.{listed}
+use Rattle.flowproblem.specs.Answer.{CheapestFlow, arcsOf, networkOf, Room, Outcome, carried, refused, outcomeOf}
 
 -- the place of the arc, from 1, that a text of one to four digits names; 0, which is none, of any other text
 abbrev pub placeFor : Output → ℕ

@@ -20,9 +20,9 @@ use Rattle.dimacs.proofs.LinesLaws.{or-true}
 use Rattle.dimacs.specs.declared.store.Reading.{Reading}
 use Rattle.dimacs.specs.declared.store.Reading.the-variants as readings
 use Rattle.transport.specs.Curve.{written}
-use Rattle.flowproblem.specs.Network.{Network, amount, CheapestFlow}
+use Rattle.flowproblem.specs.Network.{Network, amount}
 use Rattle.flowproblem.specs.Reduce.{cells}
-use Rattle.flowproblem.specs.Answer.{arcsOf, networkOf, anyBelow, tooShort, badFile, badName, outOfLimits, flows, leastTotal, Outcome, carried, refused, flowOutcome, limited, outcomeOf}
+use Rattle.flowproblem.specs.Answer.{CheapestFlow, arcsOf, networkOf, anyBelow, tooShort, badFile, badName, outOfLimits, flows, leastTotal, Outcome, carried, refused, flowOutcome, limited, outcomeOf}
 use Rattle.flowproblem.specs.Promise as promise
 use Rattle.flowproblem.specs.Promise.{Slices, roomOf, Answered}
 use Rattle.flowcase.specs.Slices.{netOf}

@@ -11,9 +11,9 @@ use Rattle.transport.specs.Sum.{sum}
 use Rattle.transport.specs.Curve.{written}
 use Rattle.network.specs.declared.Answer as declared-answer
 use Rattle.network.specs.declared.Answer.the-variants as answers
-use Rattle.flowproblem.specs.Network.{Network, arcCount, amount, CheapestFlow}
+use Rattle.flowproblem.specs.Network.{Network, arcCount, amount}
 use Rattle.flowcase.specs.Build.{AtMostAll, haveIn, overAt, underAt, dearAt}
-use Rattle.flowproblem.specs.Answer.{anyBelow, Room, tooShort, badName, flows, leastTotal, Outcome, carried, refused, flowOutcome}
+use Rattle.flowproblem.specs.Answer.{CheapestFlow, anyBelow, Room, tooShort, badName, flows, leastTotal, Outcome, carried, refused, flowOutcome}
 use Rattle.flowproblem.specs.Promise.{Slices, roomOf}
 use Rattle.flowcase.specs.Slices.{netOf}
 

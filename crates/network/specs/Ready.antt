@@ -10,7 +10,8 @@ use Rattle.transport.specs.Sum.{sum}
 use Rattle.transport.specs.Curve.{written}
 use Rattle.problem.specs.Range.{outside}
 use Rattle.problem.specs.Promise.{Bounded}
-use Rattle.flowproblem.specs.Network.{Network, CheapestFlow, NoFlow}
+use Rattle.flowproblem.specs.Network.{Network, NoFlow}
+use Rattle.flowproblem.specs.Answer.{CheapestFlow}
 use Rattle.flowcase.specs.Build.{haveIn}
 use Rattle.network.specs.declared.carry.Carried as carried-answer
 use Rattle.network.specs.declared.carry.Carried.the-variants as carrieds
