@@ -95,6 +95,36 @@ class Command(unittest.TestCase):
             due = "smallest,largest\r\n-3,9\r\nsplit,possible\r\n1,1\r\n2,0\r\n"
             self.assertEqual(run_here("bounds", tariff, production, production), (0, due, ""))
 
+    def test_rates(self):
+        self.assertEqual(run("rates", "3"), (0, "0\r\n100\r\n141\r\n173\r\n", ""))
+        self.assertEqual(run("rates", "4001")[:2], (1, ""))
+        for odd in ("-1", "4,000", "", "12345", "x", "\u0664"):
+            self.assertEqual(run("rates", "--", odd)[:2], (2, ""))
+
+    def test_bounds(self):
+        tariff, low = files("case_a")
+        with tempfile.TemporaryDirectory() as folder:
+            path = os.path.join(folder, "high.csv")
+
+            def asked(data, high=True):
+                with open(path, "wb") as out:
+                    out.write(data)
+                return run("bounds", tariff, low, path) if high else run("bounds", tariff, path, low)
+
+            due = "smallest,largest\r\n33,34\r\nsplit,possible\r\n1,1\r\n2,0\r\n3,1\r\n"
+            self.assertEqual(asked(b"99\r\n20\r\n24\r\n22\r\n"), (0, due, ""))
+            for data, high, printed, sentence in (
+                (b"99\r\n20\r\n24\r\n", False, "6,0", f"the low file {path} has 3 entries, not 4."),
+                (b"9\r\n20\r\n1000000001\r\n1\r\n", False, "9,2", f"the entry of split 2 (record 3 of the low file {path}) is above 1,000,000,000."),
+                (b"99\r\n", True, "28,0", f"the high file {path} has 1 entry, the low one 4."),
+                (b"99\r\n20\r\n23\r\n20\r\n", True, "28,2", f"the entry of split 2 (record 3 of the high file {path}), 23, is below the low one, 24."),
+                (b"99\r\n20\r\n1000000001\r\n20\r\n", True, "28,2", "1,000,000,001, is above 1,000,000,000."),
+                (b"99\r\n2;0", True, "21,5", f"{path} has a byte that cannot stand there: record 2, field 1, offset 5 counted from 0."),
+            ):
+                status, out, said = asked(data, high)
+                self.assertEqual((status, out), (1, f"refusal,place\r\n{printed}\r\n"))
+                self.assertIn(sentence, said)
+
     def test_flow(self):
         lines = b"p min 4 5\nn 1 5\nn 4 -5\na 1 2 0 4 3\na 1 3 0 3 1\na 3 2 0 2 -1\na 2 4 0 5 2\na 3 4 0 2 9\n"
         with tempfile.TemporaryDirectory() as folder:

@@ -232,6 +232,27 @@ class Pages(unittest.TestCase):
         self.show("season", page(season()), width=360, height=740)
         self.assertEqual(self.browser.run("[getComputedStyle(document.querySelector('.broad')).display, getComputedStyle(document.querySelector('.slim')).display]"), ["none", "block"])
 
+    def test_paper(self):
+        """Each part of a large table fits on a page of A4 with margins of 12 mm, also where every number is as long as it can be."""
+        draw = random.Random(7)
+        long = Case(
+            [[draw.choice((-1, 1)) * draw.randint(900_000, 1_000_000) for _ in range(64)] for _ in range(32)],
+            [4000, 4000] + [draw.randint(60, 70) for _ in range(30)],
+            [draw.randint(30, 60) for _ in range(64)],
+            [1_000_000_000 - y for y in range(4001)],
+            ceilings=[[draw.choice((5, 6, 7, 8, 9, 3999)) for _ in range(64)] for _ in range(32)],
+        )
+        for name, case in (("paper-large", large()), ("paper-long", long), ("paper-season", season())):
+            self.show(name, page(case), width=703, height=1031)
+            self.browser.call("Emulation.setEmulatedMedia", media="print")
+            sizes = self.browser.run("Array.from(document.querySelectorAll('div.paper table.lanes')).map(t => [t.offsetWidth, t.offsetHeight])")
+            words = self.browser.run("Array.from(document.querySelectorAll('dd')).every(d => d.scrollWidth <= d.parentElement.clientWidth)")
+            self.browser.call("Emulation.setEmulatedMedia", media="")
+            self.assertGreater(len(sizes), 3)
+            self.assertLessEqual(max(wide for wide, _ in sizes), 703)
+            self.assertLessEqual(max(high for _, high in sizes), 1031)
+            self.assertTrue(words)
+
     def test_keyboard(self):
         self.show("keyboard", page(season()))
         reached = []

@@ -14,7 +14,7 @@ import yadvorkhul
 
 from . import Case, Refusal
 from .files import LONGEST, NETWORK, PRODUCTION, TARIFF, FileRefusal, flow_text, open_file, plan_text, read_case, read_records, refusal_text
-from .refusals import Explained, explain, explain_network
+from .refusals import Explained, explain, explain_bounds, explain_network
 
 REFUSED, WRONG_USE, LACKING = 1, 2, 3
 
@@ -129,15 +129,15 @@ def _add_bounds(parser):
 
 def _run_bounds(arguments) -> int:
     """Prints the smallest and the largest that the least total can be, then 1 or 0 for each split: whether it can be the cheapest."""
-    tariff, low = open_file(TARIFF, arguments.tariff), open_file(PRODUCTION, arguments.low)
-    case = None
+    tariff, low, high_file = open_file(TARIFF, arguments.tariff), open_file(PRODUCTION, arguments.low), open_file(PRODUCTION, arguments.high)
+    case, high = None, []
     try:
         case = read_case(tariff, low)
-        high = [record[0].value for record in read_records(open_file(PRODUCTION, arguments.high))]
+        high = [record[0].value for record in read_records(high_file)]
         found = yadvorkhul.bounds(case.costs, case.supplies, case.demands, case.table, high)
     except Refusal as refusal:
         _print(refusal_text(refusal))
-        return _say(refusal, case, tariff, low)
+        return _told(explain_bounds(refusal, case, high, tariff, low, high_file))
     lines = ["smallest,largest", f"{found.smallest},{found.largest}", "split,possible"]
     lines += [f"{split},{int(possible)}" for split, possible in enumerate(found.possible, found.first)]
     _print("".join(line + "\r\n" for line in lines))
@@ -145,12 +145,15 @@ def _run_bounds(arguments) -> int:
 
 
 def _add_rates(parser):
-    parser.add_argument("supply", type=int, help="the supply of plant 1, at most 4,000")
+    parser.add_argument("supply", help="the supply of plant 1, at most 4,000")
 
 
 def _run_rates(arguments) -> int:
+    # as in the program `rates`: one to four digits
+    if not re.fullmatch("[0-9]{1,4}", arguments.supply):
+        raise WrongUse("the supply of plant 1 is a whole number from 0 to 4,000, in digits alone")
     try:
-        rates = yadvorkhul.rates(arguments.supply)
+        rates = yadvorkhul.rates(int(arguments.supply))
     except Refusal as refusal:
         print(f"Refusal {refusal.number}: the supply of plant 1 is above 4,000.", file=sys.stderr)
         return REFUSED

@@ -16,8 +16,11 @@ from .refusals import explain
 from .words import counted, grouped, increase, percent
 
 INSTALL = "apt-get install -y python3-jinja2 python3-matplotlib"
-WIDE = 8  # terminals that fit beside each other on paper
-LONG = 12  # digits of unit cost and cost that stand on one line on paper
+WIDE = 8  # terminals that fit beside each other on paper, at most
+NARROW = 5  # and at least, where unit costs and costs are long
+ROOM = 155  # letters of unit costs and costs that fit beside each other on paper
+FEW = 4  # terminals of a table that is printed in larger letters
+SUMS = 2  # terminals whose place the sums of the rows take
 RIVALS_SHOWN = 12
 STOPS_SHOWN = 60
 
@@ -116,11 +119,18 @@ def _data(text: str) -> str:
     return "data:text/csv;charset=utf-8;base64," + base64.b64encode(text.encode()).decode()
 
 
-def _blocks(n: int):
-    """Terminals by parts that fit on paper."""
-    parts = -(-n // WIDE)
-    size = -(-n // parts)
-    return [range(start, min(n, start + size)) for start in range(0, n, size)]
+def _beside(rows: List[Row]) -> int:
+    """Terminals that fit beside each other on paper, by the longest unit cost and cost of a lane."""
+    most = max(len(f"{grouped(lane.unit)} = {grouped(lane.cost)}") for row in rows for lane in row.lanes)
+    return max(NARROW, min(WIDE, ROOM // (most + 5)))
+
+
+def _blocks(n: int, beside: int):
+    """Terminals by parts that fit on paper, the last one with room for the sums of the rows."""
+    parts = -(-(n + SUMS) // beside)
+    size, more = divmod(n + SUMS, parts)
+    ends = [k * size + min(k, more) for k in range(parts)] + [n]
+    return [range(a, b) for a, b in zip(ends, ends[1:])]
 
 
 def _signs(text: str):
@@ -162,6 +172,7 @@ def plan_page(case: Case, plan: Plan, read_from=()) -> str:
 
     curve = curve_of(plan, case.table)
     rows, columns = _grid(case, plan)
+    beside = _beside(rows)
     return environment.get_template("plan.html").render(
         case=case,
         title=case.title or "Production and freight plan",
@@ -171,9 +182,10 @@ def plan_page(case: Case, plan: Plan, read_from=()) -> str:
         made=rows[0].sent + rows[1].sent,
         rows=rows,
         columns=columns,
-        blocks=_blocks(len(columns)),
-        wide=len(columns) > WIDE,
-        long=any(len(f"{lane.unit}{lane.cost}") > LONG for row in rows for lane in row.lanes),
+        blocks=_blocks(len(columns), beside),
+        wide=len(columns) > beside,
+        long=beside < WIDE,
+        few=len(columns) <= FEW and beside == WIDE,
         used=[lane for row in rows for lane in row.lanes if lane.amount],
         bounded=any(lane.ceiling is not None for row in rows for lane in row.lanes),
         rivals=_rivals(curve),

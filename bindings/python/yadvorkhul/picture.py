@@ -7,6 +7,7 @@ from .curve import Curve
 from .words import grouped, increase
 
 INK, BLUE, GREEN, ORANGE, GREY = "#1b1f24", "#0b5cad", "#1a7f37", "#b35900", "#57606a"
+MARK = 6  # points that the mark of a rival is wide
 MOST_LABELS = 6  # of rivals that get their numbers in the picture
 BEHIND = dict(facecolor="white", edgecolor="none", alpha=0.8, pad=0.8)  # of a label
 MOST_DOTS = 60  # splits that are drawn one by one
@@ -42,7 +43,7 @@ def _total(axes, curve: Curve):
     rivals = [v for v in curve.valleys if v.first is not curve.given]
     for valley in rivals:
         axes.plot([valley.first.split, valley.last.split], [valley.first.total] * 2, color=ORANGE, linewidth=2.5)
-        axes.plot([valley.first.split], [valley.first.total], marker="D", markersize=6, color=ORANGE)
+        axes.plot([valley.first.split], [valley.first.total], marker="D", markersize=MARK, color=ORANGE)
     axes.axhline(least, color=GREEN, linewidth=0.8, linestyle=(0, (4, 3)))
     axes.plot([curve.given.split], [least], marker="*", markersize=14, color=GREEN)
     _label(axes, curve.given, f"given: {grouped(curve.given.split)}, total {grouped(least)}", GREEN, weight="bold")
@@ -57,12 +58,16 @@ def _label(axes, at, text: str, color: str, **more):
     )
 
 
-def _settle(figure, axes):
-    """Moves a label that would pass an end of the axes inwards, then one that would cover an earlier one above its point, and leaves
-    it out where it still would."""
+def _settle(figure, axes, marked):
+    """Moves a label that would pass an end of the axes inwards, then one that would cover an earlier one or a mark above its point, and
+    leaves it out where it still would, unless it is the first, of the split given."""
+    from matplotlib.transforms import Bbox
+
     figure.canvas.draw()
     box = axes.get_window_extent()
-    placed = []
+    size = MARK * figure.dpi / 144
+    placed = [Bbox.from_extents(x - size, y - size, x + size, y + size) for x, y in axes.transData.transform([(s.split, s.total) for s in marked])]
+    first, *_ = axes.texts
     for text in list(axes.texts):
         extent = text.get_window_extent()
         if extent.x0 < box.x0:
@@ -71,10 +76,10 @@ def _settle(figure, axes):
             text.set_ha("right")
         if text.get_window_extent().count_overlaps(placed):
             text.set_position((0, 9))
-        if text.get_window_extent().count_overlaps(placed):
-            text.remove()
-        else:
+        if not text.get_window_extent().count_overlaps(placed) or text is first:
             placed.append(text.get_window_extent())
+        else:
+            text.remove()
 
 
 def svg(curve: Curve, stops, width: float = 8.4, name: str = "picture") -> str:
@@ -98,7 +103,7 @@ def svg(curve: Curve, stops, width: float = 8.4, name: str = "picture") -> str:
         for axes in (total, freight, production):
             axes.axvline(curve.given.split, color=GREEN, linewidth=0.8, linestyle=(0, (4, 3)), zorder=0)
         production.set_xlabel("drums that plant 1 makes", fontsize=9, color=INK)
-        _settle(figure, total)
+        _settle(figure, total, [valley.first for valley in curve.valleys])
         out = io.StringIO()
         figure.savefig(out, format="svg", metadata={"Date": None, "Creator": None})
     return _embedded(out.getvalue(), _words(curve))

@@ -25,6 +25,8 @@ _ADVICE = {
     27: "Look for a terminal, a depot or a plant with a least run whose lanes together are too narrow, then for groups of them; raise a ceiling or lower a run.",
 }
 
+_HIGH_ADVICE = "Give a high entry for each low one, not below it."
+
 _NETWORK_ADVICE = {
     27: "Look for a node whose arcs together are too narrow, then for groups of them; raise a ceiling or change a supply.",
     29: "A line is c with any words, p min NODES ARCS, n NODE SUPPLY or a START END 0 CEILING COST, in this order, its fields parted by spaces, and ends in LF.",
@@ -258,6 +260,32 @@ def explain(refusal: Refusal, case: Optional[Case] = None, tariff: Optional[File
     if isinstance(refusal, FileRefusal):
         return _explain_file(refusal)
     return explain_case(refusal, case, tariff, production)
+
+
+def _explain_high(place: int, low: List[int], high: List[int], file: File) -> Explained:
+    """Refusal 28: the high table's length, or an entry of it."""
+    name = f"the high file {file.path}"
+    if len(high) != len(low):
+        sentence = f"{name} has {counted(len(high), 'entry', 'entries')}, the low one {grouped(len(low))}."
+        return Explained(28, place, sentence, _HIGH_ADVICE, [], None)
+    what = "above 1,000,000,000" if high[place] >= low[place] else f"below the low one, {grouped(low[place])}"
+    sentence = f"the entry of split {place} (record {place + 1} of {name}), {grouped(high[place])}, is {what}."
+    return Explained(28, place, sentence, _HIGH_ADVICE, [], _field_spot(file, place + 1, 1))
+
+
+def explain_bounds(refusal: Refusal, case: Optional[Case], high: List[int], tariff: File, low_file: File, high_file: File) -> Explained:
+    """A refusal of a tariff with a low and a high table; the low one stands as the case's own."""
+    if isinstance(refusal, FileRefusal):
+        return _explain_file(refusal)
+    if refusal.number == 28:
+        return _explain_high(refusal.place, case.table, high, high_file)
+    told = explain_case(refusal, case, tariff, low_file)
+    if refusal.number == 6:
+        wanted = grouped(case.supplies[0] + 1)
+        return told._replace(sentence=f"the low file {low_file.path} has {counted(len(case.table), 'entry', 'entries')}, not {wanted}.")
+    if refusal.number == 9:
+        return told._replace(sentence=f"the entry of split {refusal.place} (record {refusal.place + 1} of the low file {low_file.path}) is above 1,000,000,000.")
+    return told
 
 
 def _line_spot(file: File, number: int, cause: str) -> Spot:

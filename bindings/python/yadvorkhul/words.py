@@ -21,5 +21,5 @@ def increase(more: int, total: int) -> str:
     return f"+{grouped(more)}" + (f" ({share})" if share else "")
 
 
-def counted(number: int, thing: str) -> str:
-    return f"{grouped(number)} {thing}" + ("" if number == 1 else "s")
+def counted(number: int, thing: str, things: str = "") -> str:
+    return f"{grouped(number)} {thing if number == 1 else things or thing + 's'}"

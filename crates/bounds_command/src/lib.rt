@@ -5,11 +5,14 @@ use boundsfile::low_stands;
 use casefile::planned::Printed;
 use check::same;
 use command::refusal::explain;
+use command::refusal::explain_file;
+use command::refusal::explain_table;
 use filebytes::file::file_room;
 use filebytes::file::first;
 use filebytes::file::read_file;
 use filebytes::message::say;
 use filebytes::message::say_with;
+use filetable::table::tariff_stands;
 ghost use mathlib.Core.Path.{_≡_};
 ghost use lib.ListN.{length};
 
@@ -35,10 +38,10 @@ fn usage() {
 }
 
 // Refusal 28, by its place.
-fn explain_high(place: u64) {
-    say(
-        b"Refusal 28: the high file does not have one entry for each output of plant 1 from 0 to its supply,\n",
-    );
+fn explain_high(place: u64, path: &[u8]) {
+    say(b"Refusal 28: the high file ");
+    say(path);
+    say(b" does not have one entry for each output of plant 1 from 0 to its supply,\n");
     say_with(
         b"or its entry of split ",
         place,
@@ -46,7 +49,25 @@ fn explain_high(place: u64) {
     );
 }
 
-// Says what a refusal means; nothing of an answer.
+// Refusals 20 to 22 of the low or the high file.
+fn explain_entries(
+    number: u64,
+    place: u64,
+    low: &[u8],
+    high: &[u8],
+    low_path: &[u8],
+    high_path: &[u8],
+    low_good: bool,
+) {
+    say_with(b"Refusal ", number, b": ");
+    if low_good {
+        explain_file(number, place, b"the high file ", high_path, high, 1);
+        return;
+    }
+    explain_file(number, place, b"the low file ", low_path, low, 1);
+}
+
+// Says what a refusal means; nothing of an answer. The low file's entries are those of the case.
 fn explain_three(
     printed: Printed,
     tariff: &[u8],
@@ -57,17 +78,30 @@ fn explain_three(
     high_path: &[u8],
 ) {
     let number = printed.number;
-    if number == 28 {
-        explain_high(printed.place);
-        return;
-    }
-    if 19 < number {
-        if low_stands(tariff, low) {
-            explain(printed, tariff, high, tariff_path, high_path);
-            return;
+    let place = printed.place;
+    match number {
+        6 | 9 => {
+            say_with(b"Refusal ", number, b": ");
+            explain_table(number, place, b"the low file ", low_path);
         }
+        28 => explain_high(place, high_path),
+        20..=22 => {
+            if tariff_stands(tariff) {
+                explain_entries(
+                    number,
+                    place,
+                    low,
+                    high,
+                    low_path,
+                    high_path,
+                    low_stands(tariff, low),
+                );
+                return;
+            }
+            explain(printed, tariff, low, tariff_path, low_path);
+        }
+        _ => explain(printed, tariff, low, tariff_path, low_path),
     }
-    explain(printed, tariff, low, tariff_path, low_path);
 }
 
 // Answers three files' bytes.

@@ -48,16 +48,35 @@ fn explain_lane(place: u64, n: u64) {
     say(b"a unit cost in the tariff file is below -1,000,000 or above 1,000,000.\n");
 }
 
-// Refusal 9: an entry by its split, and by its record, one further, in the production file.
-fn explain_entry(split: u64) {
+// Refusal 6: the entries of a file.
+fn explain_length(file: &[u8], path: &[u8]) {
+    say(file);
+    say(path);
+    say(b" does not have one entry for each output of plant 1 from 0 to its supply.\n");
+}
+
+// Refusal 9: an entry by its split, and by its record, one further, in its file.
+fn explain_entry(split: u64, file: &[u8], path: &[u8]) {
     say_with(b"the entry of split ", split, b" (record ");
     say_number(next(split));
-    say(b" of the production file) is above 1,000,000,000.\n");
+    say(b" of ");
+    say(file);
+    say(path);
+    say(b") is above 1,000,000,000.\n");
+}
+
+// Refusals 6 and 9, of the file that has the entries.
+pub fn explain_table(number: u64, place: u64, file: &[u8], path: &[u8]) {
+    if number == 6 {
+        explain_length(file, path);
+        return;
+    }
+    explain_entry(place, file, path);
 }
 
 // The refusals of a case, by its numbers of sources and terminals. The case of two files has least runs 0
 // and the ceiling 4,000 on every lane, so 23, 26 and 27 are none of them.
-fn explain_case(number: u64, place: u64, m: u64, n: u64) {
+fn explain_case(number: u64, place: u64, m: u64, n: u64, production_path: &[u8]) {
     match number {
         1 => say(
             b"the tariff file does not have 2 to 32 source records before its record of demands.\n",
@@ -70,14 +89,11 @@ fn explain_case(number: u64, place: u64, m: u64, n: u64) {
         ),
         4 => explain_amount(place, m),
         5 => explain_lane(place, n),
-        6 => say(
-            b"the production file does not have one entry for each output of plant 1 from 0 to its supply.\n",
-        ),
+        6 | 9 => explain_table(number, place, b"the production file ", production_path),
         7 => say(b"the depots hold more than the terminals take, so no plan exists.\n"),
         8 => say(
             b"the terminals take more than the plants and depots can give, so no plan exists.\n",
         ),
-        9 => explain_entry(place),
         _ => say(b"there is no room for the plan or for its stops.\n"),
     }
 }
@@ -232,6 +248,7 @@ pub fn explain(
             place,
             printed.sources as u64,
             printed.terminals as u64,
+            production_path,
         );
         return;
     }
