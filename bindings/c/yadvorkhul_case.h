@@ -1,0 +1,161 @@
+/* A working case as an object that owns its store, over the functions of yadvorkhul.h. None of this is proved.
+
+     struct yadvorkhul_case work;
+     if (yadvorkhul_case_open(&work, 3, 2, 0, 0, costs, 6, supplies, 3, demands, 2, ceilings, 6, table,
+         4)) ..   the place: work.place
+     yadvorkhul_case_mark(&work, YADVORKHUL_PLANNER, 3);
+     yadvorkhul_case_edit_demand(&work, YADVORKHUL_DEPOT, 2, 3);
+     yadvorkhul_case_go_back(&work, YADVORKHUL_PLANNER, 3);
+     yadvorkhul_case_close(&work);
+
+   Each call answers as the function of yadvorkhul.h that it passes on to: 0, or the number of a refusal, whose place is then in
+   `place`. The object stays with whoever may see the entries: its store holds them all. It is not copied: two copies would own one
+   store. */
+#ifndef YADVORKHUL_CASE_H
+#define YADVORKHUL_CASE_H
+
+#include "yadvorkhul.h"
+
+#include <stdlib.h>
+
+#ifdef __cplusplus
+extern "C" {
+#endif
+
+#define YADVORKHUL_NO_MEMORY 35 /* the store could not be had: no number of the planner's */
+
+struct yadvorkhul_case {
+    uint64_t *store; /* null where no case was entered: every call but opening is then refused by 11 */
+    size_t cells;
+    uint64_t place; /* of the last refusal */
+};
+
+/* What planning tells. */
+struct yadvorkhul_planned {
+    uint64_t split, stops;
+    int64_t total, freight;
+};
+
+static inline uint64_t yadvorkhul_case_told(struct yadvorkhul_case *work, uint64_t answer, const uint64_t *report) {
+    if (answer) work->place = report[0];
+    return answer;
+}
+
+/* The store to be lent: a cell that holds no case where there is none. */
+static inline uint64_t *yadvorkhul_case_store(struct yadvorkhul_case *work, uint64_t *none) {
+    *none = 0;
+    return work->store ? work->store : none;
+}
+
+static inline size_t yadvorkhul_case_cells(const struct yadvorkhul_case *work) { return work->store ? work->cells : 1; }
+
+/* Gives the store back. Its cells are cleared first: they hold the entries. */
+static inline void yadvorkhul_case_close(struct yadvorkhul_case *work) {
+    volatile uint64_t *cell = work->store;
+    size_t k;
+    for (k = 0; cell && k < work->cells; k++) cell[k] = 0;
+    free(work->store);
+    work->store = NULL;
+    work->cells = 0;
+}
+
+/* Takes a store of the size and enters a case, passed as to yadvorkhul_plan. On a refusal no store is kept. */
+static inline uint64_t yadvorkhul_case_open(struct yadvorkhul_case *work, size_t m, size_t n, uint64_t run1, uint64_t run2,
+                                            const int64_t *costs, size_t costs_cells,
+                                            const uint64_t *supplies, size_t supplies_cells,
+                                            const uint64_t *demands, size_t demands_cells,
+                                            const uint64_t *ceilings, size_t ceilings_cells,
+                                            const uint64_t *table, size_t table_cells) {
+    uint64_t report[YADVORKHUL_REPORT_CELLS], none, answer;
+    work->cells = yadvorkhul_store_cells(m, n);
+    work->place = 0;
+    work->store = work->cells ? (uint64_t *)malloc(work->cells * sizeof(uint64_t)) : NULL;
+    if (work->cells && !work->store) return YADVORKHUL_NO_MEMORY;
+    answer = yadvorkhul_enter(m, n, run1, run2, costs, costs_cells, supplies, supplies_cells, demands, demands_cells,
+                              ceilings, ceilings_cells, table, table_cells,
+                              yadvorkhul_case_store(work, &none), yadvorkhul_case_cells(work), report, YADVORKHUL_REPORT_CELLS);
+    if (answer) {
+        free(work->store);
+        work->store = NULL;
+        work->cells = 0;
+    }
+    return yadvorkhul_case_told(work, answer, report);
+}
+
+static inline uint64_t yadvorkhul_case_edit_demand(struct yadvorkhul_case *work, size_t role, size_t terminal, uint64_t value) {
+    uint64_t report[YADVORKHUL_REPORT_CELLS], none, *store = yadvorkhul_case_store(work, &none);
+    uint64_t answer = yadvorkhul_edit_demand(role, terminal, value, store, yadvorkhul_case_cells(work), report,
+                                             YADVORKHUL_REPORT_CELLS);
+    return yadvorkhul_case_told(work, answer, report);
+}
+
+static inline uint64_t yadvorkhul_case_edit_supply(struct yadvorkhul_case *work, size_t role, size_t source, uint64_t value) {
+    uint64_t report[YADVORKHUL_REPORT_CELLS], none, *store = yadvorkhul_case_store(work, &none);
+    uint64_t answer = yadvorkhul_edit_supply(role, source, value, store, yadvorkhul_case_cells(work), report,
+                                             YADVORKHUL_REPORT_CELLS);
+    return yadvorkhul_case_told(work, answer, report);
+}
+
+static inline uint64_t yadvorkhul_case_edit_cost(struct yadvorkhul_case *work, size_t role, size_t source, size_t terminal,
+                                                 int64_t value) {
+    uint64_t report[YADVORKHUL_REPORT_CELLS], none, *store = yadvorkhul_case_store(work, &none);
+    uint64_t answer = yadvorkhul_edit_cost(role, source, terminal, value, store, yadvorkhul_case_cells(work), report,
+                                           YADVORKHUL_REPORT_CELLS);
+    return yadvorkhul_case_told(work, answer, report);
+}
+
+static inline uint64_t yadvorkhul_case_edit_entry(struct yadvorkhul_case *work, size_t role, size_t split, uint64_t value) {
+    uint64_t report[YADVORKHUL_REPORT_CELLS], none, *store = yadvorkhul_case_store(work, &none);
+    uint64_t answer = yadvorkhul_edit_entry(role, split, value, store, yadvorkhul_case_cells(work), report,
+                                            YADVORKHUL_REPORT_CELLS);
+    return yadvorkhul_case_told(work, answer, report);
+}
+
+static inline uint64_t yadvorkhul_case_mark(struct yadvorkhul_case *work, size_t role, size_t mark) {
+    uint64_t report[YADVORKHUL_REPORT_CELLS], none, *store = yadvorkhul_case_store(work, &none);
+    uint64_t answer = yadvorkhul_set_mark(role, mark, store, yadvorkhul_case_cells(work), report, YADVORKHUL_REPORT_CELLS);
+    return yadvorkhul_case_told(work, answer, report);
+}
+
+static inline uint64_t yadvorkhul_case_go_back(struct yadvorkhul_case *work, size_t role, size_t mark) {
+    uint64_t report[YADVORKHUL_REPORT_CELLS], none, *store = yadvorkhul_case_store(work, &none);
+    uint64_t answer = yadvorkhul_go_back(role, mark, store, yadvorkhul_case_cells(work), report, YADVORKHUL_REPORT_CELLS);
+    return yadvorkhul_case_told(work, answer, report);
+}
+
+static inline uint64_t yadvorkhul_case_plan(struct yadvorkhul_case *work, size_t role, struct yadvorkhul_planned *planned,
+                                            uint64_t *plan, size_t plan_cells, uint64_t *splits, size_t splits_cells,
+                                            int64_t *freights, size_t freights_cells) {
+    uint64_t report[YADVORKHUL_REPORT_CELLS], none, *store = yadvorkhul_case_store(work, &none);
+    int64_t worth[YADVORKHUL_WORTH_CELLS];
+    uint64_t answer = yadvorkhul_plan_case(role, store, yadvorkhul_case_cells(work), plan, plan_cells, splits, splits_cells,
+                                           freights, freights_cells, report, YADVORKHUL_REPORT_CELLS, worth, YADVORKHUL_WORTH_CELLS);
+    if (answer == 0) {
+        planned->split = report[0];
+        planned->stops = report[1];
+        planned->total = worth[0];
+        planned->freight = worth[1];
+    }
+    return yadvorkhul_case_told(work, answer, report);
+}
+
+static inline uint64_t yadvorkhul_case_see_tariff(struct yadvorkhul_case *work, size_t role, int64_t *costs, size_t costs_cells,
+                                                  uint64_t *supplies, size_t supplies_cells, uint64_t *demands, size_t demands_cells) {
+    uint64_t report[YADVORKHUL_REPORT_CELLS], none, *store = yadvorkhul_case_store(work, &none);
+    uint64_t answer = yadvorkhul_see_tariff(role, store, yadvorkhul_case_cells(work), costs, costs_cells, supplies,
+                                            supplies_cells, demands, demands_cells, report, YADVORKHUL_REPORT_CELLS);
+    return yadvorkhul_case_told(work, answer, report);
+}
+
+static inline uint64_t yadvorkhul_case_see_table(struct yadvorkhul_case *work, size_t role, uint64_t *table,
+                                                 size_t table_cells) {
+    uint64_t report[YADVORKHUL_REPORT_CELLS], none, *store = yadvorkhul_case_store(work, &none);
+    uint64_t answer = yadvorkhul_see_table(role, store, yadvorkhul_case_cells(work), table, table_cells, report,
+                                           YADVORKHUL_REPORT_CELLS);
+    return yadvorkhul_case_told(work, answer, report);
+}
+
+#ifdef __cplusplus
+}
+#endif
+#endif
