@@ -1,7 +1,7 @@
 //! Builds the proved static library and links it.
 //!
-//! `rt staticlib ffi` is run in the root of the repository. It proves the crate and what it depends on (nothing is proved
-//! again where nothing changed) and writes target/staticlib/libffi.a. Where the environment names a folder in
+//! `rt staticlib ffi` is run in the root of the repository. It proves the crate and what it depends on (what lies below it is
+//! not proved again where nothing changed) and writes target/staticlib/libffi.a. Where the environment names a folder in
 //! YADVORKHUL_LIB, the archive of that folder is linked instead and `rt` is not run.
 
 use std::path::{Path, PathBuf};
@@ -23,31 +23,9 @@ fn prove() -> PathBuf {
     let here = PathBuf::from(std::env::var_os("CARGO_MANIFEST_DIR").expect("set by cargo"));
     let root = here.join("../..").canonicalize().expect("the repository's root");
     println!("cargo:rerun-if-changed={}", root.join("crates.txt").display());
-    for name in [
-        "transport",
-        "residual",
-        "paths",
-        "augment",
-        "reachability",
-        "canonical",
-        "range",
-        "stretch",
-        "sweep",
-        "problem",
-        "casetests",
-        "planner",
-        "tablebounds",
-        "casestore",
-        "workcase",
-        "roles",
-        "ratetable",
-        "dimacs",
-        "network",
-        "arcs",
-        "ffi",
-    ] {
+    for name in below_ffi(&root) {
         for part in ["src", "specs", "proofs"] {
-            let folder = root.join("crates").join(name).join(part);
+            let folder = root.join("crates").join(&name).join(part);
             if Path::new(&folder).exists() {
                 println!("cargo:rerun-if-changed={}", folder.display());
             }
@@ -59,4 +37,20 @@ fn prove() -> PathBuf {
         Ok(status) => panic!("`rt staticlib ffi` in the repository's root ended with {status}"),
         Err(error) => panic!("`rt` could not be run ({error}): the Rattle kit must be on the PATH, or YADVORKHUL_LIB name the folder of libffi.a"),
     }
+}
+
+/// `ffi` and every crate of the repository that it depends on, as crates.txt has it.
+fn below_ffi(root: &Path) -> Vec<String> {
+    let text = std::fs::read_to_string(root.join("crates.txt")).expect("crates.txt in the repository's root");
+    let lines: Vec<(&str, &str)> = text.lines().filter_map(|line| line.split('#').next()?.split_once(':')).collect();
+    let mut names = vec![String::from("ffi")];
+    let mut seen = 0;
+    while seen < names.len() {
+        let below = lines.iter().find(|(name, _)| name.trim() == names[seen]).map_or("", |(_, below)| *below);
+        let more: Vec<String> =
+            below.split_whitespace().map(String::from).filter(|name| !names.contains(name)).collect();
+        names.extend(more);
+        seen += 1;
+    }
+    names
 }

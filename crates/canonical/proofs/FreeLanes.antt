@@ -1,10 +1,10 @@
 -- The free lanes of each source and the terminals that are served, bit by bit. Assumes nothing.
 use mathlib.Core.Path.{_≡_, ap, _∙_}
 use mathlib.Core.List.{List}
-use Prim.Native.Nat.{ℕ, _+_, _-_, _^_, _≤_, _<_}
+use Prim.Native.Nat.{ℕ, _+_, _-_, _*_, _^_, _≤_, _<_}
 use native.Mathlib.Decide.{ℕ-discrete}
 use native.Mathlib.Omega.{arith}
-use lib.ListN.{length, set, length-set}
+use lib.ListN.{set, length-set, replicate, length-replicate, getD-replicate}
 use lib.Seq.{getD-set-same, getD-set-other}
 use lib.Pow.{pow-pos, pow-lt}
 use lib.Bits.{bitOr, or-lt}
@@ -13,64 +13,44 @@ use Rattle.residual.specs.Cells.{cells}
 use Rattle.residual.specs.Network.{get}
 use Rattle.residual.specs.Bits.{bit}
 use Rattle.reachability.specs.Reachability.{Opens, Supplied, Known, Through}
-use Rattle.canonical.specs.Canonize.{Mask, Followed}
+use Rattle.canonical.specs.Canonize.{Followed}
 use Rattle.residual.proofs.Bits.{bit-most, bit-or, bit-own}
 use Rattle.reachability.proofs.MaskBits.{bit-ones}
 
--- the members before j are seen
-pub record MaskTo (n : ℕ) (v : ℕ → ℕ) (j r : ℕ) : Type 0 where
-  pub most : j ≤ n
-  pub within : r < 2 ^ n
-  pub has : (b : ℕ) → b < j → 0 < v b → bit r b ≡ 1
-
-pub mask-start : {n : ℕ} {v : ℕ → ℕ} → MaskTo n v 0 0
-mask-start {n} = record { most = omega arith; within = pow-pos n; has = λ b l. absurd (omega arith) }
-
-module _ {n : ℕ} {v : ℕ → ℕ} {j r : ℕ} (q : MaskTo n v j r) (h : j < n) where
-  pub mask-more : MaskTo n v (j + 1) (bitOr r (2 ^ j))
-  mask-more = record {
-    most = omega arith;
-    within = or-lt n r (2 ^ j) (q .within) (pow-lt {i = j} {j = n} h);
-    has = λ b l o. elim (ℕ-discrete b j) [
-      | yes z ↦ rw z (omega (arith, bit-or r (2 ^ j) j, bit-own j, bit-most r j))
-      | no z ↦ omega (arith, bit-or r (2 ^ j) b, q .has b (omega arith) o, bit-most (2 ^ j) b)
-    ];
-  }
-
-  pub mask-not : v j ≤ 0 → MaskTo n v (j + 1) r
-  mask-not e = record {
-    most = omega arith;
-    within = q .within;
-    has = λ b l o. elim (ℕ-discrete b j) [ yes z ↦ absurd (omega (arith, ap v z)) | no z ↦ q .has b (omega arith) o ];
-  }
-
-pub mask-end : {n : ℕ} {v : ℕ → ℕ} {j r : ℕ} → MaskTo n v j r → n ≤ j → Mask n v r
-mask-end q h = record { within = q .within; has = λ b l o. q .has b (omega arith) o }
-
 -- ---- the free lanes of each source
 
--- source by source
-pub record AllWaysTo (m n : ℕ) (f : List ℕ) (i : ℕ) (w : List ℕ) : Type 0 where
-  pub most : i ≤ m
-  pub long : length w ≡ 32
-  pub rows : (a : ℕ) → a < i → Mask n (λ b. cells f a b) (get w a)
-
-pub all-start : {m n : ℕ} {f w : List ℕ} → length w ≡ 32 → AllWaysTo m n f 0 w
-all-start e = record { most = omega arith; long = e; rows = λ a l. absurd (omega arith) }
-
-pub all-next : {m n : ℕ} {f : List ℕ} {i : ℕ} {w : List ℕ} {r : ℕ} → m ≤ 32 → AllWaysTo m n f i w → i < m → Mask n (λ b. cells f i b) r
-    → AllWaysTo m n f (i + 1) (set w i r)
-all-next {m} {n} {f} {i} {w} {r} hm q h o = record {
-  most = omega arith;
-  long = length-set w i r ∙ q .long;
-  rows = λ a l. elim (ℕ-discrete a i) [
-    | yes z ↦ rw (z, getD-set-same w i r 0 (omega (arith, q .long))) o
-    | no z ↦ rw (getD-set-other w i a r 0 z) (q .rows a (omega arith))
+-- lane (i, j) is free
+pub open-lane : {m n i j : ℕ} {f w : List ℕ} (u : ℕ) → m ≤ 32 → n ≤ 64 → i < m → j < n → Opens m n f w
+    → Opens m n (set f (i * 64 + j) u) (set w i (bitOr (get w i) (2 ^ j)))
+open-lane {m} {n} {i} {j} {f} {w} u hm hn hi hj q = record {
+  long = length-set w i (bitOr (get w i) (2 ^ j)) ∙ q .long;
+  within = λ a l. elim (ℕ-discrete a i) [
+    | yes z ↦ rw (z, own) (or-lt n (get w i) (2 ^ j) (q .within i hi) (pow-lt {i = j} {j = n} hj))
+    | no z ↦ rw (getD-set-other w i a (bitOr (get w i) (2 ^ j)) 0 z) (q .within a l)
+  ];
+  has = λ a b ha hb o. elim (ℕ-discrete a i) [
+    | yes z ↦ rw (z, own) (elim (ℕ-discrete b j) [
+      | yes y ↦ rw y (omega (arith, bit-or (get w i) (2 ^ j) j, bit-own j, bit-most (get w i) j))
+      | no y ↦
+          let e : cells (set f (i * 64 + j) u) a b ≡ cells f a b = getD-set-other f (i * 64 + j) (a * 64 + b) u 0 (omega arith) in
+          omega (arith, bit-or (get w i) (2 ^ j) b, q .has i b hi hb (rw (← z) (omega arith)), bit-most (2 ^ j) b)
+    ])
+    | no z ↦
+        let e : cells (set f (i * 64 + j) u) a b ≡ cells f a b = getD-set-other f (i * 64 + j) (a * 64 + b) u 0 (omega arith) in
+        rw (getD-set-other w i a (bitOr (get w i) (2 ^ j)) 0 z) (q .has a b ha hb (omega arith))
   ];
 }
+  where
+    own : get (set w i (bitOr (get w i) (2 ^ j))) i ≡ bitOr (get w i) (2 ^ j)
+    own = getD-set-same w i (bitOr (get w i) (2 ^ j)) 0 (omega (arith, q .long))
 
-pub all-end : {m n : ℕ} {f : List ℕ} {i : ℕ} {w : List ℕ} → AllWaysTo m n f i w → m ≤ i → Opens m n f w
-all-end q h = record { long = q .long; within = λ a l. q .rows a (omega arith) .within; has = λ a b ha hb o. q .rows a (omega arith) .has b hb o }
+-- none is
+pub open-none : {m n : ℕ} {f : List ℕ} → m ≤ 32 → ((k : ℕ) → get f k ≡ 0) → Opens m n f (replicate 32 0)
+open-none {m} {n} {f} h z = record {
+  long = length-replicate {A = ℕ} 32 0;
+  within = λ a l. rw (getD-replicate {A = ℕ} 32 a 0 0 (omega arith)) (pow-pos n);
+  has = λ a b ha hb o. absurd (omega (arith, z (a * 64 + b)));
+}
 
 -- ---- the terminals that are served
 

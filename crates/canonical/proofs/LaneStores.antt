@@ -1,6 +1,5 @@
 -- How the lanes are parted and settled, store by store. Assumes nothing.
 use mathlib.Core.Path.{_≡_, refl, sym, ap, _∙_}
-use mathlib.Core.Bool.{Bool, true, false, cond}
 use mathlib.Core.Logic.{_≢_}
 use mathlib.Core.List.{List}
 use Prim.Native.Nat.{ℕ, _+_, _-_, _*_, _^_, _≤_, _<_}
@@ -19,21 +18,14 @@ use Rattle.residual.specs.LanesInUse.{Covers}
 use Rattle.augment.specs.LaneMarks.{Served}
 use Rattle.augment.specs.PathWalk.{Carried}
 use Rattle.reachability.specs.Reachability.{Opens, Supplied}
-use Rattle.canonical.specs.Canonize.{Unless, TightLane, PartedAt, free, aside, Settling, FreeReady, LaneSettled, Longs, CanonReady, Clear, LaneParted, PartedTo, Open, Onward, Canonized}
+use Rattle.canonical.specs.Canonize.{TightLane, PartedAt, free, aside, Settling, FreeReady, LaneSettled, Longs, CanonReady, Clear, LaneParted, PartedTo, Open, Onward, Canonized}
 use Rattle.residual.proofs.Bits.{bit-none, bit-place, low-set, rest-other, left-start, left-low, left-none, left-next}
 use Rattle.augment.proofs.LaneMarks.{cover-arc, cover-none, set-less}
-use Rattle.canonical.proofs.FreeLanes.{supplied-whole, supplied-but}
+use Rattle.canonical.proofs.FreeLanes.{open-none, supplied-whole, supplied-but}
 use Rattle.canonical.proofs.Rerouting.{cover-under}
 use Rattle.canonical.proofs.LaneByLane.{settle-start, settle-next, settle-end}
 
 -- ---- one lane is parted
-
-pub unless-most : {t : Bool} {a v : ℕ} → Unless t a v → v ≤ a
-unless-most {t} {a} {v} w = go t (w .same)
-  where
-    go : (b : Bool) → v ≡ cond b 0 a → v ≤ a
-    go true e = omega arith
-    go false e = omega arith
 
 module _ {N : Net} {p o f x : List ℕ} {i j : ℕ} (r : CanonReady N p) (hi : i < N .m) (hj : j < N .n) (w : Clear i j o f x) where
   inside : i * 64 + j < 2048
@@ -46,40 +38,32 @@ module _ {N : Net} {p o f x : List ℕ} {i j : ℕ} (r : CanonReady N p) (hi : i
       let z : get x (i * 64 + j) + v ≡ v = omega (arith, w .free-x) in
       record { less = λ l. absurd (omega arith); more = λ l. rw (e, z) refl }
 
-  -- free where it is tight, else set aside
-  pub part-lane : {t : Bool} {v g : ℕ} → (t ≡ true → TightLane N p i j) → (t ≡ false → ¬ TightLane N p i j) → Unless t (N .x i j) v
-      → Unless t (N .u i j) g
-      → LaneParted N p i j o f x (set o (i * 64 + j) v) (set f (i * 64 + j) (N .u i j - g)) (set x (i * 64 + j) (N .x i j - v))
-  part-lane {t} {v} {g} is not ev eg = record {
+  -- a tight lane is free
+  pub part-free : TightLane N p i j → LaneParted N p i j o f x o (set f (i * 64 + j) (N .u i j)) (set x (i * 64 + j) (N .x i j))
+  part-free t = record {
     longs = record {
-      long-o = length-set o (i * 64 + j) v ∙ w .longs .long-o;
-      long-f = length-set f (i * 64 + j) (N .u i j - g) ∙ w .longs .long-f;
-      long-x = length-set x (i * 64 + j) (N .x i j - v) ∙ w .longs .long-x;
+      long-o = w .longs .long-o;
+      long-f = length-set f (i * 64 + j) (N .u i j) ∙ w .longs .long-f;
+      long-x = length-set x (i * 64 + j) (N .x i j) ∙ w .longs .long-x;
     };
-    own = each t refl;
-    off-o = λ k z. getD-set-other o (i * 64 + j) k v 0 z;
-    off-f = λ k z. getD-set-other f (i * 64 + j) k (N .u i j - g) 0 z;
-    off-x = λ k z. getD-set-other x (i * 64 + j) k (N .x i j - v) 0 z;
+    own =
+        free t (w .free-o)
+        (getD-set-same f (i * 64 + j) (N .u i j) 0 (omega (arith, inside, w .longs .long-f)))
+        (getD-set-same x (i * 64 + j) (N .x i j) 0 (omega (arith, inside, w .longs .long-x)));
+    off-o = λ k z. refl;
+    off-f = λ k z. getD-set-other f (i * 64 + j) k (N .u i j) 0 z;
+    off-x = λ k z. getD-set-other x (i * 64 + j) k (N .x i j) 0 z;
   }
-    where
-      own-o : get (set o (i * 64 + j) v) (i * 64 + j) ≡ v
-      own-o = getD-set-same o (i * 64 + j) v 0 (omega (arith, inside, w .longs .long-o))
 
-      own-f : get (set f (i * 64 + j) (N .u i j - g)) (i * 64 + j) ≡ N .u i j - g
-      own-f = getD-set-same f (i * 64 + j) (N .u i j - g) 0 (omega (arith, inside, w .longs .long-f))
-
-      own-x : get (set x (i * 64 + j) (N .x i j - v)) (i * 64 + j) ≡ N .x i j - v
-      own-x = getD-set-same x (i * 64 + j) (N .x i j - v) 0 (omega (arith, inside, w .longs .long-x))
-
-      each : (b : Bool) → t ≡ b → PartedAt N p (cells (set o (i * 64 + j) v)) (cells (set f (i * 64 + j) (N .u i j - g))) (cells (set x (i * 64 + j) (N .x i j - v))) i j
-      each true e =
-          let y : v ≡ 0 = ev .same ∙ ap (λ b. cond b 0 (N .x i j)) e in
-          let z : g ≡ 0 = eg .same ∙ ap (λ b. cond b 0 (N .u i j)) e in
-          free (is e) (own-o ∙ y) (omega (arith, own-f)) (omega (arith, own-x))
-      each false e =
-          let y : v ≡ N .x i j = ev .same ∙ ap (λ b. cond b 0 (N .x i j)) e in
-          let z : g ≡ N .u i j = eg .same ∙ ap (λ b. cond b 0 (N .u i j)) e in
-          aside (not e) (own-o ∙ y) (omega (arith, own-f)) (omega (arith, own-x))
+  -- what another carries is set aside
+  pub part-aside : ¬ TightLane N p i j → LaneParted N p i j o f x (set o (i * 64 + j) (N .x i j)) f x
+  part-aside t = record {
+    longs = record { long-o = length-set o (i * 64 + j) (N .x i j) ∙ w .longs .long-o; long-f = w .longs .long-f; long-x = w .longs .long-x };
+    own = aside t (getD-set-same o (i * 64 + j) (N .x i j) 0 (omega (arith, inside, w .longs .long-o))) (w .free-f) (w .free-x);
+    off-o = λ k z. getD-set-other o (i * 64 + j) k (N .x i j) 0 z;
+    off-f = λ k z. refl;
+    off-x = λ k z. refl;
+  }
 
   pub cover-brought : (v : ℕ) {s s' : List ℕ} → Covers (N .m) (N .n) x s → Served (32 + j) i s s' → Covers (N .m) (N .n) (set x (i * 64 + j) v) s'
   cover-brought v c l = cover-arc (r .terminals) (omega (arith, r .terminals)) (λ o. hi) c (brought v) l
@@ -90,12 +74,13 @@ module _ {N : Net} {p o f x : List ℕ} {i j : ℕ} (r : CanonReady N p) (hi : i
 
 -- ---- lane by lane
 
-module _ {N : Net} {p o f x s : List ℕ} {i j : ℕ} (small : N .n ≤ 64) (hi : i < N .m) (hj : j < N .n) (q : PartedTo N p (i * 64 + j) o f x s) where
+module _ {N : Net} {p o f x s w : List ℕ} {i j : ℕ} (small : N .n ≤ 64) (hi : i < N .m) (hj : j < N .n) (q : PartedTo N p (i * 64 + j) o f x s w) where
   pub clear-at : Clear i j o f x
-  clear-at = let w = q .parting .rest i j hi hj (omega arith) in record { longs = q .longs; free-o = w .0; free-f = w .1; free-x = w .2 }
+  clear-at = let z = q .parting .rest i j hi hj (omega arith) in record { longs = q .longs; free-o = z .0; free-f = z .1; free-x = z .2 }
 
-  pub part-next : {o' f' x' s' : List ℕ} → LaneParted N p i j o f x o' f' x' → Covers (N .m) (N .n) x' s' → PartedTo N p (i * 64 + (j + 1)) o' f' x' s'
-  part-next {o'} {f'} {x'} {s'} d c = record {
+  pub part-next : {o' f' x' s' w' : List ℕ} → LaneParted N p i j o f x o' f' x' → Covers (N .m) (N .n) x' s' → Opens (N .m) (N .n) f' w'
+      → PartedTo N p (i * 64 + (j + 1)) o' f' x' s' w'
+  part-next {o'} {f'} {x'} {s'} d c e = record {
     longs = d .longs;
     parting = record {
       done = λ a b ha hb l. elim (ℕ-discrete (a * 64 + b) (i * 64 + j)) [
@@ -107,14 +92,15 @@ module _ {N : Net} {p o f x s : List ℕ} {i j : ℕ} (small : N .n ≤ 64) (hi 
           rw (d .off-o (a * 64 + b) z, d .off-f (a * 64 + b) z, d .off-x (a * 64 + b) z) (q .parting .rest a b ha hb (omega arith));
     };
     covers = c;
+    opens = e;
   }
     where
       here : (a b : ℕ) → a ≡ i → b ≡ j → PartedAt N p (cells o') (cells f') (cells x') a b
       here a b ea eb = rw (ea, eb) (d .own)
 
 -- places between which no lane lies
-pub part-skip : {N : Net} {p o f x s : List ℕ} {k k' : ℕ} → PartedTo N p k o f x s
-    → ((i j : ℕ) → i < N .m → j < N .n → i * 64 + j < k' → i * 64 + j < k) → k ≤ k' → PartedTo N p k' o f x s
+pub part-skip : {N : Net} {p o f x s w : List ℕ} {k k' : ℕ} → PartedTo N p k o f x s w
+    → ((i j : ℕ) → i < N .m → j < N .n → i * 64 + j < k' → i * 64 + j < k) → k ≤ k' → PartedTo N p k' o f x s w
 part-skip q h l = record {
   longs = q .longs;
   parting = record {
@@ -122,6 +108,7 @@ part-skip q h l = record {
     rest = λ i j a b g. q .parting .rest i j a b (omega arith);
   };
   covers = q .covers;
+  opens = q .opens;
 }
 
 -- ---- settled, lane by lane
@@ -336,7 +323,8 @@ blank k = elim (decLt k 2048) [
   | no l ↦ List·getD-eq-default (replicate 2048 0) 0 {n = k} (omega (arith, length-replicate {A = ℕ} 2048 0))
 ]
 
-pub part-begin : {N : Net} {p : List ℕ} → CanonReady N p → PartedTo N p 0 (replicate 2048 0) (replicate 2048 0) (replicate 2048 0) (replicate 64 0)
+pub part-begin : {N : Net} {p : List ℕ} → CanonReady N p
+    → PartedTo N p 0 (replicate 2048 0) (replicate 2048 0) (replicate 2048 0) (replicate 64 0) (replicate 32 0)
 part-begin r = record {
   longs = record { long-o = length-replicate {A = ℕ} 2048 0; long-f = length-replicate {A = ℕ} 2048 0; long-x = length-replicate {A = ℕ} 2048 0 };
   parting = record {
@@ -345,21 +333,22 @@ part-begin r = record {
   };
   covers =
       cover-none (length-replicate {A = ℕ} 64 0) (λ i j a b. blank (i * 64 + j)) (λ j h. getD-replicate {A = ℕ} 64 j 0 0 h) (r .terminals);
+  opens = open-none (r .sources) blank;
 }
 
-module _ {N : Net} {p o f x s : List ℕ} (r : CanonReady N p) (q : PartedTo N p (N .m * 64) o f x s) where
+module _ {N : Net} {p o f x s w : List ℕ} (r : CanonReady N p) (q : PartedTo N p (N .m * 64) o f x s w) where
   begun : Settling N p 0 (cells o) (cells f) (cells x)
   begun = settle-start (r .terminals) (r .slack) (r .under) (q .parting)
 
-  pub open-start : {w : List ℕ} → Opens (N .m) (N .n) f w → Open (N .m) (N .n) o f x s w
-  open-start w = record {
+  pub open-start : Open (N .m) (N .n) o f x s w
+  open-start = record {
     sources = r .sources;
     terminals = r .terminals;
     longs = q .longs;
     under = begun .under;
     ceilings = λ i j a b. omega (arith, begun .within i j a b, r .ceilings i j a b);
     covers = q .covers;
-    opens = w;
+    opens = q .opens;
   }
 
   pub canonized : {o' f' x' : List ℕ} → Onward (N .m) (N .n) 0 (N .m * 64) o f x o' f' x' → length o' ≡ 2048 → Canonized N o'

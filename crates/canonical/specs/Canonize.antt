@@ -1,10 +1,10 @@
 -- How the plan for everybody is found from a slack plan: the lanes are settled one by one in row order, each at the least amount that a plan as
 -- cheap can have there. Lane (i, j) is at place i · 64 + j. Assumes nothing.
 use mathlib.Core.Path.{_≡_}
-use mathlib.Core.Bool.{Bool, true, cond}
+use mathlib.Core.Bool.{Bool, true}
 use mathlib.Core.Logic.{_≢_}
 use mathlib.Core.List.{List}
-use Prim.Native.Nat.{ℕ, _+_, _*_, _^_, _≤_, _<_}
+use Prim.Native.Nat.{ℕ, _+_, _*_, _≤_, _<_}
 use lib.ListN.{length}
 use Rattle.transport.specs.Plan.{Table, row, col, freight, Under}
 use Rattle.transport.specs.theory.Slackness.{Slack}
@@ -71,15 +71,6 @@ pub record Settling (N : Net) (p : List ℕ) (k : ℕ) (o f x : Table) : Type 0 
 pub record Settled (N : Net) (x' : Table) : Type 0 where
   pub rival : Rival N x'
   pub leads : (z : Table) → Rival N z → Ahead (N .m) (N .n) (N .m * 64) x' z
-
--- the members below n that are not 0, a bit for each
-pub record Mask (n : ℕ) (v : ℕ → ℕ) (r : ℕ) : Type 0 where
-  pub within : r < 2 ^ n
-  pub has : (j : ℕ) → j < n → 0 < v j → bit r j ≡ 1
-
--- 0 where the test holds, else a
-pub record Unless (t : Bool) (a v : ℕ) : Type 0 where
-  pub same : v ≡ cond t 0 a
 
 -- ---- one lane
 
@@ -175,11 +166,12 @@ pub record LaneParted (N : Net) (p : List ℕ) (i j : ℕ) (o f x o' f' x' : Lis
   pub off-f : (k : ℕ) → k ≢ i * 64 + j → get f' k ≡ get f k
   pub off-x : (k : ℕ) → k ≢ i * 64 + j → get x' k ≡ get x k
 
--- the lanes before place k are, and x is covered
-pub record PartedTo (N : Net) (p : List ℕ) (k : ℕ) (o f x s : List ℕ) : Type 0 where
+-- the lanes before place k are, x is covered, and the free lanes are noted
+pub record PartedTo (N : Net) (p : List ℕ) (k : ℕ) (o f x s w : List ℕ) : Type 0 where
   pub longs : Longs o f x
   pub parting : Parting N p k (cells o) (cells f) (cells x)
   pub covers : Covers (N .m) (N .n) x s
+  pub opens : Opens (N .m) (N .n) f w
 
 -- ---- the lanes are settled
 

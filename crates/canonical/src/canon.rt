@@ -2,24 +2,17 @@
 // differs from another. Such plans differ on tight lanes only. There each lane in turn keeps what cannot go another way, and is closed.
 ghost use mathlib.Core.Path.{_≡_};
 ghost use Prim.Native.Nat.{_+_, _*_, _≤_, _<_};
-ghost use lib.ListN.{length, getD};
+ghost use lib.ListN.{getD};
 ghost use Rattle.residual.specs.Cells.{cells};
 ghost use Rattle.residual.specs.Network.{net};
 ghost use Rattle.residual.specs.LanesInUse.{Covers};
 ghost use Rattle.reachability.specs.Reachability.{Opens, Supplied, Known, Trodden};
-ghost use Rattle.canonical.specs.Canonize.{Mask, Unless, FreeReady, Followed, Rerouted, ColFull, Resent, LaneSettled, CanonReady, Clear, LaneParted, PartedTo, Open, Onward, Canonized};
+ghost use Rattle.canonical.specs.Canonize.{FreeReady, Followed, Rerouted, ColFull, Resent, LaneSettled, CanonReady, Clear, LaneParted, PartedTo, Open, Onward, Canonized};
 use augment::send::mark;
 use augment::send::measure;
 use augment::send::push;
 use augment::send::serve;
 use reachability::roam::roam;
-
-// 0 where the test holds, else a.
-fn unless(test: bool, a: u32) -> u32
-    ensures { λ r. ⌜ Unless test a r ⌝ }
-{
-    if test { 0 } else { a }
-}
 
 // A tight lane is free, with its ceiling and its drums; what another lane carries is set aside.
 fn part_lane(
@@ -35,25 +28,28 @@ fn part_lane(
     free: &mut [u32; 2048],
     x: &mut [u32; 2048],
     serves: &mut [u32; 64],
+    ways: &mut [u64; 32],
 )
     requires { ⌜ (i < m) × (j < n) ⌝ }
     requires { ⌜ CanonReady (net m n (now cost) (now cap) (now plan)) (now pot) ⌝ }
     requires { ⌜ Clear i j (now aside) (now free) (now x) ⌝ }
     requires { ⌜ Covers m n (now x) (now serves) ⌝ }
+    requires { ⌜ Opens m n (now free) (now ways) ⌝ }
     ensures { λ _. ⌜ LaneParted (net m n (now (cost .entry)) (now (cap .entry)) (now (plan .entry))) (now (pot .entry)) i j (now (aside .entry)) (now (free .entry)) (now (x .entry)) (now (aside .exit)) (now (free .exit)) (now (x .exit)) ⌝ }
     ensures { λ _. ⌜ Covers m n (now (x .exit)) (now (serves .exit)) ⌝ }
+    ensures { λ _. ⌜ Opens m n (now (free .exit)) (now (ways .exit)) ⌝ }
 {
     let k = i * 64 + j;
-    let t = 32 + j;
-    let tight = cost[k] + pot[i] == pot[t];
     let amount = plan[k];
-    let ceiling = cap[k];
-    let kept = unless(tight, amount);
-    aside[k] = kept;
-    free[k] = ceiling - unless(tight, ceiling);
-    x[k] = amount - kept;
-    if kept < amount {
-        serve(t, i, serves);
+    if cost[k] + pot[i] != pot[32 + j] {
+        aside[k] = amount;
+        return;
+    }
+    free[k] = cap[k];
+    x[k] = amount;
+    ways[i] = ways[i] | (1 << j);
+    if 0 < amount {
+        serve(32 + j, i, serves);
     }
 }
 
@@ -70,14 +66,29 @@ fn part_row(
     free: &mut [u32; 2048],
     x: &mut [u32; 2048],
     serves: &mut [u32; 64],
+    ways: &mut [u64; 32],
 )
     requires { ⌜ i < m ⌝ }
     requires { ⌜ CanonReady (net m n (now cost) (now cap) (now plan)) (now pot) ⌝ }
-    requires { ⌜ PartedTo (net m n (now cost) (now cap) (now plan)) (now pot) (i * 64) (now aside) (now free) (now x) (now serves) ⌝ }
-    ensures { λ _. ⌜ PartedTo (net m n (now (cost .entry)) (now (cap .entry)) (now (plan .entry))) (now (pot .entry)) (i * 64 + 64) (now (aside .exit)) (now (free .exit)) (now (x .exit)) (now (serves .exit)) ⌝ }
+    requires { ⌜ PartedTo (net m n (now cost) (now cap) (now plan)) (now pot) (i * 64) (now aside) (now free) (now x) (now serves) (now ways) ⌝ }
+    ensures { λ _. ⌜ PartedTo (net m n (now (cost .entry)) (now (cap .entry)) (now (plan .entry))) (now (pot .entry)) (i * 64 + 64) (now (aside .exit)) (now (free .exit)) (now (x .exit)) (now (serves .exit)) (now (ways .exit)) ⌝ }
 {
     for j in 0..n {
-        part_lane(m, n, i, j, cost, cap, pot, plan, aside, free, x, serves);
+        part_lane(
+            m,
+            n,
+            i,
+            j,
+            cost,
+            cap,
+            pot,
+            plan,
+            aside,
+            free,
+            x,
+            serves,
+            ways,
+        );
     }
 }
 
@@ -93,37 +104,14 @@ fn part(
     free: &mut [u32; 2048],
     x: &mut [u32; 2048],
     serves: &mut [u32; 64],
+    ways: &mut [u64; 32],
 )
     requires { ⌜ CanonReady (net m n (now cost) (now cap) (now plan)) (now pot) ⌝ }
-    requires { ⌜ PartedTo (net m n (now cost) (now cap) (now plan)) (now pot) 0 (now aside) (now free) (now x) (now serves) ⌝ }
-    ensures { λ _. ⌜ PartedTo (net m n (now (cost .entry)) (now (cap .entry)) (now (plan .entry))) (now (pot .entry)) (m * 64) (now (aside .exit)) (now (free .exit)) (now (x .exit)) (now (serves .exit)) ⌝ }
+    requires { ⌜ PartedTo (net m n (now cost) (now cap) (now plan)) (now pot) 0 (now aside) (now free) (now x) (now serves) (now ways) ⌝ }
+    ensures { λ _. ⌜ PartedTo (net m n (now (cost .entry)) (now (cap .entry)) (now (plan .entry))) (now (pot .entry)) (m * 64) (now (aside .exit)) (now (free .exit)) (now (x .exit)) (now (serves .exit)) (now (ways .exit)) ⌝ }
 {
     for i in 0..m {
-        part_row(m, n, i, cost, cap, pot, plan, aside, free, x, serves);
-    }
-}
-
-// The terminals to which source i has a free lane, a bit for each.
-fn row_ways(n: usize, i: usize, free: &[u32; 2048]) -> u64
-    requires { ⌜ (n ≤ 64) × (i < 32) ⌝ }
-    ensures { λ r. ⌜ Mask n (λ j. cells (now (free .entry)) i j) r ⌝ }
-{
-    let mut mask: u64 = 0;
-    for j in 0..n {
-        if 0 < free[i * 64 + j] {
-            mask = mask | (1 << j);
-        }
-    }
-    mask
-}
-
-// The same of each source.
-fn all_ways(m: usize, n: usize, free: &[u32; 2048], ways: &mut [u64; 32])
-    requires { ⌜ (m ≤ 32) × (n ≤ 64) × (length (now ways) ≡ 32) ⌝ }
-    ensures { λ _. ⌜ Opens m n (now (free .entry)) (now (ways .exit)) ⌝ }
-{
-    for i in 0..m {
-        ways[i] = row_ways(n, i, free);
+        part_row(m, n, i, cost, cap, pot, plan, aside, free, x, serves, ways);
     }
 }
 
@@ -327,6 +315,7 @@ pub fn canonize(
     let mut free = [0u32; 2048];
     let mut x = [0u32; 2048];
     let mut serves = [0u32; 64];
+    let mut ways = [0u64; 32];
     part(
         m,
         n,
@@ -338,9 +327,8 @@ pub fn canonize(
         &mut free,
         &mut x,
         &mut serves,
+        &mut ways,
     );
-    let mut ways = [0u64; 32];
-    all_ways(m, n, &free, &mut ways);
     settle(m, n, &mut ways, &mut aside, &mut free, &mut x, &mut serves);
     *plan = aside;
 }

@@ -1,5 +1,6 @@
 // The tests of a case, in the order of the refusals.
 ghost use mathlib.Core.Path.{_≡_};
+ghost use mathlib.Core.Bool.{true};
 ghost use Prim.Native.Nat.{ℕ, _+_, _-_, _*_, _≤_, _<_};
 ghost use lib.ListN.{length, getD};
 ghost use Rattle.transport.specs.Sum.{sum};
@@ -23,11 +24,41 @@ pub enum Found {
     Nowhere,
 }
 
+// Is none of four numbers above the limit?
+fn none_of(a: u64, b: u64, c: u64, d: u64, limit: u64) -> bool
+    ensures { λ r. ⌜ (r ≡ true → (a ≤ limit) × (b ≤ limit) × (c ≤ limit) × (d ≤ limit)) ⌝ }
+{
+    if limit < a {
+        return false;
+    }
+    if limit < b {
+        return false;
+    }
+    if limit < c {
+        return false;
+    }
+    d <= limit
+}
+
+// How far no number is above the limit, four at a time.
+fn none_above(s: &[u64], limit: u64) -> usize
+    ensures { λ r. ⌜ (r ≤ length (now (s .entry))) × ((j : ℕ) → j < r → getD (now (s .entry)) j 0 ≤ limit) ⌝ }
+{
+    let mut k: usize = 0;
+    while k + 4 <= s.len() {
+        if !none_of(s[k], s[k + 1], s[k + 2], s[k + 3], limit) {
+            return k;
+        }
+        k += 4;
+    }
+    k
+}
+
 // The first number above the limit.
 pub fn first_above(s: &[u64], limit: u64) -> Found
     ensures { λ r. ⌜ found r ≡ firstAbove limit (now (s .entry)) ⌝ }
 {
-    let mut k: usize = 0;
+    let mut k = none_above(s, limit);
     while k < s.len() {
         if limit < s[k] {
             return Found::At(k);

@@ -1,13 +1,12 @@
 -- Cuts one after the other, and an empty lane that is no longer noted. Assumes nothing.
-use mathlib.Core.Path.{_≡_, refl, sym, ap, _∙_}
+use mathlib.Core.Path.{_≡_, sym, ap, _∙_}
 use mathlib.Core.Logic.{_≢_}
 use mathlib.Core.List.{List}
-use Prim.Native.Nat.{ℕ, _+_, _-_, _*_, _^_, _≤_, _<_}
+use Prim.Native.Nat.{ℕ, _+_, _-_, _*_, _^_, _<_}
 use native.Mathlib.Decide.{ℕ-discrete}
 use native.Mathlib.Omega.{arith}
-use lib.ListN.{length, set, length-set}
+use lib.ListN.{set, length-set}
 use lib.Seq.{getD-set-same, getD-set-other}
-use Rattle.residual.specs.Cells.{cells}
 use Rattle.residual.specs.Network.{get}
 use Rattle.residual.specs.Bits.{bit}
 use Rattle.residual.specs.LanesInUse.{Covers}
@@ -55,7 +54,7 @@ advance-cut {m} {n} {x = x} f q = record {
   sound = λ cap c o. q .sound cap x (f .covers m n c) o;
 }
 
-pub advance-start : {m n : ℕ} {cost x s p : List ℕ} → CutReady m n cost p → Advanced m n cost x s p s p
+pub advance-start : {m n : ℕ} {cost columns x s p : List ℕ} → CutReady m n cost columns p → Advanced m n cost x s p s p
 advance-start r = record { long = r .long; up = λ v h. omega arith; high = r .high; covers = λ c. c; sound = λ cap c o. o }
 
 pub advance-next : {m n : ℕ} {cost x s p s₁ p₁ s' p' : List ℕ} → Advanced m n cost x s p s₁ p₁ → Advanced m n cost x s₁ p₁ s' p' → Advanced m n cost x s p s' p'
@@ -68,5 +67,6 @@ advance-next a b = record {
 }
 
 -- the next cut can be made
-pub advance-ready : {m n : ℕ} {cost x s p s' p' : List ℕ} → CutReady m n cost p → Advanced m n cost x s p s' p' → CutReady m n cost p'
-advance-ready r a = record { sources = r .sources; terminals = r .terminals; costs = r .costs; high = a .high; long = a .long }
+pub advance-ready : {m n : ℕ} {cost columns x s p s' p' : List ℕ} → CutReady m n cost columns p → Advanced m n cost x s p s' p'
+    → CutReady m n cost columns p'
+advance-ready r a = record { sources = r .sources; terminals = r .terminals; costs = r .costs; turned = r .turned; high = a .high; long = a .long }

@@ -1,5 +1,5 @@
 -- The cut keeps a plan slack: no tree is in it. Assumes nothing.
-use mathlib.Core.Path.{_≡_, refl, sym, ap, _∙_}
+use mathlib.Core.Path.{_≡_, refl}
 use mathlib.Core.Bool.{Bool, true, false}
 use mathlib.Core.List.{List}
 use Prim.Native.Nat.{ℕ, zero, suc, _+_, _-_, _≤_, _<_}
@@ -8,11 +8,8 @@ use native.Mathlib.Omega.{arith}
 use Rattle.transport.specs.Plan.{Table}
 use Rattle.transport.specs.theory.Slackness.{Lane, Slack}
 use Rattle.residual.specs.Cells.{cells}
-use Rattle.residual.specs.Network.{net, get}
-use Rattle.residual.specs.Bits.{bit}
-use Rattle.residual.specs.LanesInUse.{Covers}
-use Rattle.paths.specs.Search.{Sound}
-use Rattle.cuts.specs.Cut.{has, share, Shut, CutReady, Lows, Low, Rose, Lifted, Shifted}
+use Rattle.residual.specs.Network.{get}
+use Rattle.cuts.specs.Cut.{has, share, Shut, CutReady, Weighed, Near, Rose, Lifted, Shifted}
 use Rattle.residual.proofs.Bits.{bit-most}
 
 pub share-in : (d b : ℕ) → b ≡ 1 → share d b ≡ d
@@ -66,13 +63,13 @@ cut-slack m n c u x p q p' q' d r s hr hs k shut low e f i j a b =
     rw (e i a, f j b)
     (lane-cut (c i j) (u i j) (x i j) (p i) (q j) d (r i) (s j) (hr i) (hs j) (k i j a b) (shut i j a b) (low i j a b))
 
-pub shift-none : {m n : ℕ} {cost serves p : List ℕ} → CutReady m n cost p → Shifted m n cost serves p p
+pub shift-none : {m n : ℕ} {cost columns serves p : List ℕ} → CutReady m n cost columns p → Shifted m n cost serves p p
 shift-none r = record { long = r .long; up = λ v h. omega arith; high = r .high; sound = λ cap x c s. s }
 
 -- the whole cut, from what its parts found
-pub shift-cut : {m n rows cols : ℕ} {cost serves p p' acc : List ℕ} {key : ℕ} → CutReady m n cost p → Shut n rows cols serves → Lows m n rows cost p acc
-    → Low cols acc p n key → 800000000 ≤ key → Rose m n rows cols (key - 800000000) p p' → Shifted m n cost serves p p'
-shift-cut {m} {n} {rows} {cols} {cost} {serves} {p} {p'} {acc} {key} r shut low far h q = record {
+pub shift-cut : {m n rows cols : ℕ} {cost columns serves p p' w : List ℕ} {key : ℕ} → CutReady m n cost columns p → Shut n rows cols serves → Weighed p 96 w
+    → Near m n rows cols cost w key → 800000000 ≤ key → Rose m n rows cols (key - 800000000) p p' → Shifted m n cost serves p p'
+shift-cut {m} {n} {rows} {cols} {cost} {columns} {serves} {p} {p'} {w} {key} r shut weight far h q = record {
   long = q .long;
   up = q .up;
   high = q .high;
@@ -84,13 +81,19 @@ shift-cut {m} {n} {rows} {cols} {cost} {serves} {p} {p'} {acc} {key} r shut low 
         cut-slack m n (cells cost) (cells cap) (cells x) (λ i. get p i) (λ j. get p (32 + j)) (λ i. get p' i) (λ j. get p' (32 + j)) (key - 800000000)
         (λ i. has rows i) (λ j. has cols j) (λ i. bit-most rows i) (λ j. bit-most cols j) (s .slack)
         (λ i j a b o e. shut .each i j b e (c .serving i j a b o))
-        (λ i j a b e f o. omega (arith, low .low i j a b e, far .each j b f, s .slack i j a b .ahead o))
+        (λ i j a b e f o.
+        omega (
+          arith,
+          far .each i j a b e f,
+          weight .source i (omega (arith, r .sources)),
+          weight .terminal (32 + j) (omega arith) (omega (arith, r .terminals)),
+        ))
         (q .source) (q .terminal);
     high = q .high;
   };
 }
 
-pub shift-lift : {m n rows cols : ℕ} {cost serves p p' acc : List ℕ} {key : ℕ} (made : Bool) → CutReady m n cost p → Shut n rows cols serves
-    → Lows m n rows cost p acc → Low cols acc p n key → 800000000 ≤ key → Lifted m n rows cols (key - 800000000) p p' made → Shifted m n cost serves p p'
-shift-lift true r shut low far h q = shift-cut r shut low far h (q .rose refl)
-shift-lift false r shut low far h q = rw (q .same refl) (shift-none r)
+pub shift-lift : {m n rows cols : ℕ} {cost columns serves p p' w : List ℕ} {key : ℕ} (made : Bool) → CutReady m n cost columns p → Shut n rows cols serves
+    → Weighed p 96 w → Near m n rows cols cost w key → 800000000 ≤ key → Lifted m n rows cols (key - 800000000) p p' made → Shifted m n cost serves p p'
+shift-lift true r shut weight far h q = shift-cut r shut weight far h (q .rose refl)
+shift-lift false r shut weight far h q = rw (q .same refl) (shift-none r)

@@ -1,5 +1,7 @@
 pub mod PartBits
 pub mod CutSlack
 pub mod CutSteps
+pub mod CutSides
 pub mod TreePath
 pub mod Advancing
+pub mod ByTerminal

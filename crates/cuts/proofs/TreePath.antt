@@ -12,7 +12,7 @@ use Rattle.residual.specs.Network.Arc.{ahead, back}
 use Rattle.residual.specs.Labels.{Book, book, far}
 use Rattle.paths.specs.Search.{Sound, Near, Label, Prev, Labelled}
 use Rattle.paths.specs.Search.Prev.{root, step}
-use Rattle.cuts.specs.Follow.{either, carries, Tied, Visited, Walk, Followed}
+use Rattle.cuts.specs.Follow.{either, carries, Tied, Walk, Followed}
 
 -- ---- one arc
 

@@ -2,13 +2,15 @@
 use mathlib.Core.Path.{_≡_}
 use mathlib.Core.Bool.{Bool, true, false}
 use mathlib.Core.List.{List}
-use Prim.Native.Nat.{ℕ, zero, suc, _+_, _-_, _*_, _≤_, _<_}
+use Prim.Native.Nat.{ℕ, zero, suc, _+_, _-_, _*_, _^_, _≤_, _<_}
 use lib.ListN.{length}
+use Rattle.transport.specs.Plan.{Table}
 use Rattle.residual.specs.Cells.{cells}
 use Rattle.residual.specs.Network.{net, get}
 use Rattle.residual.specs.Bits.{bit}
 use Rattle.residual.specs.LanesInUse.{Covers}
 use Rattle.paths.specs.Search.{Sound}
+use Rattle.cuts.specs.Columns.{Transposed}
 
 -- 1 where node k is in the part, else 0
 abbrev pub has : ℕ → ℕ → ℕ
@@ -19,71 +21,111 @@ unfoldable pub share : ℕ → ℕ → ℕ
 share d zero = 0
 share d (suc b) = d
 
-pub record RaiseReady (first count d : ℕ) (p : List ℕ) : Type 0 where
-  pub few : count ≤ 64
-  pub within : first + count ≤ 96
+-- r has the bits below n that are not in the part
+pub record Others (n part r : ℕ) : Type 0 where
+  pub out : (k : ℕ) → k < n → has part k ≡ 0 → bit r k ≡ 1
+  pub within : r < 2 ^ n
+
+pub record RaiseReady (part first d : ℕ) (p : List ℕ) : Type 0 where
+  pub within : (k : ℕ) → has part k ≡ 1 → first + k < 96
   pub long : length p ≡ 96
-  pub top : (k : ℕ) → k < count → get p (first + k) + d ≤ 4000000000
+  pub top : (v : ℕ) → v < 96 → get p v + d ≤ 4000000000
 
--- the nodes from first on, count of them, have risen
-pub record Raised (part first d : ℕ) (p : List ℕ) (count : ℕ) (p' : List ℕ) : Type 0 where
+-- the nodes of the part have risen, but for those that are left
+pub record Raised (part first d : ℕ) (p : List ℕ) (left : ℕ) (p' : List ℕ) : Type 0 where
   pub long : length p' ≡ 96
-  pub each : (k : ℕ) → k < count → get p' (first + k) ≡ get p (first + k) + share d (has part k)
+  pub own : (k : ℕ) → bit left k ≤ has part k
+  pub each : (k : ℕ) → get p' (first + k) ≡ get p (first + k) + share d (has part k - bit left k)
   pub below : (v : ℕ) → v < first → get p' v ≡ get p v
-  pub above : (v : ℕ) → first + count ≤ v → get p' v ≡ get p v
-
--- the word of a terminal that is not in the part
-pub record Outside (part k word r : ℕ) : Type 0 where
-  pub out : has part k ≡ 0 → r ≡ word
 
 -- no source of rows is noted to serve a terminal outside cols
 pub record Shut (n rows cols : ℕ) (serves : List ℕ) : Type 0 where
   pub each : (i j : ℕ) → j < n → has cols j ≡ 0 → bit (get serves j) i ≡ 1 → has rows i ≡ 0
 
--- out has each source that is noted to serve a terminal below k outside cols
-pub record Gathered (cols : ℕ) (serves : List ℕ) (k out : ℕ) : Type 0 where
-  pub each : (i j : ℕ) → j < k → has cols j ≡ 0 → bit (get serves j) i ≡ 1 → bit out i ≡ 1
+-- out has each source that is noted to serve a terminal outside cols, but for the terminals that are left
+pub record Gathered (n cols : ℕ) (serves : List ℕ) (left out : ℕ) : Type 0 where
+  pub each : (i j : ℕ) → j < n → has cols j ≡ 0 → bit left j ≡ 0 → bit (get serves j) i ≡ 1 → bit out i ≡ 1
 
-pub record FoldReady (n i base : ℕ) (cost acc : List ℕ) : Type 0 where
-  pub terminals : n ≤ 64
-  pub source : i < 32
+pub record FoldReady (k base : ℕ) (table acc : List ℕ) : Type 0 where
+  pub within : k + 32 ≤ 2048
   pub base-most : base ≤ 800000000
-  pub costs : (j : ℕ) → j < n → cells cost i j ≤ 2000000
-  pub long : length acc ≡ 64
+  pub costs : (i : ℕ) → i < 32 → get table (k + i) ≤ 2000000
+  pub long : length acc ≡ 32
+  pub most : (i : ℕ) → get acc i ≤ 1000000000
 
--- source i has been looked at, up to terminal k
-pub record Folded (i base : ℕ) (cost acc : List ℕ) (k : ℕ) (acc' : List ℕ) : Type 0 where
-  pub long : length acc' ≡ 64
-  pub low : (j : ℕ) → j < k → get acc' j ≤ cells cost i j + base
-  pub less : (j : ℕ) → get acc' j ≤ get acc j
+-- the cells from k on have been looked at, in the places below c
+pub record Folded (k base : ℕ) (table acc : List ℕ) (c : ℕ) (acc' : List ℕ) : Type 0 where
+  pub long : length acc' ≡ 32
+  pub low : (i : ℕ) → i < c → get acc' i ≤ get table (k + i) + base
+  pub less : (i : ℕ) → get acc' i ≤ get acc i
 
--- unit costs and potentials of the size that the engine admits
-pub record CutReady (m n : ℕ) (cost p : List ℕ) : Type 0 where
+-- unit costs, by source and by terminal, and potentials of the size that the engine admits
+pub record CutReady (m n : ℕ) (cost columns p : List ℕ) : Type 0 where
   pub sources : m ≤ 32
   pub terminals : n ≤ 64
   pub costs : (i j : ℕ) → i < m → j < n → cells cost i j ≤ 2000000
+  pub turned : Transposed m n cost columns
   pub high : (v : ℕ) → v < 96 → get p v ≤ 800000000
   pub long : length p ≡ 96
 
--- acc is at most unit cost and potential of each source below m that is not in the part
-pub record Lows (m n rows : ℕ) (cost p acc : List ℕ) : Type 0 where
-  pub long : length acc ≡ 64
-  pub most : (j : ℕ) → get acc j ≤ 2000000000
-  pub low : (i j : ℕ) → i < m → j < n → has rows i ≡ 0 → get acc j ≤ cells cost i j + get p i
-
--- the key after a look at a terminal to which the least is low
-pub record Inner (part j low q key key' : ℕ) : Type 0 where
-  pub less : key' ≤ key
-  pub within : has part j ≡ 1 → key' ≤ (low + 800000000) - q
-
-pub record LeastReady (n : ℕ) (low p : List ℕ) : Type 0 where
-  pub terminals : n ≤ 64
-  pub most : (j : ℕ) → get low j ≤ 2000000000
+pub record WeightsReady (p : List ℕ) : Type 0 where
   pub high : (v : ℕ) → v < 96 → get p v ≤ 800000000
+  pub long : length p ≡ 96
 
--- key is at most the key of each terminal of the part below k
-pub record Low (cols : ℕ) (low p : List ℕ) (k key : ℕ) : Type 0 where
-  pub each : (j : ℕ) → j < k → has cols j ≡ 1 → key ≤ (get low j + 800000000) - get p (32 + j)
+-- w has the weights of the nodes below k
+pub record Weighed (p : List ℕ) (k : ℕ) (w : List ℕ) : Type 0 where
+  pub long : length w ≡ 96
+  pub source : (v : ℕ) → v < 32 → get w v ≡ get p v
+  pub terminal : (v : ℕ) → 32 ≤ v → v < k → get w v + get p v ≡ 800000000
+
+pub record LowsReady (part at stride first : ℕ) (table w : List ℕ) : Type 0 where
+  pub within : (b : ℕ) → has part b ≡ 1 → b * stride + first + 32 ≤ 2048
+  pub nodes : (b : ℕ) → has part b ≡ 1 → at + b < 96
+  pub costs : (b i : ℕ) → has part b ≡ 1 → i < 32 → get table (b * stride + first + i) ≤ 2000000
+  pub most : (v : ℕ) → v < 96 → get w v ≤ 800000000
+
+-- acc is at most cell and weight of each node of the part, but for those that are left
+pub record Lows (part at stride first : ℕ) (table w : List ℕ) (left : ℕ) (acc : List ℕ) : Type 0 where
+  pub long : length acc ≡ 32
+  pub most : (i : ℕ) → get acc i ≤ 1000000000
+  pub own : (b : ℕ) → bit left b ≤ has part b
+  pub low : (b i : ℕ) → has part b ≡ 1 → bit left b ≡ 0 → i < 32 → get acc i ≤ get table (b * stride + first + i) + get w (at + b)
+
+pub record LeastReady (part at : ℕ) (low w : List ℕ) : Type 0 where
+  pub few : part < 2 ^ 32
+  pub nodes : at + 32 ≤ 96
+  pub most : (i : ℕ) → get low i ≤ 1000000000
+  pub weights : (v : ℕ) → v < 96 → get w v ≤ 800000000
+
+-- key is at most the key before, and what low has and weight for each node of the part, but for those that are left
+pub record Low (part at : ℕ) (low w : List ℕ) (from left key : ℕ) : Type 0 where
+  pub less : key ≤ from
+  pub each : (b : ℕ) → has part b ≡ 1 → bit left b ≡ 0 → key ≤ get low b + get w (at + b)
+
+pub record SourcesReady (out : ℕ) (cost w : List ℕ) : Type 0 where
+  pub few : out < 2 ^ 32
+  pub costs : (i j : ℕ) → has out i ≡ 1 → j < 64 → cells cost i j ≤ 2000000
+  pub most : (v : ℕ) → v < 96 → get w v ≤ 800000000
+
+pub record TerminalsReady (out : ℕ) (columns w : List ℕ) : Type 0 where
+  pub few : out < 2 ^ 32
+  pub costs : (v : ℕ) → get columns v ≤ 2000000
+  pub most : (v : ℕ) → v < 96 → get w v ≤ 800000000
+
+-- key is at most unit cost and weights of each lane from a source of out to a terminal of cols
+pub record Nearest (out cols : ℕ) (c : Table) (w : List ℕ) (key : ℕ) : Type 0 where
+  pub each : (i j : ℕ) → i < 32 → j < 64 → has out i ≡ 1 → has cols j ≡ 1 → key ≤ c i j + get w i + get w (32 + j)
+
+pub record NearReady (m n : ℕ) (cost columns w : List ℕ) : Type 0 where
+  pub sources : m ≤ 32
+  pub terminals : n ≤ 64
+  pub costs : (i j : ℕ) → i < m → j < n → cells cost i j ≤ 2000000
+  pub turned : Transposed m n cost columns
+  pub most : (v : ℕ) → v < 96 → get w v ≤ 800000000
+
+-- key is at most unit cost and weights of each lane into the part
+pub record Near (m n rows cols : ℕ) (cost w : List ℕ) (key : ℕ) : Type 0 where
+  pub each : (i j : ℕ) → i < m → j < n → has rows i ≡ 0 → has cols j ≡ 1 → key ≤ cells cost i j + get w i + get w (32 + j)
 
 -- no potential of a node below k is above most
 pub record Top (p : List ℕ) (k most : ℕ) : Type 0 where

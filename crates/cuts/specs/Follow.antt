@@ -5,8 +5,17 @@ use mathlib.Core.List.{List}
 use Prim.Native.Nat.{ℕ, _+_, _-_, _≤_, _<_}
 use native.Mathlib.Decide.{decLt}
 use lib.ListN.{length}
+use Rattle.residual.specs.Cells.{cells}
 use Rattle.residual.specs.Network.{Net, get, Arc}
 use Rattle.residual.specs.Labels.{far}
+
+-- unit costs and potentials of the size that the engine admits
+pub record FollowReady (m n : ℕ) (cost p : List ℕ) : Type 0 where
+  pub sources : m ≤ 32
+  pub terminals : n ≤ 64
+  pub costs : (i j : ℕ) → i < m → j < n → cells cost i j ≤ 2000000
+  pub high : (v : ℕ) → v < 96 → get p v ≤ 800000000
+  pub long : length p ≡ 96
 
 unfoldable pub either : {P : Type 0} → Dec P → ℕ → ℕ → ℕ
 either (yes h) a b = a

@@ -1,3 +1,4 @@
+pub mod Columns
 pub mod Cut
 pub mod Follow
 pub mod Advance

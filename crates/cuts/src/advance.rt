@@ -1,7 +1,6 @@
 // Cuts until the path of the tree has drums on every lane that loses some, or the tree is given up.
 // Nothing is asked of the tree.
-ghost use mathlib.Core.Path.{_≡_};
-ghost use Prim.Native.Nat.{_≤_, _<_};
+ghost use Prim.Native.Nat.{_<_};
 ghost use Rattle.cuts.specs.Cut.{CutReady};
 ghost use Rattle.cuts.specs.Advance.{Forgot, Advanced};
 use super::cut::cut;
@@ -43,9 +42,25 @@ fn blocked(up: &[u32; 128], x: &[u32; 2048]) -> u32 {
     NONE
 }
 
-// A source below m outside the part with a tight lane to terminal j; NONE where there is none.
-fn enter(m: usize, j: usize, rows: u32, cost: &[u32; 2048], pot: &[u32; 96]) -> u32 {
-    let t = j % 64;
+// The first terminal of the part to which source i has a tight lane; 64 where there is none.
+fn enter(i: usize, cols: u64, columns: &[u32; 2048], pot: &[u32; 96]) -> u32 {
+    let s = i % 32;
+    let p = pot[s] % 1_073_741_824;
+    let mut left = cols;
+    while 0 < left {
+        let j = u64::trailing_zeros(left) % 64;
+        let k = j as usize;
+        if columns[k * 32 + s] % 2_097_152 + p == pot[32 + k] {
+            return j;
+        }
+        left = left & (left - 1);
+    }
+    64
+}
+
+// The first source outside the part that has a tight lane to the terminal of node w; NONE where there is none.
+fn host(m: usize, w: usize, rows: u32, cost: &[u32; 2048], pot: &[u32; 96]) -> u32 {
+    let t = (w % 128 + 32) % 64;
     let q = pot[32 + t];
     for i in 0..32 {
         if i < m {
@@ -59,12 +74,43 @@ fn enter(m: usize, j: usize, rows: u32, cost: &[u32; 2048], pot: &[u32; 96]) -> 
     NONE
 }
 
+// The lane that came in by a cut, by its ends' nodes.
+pub struct Lane {
+    pub terminal: u32,
+    pub source: u32,
+}
+
+// The lane that came in, of which w is one end; where there is none, another.
+fn came_in(
+    m: usize,
+    w: usize,
+    rows: u32,
+    cols: u64,
+    cost: &[u32; 2048],
+    columns: &[u32; 2048],
+    pot: &[u32; 96],
+) -> Lane {
+    if w < 32 {
+        let j = enter(w, cols, columns, pot);
+        return Lane {
+            terminal: 32 + j % 64,
+            source: w as u32,
+        };
+    }
+    let i = host(m, w, rows, cost, pot);
+    Lane {
+        terminal: (w % 96) as u32,
+        source: i,
+    }
+}
+
 // The cut at the lane above source v, which leaves the tree; the part below it hangs from the lane that came in. Whether that was done.
 fn step(
     m: usize,
     n: usize,
     v: u32,
     cost: &[u32; 2048],
+    columns: &[u32; 2048],
     x: &[u32; 2048],
     serves: &mut [u32; 64],
     pot: &mut [u32; 96],
@@ -72,20 +118,20 @@ fn step(
     rows: &mut [u32; 128],
     cols: &mut [u64; 128],
 ) -> bool
-    requires { ⌜ CutReady m n (now cost) (now pot) ⌝ }
+    requires { ⌜ CutReady m n (now cost) (now columns) (now pot) ⌝ }
     ensures { λ r. ⌜ Advanced m n (now (cost .entry)) (now (x .entry)) (now (serves .entry)) (now (pot .entry)) (now (serves .exit)) (now (pot .exit)) ⌝ }
 {
     let k = (v % 32) as usize;
     let t = ((up[k] % 128 + 32) % 64) as usize;
     forget(k, t, x, serves);
     let part = rows[k];
-    let made = cut(m, n, part, cols[k], cost, serves, pot);
+    let below = cols[k];
+    let made = cut(m, n, part, below, cost, columns, serves, pot);
     if !made.done {
         return false;
     }
-    let j = made.terminal;
-    let i = enter(m, j, part, cost, pot);
-    rehang(v, 32 + (j % 64) as u32, i, up, rows, cols);
+    let lane = came_in(m, made.node, part, below, cost, columns, pot);
+    rehang(v, lane.terminal, lane.source, up, rows, cols);
     true
 }
 
@@ -94,6 +140,7 @@ pub fn advance(
     m: usize,
     n: usize,
     cost: &[u32; 2048],
+    columns: &[u32; 2048],
     x: &[u32; 2048],
     serves: &mut [u32; 64],
     pot: &mut [u32; 96],
@@ -101,7 +148,7 @@ pub fn advance(
     rows: &mut [u32; 128],
     cols: &mut [u64; 128],
 )
-    requires { ⌜ CutReady m n (now cost) (now pot) ⌝ }
+    requires { ⌜ CutReady m n (now cost) (now columns) (now pot) ⌝ }
     ensures { λ _. ⌜ Advanced m n (now (cost .entry)) (now (x .entry)) (now (serves .entry)) (now (pot .entry)) (now (serves .exit)) (now (pot .exit)) ⌝ }
 {
     let mut left: u32 = 200;
@@ -110,7 +157,7 @@ pub fn advance(
         if v == NONE {
             return;
         }
-        if !step(m, n, v, cost, x, serves, pot, up, rows, cols) {
+        if !step(m, n, v, cost, columns, x, serves, pot, up, rows, cols) {
             up[1] = NONE;
             return;
         }

@@ -1,37 +1,23 @@
 // The cut: the potentials of a part of the nodes rise by the least reduced cost of the lanes into it, where no lane in use leaves it.
-// A part has a bit for each source and a bit for each terminal.
+// A part has a bit for each source and a bit for each terminal. The unit costs are given by source and by terminal.
 ghost use mathlib.Core.Path.{_≡_};
 ghost use mathlib.Core.Bool.{true};
-ghost use Prim.Native.Nat.{ℕ, _+_, _-_, max, _≤_, _<_};
+ghost use Prim.Native.Nat.{_≤_, _<_};
 ghost use lib.ListN.{length};
-ghost use Rattle.residual.specs.Network.{get};
-ghost use Rattle.cuts.specs.Cut.{has, share, RaiseReady, Raised, Outside, Shut, FoldReady, Folded, Lows, Inner, LeastReady, Low, Top, CutReady, Lifted, Shifted};
-use paths::search::smaller;
+ghost use Rattle.residual.specs.Cells.{cells};
+ghost use Rattle.cuts.specs.Columns.{byTerminal};
+ghost use Rattle.cuts.specs.Cut.{Others, RaiseReady, Raised, Shut, FoldReady, Folded, WeightsReady, Weighed, LowsReady, Lows, LeastReady, Low, SourcesReady, TerminalsReady, Nearest, NearReady, Near, Top, CutReady, Lifted, Shifted};
 
-// What a node rises by: d where it is in the part.
-fn rise(part: u64, k: usize, d: u32) -> u32
-    requires { ⌜ k < 64 ⌝ }
-    ensures { λ r. ⌜ r ≡ share d (has part k) ⌝ }
+// The bits below n that are not in the part.
+fn others(n: usize, part: u64) -> u64
+    requires { ⌜ n ≤ 64 ⌝ }
+    ensures { λ r. ⌜ Others n part r ⌝ }
 {
-    if (part >> k) % 2 == 1 { d } else { 0 }
-}
-
-// The nodes from first on, count of them, rise by d where they are in the part.
-fn raise(part: u64, first: usize, count: usize, d: u32, pot: &mut [u32; 96])
-    requires { ⌜ RaiseReady first count d (now pot) ⌝ }
-    ensures { λ _. ⌜ Raised part first d (now (pot .entry)) count (now (pot .exit)) ⌝ }
-{
-    for k in 0..count {
-        pot[first + k] = pot[first + k] + rise(part, k, d);
+    if n < 64 {
+        let all = (1 << n) - 1;
+        return all & (all ^ part);
     }
-}
-
-// The sources of a terminal that is not in the part.
-fn outside(part: u64, k: usize, word: u32) -> u32
-    requires { ⌜ k < 64 ⌝ }
-    ensures { λ r. ⌜ Outside part k word r ⌝ }
-{
-    if (part >> k) % 2 == 1 { 0 } else { word }
+    u64::MAX & (u64::MAX ^ part)
 }
 
 // Does no source of the part serve a terminal that is not in it?
@@ -40,8 +26,11 @@ fn closed(n: usize, rows: u32, cols: u64, serves: &[u32; 64]) -> bool
     ensures { λ r. ⌜ (r ≡ true → Shut n rows cols (now (serves .entry))) ⌝ }
 {
     let mut out: u32 = 0;
-    for j in 0..n {
-        out = out | outside(cols, j, serves[j]);
+    let mut left = others(n, cols);
+    while 0 < left {
+        let j = u64::trailing_zeros(left) as usize;
+        out = out | serves[j];
+        left = left & (left - 1);
     }
     if out & rows == 0 {
         return true;
@@ -49,88 +38,175 @@ fn closed(n: usize, rows: u32, cols: u64, serves: &[u32; 64]) -> bool
     false
 }
 
-// The least of unit cost and potential to each terminal, with one source more.
-fn fold(n: usize, i: usize, base: u32, cost: &[u32; 2048], acc: &mut [u32; 64])
-    requires { ⌜ FoldReady n i base (now cost) (now acc) ⌝ }
-    ensures { λ _. ⌜ Folded i base (now (cost .entry)) (now (acc .entry)) n (now (acc .exit)) ⌝ }
+// The smaller of two numbers below 2,147,483,648: compared as signed numbers are, which plain machines do four at a time.
+fn lower(a: u32, b: u32) -> u32
+    requires { ⌜ (a < 2147483648) × (b < 2147483648) ⌝ }
+    ensures { λ r. ⌜ (r ≤ a) × (r ≤ b) ⌝ }
 {
-    let k = i * 64;
-    for j in 0..n {
-        acc[j] = smaller(cost[k + j] + base, acc[j]);
+    if (a ^ 2_147_483_648) < (b ^ 2_147_483_648) {
+        a
+    } else {
+        b
     }
 }
 
-// The least of unit cost and potential to each terminal, over the sources that are not in the part.
-fn lows(m: usize, n: usize, rows: u32, cost: &[u32; 2048], pot: &[u32; 96]) -> [u32; 64]
-    requires { ⌜ CutReady m n (now cost) (now pot) ⌝ }
-    ensures { λ r. ⌜ Lows m n rows (now (cost .entry)) (now (pot .entry)) r ⌝ }
+// The least of cell and base in each of 32 places, with the cells from k on.
+fn fold(k: usize, base: u32, table: &[u32; 2048], acc: &mut [u32; 32])
+    requires { ⌜ FoldReady k base (now table) (now acc) ⌝ }
+    ensures { λ _. ⌜ Folded k base (now (table .entry)) (now (acc .entry)) 32 (now (acc .exit)) ⌝ }
 {
-    let mut acc = [2_000_000_000u32; 64];
-    for i in 0..m {
-        if (rows >> i) % 2 == 0 {
-            fold(n, i, pot[i], cost, &mut acc);
-        }
+    for i in 0..32 {
+        acc[i] = lower(table[k + i] + base, acc[i]);
+    }
+}
+
+// The weight of each node: the potential of a source, what the potential of a terminal lacks to 800,000,000.
+fn weights(pot: &[u32; 96]) -> [u32; 96]
+    requires { ⌜ WeightsReady (now pot) ⌝ }
+    ensures { λ r. ⌜ Weighed (now (pot .entry)) 96 r ⌝ }
+{
+    let mut weight = *pot;
+    for v in 32..96 {
+        weight[v] = 800_000_000 - pot[v];
+    }
+    weight
+}
+
+// The least of unit cost and weight in each of 32 places, over the nodes of a part: bit b of it is node at + b, whose cells stand from
+// b * stride + first on.
+fn lows(
+    part: u64,
+    at: usize,
+    stride: usize,
+    first: usize,
+    table: &[u32; 2048],
+    weight: &[u32; 96],
+) -> [u32; 32]
+    requires { ⌜ LowsReady part at stride first (now table) (now weight) ⌝ }
+    ensures { λ r. ⌜ Lows part at stride first (now (table .entry)) (now (weight .entry)) 0 r ⌝ }
+{
+    let mut acc = [1_000_000_000u32; 32];
+    let mut left = part;
+    while 0 < left {
+        let b = u64::trailing_zeros(left) as usize;
+        fold(b * stride + first, weight[at + b], table, &mut acc);
+        left = left & (left - 1);
     }
     acc
 }
 
-// The least reduced cost into the part, and 800,000,000 more; and a terminal that has it.
+// The least reduced cost into the part, and 800,000,000 more; and one end of a lane that has it.
 pub struct Entry {
     pub key: u32,
-    pub terminal: usize,
+    pub node: usize,
 }
 
-fn less(part: u64, j: usize, low: u32, q: u32, far: Entry) -> Entry
-    requires { ⌜ (j < 64) × (low ≤ 2000000000) × (q ≤ 800000000) ⌝ }
-    ensures { λ r. ⌜ Inner part j low q (far .key) (r .key) ⌝ }
+fn less(node: usize, key: u32, far: Entry) -> Entry
+    ensures { λ r. ⌜ (r .key ≤ key) × (r .key ≤ far .key) ⌝ }
 {
-    let key = low + 800_000_000 - q;
-    if (part >> j) % 2 == 1 {
-        if key < far.key {
-            return Entry { key, terminal: j };
+    if key < far.key {
+        Entry { key, node }
+    } else {
+        far
+    }
+}
+
+// The least of what low has and weight, over the nodes of a part: bit b of it is node at + b.
+fn least(part: u64, at: usize, low: &[u32; 32], weight: &[u32; 96], from: Entry) -> Entry
+    requires { ⌜ LeastReady part at (now low) (now weight) ⌝ }
+    ensures { λ r. ⌜ Low part at (now (low .entry)) (now (weight .entry)) (from .key) 0 (r .key) ⌝ }
+{
+    let mut far = from;
+    let mut left = part;
+    while 0 < left {
+        let b = u64::trailing_zeros(left) as usize;
+        far = less(at + b, low[b] + weight[at + b], far);
+        left = left & (left - 1);
+    }
+    far
+}
+
+// The least into the part, source by source: first to the terminals below 32, then to the others.
+fn by_sources(out: u64, cols: u64, cost: &[u32; 2048], weight: &[u32; 96]) -> Entry
+    requires { ⌜ SourcesReady out (now cost) (now weight) ⌝ }
+    ensures { λ r. ⌜ Nearest out cols (cells (now (cost .entry))) (now (weight .entry)) (r .key) ⌝ }
+{
+    let none = Entry {
+        key: 4_000_000_000,
+        node: 0,
+    };
+    let low = lows(out, 0, 64, 0, cost, weight);
+    let far = least(cols & 4_294_967_295, 32, &low, weight, none);
+    let more = lows(out, 0, 64, 32, cost, weight);
+    least(cols >> 32, 64, &more, weight, far)
+}
+
+// The least into the part, terminal by terminal.
+fn by_terminals(out: u64, cols: u64, columns: &[u32; 2048], weight: &[u32; 96]) -> Entry
+    requires { ⌜ TerminalsReady out (now columns) (now weight) ⌝ }
+    ensures { λ r. ⌜ Nearest out cols (byTerminal (now (columns .entry))) (now (weight .entry)) (r .key) ⌝ }
+{
+    let none = Entry {
+        key: 4_000_000_000,
+        node: 0,
+    };
+    let low = lows(cols, 32, 32, 0, columns, weight);
+    least(out, 0, &low, weight, none)
+}
+
+// The least into the part, from the side with less to look at; from the sources only where a line of the costs is full.
+fn nearest(
+    m: usize,
+    n: usize,
+    rows: u32,
+    cols: u64,
+    cost: &[u32; 2048],
+    columns: &[u32; 2048],
+    weight: &[u32; 96],
+) -> Entry
+    requires { ⌜ NearReady m n (now cost) (now columns) (now weight) ⌝ }
+    ensures { λ r. ⌜ Near m n rows cols (now (cost .entry)) (now (weight .entry)) (r .key) ⌝ }
+{
+    let out = others(m, rows as u64);
+    if n == 64 {
+        if 2 * u64::count_ones(out) < u64::count_ones(cols) {
+            return by_sources(out, cols, cost, weight);
         }
     }
-    far
+    by_terminals(out, cols, columns, weight)
 }
 
-fn least(n: usize, cols: u64, low: &[u32; 64], pot: &[u32; 96]) -> Entry
-    requires { ⌜ LeastReady n (now low) (now pot) ⌝ }
-    ensures { λ r. ⌜ Low cols (now (low .entry)) (now (pot .entry)) n (r .key) ⌝ }
-{
-    let mut far = Entry {
-        key: 4_000_000_000,
-        terminal: 0,
-    };
-    for j in 0..n {
-        far = less(cols, j, low[j], pot[32 + j], far);
-    }
-    far
-}
-
-fn larger(a: u32, b: u32) -> u32
-    ensures { λ r. ⌜ r ≡ max a b ⌝ }
-{
-    if a < b { b } else { a }
-}
-
-// A potential that none is above.
+// A number that no potential is above: it has each bit that one of them has.
 fn top(pot: &[u32; 96]) -> u32
     ensures { λ r. ⌜ Top (now (pot .entry)) 96 r ⌝ }
 {
     let mut most: u32 = 0;
     for v in 0..96 {
-        most = larger(pot[v], most);
+        most = most | pot[v];
     }
     most
 }
 
-// Whether a cut was made, and a terminal at which the least was.
-pub struct Outcome {
-    pub done: bool,
-    pub terminal: usize,
+// The nodes of the part rise by d; its bit k is node first + k.
+fn raise(part: u64, first: usize, d: u32, pot: &mut [u32; 96])
+    requires { ⌜ RaiseReady part first d (now pot) ⌝ }
+    ensures { λ _. ⌜ Raised part first d (now (pot .entry)) 0 (now (pot .exit)) ⌝ }
+{
+    let mut left = part;
+    while 0 < left {
+        let v = first + u64::trailing_zeros(left) as usize;
+        pot[v] = pot[v] + d;
+        left = left & (left - 1);
+    }
 }
 
-// The rise of a part by d, where no potential comes above 800,000,000.
+// Whether a cut was made, and one end of a lane that has the least.
+pub struct Outcome {
+    pub done: bool,
+    pub node: usize,
+}
+
+// The rise of a part by d, where it is plain that no potential comes above 800,000,000.
 fn lift(m: usize, n: usize, rows: u32, cols: u64, d: u32, pot: &mut [u32; 96]) -> bool
     requires { ⌜ (m ≤ 32) × (n ≤ 64) × (length (now pot) ≡ 96) ⌝ }
     ensures { λ r. ⌜ Lifted m n rows cols d (now (pot .entry)) (now (pot .exit)) r ⌝ }
@@ -142,8 +218,8 @@ fn lift(m: usize, n: usize, rows: u32, cols: u64, d: u32, pot: &mut [u32; 96]) -
     if 800_000_000 - most < d {
         return false;
     }
-    raise(rows as u64, 0, m, d, pot);
-    raise(cols, 32, n, d, pot);
+    raise(rows as u64, 0, d, pot);
+    raise(cols, 32, d, pot);
     true
 }
 
@@ -154,27 +230,28 @@ pub fn cut(
     rows: u32,
     cols: u64,
     cost: &[u32; 2048],
+    columns: &[u32; 2048],
     serves: &[u32; 64],
     pot: &mut [u32; 96],
 ) -> Outcome
-    requires { ⌜ CutReady m n (now cost) (now pot) ⌝ }
+    requires { ⌜ CutReady m n (now cost) (now columns) (now pot) ⌝ }
     ensures { λ r. ⌜ Shifted m n (now (cost .entry)) (now (serves .entry)) (now (pot .entry)) (now (pot .exit)) ⌝ }
 {
     let none = Outcome {
         done: false,
-        terminal: 0,
+        node: 0,
     };
     if !closed(n, rows, cols, serves) {
         return none;
     }
-    let low = lows(m, n, rows, cost, pot);
-    let far = least(n, cols, &low, pot);
+    let weight = weights(pot);
+    let far = nearest(m, n, rows, cols, cost, columns, &weight);
     if far.key < 800_000_000 {
         return none;
     }
     let done = lift(m, n, rows, cols, far.key - 800_000_000, pot);
     Outcome {
         done,
-        terminal: far.terminal,
+        node: far.node,
     }
 }

@@ -2,9 +2,8 @@
 ghost use mathlib.Core.Path.{_≡_};
 ghost use mathlib.Core.Bool.{true, false};
 ghost use Prim.Native.Nat.{_+_, _≤_, _<_};
-ghost use Rattle.residual.specs.Network.{net, get};
-ghost use Rattle.cuts.specs.Cut.{CutReady};
-ghost use Rattle.cuts.specs.Follow.{Tied, Followed};
+ghost use Rattle.residual.specs.Network.{net};
+ghost use Rattle.cuts.specs.Follow.{FollowReady, Tied, Followed};
 use paths::search::FAR;
 
 // Do the potentials of a lane's ends differ by its unit cost?
@@ -29,7 +28,7 @@ fn tied_back(
     x: &[u32; 2048],
     pot: &[u32; 96],
 ) -> bool
-    requires { ⌜ CutReady m n (now cost) (now pot) ⌝ }
+    requires { ⌜ FollowReady m n (now cost) (now pot) ⌝ }
     requires { ⌜ v < m ⌝ }
     ensures { λ r. ⌜ (r ≡ true → Tied (net m n (now (cost .entry)) (now (cap .entry)) (now (x .entry))) (now (pot .entry)) w v) ⌝ }
 {
@@ -57,7 +56,7 @@ fn tied_ahead(
     x: &[u32; 2048],
     pot: &[u32; 96],
 ) -> bool
-    requires { ⌜ CutReady m n (now cost) (now pot) ⌝ }
+    requires { ⌜ FollowReady m n (now cost) (now pot) ⌝ }
     requires { ⌜ (32 ≤ v) × (v < 32 + n) ⌝ }
     ensures { λ r. ⌜ (r ≡ true → Tied (net m n (now (cost .entry)) (now (cap .entry)) (now (x .entry))) (now (pot .entry)) w v) ⌝ }
 {
@@ -82,7 +81,7 @@ fn tied(
     x: &[u32; 2048],
     pot: &[u32; 96],
 ) -> bool
-    requires { ⌜ CutReady m n (now cost) (now pot) ⌝ }
+    requires { ⌜ FollowReady m n (now cost) (now pot) ⌝ }
     requires { ⌜ (v < 32 → v < m) × (32 ≤ v → v < 32 + n) ⌝ }
     ensures { λ r. ⌜ (r ≡ true → Tied (net m n (now (cost .entry)) (now (cap .entry)) (now (x .entry))) (now (pot .entry)) w v) ⌝ }
 {
@@ -119,7 +118,7 @@ pub fn follow(
     pot: &[u32; 96],
     up: &[u32; 128],
 ) -> Trace
-    requires { ⌜ CutReady m n (now cost) (now pot) ⌝ }
+    requires { ⌜ FollowReady m n (now cost) (now pot) ⌝ }
     requires { ⌜ 1 < m ⌝ }
     ensures { λ r. ⌜ (r .whole ≡ true → Followed (net m n (now (cost .entry)) (now (cap .entry)) (now (x .entry))) (now (pot .entry)) (r .dist) (r .prev)) ⌝ }
 {

@@ -5,16 +5,6 @@
 // No node.
 pub const NONE: u32 = 96;
 
-// Each node by itself.
-pub fn alone(rows: &mut [u32; 128], cols: &mut [u64; 128]) {
-    for j in 0..64 {
-        if j < 32 {
-            rows[j] = 1u32 << j % 32;
-        }
-        cols[32 + j] = 1u64 << j;
-    }
-}
-
 // A part is taken off the nodes from one up to source 0, where they have it, or put on them, where they have not.
 fn turn_over(
     from: u32,

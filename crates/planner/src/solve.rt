@@ -14,7 +14,7 @@ use crate::work::wanted;
 use casetests::tests::Verdict;
 use casetests::tests::splits_test;
 use casetests::tests::sum_of;
-use range::begin::begin_by;
+use range::begin::begin;
 use sweep::curve::sweep;
 
 // Prepares the working arrays with raised costs, has the engine find the first and the last split, tests 27, 9 and 11, has the engine sweep
@@ -47,7 +47,10 @@ pub fn solve(
     let mut x = [0u32; 2048];
     let mut serves = [0u32; 64];
     let mut pot = [0u32; 96];
-    let range = begin_by(
+    let mut up = [96u32; 128];
+    let mut rows = [0u32; 128];
+    let mut cols = [0u64; 128];
+    let range = begin(
         quick,
         m,
         n,
@@ -61,6 +64,9 @@ pub fn solve(
         &mut x,
         &mut serves,
         &mut pot,
+        &mut up,
+        &mut rows,
+        &mut cols,
     );
     if !range.found {
         return Answer::Refused {
@@ -100,6 +106,9 @@ pub fn solve(
         &mut serves,
         &mut pot,
         &mut kept,
+        &mut up,
+        &mut rows,
+        &mut cols,
     );
     gather_rows(m, n, &kept, plan);
     let stops = best.stops;

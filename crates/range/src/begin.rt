@@ -12,8 +12,9 @@ pub struct Range {
 }
 
 // The first and the last split of a prepared case that have a plan within the ceilings; a cheapest plan at the first goes into x, with its
-// potentials and the lanes in use. Whether the simplex is tried does not show in what is promised.
-pub fn begin_by(
+// potentials and the lanes in use, and the simplex's tree, of which nothing is promised, into up, rows and cols. Whether the simplex is tried does
+// not show in what is promised.
+pub fn begin(
     quick: bool,
     m: usize,
     n: usize,
@@ -27,6 +28,9 @@ pub fn begin_by(
     x: &mut [u32; 2048],
     serves: &mut [u32; 64],
     pot: &mut [u32; 96],
+    up: &mut [u32; 128],
+    rows: &mut [u32; 128],
+    cols: &mut [u64; 128],
 ) -> Range
     requires { ⌜ BeginReady m n (now cost) (now cap) (now supply) (now demand) run0 run1 made ⌝ }
     ensures { λ r. ⌜ Ranged m n (now (cost .entry)) (now (cap .entry)) (now (supply .entry)) (now (demand .entry)) run0 run1 made (now (x .exit)) (now (serves .exit)) (now (pot .exit)) (r .found) (r .lo) (r .hi) ⌝ }
@@ -45,6 +49,9 @@ pub fn begin_by(
         x,
         serves,
         pot,
+        up,
+        rows,
+        cols,
     );
     if first.found {
         let split = first.split;
@@ -61,39 +68,4 @@ pub fn begin_by(
         lo: 0,
         hi: 0,
     }
-}
-
-// The same with the simplex.
-pub fn begin(
-    m: usize,
-    n: usize,
-    cost: &[u32; 2048],
-    cap: &[u32; 2048],
-    supply: &[u32; 32],
-    demand: &[u32; 96],
-    run0: u32,
-    run1: u32,
-    made: u32,
-    x: &mut [u32; 2048],
-    serves: &mut [u32; 64],
-    pot: &mut [u32; 96],
-) -> Range
-    requires { ⌜ BeginReady m n (now cost) (now cap) (now supply) (now demand) run0 run1 made ⌝ }
-    ensures { λ r. ⌜ Ranged m n (now (cost .entry)) (now (cap .entry)) (now (supply .entry)) (now (demand .entry)) run0 run1 made (now (x .exit)) (now (serves .exit)) (now (pot .exit)) (r .found) (r .lo) (r .hi) ⌝ }
-{
-    begin_by(
-        true,
-        m,
-        n,
-        cost,
-        cap,
-        supply,
-        demand,
-        run0,
-        run1,
-        made,
-        x,
-        serves,
-        pot,
-    )
 }

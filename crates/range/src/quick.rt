@@ -8,6 +8,7 @@ ghost use Rattle.range.specs.engine.FirstPlan.{FirstPlan, Quick};
 ghost use Rattle.range.specs.Range.{BeginReady};
 use super::base::First;
 use super::base::first_plan;
+use super::crowd::give_up;
 use simplex::solve::solve;
 use slackcheck::check::good;
 use slackcheck::serving::all_servers;
@@ -25,7 +26,7 @@ fn first_split(run0: u32, supply1: u32, made: u32) -> u32
     made - supply1
 }
 
-// The plan of the simplex at a split, for whoever checks it.
+// The plan of the simplex at a split with its tree, for whoever checks it.
 fn simplex_at(
     m: usize,
     n: usize,
@@ -36,6 +37,9 @@ fn simplex_at(
     made: u32,
     x: &mut [u32; 2048],
     pot: &mut [u32; 96],
+    up: &mut [u32; 128],
+    rows: &mut [u32; 128],
+    cols: &mut [u64; 128],
 )
     requires { ⌜ split ≤ made ⌝ }
     ensures { λ _. ⌜ (length (now (x .exit)) ≡ 2048) × (length (now (pot .exit)) ≡ 96) ⌝ }
@@ -43,7 +47,7 @@ fn simplex_at(
     let mut amounts = *supply;
     amounts[0] = split;
     amounts[1] = made - split;
-    solve(m, n, cost, &amounts, demand, x, pot);
+    solve(m, n, cost, &amounts, demand, x, pot, up, rows, cols);
 }
 
 // A cheapest plan at the first split within the supplies and the least runs, where the simplex finds one that passes the check.
@@ -60,12 +64,28 @@ fn quick_plan(
     x: &mut [u32; 2048],
     serves: &mut [u32; 64],
     pot: &mut [u32; 96],
+    up: &mut [u32; 128],
+    rows: &mut [u32; 128],
+    cols: &mut [u64; 128],
 ) -> First
     requires { ⌜ BeginReady m n (now cost) (now cap) (now supply) (now demand) run0 run1 made ⌝ }
     ensures { λ r. ⌜ Quick (net m n (now (cost .entry)) (now (cap .entry)) (now (x .entry))) (λ i. get (now (supply .entry)) i) (now (demand .entry)) run0 run1 made (now (pot .exit)) (now (x .exit)) (now (serves .exit)) (r .found) (r .split) ⌝ }
 {
     let split = first_split(run0, supply[1], made);
-    simplex_at(m, n, cost, supply, demand, split, made, x, pot);
+    simplex_at(
+        m,
+        n,
+        cost,
+        supply,
+        demand,
+        split,
+        made,
+        x,
+        pot,
+        up,
+        rows,
+        cols,
+    );
     if !good(m, n, split, made, supply, demand, cost, cap, x, pot) {
         return First {
             found: false,
@@ -74,10 +94,12 @@ fn quick_plan(
     }
     *serves = [0u32; 64];
     all_servers(m, n, x, serves);
+    give_up(m, n, cost, pot, up);
     First { found: true, split }
 }
 
-// A cheapest plan at the first split that has one: by the simplex, where that is wanted and its plan passes the check; else by cheapest paths.
+// A cheapest plan at the first split that has one: by the simplex, where that is wanted and its plan passes the check; else by cheapest paths,
+// and there is no tree: no node is above plant 1.
 pub fn cheapest_first(
     quick: bool,
     m: usize,
@@ -92,6 +114,9 @@ pub fn cheapest_first(
     x: &mut [u32; 2048],
     serves: &mut [u32; 64],
     pot: &mut [u32; 96],
+    up: &mut [u32; 128],
+    rows: &mut [u32; 128],
+    cols: &mut [u64; 128],
 ) -> First
     requires { ⌜ BeginReady m n (now cost) (now cap) (now supply) (now demand) run0 run1 made ⌝ }
     ensures { λ r. ⌜ FirstPlan (net m n (now (cost .entry)) (now (cap .entry)) (now (x .entry))) (λ i. get (now (supply .entry)) i) (now (demand .entry)) run0 run1 made (now (pot .exit)) (now (x .exit)) (r .found) (r .split) ⌝ }
@@ -111,11 +136,15 @@ pub fn cheapest_first(
             x,
             serves,
             pot,
+            up,
+            rows,
+            cols,
         );
         if first.found {
             return first;
         }
     }
+    up[1] = 96;
     *x = [0u32; 2048];
     *serves = [0u32; 64];
     first_plan(

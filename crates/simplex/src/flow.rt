@@ -1,9 +1,10 @@
 // One pivot: the lane from source i to terminal j comes into the tree, and one on the way between them leaves.
 use super::tree::NONE;
-use super::tree::rehang;
-
-// Above every amount on a lane.
-const SPAN: u32 = 1_048_576;
+use super::tree::put_on;
+use super::tree::take_off;
+use super::tree::turn_round;
+use std::num::wrapping_add_u32;
+use std::num::wrapping_sub_u32;
 
 // The node whose lane to the node above leaves the tree, and what that carries; top is where the ways up from i and from j meet.
 struct Leave {
@@ -13,111 +14,107 @@ struct Leave {
     top: u32,
 }
 
-// The node in place of the one found so far, where its lane carries less. On the way from i the lanes above sources lose drums.
-fn less(node: u32, amount: u32, far: Leave) -> Leave {
-    if node < 32 {
-        if amount < far.amount {
+// From i, a source, up to the first node that has j, of this bit, below it. The lanes above sources lose drums.
+fn from_source(i: u32, bit: u64, up: &[u32; 128], cols: &[u64; 128], flow: &[u32; 128]) -> Leave {
+    let mut node = NONE;
+    let mut amount = u32::MAX;
+    let mut a = i;
+    let mut left: u32 = 48;
+    while 0 < left {
+        let v = (a % 128) as usize;
+        if cols[v] & bit != 0 {
             return Leave {
                 node,
                 amount,
                 first: true,
-                top: far.top,
+                top: a,
             };
         }
-    }
-    far
-}
-
-// The same on the way from j, where the lanes above terminals do; also where it carries as little.
-fn no_more(node: u32, amount: u32, far: Leave) -> Leave {
-    if node < 32 {
-        return far;
-    }
-    if far.amount < amount {
-        return far;
+        if flow[v] < amount {
+            node = a;
+            amount = flow[v];
+        }
+        let b = up[v];
+        let w = (b % 128) as usize;
+        if cols[w] & bit != 0 {
+            return Leave {
+                node,
+                amount,
+                first: true,
+                top: b,
+            };
+        }
+        a = up[w];
+        left = left - 1;
     }
     Leave {
         node,
         amount,
-        first: false,
-        top: far.top,
-    }
-}
-
-// From i up to the first node that has j, of this bit, below it.
-fn from_source(i: u32, bit: u64, up: &[u32; 128], cols: &[u64; 128], flow: &[u32; 128]) -> Leave {
-    let mut far = Leave {
-        node: NONE,
-        amount: SPAN - 1,
         first: true,
         top: NONE,
-    };
-    let mut a = i;
-    let mut left: u32 = 96;
-    while 0 < left {
-        let v = (a % 128) as usize;
-        if cols[v] & bit != 0 {
-            far.top = a;
-            return far;
-        }
-        far = less(a, flow[v], far);
-        a = up[v];
-        left = left - 1;
     }
-    far
 }
 
-// From j up to there.
-fn from_terminal(j: u32, before: Leave, up: &[u32; 128], flow: &[u32; 128]) -> Leave {
-    let mut far = before;
-    let top = before.top;
+// From j, a terminal, up to there, where the lanes above terminals do; also where one carries as little.
+fn from_terminal(j: u32, far: Leave, up: &[u32; 128], flow: &[u32; 128]) -> Leave {
+    let top = far.top;
+    let mut node = far.node;
+    let mut amount = far.amount;
+    let mut first = true;
     let mut a = j;
-    let mut left: u32 = 96;
+    let mut left: u32 = 48;
     while 0 < left {
         if a == top {
-            return far;
+            return Leave {
+                node,
+                amount,
+                first,
+                top,
+            };
         }
         let v = (a % 128) as usize;
-        far = no_more(a, flow[v], far);
-        a = up[v];
-        left = left - 1;
-    }
-    far
-}
-
-// Adds to what the lanes carry on the way from a node up to top: by one amount above sources, by another above terminals, modulo SPAN.
-fn shift(from: u32, top: u32, source: u32, terminal: u32, up: &[u32; 128], flow: &mut [u32; 128]) {
-    let mut a = from;
-    let mut left: u32 = 96;
-    while 0 < left {
-        if a == top {
-            return;
+        if flow[v] <= amount {
+            node = a;
+            amount = flow[v];
+            first = false;
         }
-        let v = (a % 128) as usize;
-        let d = if a < 32 { source } else { terminal };
-        flow[v] = (flow[v] % SPAN + d % SPAN) % SPAN;
-        a = up[v];
+        let b = up[v];
+        if b == top {
+            return Leave {
+                node,
+                amount,
+                first,
+                top,
+            };
+        }
+        a = up[(b % 128) as usize];
         left = left - 1;
+    }
+    Leave {
+        node,
+        amount,
+        first,
+        top,
     }
 }
 
-// The sources of a part rise by d, modulo 2^25.
+// The sources of a part rise by d.
 fn raise_sources(part: u32, d: u32, p: &mut [u32; 32]) {
     let mut rest = part;
     while 0 < rest {
         let i = (u32::trailing_zeros(rest) % 32) as usize;
-        p[i] = (p[i] % 33_554_432 + d % 33_554_432) % 33_554_432;
+        p[i] = wrapping_add_u32(p[i], d);
         rest = rest & (rest - 1);
     }
 }
 
-// The same of the terminals, whose keys fall by 64 d, modulo 2^31.
+// The same of the terminals, whose keys fall by 64 d.
 fn raise_terminals(part: u64, d: u32, key: &mut [u32; 64]) {
-    let e = (33_554_432 - d % 33_554_432) * 64 % 2_147_483_648;
+    let e = wrapping_sub_u32(0, d << 6);
     let mut rest = part;
     while 0 < rest {
         let j = (u64::trailing_zeros(rest) % 64) as usize;
-        key[j] = (key[j] % 2_147_483_648 + e) % 2_147_483_648;
+        key[j] = wrapping_add_u32(key[j], e);
         rest = rest & (rest - 1);
     }
 }
@@ -138,18 +135,35 @@ pub fn pivot(
     let far = from_terminal(j, from_source(i, bit, up, cols, flow), up, flow);
     let top = far.top;
     let amount = far.amount;
-    let back = SPAN - amount % SPAN;
-    shift(i, top, back, amount, up, flow);
-    shift(j, top, amount, back, up, flow);
     let node = far.node;
+    let first = far.first;
     let v = (node % 128) as usize;
     let r = rows[v];
     let c = cols[v];
-    let fall = 33_554_432 - d % 33_554_432;
-    let rise = if far.first { d } else { fall };
-    let end = if far.first { i } else { j };
-    let host = if far.first { j } else { i };
-    rehang(node, end, host, top, amount, up, rows, cols, flow);
+    let from = up[v];
+    let back = wrapping_sub_u32(0, amount);
+    let lost = if first { back } else { amount };
+    let won = if first { amount } else { back };
+    let fall = wrapping_sub_u32(0, d);
+    let rise = if first { d } else { fall };
+    let end = if first { i } else { j };
+    let host = if first { j } else { i };
+    take_off(from, top, r, c, lost, won, up, rows, cols, flow);
+    put_on(host, top, r, c, won, lost, up, rows, cols, flow);
+    turn_round(
+        node,
+        end,
+        host,
+        amount,
+        r,
+        c,
+        lost,
+        won,
+        up,
+        rows,
+        cols,
+        flow,
+    );
     raise_sources(r, rise, p);
     raise_terminals(c, rise, key);
 }

@@ -1,4 +1,5 @@
 // The cheapest lane of a source, by keys of the terminals.
+use std::num::wrapping_add_u32;
 
 // Above every key of a terminal that is open.
 pub const SHUT: u32 = 2_013_265_920;
@@ -14,7 +15,7 @@ fn lesser(a: u32, b: u32) -> u32 {
 
 // A lane's price: 64 times its unit cost, and the key of its terminal.
 fn priced(cost: u32, key: u32) -> u32 {
-    cost % 2_097_152 * 64 + key % 2_147_483_648
+    wrapping_add_u32(cost << 6, key)
 }
 
 // The least price of source i; a key has its terminal in the low six bits, and so has this.

@@ -106,7 +106,7 @@ fn terminal_potentials(key: &[u32; 64], pot: &mut [u32; 96])
     }
 }
 
-// A cheapest plan at these amounts into x, where there is one, and its potentials.
+// A cheapest plan at these amounts into x, where there is one, its potentials, and the tree that it is on.
 pub fn solve(
     m: usize,
     n: usize,
@@ -115,12 +115,14 @@ pub fn solve(
     demand: &[u32; 96],
     x: &mut [u32; 2048],
     pot: &mut [u32; 96],
+    up: &mut [u32; 128],
+    rows: &mut [u32; 128],
+    cols: &mut [u64; 128],
 )
     ensures { λ _. ⌜ (length (now (x .exit)) ≡ 2048) × (length (now (pot .exit)) ≡ 96) ⌝ }
 {
-    let mut up = [0u32; 128];
-    let mut rows = [0u32; 128];
-    let mut cols = [0u64; 128];
+    *rows = [0u32; 128];
+    *cols = [0u64; 128];
     let mut flow = [0u32; 128];
     let mut p = [0u32; 32];
     let mut key = [0u32; 64];
@@ -130,9 +132,9 @@ pub fn solve(
         cost,
         amounts,
         demand,
-        &mut up,
-        &mut rows,
-        &mut cols,
+        up,
+        rows,
+        cols,
         &mut flow,
         &mut p,
         &mut key,
@@ -140,15 +142,15 @@ pub fn solve(
     simplex(
         (m % 64) as u32,
         cost,
-        &mut up,
-        &mut rows,
-        &mut cols,
+        up,
+        rows,
+        cols,
         &mut flow,
         &mut p,
         &mut key,
     );
     *x = [0u32; 2048];
-    carried(&up, &flow, x);
+    carried(up, &flow, x);
     *pot = [600_000_000u32; 96];
     source_potentials(&p, pot);
     terminal_potentials(&key, pot);

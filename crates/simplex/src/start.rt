@@ -24,15 +24,14 @@ fn without(open: u32, i: u32) -> u32 {
     open & (u32::MAX - (1u32 << i % 32))
 }
 
-// Source i sends what it can to its cheapest open terminal.
+// Source i sends what it can to its cheapest open terminal. The book has what the sources still have, what the terminals still want, from 32
+// on, and the nodes in the order in which they were hung, from 128 on.
 fn place(
     i: u32,
     now: Placed,
     cost: &[u32; 2048],
-    have: &mut [u32; 32],
-    want: &mut [u32; 64],
+    book: &mut [u32; 256],
     key: &mut [u32; 64],
-    order: &mut [u32; 128],
     up: &mut [u32; 128],
     rows: &mut [u32; 128],
     cols: &mut [u64; 128],
@@ -41,16 +40,16 @@ fn place(
     let j = least(i, cost, key) % 64;
     let s = (i % 32) as usize;
     let t = j as usize;
-    let a = have[s];
-    let b = want[t];
+    let a = book[s];
+    let b = book[32 + t];
     let amount = smaller(a, b);
     let spent = a <= b;
     let child = if spent { i } else { 32 + j };
     let host = if spent { 32 + j } else { i };
-    have[s] = a - amount;
-    want[t] = b - amount;
+    book[s] = a - amount;
+    book[32 + t] = b - amount;
     key[t] = if spent { key[t] } else { SHUT + j };
-    order[(now.count % 128) as usize] = child;
+    book[128 + (now.count % 128) as usize] = child;
     hang(child, host, amount, up, rows, cols, flow);
     Placed {
         open: if spent {
@@ -62,49 +61,30 @@ fn place(
     }
 }
 
-// Each open source in turn.
-fn round(
+// Each open source in turn, until none is open.
+fn places(
     first: Placed,
     cost: &[u32; 2048],
-    have: &mut [u32; 32],
-    want: &mut [u32; 64],
+    book: &mut [u32; 256],
     key: &mut [u32; 64],
-    order: &mut [u32; 128],
-    up: &mut [u32; 128],
-    rows: &mut [u32; 128],
-    cols: &mut [u64; 128],
-    flow: &mut [u32; 128],
-) -> Placed {
-    let mut now = first;
-    let mut turn = first.open;
-    while 0 < turn {
-        let i = u32::trailing_zeros(turn) % 32;
-        turn = turn & (turn - 1);
-        now = place(i, now, cost, have, want, key, order, up, rows, cols, flow);
-    }
-    now
-}
-
-// Until none is open.
-fn rounds(
-    first: Placed,
-    cost: &[u32; 2048],
-    have: &mut [u32; 32],
-    want: &mut [u32; 64],
-    key: &mut [u32; 64],
-    order: &mut [u32; 128],
     up: &mut [u32; 128],
     rows: &mut [u32; 128],
     cols: &mut [u64; 128],
     flow: &mut [u32; 128],
 ) -> u32 {
     let mut now = first;
-    let mut left: u32 = 96;
+    let mut turn = first.open;
+    let mut left: u32 = 128;
     while 0 < left {
-        if now.open == 0 {
+        if turn == 0 {
+            turn = now.open;
+        }
+        if turn == 0 {
             return now.count;
         }
-        now = round(now, cost, have, want, key, order, up, rows, cols, flow);
+        let i = u32::trailing_zeros(turn) % 32;
+        turn = turn & (turn - 1);
+        now = place(i, now, cost, book, key, up, rows, cols, flow);
         left = left - 1;
     }
     now.count
@@ -114,8 +94,7 @@ fn rounds(
 fn rest(
     n: usize,
     first: u32,
-    want: &[u32; 64],
-    order: &mut [u32; 128],
+    book: &mut [u32; 256],
     up: &mut [u32; 128],
     rows: &mut [u32; 128],
     cols: &mut [u64; 128],
@@ -125,8 +104,8 @@ fn rest(
     for j in 0..64 {
         if j < n {
             if up[32 + j] == NONE {
-                hang((32 + j) as u32, 0, want[j], up, rows, cols, flow);
-                order[(count % 128) as usize] = (32 + j) as u32;
+                hang((32 + j) as u32, 0, book[32 + j], up, rows, cols, flow);
+                book[128 + (count % 128) as usize] = (32 + j) as u32;
                 count = count % 128 + 1;
             }
         }
@@ -153,7 +132,7 @@ fn follow(v: u32, cost: &[u32; 2048], up: &[u32; 128], p: &mut [u32; 32], key: &
 // The potentials of all nodes, from source 0 on downwards: backwards in the order in which they were hung.
 fn follow_all(
     count: u32,
-    order: &[u32; 128],
+    book: &[u32; 256],
     cost: &[u32; 2048],
     up: &[u32; 128],
     p: &mut [u32; 32],
@@ -162,7 +141,7 @@ fn follow_all(
     let mut k = count % 129;
     while 0 < k {
         k = k - 1;
-        follow(order[(k % 128) as usize], cost, up, p, key);
+        follow(book[128 + (k % 128) as usize], cost, up, p, key);
     }
 }
 
@@ -174,12 +153,12 @@ fn keys(n: usize, key: &mut [u32; 64]) {
 }
 
 // The sources from 1 up to m have their amounts.
-fn stock(m: usize, amounts: &[u32; 32], have: &mut [u32; 32]) -> u32 {
+fn stock(m: usize, amounts: &[u32; 32], book: &mut [u32; 256]) -> u32 {
     let mut open: u32 = 0;
     for i in 0..32 {
         if 0 < i {
             if i < m {
-                have[i] = amounts[i];
+                book[i] = amounts[i];
                 open = open | (1u32 << i);
             }
         }
@@ -188,12 +167,10 @@ fn stock(m: usize, amounts: &[u32; 32], have: &mut [u32; 32]) -> u32 {
 }
 
 // Each terminal its demand, node by node.
-fn wants(demand: &[u32; 96]) -> [u32; 64] {
-    let mut want = [0u32; 64];
-    for j in 0..64 {
-        want[j] = demand[32 + j];
+fn wants(demand: &[u32; 96], book: &mut [u32; 256]) {
+    for v in 32..96 {
+        book[v] = demand[v];
     }
-    want
 }
 
 // Each node by itself.
@@ -222,28 +199,16 @@ pub fn start(
 ) {
     *up = [NONE; 128];
     *p = [16_777_216u32; 32];
-    let mut have = [0u32; 32];
-    let mut want = wants(demand);
-    let mut order = [0u32; 128];
+    let mut book = [0u32; 256];
+    wants(demand, &mut book);
     alone(rows, cols);
     keys(n, key);
     let first = Placed {
-        open: stock(m, amounts, &mut have),
+        open: stock(m, amounts, &mut book),
         count: 0,
     };
-    let some = rounds(
-        first,
-        cost,
-        &mut have,
-        &mut want,
-        key,
-        &mut order,
-        up,
-        rows,
-        cols,
-        flow,
-    );
-    let count = rest(n, some, &want, &mut order, up, rows, cols, flow);
+    let some = places(first, cost, &mut book, key, up, rows, cols, flow);
+    let count = rest(n, some, &mut book, up, rows, cols, flow);
     keys(0, key);
-    follow_all(count, &order, cost, up, p, key);
+    follow_all(count, &book, cost, up, p, key);
 }

@@ -1,5 +1,6 @@
 // The spanning tree, and what one change of it does.
 ghost use Prim.Native.Nat.{_<_};
+use std::num::wrapping_add_u32;
 
 // No node.
 pub const NONE: u32 = 96;
@@ -31,15 +32,24 @@ pub fn hang(
     cols[u] = cols[u] | cols[v];
 }
 
-// Takes a part off from the node where it hung and from those above it, below stop.
-fn take_off(
+// What the lane above a node gains.
+fn gain(a: u32, source: u32, terminal: u32) -> u32 {
+    if a < 32 { source } else { terminal }
+}
+
+// Takes a part off from the node where it hung and from those above it, below stop; their lanes gain, those above sources one amount, those
+// above terminals another.
+pub fn take_off(
     from: u32,
     stop: u32,
     r: u32,
     c: u64,
+    source: u32,
+    terminal: u32,
     up: &[u32; 128],
     rows: &mut [u32; 128],
     cols: &mut [u64; 128],
+    flow: &mut [u32; 128],
 ) {
     let mut a = from;
     let mut left: u32 = 96;
@@ -50,20 +60,24 @@ fn take_off(
         let v = (a % 128) as usize;
         rows[v] = rows[v] & (u32::MAX - r);
         cols[v] = cols[v] & (u64::MAX - c);
+        flow[v] = wrapping_add_u32(flow[v], gain(a, source, terminal));
         a = up[v];
         left = left - 1;
     }
 }
 
-// Adds a part to the node where it hangs now and to those above it, below stop.
-fn put_on(
+// Adds a part to the node where it hangs now and to those above it, below stop; their lanes gain too.
+pub fn put_on(
     from: u32,
     stop: u32,
     r: u32,
     c: u64,
+    source: u32,
+    terminal: u32,
     up: &[u32; 128],
     rows: &mut [u32; 128],
     cols: &mut [u64; 128],
+    flow: &mut [u32; 128],
 ) {
     let mut a = from;
     let mut left: u32 = 96;
@@ -74,19 +88,22 @@ fn put_on(
         let v = (a % 128) as usize;
         rows[v] = rows[v] | r;
         cols[v] = cols[v] | c;
+        flow[v] = wrapping_add_u32(flow[v], gain(a, source, terminal));
         a = up[v];
         left = left - 1;
     }
 }
 
-// Turns the way from e up to v round, so that the part r, c that hung by v hangs by e from host.
-fn turn_round(
+// Turns the way from e up to v round, so that the part r, c that hung by v hangs by e from host; its lanes gain too.
+pub fn turn_round(
     v: u32,
     e: u32,
     host: u32,
     amount: u32,
     r: u32,
     c: u64,
+    source: u32,
+    terminal: u32,
     up: &mut [u32; 128],
     rows: &mut [u32; 128],
     cols: &mut [u64; 128],
@@ -106,37 +123,16 @@ fn turn_round(
         let next_flow = flow[w];
         up[w] = above;
         flow[w] = moved;
-        rows[w] = r & (r ^ off_rows);
-        cols[w] = c & (c ^ off_cols);
+        rows[w] = r ^ off_rows;
+        cols[w] = c ^ off_cols;
         if a == v {
             return;
         }
         off_rows = next_rows;
         off_cols = next_cols;
-        moved = next_flow;
+        moved = wrapping_add_u32(next_flow, gain(a, source, terminal));
         above = a;
         a = next;
         left = left - 1;
     }
-}
-
-// The part below v leaves the node above it and hangs from host by its node e; nothing changes from stop upwards.
-pub fn rehang(
-    v: u32,
-    e: u32,
-    host: u32,
-    stop: u32,
-    amount: u32,
-    up: &mut [u32; 128],
-    rows: &mut [u32; 128],
-    cols: &mut [u64; 128],
-    flow: &mut [u32; 128],
-) {
-    let k = (v % 128) as usize;
-    let r = rows[k];
-    let c = cols[k];
-    let from = up[k];
-    take_off(from, stop, r, c, up, rows, cols);
-    put_on(host, stop, r, c, up, rows, cols);
-    turn_round(v, e, host, amount, r, c, up, rows, cols, flow);
 }

@@ -1,45 +1,123 @@
 -- The check's loops: what is left of an amount after the lanes so far, and the sources seen so far. Assumes nothing.
-use mathlib.Core.Path.{_≡_, refl, ap, _∙_}
-use mathlib.Core.Bool.{Bool, true, false, not, true≢false}
+use mathlib.Core.Path.{_≡_, refl, sym, ap, _∙_}
+use mathlib.Core.Bool.{Bool, true, false, not, _&&_, _||_, true≢false}
+use mathlib.Core.Logic.{_⊎_, inl, inr}
 use mathlib.Core.List.{List}
-use Prim.Native.Nat.{ℕ, zero, suc, _+_, _-_, _≤_, _<_}
-use native.Mathlib.Decide.{ℕ-discrete}
+use Prim.Native.Nat.{ℕ, zero, suc, _+_, _-_, _*_, _%_, _^_, _≤_, _<_}
+use native.Mathlib.Decide.{ℕ-discrete, decLt}
 use native.Mathlib.Omega.{arith}
-use lib.ListN.{length, set, length-set}
+use borrow.Author.Count.{below-more}
+use borrow.Author.Tests.{leb-true, eqb-true}
+use lib.Dec.{leb, eqb}
+use lib.ListN.{length, set, length-set, replicate, length-replicate, getD-replicate}
 use lib.Seq.{getD-set-same, getD-set-other}
+use lib.Pow.{pow-pos, pow-lt}
+use lib.Bits.{bitOr, or-lt}
 use Rattle.transport.specs.Sum.{sum}
 use Rattle.transport.specs.Plan.{Table, row, col}
 use Rattle.transport.specs.Curve.{amountsAt}
 use Rattle.residual.specs.Cells.{cells}
 use Rattle.residual.specs.Network.{get}
+use Rattle.residual.specs.Bits.{bit}
 use Rattle.residual.specs.LanesInUse.{Covers}
-use Rattle.canonical.specs.Canonize.{Mask}
-use Rattle.transport.proofs.Sums.{sum-zero, sum-more}
+use Rattle.slackcheck.specs.Checked.{Good, RowChecked, Few, Got}
+use Rattle.slackcheck.specs.Serving.{Served, ServersTo}
+use Rattle.transport.proofs.Sums.{sum-zero, sum-more, sum-most}
+use Rattle.residual.proofs.Bits.{bit-most, bit-or, bit-own}
 
 pub not-false : (b : Bool) → not b ≡ false → b ≡ true
 not-false true e = refl
 not-false false e = absurd (true≢false e)
 
--- one term less is left
-left-next : (k : ℕ) (f : ℕ → ℕ) {amount left : ℕ} → left + sum k f ≡ amount → f k ≤ left → (left - f k) + sum (k + 1) f ≡ amount
-left-next k f e h = omega (arith, sum-more k f (sum k f) refl)
+pub both : (a b : Bool) → (a && b) ≡ true → (a ≡ true) × (b ≡ true)
+both true b e = (refl, e)
+both false b e = absurd (true≢false (sym e))
 
-module _ (x : Table) where
-  pub row-none : (i amount : ℕ) → amount + row 0 x i ≡ amount
-  unfolding row
-  row-none i amount = omega (arith, sum-zero (λ j. x i j))
+pub one : (a b : Bool) → (a || b) ≡ true → (a ≡ true) ⊎ (b ≡ true)
+one true b e = inl refl
+one false b e = inr e
 
-  pub row-next : (i j : ℕ) {amount left : ℕ} → left + row j x i ≡ amount → x i j ≤ left → (left - x i j) + row (j + 1) x i ≡ amount
-  unfolding row
-  row-next i j e h = left-next j (λ j. x i j) e h
+-- the tests of a lane
+pub lane-good : (c u x p q : ℕ) → ((((leb x u) && (leb x 1048575)) && (leb q (c + p))) && ((eqb x 0) || (leb (c + p) q))) ≡ true → Good c u x p q
+lane-good c u x p q e =
+    let a = leb x u in
+    let b = leb x 1048575 in
+    let r = leb q (c + p) in
+    let t = (eqb x 0) || (leb (c + p) q) in
+    let h = both ((a && b) && r) t e in let k = both (a && b) r (h .0) in record {
+      under = leb-true x u (both a b (k .0) .0);
+      few = leb-true x 1048575 (both a b (k .0) .1);
+      slack = record {
+        ahead = λ _. leb-true q (c + p) (k .1);
+        back = λ l. elim (one (eqb x 0) (leb (c + p) q) (h .1)) [ inl z ↦ absurd (omega (arith, eqb-true x 0 z)) | inr z ↦ leb-true (c + p) q z ];
+      };
+    }
 
-  pub col-none : (j amount : ℕ) → amount + col 0 x j ≡ amount
-  unfolding col
-  col-none j amount = omega (arith, sum-zero (λ i. x i j))
+-- ---- the lanes of source i before j: where all are good, what they carry is summed
 
-  pub col-next : (i j : ℕ) {amount left : ℕ} → left + col i x j ≡ amount → x i j ≤ left → (left - x i j) + col (i + 1) x j ≡ amount
-  unfolding col
-  col-next i j e h = left-next i (λ i. x i j) e h
+pub record RowTo (n : ℕ) (c u x : Table) (p : List ℕ) (i : ℕ) (good : Bool) (sent j : ℕ) : Type 0 where
+  pub most : j ≤ n
+  pub small : sent ≤ j * 1048575
+  pub lanes : good ≡ true → (b : ℕ) → b < j → Good (c i b) (u i b) (x i b) (get p i) (get p (32 + b))
+  pub sum : good ≡ true → sent ≡ row j x i
+
+pub row-start : {n : ℕ} {c u x : Table} {p : List ℕ} {i : ℕ} → RowTo n c u x p i true 0 0
+unfolding row
+row-start {x = x} {i = i} = record { most = omega arith; small = omega arith; lanes = λ _ b l. absurd (omega arith); sum = λ _. sym (sum-zero (λ j. x i j)) }
+
+pub row-next : {n : ℕ} {c u x : Table} {p : List ℕ} {i : ℕ} {good lane : Bool} {sent j : ℕ} → RowTo n c u x p i good sent j → j < n
+    → (lane ≡ true → Good (c i j) (u i j) (x i j) (get p i) (get p (32 + j))) → RowTo n c u x p i (good && lane) (sent + x i j % 1048576) (j + 1)
+unfolding row
+row-next {x = x} {i = i} {good} {lane} {sent} {j} q h o = record {
+  most = omega arith;
+  small = omega (arith, q .small);
+  lanes = λ e. below-more _ _ (q .lanes (both good lane e .0)) (o (both good lane e .1));
+  sum = λ e. let z : x i j % 1048576 ≡ x i j = omega (arith, o (both good lane e .1) .few) in rw z (sum-more j (λ b. x i b) sent (q .sum (both good lane e .0)));
+}
+
+pub row-end : {n : ℕ} {c u x : Table} {p : List ℕ} {i : ℕ} {good : Bool} {sent j amount : ℕ} → RowTo n c u x p i good sent j → n ≤ j
+    → (good && eqb sent amount) ≡ true → RowChecked n c u x p i amount
+row-end {n = n} {x = x} {i = i} {good} {sent} {j} {amount} q h e =
+    let g = both good (eqb sent amount) e in let z : j ≡ n = omega (arith, q .most) in record {
+      sent = rw (← z) (sym (q .sum (g .0)) ∙ eqb-true sent amount (g .1));
+      lanes = λ b l. q .lanes (g .0) b (omega arith);
+    }
+
+-- ---- what the terminals get, with the lanes of source i before j
+
+pub record AddedTo (n : ℕ) (x : Table) (i j : ℕ) (g : List ℕ) : Type 0 where
+  pub most : j ≤ n
+  pub long : length g ≡ 64
+  pub done : (b : ℕ) → b < j → get g b ≡ col (i + 1) x b
+  pub rest : (b : ℕ) → j ≤ b → b < n → get g b ≡ col i x b
+
+pub add-start : {n : ℕ} {x : Table} {i : ℕ} {g : List ℕ} → Got n x i g → AddedTo n x i 0 g
+add-start q = record { most = omega arith; long = q .long; done = λ b l. absurd (omega arith); rest = λ b _ l. q .sums b l }
+
+-- sums fit
+pub add-fits : {m n : ℕ} {x : Table} {i j : ℕ} {g : List ℕ} → Few m n x → i < m → AddedTo n x i j g → j < n → get g j + x i j ≤ 64000000
+unfolding col
+add-fits {x = x} {i} {j} {g} f h q l =
+    omega (arith, f .sources, f .few i j h l, q .rest j (omega arith) l, sum-most i 1048575 (λ a. x a j) (λ a k. f .few a j (omega arith) l))
+
+pub add-next : {n : ℕ} {x : Table} {i j : ℕ} {g : List ℕ} → n ≤ 64 → AddedTo n x i j g → j < n → AddedTo n x i (j + 1) (set g j (get g j + x i j))
+unfolding col
+add-next {x = x} {i} {j} {g} hn q h = record {
+  most = omega arith;
+  long = length-set g j _ ∙ q .long;
+  done = λ b l. elim (ℕ-discrete b j) [
+    | yes z ↦ rw (z, getD-set-same g j (get g j + x i j) 0 (omega (arith, q .long))) (sum-more i (λ a. x a j) (get g j) (q .rest j (omega arith) h))
+    | no z ↦ rw (getD-set-other g j b (get g j + x i j) 0 z) (q .done b (omega arith))
+  ];
+  rest = λ b k l. rw (getD-set-other g j b (get g j + x i j) 0 (omega arith)) (q .rest b (omega arith) l);
+}
+
+pub add-end : {n : ℕ} {x : Table} {i j : ℕ} {g : List ℕ} → AddedTo n x i j g → n ≤ j → Got n x (i + 1) g
+add-end q h = record { long = q .long; sums = λ b l. q .done b (omega arith) }
+
+pub got-none : {n : ℕ} {x : Table} → n ≤ 64 → Got n x 0 (replicate 64 0)
+unfolding col
+got-none {x = x} h = record { long = length-replicate {A = ℕ} 64 0; sums = λ j l. getD-replicate {A = ℕ} 64 j 0 0 (omega arith) ∙ sym (sum-zero (λ i. x i j)) }
 
 -- ---- what a source sends at a split
 
@@ -58,30 +136,62 @@ module _ (d : ℕ) (a : ℕ → ℕ) (y : ℕ) where
   amount-depot (suc zero) h = absurd (omega arith)
   amount-depot (suc (suc i)) h = refl
 
--- ---- the sources that serve the terminals before j
+-- ---- the sources that serve each terminal, with the lanes of source i before j
 
-pub record ServersTo (m n : ℕ) (x : List ℕ) (j : ℕ) (s : List ℕ) : Type 0 where
+pub record ServedTo (m n : ℕ) (x : List ℕ) (i j : ℕ) (s : List ℕ) : Type 0 where
   pub most : j ≤ n
-  pub long : length s ≡ 64
-  pub columns : (b : ℕ) → b < j → Mask m (λ i. cells x i b) (get s b)
+  pub before : ServersTo m n x i s
+  pub done : (b : ℕ) → b < j → 0 < cells x i b → bit (get s b) i ≡ 1
 
-pub servers-start : {m n : ℕ} {x s : List ℕ} → length s ≡ 64 → ServersTo m n x 0 s
-servers-start e = record { most = omega arith; long = e; columns = λ b l. absurd (omega arith) }
+pub serve-start : {m n : ℕ} {x : List ℕ} {i : ℕ} {s : List ℕ} → ServersTo m n x i s → ServedTo m n x i 0 s
+serve-start q = record { most = omega arith; before = q; done = λ b l. absurd (omega arith) }
 
-pub servers-next : {m n : ℕ} {x : List ℕ} {j : ℕ} {s : List ℕ} {r : ℕ} → n ≤ 64 → ServersTo m n x j s → j < n → Mask m (λ i. cells x i j) r
-    → ServersTo m n x (j + 1) (set s j r)
-servers-next {j = j} {s} {r} hn q h o = record {
-  most = omega arith;
-  long = length-set s j r ∙ q .long;
-  columns = λ b l. elim (ℕ-discrete b j) [
-    | yes z ↦ rw (z, getD-set-same s j r 0 (omega (arith, q .long))) o
-    | no z ↦ rw (getD-set-other s j b r 0 z) (q .columns b (omega arith))
+module _ {m n : ℕ} {x : List ℕ} {i j : ℕ} {s : List ℕ} {r : ℕ} (hi : i < m) (hn : n ≤ 64) (q : ServedTo m n x i j s) (h : j < n) (o : Served (cells x i j) (2 ^ i) r) where
+  fits : r < 2 ^ m
+  fits = elim (decLt 0 (cells x i j)) [ yes z ↦ rw (o .some z) (pow-lt {i = i} {j = m} hi) | no z ↦ omega (arith, o .none (omega arith), pow-pos m) ]
+
+  -- no bit is lost
+  kept : (a b : ℕ) → bit (get s b) a ≡ 1 → bit (get (set s j (bitOr (get s j) r)) b) a ≡ 1
+  kept a b e = elim (ℕ-discrete b j) [
+    | yes z ↦ rw (z, getD-set-same s j (bitOr (get s j) r) 0 (omega (arith, q .before .long)))
+        (omega (arith, bit-or (get s j) r a, bit-most r a, ap (λ b. bit (get s b) a) z, e))
+    | no z ↦ rw (getD-set-other s j b (bitOr (get s j) r) 0 z) e
+  ]
+
+  pub serve-next : ServedTo m n x i (j + 1) (set s j (bitOr (get s j) r))
+  serve-next = record {
+    most = omega arith;
+    before = record {
+      long = length-set s j _ ∙ q .before .long;
+      within = λ b l. elim (ℕ-discrete b j) [
+        | yes z ↦ rw (z, getD-set-same s j (bitOr (get s j) r) 0 (omega (arith, q .before .long))) (or-lt m (get s j) r (q .before .within j h) fits)
+        | no z ↦ rw (getD-set-other s j b (bitOr (get s j) r) 0 z) (q .before .within b l)
+      ];
+      has = λ a b k l e. kept a b (q .before .has a b k l e);
+    };
+    done = λ b l e. elim (ℕ-discrete b j) [
+      | yes z ↦ let e' : 0 < cells x i j = rw z at e in rw (z, getD-set-same s j (bitOr (get s j) r) 0 (omega (arith, q .before .long)))
+          (omega (arith, bit-or (get s j) r i, bit-most (get s j) i, ap (λ r. bit r i) (o .some e'), bit-own i))
+      | no z ↦ kept i b (q .done b (omega arith) e)
+    ];
+  }
+
+pub serve-end : {m n : ℕ} {x : List ℕ} {i j : ℕ} {s : List ℕ} → ServedTo m n x i j s → n ≤ j → ServersTo m n x (i + 1) s
+serve-end {i = i} q h = record {
+  long = q .before .long;
+  within = q .before .within;
+  has = λ a b k l e. elim (ℕ-discrete a i) [
+    | yes z ↦ rw z (q .done b (omega arith) (rw z at e))
+    | no z ↦ q .before .has a b (omega arith) l e
   ];
 }
 
-pub servers-end : {m n : ℕ} {x : List ℕ} {j : ℕ} {s : List ℕ} → ServersTo m n x j s → n ≤ j → Covers m n x s
-servers-end q h = record {
-  long = q .long;
-  within = λ b l. q .columns b (omega arith) .within;
-  serving = λ i b hi hb o. q .columns b (omega arith) .has i hi o;
+pub servers-start : {m n : ℕ} {x : List ℕ} → n ≤ 64 → ServersTo m n x 0 (replicate 64 0)
+servers-start {m} h = record {
+  long = length-replicate {A = ℕ} 64 0;
+  within = λ j l. rw (getD-replicate {A = ℕ} 64 j 0 0 (omega arith)) (pow-pos m);
+  has = λ a j k. absurd (omega arith);
 }
+
+pub servers-end : {m n : ℕ} {x : List ℕ} {i : ℕ} {s : List ℕ} → ServersTo m n x i s → m ≤ i → Covers m n x s
+servers-end q h = record { long = q .long; within = q .within; serving = λ a b ha hb e. q .has a b (omega arith) hb e }

@@ -2,15 +2,17 @@
 use mathlib.Core.Path.{_≡_}
 use mathlib.Core.List.{List}
 use Prim.Native.Nat.{ℕ, _+_, _≤_, _<_}
+use lib.ListN.{length}
 use Rattle.transport.specs.Plan.{Table, row, col}
 use Rattle.transport.specs.Curve.{amountsAt}
 use Rattle.transport.specs.theory.Slackness.{Lane}
 use Rattle.residual.specs.Cells.{cells}
 use Rattle.residual.specs.Network.{get}
 
--- a lane of unit cost c, ceiling u and amount x between potentials p and q: within its ceiling and slack
+-- a lane of unit cost c, ceiling u and amount x between potentials p and q: within its ceiling and slack, its amount below 2^20
 pub record Good (c u x p q : ℕ) : Type 0 where
   pub under : x ≤ u
+  pub few : x ≤ 1048575
   pub slack : Lane c u x p q
 
 -- the potentials are within the bounds of step 1
@@ -42,6 +44,17 @@ RowsChecked n c u x p a m = (i : ℕ) → i < m → RowChecked n c u x p i (a i)
 
 abbrev pub ColumnsChecked : ℕ → Table → List ℕ → ℕ → Type 0
 ColumnsChecked m x demand n = (j : ℕ) → j < n → col m x j ≡ get demand (32 + j)
+
+-- what the lanes carry is below 2^20
+pub record Few (m n : ℕ) (x : Table) : Type 0 where
+  pub sources : m ≤ 32
+  pub terminals : n ≤ 64
+  pub few : (i j : ℕ) → i < m → j < n → x i j ≤ 1048575
+
+-- what the terminals get from the sources before i
+pub record Got (n : ℕ) (x : Table) (i : ℕ) (g : List ℕ) : Type 0 where
+  pub long : length g ≡ 64
+  pub sums : (j : ℕ) → j < n → get g j ≡ col i x j
 
 -- at split y of what both plants make, d
 pub record Checked (m n : ℕ) (cost cap supply demand : List ℕ) (d y : ℕ) (x p : List ℕ) : Type 0 where

@@ -1,31 +1,23 @@
 // The check of a plan and its potentials.
 ghost use mathlib.Core.Path.{_≡_};
 ghost use mathlib.Core.Bool.{true};
-ghost use Prim.Native.Nat.{ℕ, _≤_, _<_};
+ghost use Prim.Native.Nat.{ℕ, _+_, _≤_, _<_};
 ghost use Rattle.transport.specs.Plan.{row, col};
 ghost use Rattle.transport.specs.Curve.{amountsAt};
 ghost use Rattle.residual.specs.Cells.{cells};
 ghost use Rattle.residual.specs.Network.{get};
-ghost use Rattle.slackcheck.specs.Checked.{Good, Levels, CheckReady, RowReady, RowChecked, RowsChecked, ColumnsChecked, Checked};
+ghost use lib.ListN.{length};
+ghost use Rattle.slackcheck.specs.Checked.{Good, Levels, CheckReady, RowReady, RowChecked, RowsChecked, Few, Got, ColumnsChecked, Checked};
 
-// Is a lane within its ceiling and slack: no terminal's potential is above its source's and the unit cost, and it is equal where drums go?
+// Is a lane within its ceiling and slack: no terminal's potential is above its source's and the unit cost, and it is equal where drums go? And does
+// it carry less than 2^20, so that sums fit? No branch: four lanes are looked at at a time.
 fn lane_good(cost: u32, cap: u32, amount: u32, p: u32, q: u32) -> bool
     requires { ⌜ (cost ≤ 2000000) × (p ≤ 800000000) ⌝ }
     ensures { λ r. ⌜ (r ≡ true → Good cost cap amount p q) ⌝ }
 {
-    if cap < amount {
-        return false;
-    }
-    if cost + p < q {
-        return false;
-    }
-    if amount == 0 {
-        return true;
-    }
-    if q < cost + p {
-        return false;
-    }
-    true
+    let far = cost + p;
+    let tight = (amount == 0) | (far <= q);
+    (amount <= cap) & (amount <= 1_048_575) & (q <= far) & tight
 }
 
 // Does source i send this amount, on lanes that are slack?
@@ -42,22 +34,16 @@ fn row_good(
     ensures { λ r. ⌜ (r ≡ true → RowChecked n (cells (now (cost .entry))) (cells (now (cap .entry))) (cells (now (x .entry))) (now (pot .entry)) i amount) ⌝ }
 {
     let p = pot[i];
-    let mut left = amount;
+    let mut good = true;
+    let mut sent: u32 = 0;
     for j in 0..n {
         let k = i * 64 + j;
         let part = x[k];
-        if !lane_good(cost[k], cap[k], part, p, pot[32 + j]) {
-            return false;
-        }
-        if left < part {
-            return false;
-        }
-        left = left - part;
+        let lane = lane_good(cost[k], cap[k], part, p, pot[32 + j]);
+        good = good & lane;
+        sent = sent + part % 1_048_576;
     }
-    if 0 < left {
-        return false;
-    }
-    true
+    good & (sent == amount)
 }
 
 // What source i sends at a split of what both plants make.
@@ -100,32 +86,38 @@ fn rows_good(
     true
 }
 
-// Does terminal j get this amount?
-fn column_good(m: usize, j: usize, amount: u32, x: &[u32; 2048]) -> bool
-    requires { ⌜ (m ≤ 32) × (j < 64) ⌝ }
-    ensures { λ r. ⌜ (r ≡ true → col m (cells (now (x .entry))) j ≡ amount) ⌝ }
+// Adds what source i sends to what the terminals get.
+fn add_row(m: usize, n: usize, i: usize, x: &[u32; 2048], got: &mut [u32; 64])
+    requires { ⌜ i < m ⌝ }
+    requires { ⌜ Few m n (cells (now x)) ⌝ }
+    requires { ⌜ Got n (cells (now x)) i (now got) ⌝ }
+    ensures { λ _. ⌜ Got n (cells (now (x .entry))) (i + 1) (now (got .exit)) ⌝ }
 {
-    let mut left = amount;
+    for j in 0..n {
+        got[j] = got[j] + x[i * 64 + j];
+    }
+}
+
+// What each terminal gets.
+fn column_sums(m: usize, n: usize, x: &[u32; 2048]) -> [u32; 64]
+    requires { ⌜ Few m n (cells (now x)) ⌝ }
+    ensures { λ r. ⌜ Got n (cells (now (x .entry))) m r ⌝ }
+{
+    let mut got = [0u32; 64];
     for i in 0..m {
-        let part = x[i * 64 + j];
-        if left < part {
-            return false;
-        }
-        left = left - part;
+        add_row(m, n, i, x, &mut got);
     }
-    if 0 < left {
-        return false;
-    }
-    true
+    got
 }
 
 // Do all terminals get their demands?
 fn columns_good(m: usize, n: usize, demand: &[u32; 96], x: &[u32; 2048]) -> bool
-    requires { ⌜ (m ≤ 32) × (n ≤ 64) ⌝ }
+    requires { ⌜ Few m n (cells (now x)) ⌝ }
     ensures { λ r. ⌜ (r ≡ true → ColumnsChecked m (cells (now (x .entry))) (now (demand .entry)) n) ⌝ }
 {
+    let got = column_sums(m, n, x);
     for j in 0..n {
-        if !column_good(m, j, demand[32 + j], x) {
+        if got[j] != demand[32 + j] {
             return false;
         }
     }

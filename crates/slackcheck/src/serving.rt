@@ -1,31 +1,37 @@
 // The sources that serve each terminal under a plan.
-ghost use Prim.Native.Nat.{_≤_, _<_};
+ghost use Prim.Native.Nat.{_+_, _≤_, _<_};
 ghost use mathlib.Core.Path.{_≡_};
 ghost use lib.ListN.{length};
 ghost use Rattle.residual.specs.Cells.{cells};
 ghost use Rattle.residual.specs.LanesInUse.{Covers};
-ghost use Rattle.canonical.specs.Canonize.{Mask};
+ghost use Rattle.slackcheck.specs.Serving.{Served, ServersTo};
 
-// The sources that serve terminal j, a bit for each.
-fn servers(m: usize, j: usize, x: &[u32; 2048]) -> u32
-    requires { ⌜ (m ≤ 32) × (j < 64) ⌝ }
-    ensures { λ r. ⌜ Mask m (λ i. cells (now (x .entry)) i j) r ⌝ }
+// The bit of a source where it sends an amount, else 0.
+fn served(amount: u32, bit: u32) -> u32
+    ensures { λ r. ⌜ Served amount bit r ⌝ }
 {
-    let mut mask: u32 = 0;
-    for i in 0..m {
-        if 0 < x[i * 64 + j] {
-            mask = mask | (1 << i);
-        }
-    }
-    mask
+    if 0 < amount { bit } else { 0 }
 }
 
-// The same of each terminal.
+// The terminals that source i serves: its bit in the word of each.
+fn serve_row(m: usize, n: usize, i: usize, x: &[u32; 2048], serves: &mut [u32; 64])
+    requires { ⌜ (i < m) × (m ≤ 32) × (n ≤ 64) ⌝ }
+    requires { ⌜ ServersTo m n (now x) i (now serves) ⌝ }
+    ensures { λ _. ⌜ ServersTo m n (now (x .entry)) (i + 1) (now (serves .exit)) ⌝ }
+{
+    let bit = 1u32 << i;
+    for j in 0..n {
+        serves[j] = serves[j] | served(x[i * 64 + j], bit);
+    }
+}
+
+// The sources that serve each terminal, a bit for each.
 pub fn all_servers(m: usize, n: usize, x: &[u32; 2048], serves: &mut [u32; 64])
     requires { ⌜ (m ≤ 32) × (n ≤ 64) × (length (now serves) ≡ 64) ⌝ }
     ensures { λ _. ⌜ Covers m n (now (x .entry)) (now (serves .exit)) ⌝ }
 {
-    for j in 0..n {
-        serves[j] = servers(m, j, x);
+    *serves = [0u32; 64];
+    for i in 0..m {
+        serve_row(m, n, i, x, serves);
     }
 }

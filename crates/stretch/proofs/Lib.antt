@@ -2,5 +2,6 @@ pub mod IncumbentScan
 pub mod UndoWalk
 pub mod PathLanes
 pub mod PathArcs
+pub mod HeldPlan
 pub mod StretchLine
 pub mod ShiftPath

@@ -4,7 +4,7 @@ use mathlib.Core.Bool.{Bool, true, false, cond}
 use mathlib.Core.List.{List}
 use Prim.Native.Nat.{ℕ, zero, suc, _+_, _-_, _*_, _≤_, _<_}
 use native.Mathlib.Nat.{mul-le-mul}
-use native.Mathlib.Decide.{decLt}
+use native.Mathlib.Decide.{decLt, ℕ-discrete}
 use native.Mathlib.Omega.{arith}
 use lib.Dec.{ltb}
 use lib.IntN.{ℤ, pos, _-ℤ_}
@@ -22,7 +22,7 @@ use Rattle.range.specs.engine.PlantShift.{Over}
 use Rattle.stretch.specs.Scan.{along, better, scanned, ScanReady}
 use Rattle.stretch.specs.ResidualPath.{Arc, PathIn, pathCost, StretchPath}
 use Rattle.stretch.specs.PathUndone.{Undoing}
-use Rattle.stretch.specs.Stretch.{Part, PathDone, KeepReady, KeepDone, HoldDone, StretchReady, Kept, StretchDone}
+use Rattle.stretch.specs.Stretch.{Part, PathDone, KeepReady, KeepDone, HoldDone, heldAt, StretchReady, Kept, StretchDone}
 use Rattle.stretch.specs.declared.Incumbent.{Incumbent}
 use Rattle.transport.proofs.Optimality.{segment}
 use Rattle.transport.proofs.PathFlow.{Shifted, flow-shifted}
@@ -31,6 +31,7 @@ use Rattle.augment.proofs.Potentials.{lowers}
 use Rattle.augment.proofs.PathWalk.{walks}
 use Rattle.stretch.proofs.IncumbentScan.{along-is}
 use Rattle.transport.proofs.Differences.{diff-same}
+use Rattle.stretch.proofs.HeldPlan.{held-here, held-kept, walked-none}
 use Rattle.stretch.proofs.PathArcs.{no-less, rises}
 
 -- ---- the incumbent
@@ -205,7 +206,7 @@ module _ {N : Net} {p x table : List ℕ} {y v limit : ℕ} {best : Incumbent} {
     within : held .split - y ≤ d
     within = elim (decLt y (held .split)) [ yes h ↦ omega (arith, seen .new h .0) | no h ↦ omega arith ]
 
-    taken : (x' : List ℕ) → Walked prev d count 1 x x' → y < held .split → Undoing prev (y + d - held .split) count 1 x'
+    taken : (x' : List ℕ) → Walked prev d count 1 x x' → y ≤ held .split → Undoing prev (y + d - held .split) count 1 x'
     taken x' w h = record {
       plan = x;
       drums = d;
@@ -218,37 +219,98 @@ module _ {N : Net} {p x table : List ℕ} {y v limit : ℕ} {best : Incumbent} {
     pub keep-ready : (x' : List ℕ) → Walked prev d count 1 x x' → KeepReady prev count (held .split) y (y + d) x'
     keep-ready x' w = record { undoing = taken x' w; most = omega (arith, within); near = omega (arith, scan-ready .few) }
 
-    pub stretch-done : {kept kept' p' x' pots pots' : List ℕ} → KeepDone prev count (held .split) y (y + d) x' kept kept' → Walked prev d count 1 x x'
-        → Lowered gap dist p 96 p' → HoldDone (held .split) y p' pots pots'
-        → StretchDone N p table y v limit best kept pots p' x' kept' pots' d (y + d) (v + get p 1 * d - (get p 0 - gap) * d) (get p 1) (get p 0 - gap) held
-    unfolding along taken stretch-path
-    stretch-done {kept} {kept'} {p'} {x'} {pots} {pots'} k w lo o = record {
-      some = s .some;
-      path = stretch-path x' lo w;
-      split = refl;
-      reached = refl;
-      moves = s .route .amounts d x' w;
-      over = over x' lo w;
-      up = up x' lo w;
-      down = down x' lo w;
-      line = on-stretch x' lo w;
-      next = next x' lo w;
-      value = value x' lo w x' d (whole x' lo w);
-      look = look;
-      same = λ h. (seen .old h, k .same h, o .same h);
-      new = λ h.
-          let e : d - (y + d - held .split) ≡ held .split - y = omega (arith, within) in
-          let t = rw e at (k .walked h (taken x' w h)) in
-          (seen .new h .0, new h (s .part p' lo (held .split - y) within kept' t), s .route .amounts (held .split - y) kept' t);
-    }
-      where
-        new : y < held .split → Part N p' kept' (held .split - y) → Kept N y held kept' pots'
-        new h t =
-            let e : y + (held .split - y) ≡ held .split = omega arith in
-            record {
-              long = t .long;
-              under = t .under;
-              at = λ a b z q. rw e at (part-at two t a b y z q);
-              value = value x' lo w kept' (held .split - y) t ∙ sym (seen .new h .1);
-              ready = rw (o .new h) (part-ready x' lo w kept' (held .split - y) t);
-            }
+    module _ {kept kept' p' x' pots pots' : List ℕ} (k : KeepDone prev count (held .split) y (y + d) x' kept kept') (w : Walked prev d count 1 x x')
+        (lo : Lowered gap dist p 96 p') (o : HoldDone (held .split) y (y + d) p' pots pots') where
+      -- the incumbent's plan and potentials before and after
+      abbrev before : List ℕ
+      before = heldAt (best .split) y x kept
+
+      abbrev after : List ℕ
+      after = heldAt (held .split) (y + d) x' kept'
+
+      abbrev prices : List ℕ
+      prices = heldAt (best .split) y p' pots
+
+      abbrev prices' : List ℕ
+      prices' = heldAt (held .split) (y + d) p' pots'
+
+      -- an incumbent before y + d has what is kept
+      behind : held .split ≤ y → held .split ≡ y + d → ⊥
+      behind h e = omega (arith, s .some)
+
+      -- one that stays at y: all drums are taken back
+      back : held .split ≡ y → kept' ≡ x
+      unfolding taken
+      back e =
+          let z : d - (y + d - held .split) ≡ 0 = omega arith in
+          walked-none prev count 1 x kept' (rw z at (k .walked (omega arith) (omega (arith, s .some)) (taken x' w (omega arith))))
+
+      same-plan : held .split ≤ y → after ≡ before
+      same-plan h =
+          let b : held ≡ best = seen .old h in
+          held-kept x' kept' (behind h)
+          ∙ elim (ℕ-discrete (held .split) y) [
+            | yes e ↦ back e ∙ sym (held-here x kept (sym (ap (λ (z : Incumbent). z .split) b) ∙ e))
+            | no e ↦ k .same (omega arith) ∙ sym (held-kept x kept (λ q. e (ap (λ (z : Incumbent). z .split) b ∙ q)))
+          ]
+
+      same-prices : held .split ≤ y → prices' ≡ prices
+      same-prices h =
+          let b : held ≡ best = seen .old h in
+          held-kept p' pots' (behind h)
+          ∙ elim (ℕ-discrete (held .split) y) [
+            | yes e ↦ o .new (omega arith) (omega (arith, s .some)) ∙ sym (held-here p' pots (sym (ap (λ (z : Incumbent). z .split) b) ∙ e))
+            | no e ↦ o .same (omega arith) ∙ sym (held-kept p' pots (λ q. e (ap (λ (z : Incumbent). z .split) b ∙ q)))
+          ]
+
+      -- one beyond y: its drums went along the path
+      gone : y < held .split → Walked prev (held .split - y) count 1 x after
+      unfolding taken
+      gone h = elim (ℕ-discrete (held .split) (y + d)) [
+        | yes e ↦
+            let z : d ≡ held .split - y = omega arith in
+            subst (λ (l : List ℕ). Walked prev (held .split - y) count 1 x l) (sym (held-here x' kept' e)) (rw z at w)
+        | no e ↦
+            let z : d - (y + d - held .split) ≡ held .split - y = omega (arith, within) in
+            subst (λ (l : List ℕ). Walked prev (held .split - y) count 1 x l) (sym (held-kept x' kept' e))
+            (rw z at (k .walked (omega arith) (omega (arith, seen .new h .0)) (taken x' w (omega arith))))
+      ]
+
+      new-prices : y < held .split → prices' ≡ p'
+      new-prices h = elim (ℕ-discrete (held .split) (y + d)) [
+        | yes e ↦ held-here p' pots' e
+        | no e ↦ held-kept p' pots' e ∙ o .new (omega arith) (omega (arith, seen .new h .0))
+      ]
+
+      new : y < held .split → Part N p' after (held .split - y) → Kept N y held after prices'
+      new h t =
+          let e : y + (held .split - y) ≡ held .split = omega arith in
+          record {
+            long = t .long;
+            under = t .under;
+            at = λ a b z q. rw e at (part-at two t a b y z q);
+            value = value x' lo w after (held .split - y) t ∙ sym (seen .new h .1);
+            ready = subst (λ (l : List ℕ). CanonReady (again N after) l) (sym (new-prices h)) (part-ready x' lo w after (held .split - y) t);
+          }
+
+      pub stretch-done : StretchDone N p table y v limit best (heldAt (best .split) y x kept) (heldAt (best .split) y p' pots) p' x'
+          (heldAt (held .split) (y + d) x' kept') (heldAt (held .split) (y + d) p' pots') d (y + d) (v + get p 1 * d - (get p 0 - gap) * d) (get p 1)
+          (get p 0 - gap) held
+      unfolding along stretch-path
+      stretch-done = record {
+        some = s .some;
+        path = stretch-path x' lo w;
+        split = refl;
+        reached = refl;
+        moves = s .route .amounts d x' w;
+        over = over x' lo w;
+        up = up x' lo w;
+        down = down x' lo w;
+        line = on-stretch x' lo w;
+        next = next x' lo w;
+        value = value x' lo w x' d (whole x' lo w);
+        look = look;
+        same = λ h. (seen .old h, same-plan h, same-prices h);
+        new = λ h.
+            (seen .new h .0, new h (s .part p' lo (held .split - y) within after (gone h)), s .route .amounts (held .split - y) after (gone h));
+      }

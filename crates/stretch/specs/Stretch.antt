@@ -1,8 +1,10 @@
 -- What one stretch of the freight curve asks and does: the path, the shift of the drums, the incumbent, the plan that is kept for it.
 -- The report's sources 1 and 2 are plants 0 and 1. Assumes nothing.
 use mathlib.Core.Path.{_≡_}
+use mathlib.Core.Bool.{cond}
 use mathlib.Core.List.{List}
 use Prim.Native.Nat.{ℕ, _+_, _-_, _≤_, _<_}
+use lib.Dec.{eqb}
 use lib.ListN.{length, getD, set, replicate}
 use Rattle.transport.specs.Plan.{row, col, freight, Under}
 use Rattle.transport.specs.theory.Slackness.{Slack}
@@ -57,19 +59,24 @@ pub record PathDone (N : Net) (p x : List ℕ) (limit : ℕ) (dist prev : List �
 
 -- ---- the plan that is kept: that of the next split, with the drums beyond the incumbent's split taken back
 
+-- what there is for an incumbent while the climb stands at y: at its own split what stands here, else what was kept
+unfoldable pub heldAt : ℕ → ℕ → List ℕ → List ℕ → List ℕ
+heldAt split y here kept = cond (eqb split y) here kept
+
 pub record KeepReady (prev : List ℕ) (count split y next : ℕ) (x : List ℕ) : Type 0 where
-  pub undoing : y < split → Undoing prev (next - split) count 1 x
+  pub undoing : y ≤ split → Undoing prev (next - split) count 1 x
   pub most : split ≤ next
   pub near : next ≤ y + 4000
 
 pub record KeepDone (prev : List ℕ) (count split y next : ℕ) (x kept kept' : List ℕ) : Type 0 where
-  pub same : split ≤ y → kept' ≡ kept
-  pub walked : y < split → (u : Undoing prev (next - split) count 1 x) → Walked prev (u .drums - (next - split)) count 1 (u .plan) kept'
+  pub same : split < y → kept' ≡ kept
+  pub walked : y ≤ split → split < next → (u : Undoing prev (next - split) count 1 x)
+      → Walked prev (u .drums - (next - split)) count 1 (u .plan) kept'
 
 -- the potentials are kept with it
-pub record HoldDone (split y : ℕ) (p held held' : List ℕ) : Type 0 where
-  pub same : split ≤ y → held' ≡ held
-  pub new : y < split → held' ≡ p
+pub record HoldDone (split y next : ℕ) (p held held' : List ℕ) : Type 0 where
+  pub same : split < y → held' ≡ held
+  pub new : y ≤ split → split < next → held' ≡ p
 
 -- ---- the whole stretch, from split y of freight v
 

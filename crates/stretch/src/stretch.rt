@@ -1,8 +1,10 @@
 // Step 3 of report 4.1, from one split to the next: substeps 1° to 4° as they stand there. Its sources 1 and 2 are the plants, nodes 0 and 1 here.
 ghost use Rattle.residual.specs.Network.{net};
+ghost use Rattle.residual.specs.Labels.{Low};
 ghost use Rattle.residual.specs.LanesInUse.{Covers};
 ghost use Rattle.paths.specs.Search.{Wanted};
-ghost use Rattle.stretch.specs.Stretch.{ShiftReady, Reached, PathDone, KeepReady, KeepDone, HoldDone, StretchReady, StretchDone};
+ghost use Rattle.augment.specs.Potentials.{LowerReady, Lowered};
+ghost use Rattle.stretch.specs.Stretch.{ShiftReady, Reached, PathDone, KeepReady, KeepDone, HoldDone, heldAt, StretchReady, StretchDone};
 use super::scan::scan;
 use super::undo::undo;
 use crate::Incumbent;
@@ -80,6 +82,7 @@ fn find_path(
     requires { ⌜ Wanted (net m n (now cost) (now cap) (now x)) (now demand) ⌝ }
     requires { ⌜ Covers m n (now x) (now serves) ⌝ }
     ensures { λ r. ⌜ PathDone (net m n (now (cost .entry)) (now (cap .entry)) (now (x .entry))) (now (pot .entry)) (now (x .entry)) limit (r .dist) (r .prev) (r .count) (r .gap) (r .delta) ⌝ }
+    ensures { λ r. ⌜ Low (now (pot .entry)) (r .dist) ⌝ }
 {
     let found = reach(m, n, cost, cap, limit, demand, x, serves, pot, up);
     let dist = found.dist;
@@ -95,7 +98,7 @@ fn find_path(
     }
 }
 
-// Keeps the plan at a split beyond y: x, the plan at next, with the drums beyond that split taken back along the path.
+// Keeps the plan at a split from y on and before next: x, the plan at next, with the drums beyond that split taken back along the path.
 fn keep(
     prev: &[u32; 96],
     count: u32,
@@ -108,18 +111,35 @@ fn keep(
     requires { ⌜ KeepReady (now prev) count split y next (now x) ⌝ }
     ensures { λ _. ⌜ KeepDone (now (prev .entry)) count split y next (now (x .entry)) (now (kept .entry)) (now (kept .exit)) ⌝ }
 {
-    if split <= y {
+    if split < y {
+        return;
+    }
+    if split == next {
         return;
     }
     *kept = *x;
     undo(prev, count, 1, (next - split) as u32, kept);
 }
 
-// Keeps the potentials of the plan that is kept for a split beyond y.
-fn hold(split: u64, y: u64, pot: &[u32; 96], prices: &mut [u32; 96])
-    ensures { λ _. ⌜ HoldDone split y (now (pot .entry)) (now (prices .entry)) (now (prices .exit)) ⌝ }
+// Lowers the potentials, where the path has a reduced cost: that of the tree has none.
+fn lower_by(gap: u32, dist: &[u32; 96], pot: &mut [u32; 96])
+    requires { ⌜ LowerReady gap (now dist) (now pot) ⌝ }
+    requires { ⌜ Low (now pot) (now dist) ⌝ }
+    ensures { λ _. ⌜ Lowered gap (now (dist .entry)) (now (pot .entry)) 96 (now (pot .exit)) ⌝ }
 {
-    if y < split {
+    if 0 < gap {
+        lower(gap, dist, pot);
+    }
+}
+
+// Keeps the potentials of the plan that is kept for such a split.
+fn hold(split: u64, y: u64, next: u64, pot: &[u32; 96], prices: &mut [u32; 96])
+    ensures { λ _. ⌜ HoldDone split y next (now (pot .entry)) (now (prices .entry)) (now (prices .exit)) ⌝ }
+{
+    if split < y {
+        return;
+    }
+    if split < next {
         *prices = *pot;
     }
 }
@@ -134,8 +154,8 @@ pub struct Moved {
     pub best: Incumbent,
 }
 
-// One stretch from split y, whose plan x has the given freight, at most limit drums further, which are left to u. The incumbent's plan is kept,
-// with its potentials. The path is that of the tree, where it has one.
+// One stretch from split y, whose plan x has the given freight, at most limit drums further, which are left to u. The incumbent's plan is x, where
+// its split is that of x; when the climb leaves it, it is kept, with its potentials. The path is that of the tree, where it has one.
 pub fn stretch(
     m: usize,
     n: usize,
@@ -157,7 +177,7 @@ pub fn stretch(
     requires { ⌜ StretchReady (net m n (now cost) (now cap) (now x)) (now pot) (now x) (now table) y freight limit best ⌝ }
     requires { ⌜ Wanted (net m n (now cost) (now cap) (now x)) (now demand) ⌝ }
     requires { ⌜ Covers m n (now x) (now serves) ⌝ }
-    ensures { λ r. ⌜ StretchDone (net m n (now (cost .entry)) (now (cap .entry)) (now (x .entry))) (now (pot .entry)) (now (table .entry)) y freight limit best (now (kept .entry)) (now (prices .entry)) (now (pot .exit)) (now (x .exit)) (now (kept .exit)) (now (prices .exit)) (r .delta) (r .split) (r .freight) (r .gain) (r .loss) (r .best) ⌝ }
+    ensures { λ r. ⌜ StretchDone (net m n (now (cost .entry)) (now (cap .entry)) (now (x .entry))) (now (pot .entry)) (now (table .entry)) y freight limit best (heldAt (best .split) y (now (x .entry)) (now (kept .entry))) (heldAt (best .split) y (now (pot .exit)) (now (prices .entry))) (now (pot .exit)) (now (x .exit)) (heldAt (r .best .split) (r .split) (now (x .exit)) (now (kept .exit))) (heldAt (r .best .split) (r .split) (now (pot .exit)) (now (prices .exit))) (r .delta) (r .split) (r .freight) (r .gain) (r .loss) (r .best) ⌝ }
     ensures { λ r. ⌜ Covers m n (now (x .exit)) (now (serves .exit)) ⌝ }
 {
     // 1° A cheapest path from plant 1 to plant 2 in the residual network, and δ: the smallest ceiling on it, or what is left to u if that is less.
@@ -176,15 +196,15 @@ pub fn stretch(
     push(&prev, count, 1, delta, x);
     let value = freight + gain * drums - loss * drums;
     // 3° The incumbent, revised where a total on the way is smaller: every split of the stretch is looked at. Its plan is that of the next split
-    // with the drums beyond its own taken back; it is copied only where the incumbent is new.
+    // with the drums beyond its own taken back; it is copied only where the climb leaves it.
     let held = scan(table, y, drums, freight, gain, loss, best);
     let split = held.split;
     keep(&prev, count, split, y, next, x, kept);
     // 4° The end, where the split is u, is the test of the loop around this. The residual network and the potentials for the next stretch: the
     // potentials are lowered at the end too, since the plan that is kept needs them.
     mark(&prev, count, 1, serves);
-    lower(gap, &dist, pot);
-    hold(split, y, pot, prices);
+    lower_by(gap, &dist, pot);
+    hold(split, y, next, pot, prices);
     Moved {
         delta: drums,
         split: next,

@@ -2,7 +2,7 @@
 use mathlib.Core.Path.{_≡_, refl, sym, ap, subst, _∙_}
 use mathlib.Core.List.{List}
 use Prim.Native.Nat.{ℕ, _+_, _-_, _*_, _≤_, _<_}
-use native.Mathlib.Decide.{decLt}
+use native.Mathlib.Decide.{decLt, ℕ-discrete}
 use native.Mathlib.Omega.{arith}
 use lib.ListN.{length, getD}
 use Rattle.transport.specs.Plan.{Table, row, col, freight, Under}
@@ -14,7 +14,7 @@ use Rattle.canonical.specs.Canonize.{CanonReady}
 use Rattle.cuts.specs.Advance.{Advanced}
 use Rattle.range.specs.engine.PlantShift.{Swinging}
 use Rattle.stretch.specs.Scan.{along}
-use Rattle.stretch.specs.Stretch.{StretchReady, StretchDone}
+use Rattle.stretch.specs.Stretch.{heldAt, StretchReady, StretchDone}
 use Rattle.stretch.specs.declared.Incumbent.{Incumbent}
 use Rattle.sweep.specs.Sweep.{PlanAt}
 use Rattle.sweep.specs.engine.StopsPassed.{Straight}
@@ -23,6 +23,7 @@ use Rattle.transport.proofs.Sums.{sum-ext}
 use Rattle.transport.proofs.LeastFreight.{slack-least, line}
 use Rattle.transport.proofs.Tables.{rows-cols, sends, freight-bound}
 use Rattle.transport.proofs.Splits.{least-in-at}
+use Rattle.stretch.proofs.HeldPlan.{held-here, held-kept}
 
 -- a plan of the two plants' split as the contract has it
 pub plan-at : {m n : ℕ} {c u : Table} {d : ℕ} {a b : ℕ → ℕ} {y v : ℕ} {x : List ℕ} (z : ℕ) → 2 ≤ m → At m n a b y z (cells x) → y + z ≡ d
@@ -50,6 +51,29 @@ swing-on cap k c a = record {
   floor = λ v h. omega (arith, k .floor v h, a .up v h);
 }
 
+-- what the plan for everybody asks of the plan where the climb stands
+swing-ready : (m n : ℕ) (cost cap : List ℕ) {x p : List ℕ} {P : ℕ} → Swinging (net m n cost cap x) P p x → CanonReady (net m n cost cap x) p
+swing-ready m n cost cap k = record {
+  sources = k .sound .sources;
+  terminals = k .sound .terminals;
+  costs = k .sound .costs;
+  high = k .sound .high;
+  slack = k .sound .slack;
+  under = k .under;
+  ceilings = k .ceilings;
+}
+
+-- other potentials of the plan where the climb stands do as well for the incumbent
+held-ready : (m n : ℕ) (cost cap x kept p held : List ℕ) (split y : ℕ) {P : List ℕ} → CanonReady (net m n cost cap x) P
+    → CanonReady (net m n cost cap (heldAt split y x kept)) (heldAt split y p held)
+    → CanonReady (net m n cost cap (heldAt split y x kept)) (heldAt split y P held)
+held-ready m n cost cap x kept p held split y {P} k s = elim (ℕ-discrete split y) [
+  | yes e ↦
+      subst (λ (l : List ℕ). CanonReady (net m n cost cap l) (heldAt split y P held)) (sym (held-here x kept e))
+      (subst (λ (l : List ℕ). CanonReady (net m n cost cap x) l) (sym (held-here P held e)) k)
+  | no e ↦ subst (λ (l : List ℕ). CanonReady (net m n cost cap (heldAt split y x kept)) l) (held-kept p held e ∙ sym (held-kept P held e)) s
+]
+
 module _ {m n : ℕ} {cost cap x₀ p₀ : List ℕ} {lo hi v : ℕ} {table splits freights : List ℕ} (r : ClimbReady m n cost cap x₀ p₀ lo hi v table splits freights) where
   pub two : 2 ≤ m
   two = omega (arith, r .swinging .plants)
@@ -58,8 +82,8 @@ module _ {m n : ℕ} {cost cap x₀ p₀ : List ℕ} {lo hi v : ℕ} {table spli
   pub both : (y : ℕ) → y ≤ hi → y ≤ bothIn n x₀
   both y h = omega (arith, r .first, r .within, r .order)
 
-  pub stand-start : Standing m n cost cap x₀ x₀ p₀ x₀ p₀ lo v (record { split = lo; total = v + getD table lo 0; freight = v })
-  stand-start =
+  pub stand-start : (kept held : List ℕ) → Standing m n cost cap x₀ x₀ p₀ kept held lo v (record { split = lo; total = v + getD table lo 0; freight = v })
+  stand-start kept held =
       let t : At m n (row n (cells x₀)) (col m (cells x₀)) lo (bothIn n x₀ - lo) (cells x₀) =
       record { plant0 = r .first; plant1 = omega (arith, r .first); depots = λ i h l. refl; demands = λ j h l. refl } in
       record {
@@ -67,17 +91,12 @@ module _ {m n : ℕ} {cost cap x₀ p₀ : List ℕ} {lo hi v : ℕ} {table spli
         at = t;
         worth = r .worth;
         plan =
-            plan-at (bothIn n x₀ - lo) two t (omega (arith, both lo (r .order))) (r .swinging .long-x)
-            (r .swinging .under) (r .worth);
-        ready = record {
-          sources = r .swinging .sound .sources;
-          terminals = r .swinging .sound .terminals;
-          costs = r .swinging .sound .costs;
-          high = r .swinging .sound .high;
-          slack = r .swinging .sound .slack;
-          under = r .swinging .under;
-          ceilings = r .swinging .ceilings;
-        };
+            subst (λ (l : List ℕ). PlanAt m n (cells cost) (cells cap) (bothIn n x₀) (row n (cells x₀)) (col m (cells x₀)) lo v l)
+            (sym (held-here x₀ kept refl))
+            (plan-at (bothIn n x₀ - lo) two t (omega (arith, both lo (r .order))) (r .swinging .long-x) (r .swinging .under) (r .worth));
+        ready =
+            subst (λ (l : List ℕ). CanonReady (net m n cost cap l) (heldAt lo lo p₀ held)) (sym (held-here x₀ kept refl))
+            (subst (λ (l : List ℕ). CanonReady (net m n cost cap x₀) l) (sym (held-here p₀ held refl)) (swing-ready m n cost cap (r .swinging)));
         behind = omega arith;
       }
 
@@ -89,7 +108,7 @@ module _ {m n : ℕ} {cost cap x₀ p₀ : List ℕ} {lo hi v : ℕ} {table spli
       at = s .at;
       worth = s .worth;
       plan = s .plan;
-      ready = s .ready;
+      ready = held-ready m n cost cap x kept p held (b .split) y (swing-ready m n cost cap (swing-on cap (s .swinging) c a)) (s .ready);
       behind = s .behind;
     }
 
@@ -115,6 +134,12 @@ module _ {m n : ℕ} {cost cap x₀ p₀ : List ℕ} {lo hi v : ℕ} {table spli
           rows-cols m n (cells x₀),
           r .few,
         )
+
+    -- at the end the plan of the last split is taken, where it is the incumbent's
+    pub last-ready : {k h : List ℕ} → k ≡ heldAt (b .split) y x kept → h ≡ heldAt (b .split) y p held → CanonReady (net m n cost cap k) h
+    last-ready {h = h} e f =
+        subst (λ (l : List ℕ). CanonReady (net m n cost cap l) h) (sym e)
+        (subst (λ (l : List ℕ). CanonReady (net m n cost cap (heldAt (b .split) y x kept)) l) (sym f) (s .ready))
 
     pub stretch-ready : lo ≤ y → y < hi → StretchReady (net m n cost cap x) p x table y value (hi - y) b
     stretch-ready l h = record {
@@ -143,8 +168,8 @@ module _ {m n : ℕ} {cost cap x₀ p₀ : List ℕ} {lo hi v : ℕ} {table spli
     }
 
     -- the stretch is a straight line of the curve
-    module _ {kept' held' p' x' : List ℕ} {d y' v' gain loss : ℕ} {b' : Incumbent} (low : lo ≤ y) (top : y < hi)
-        (q : StretchDone (net m n cost cap x) p table y value (hi - y) b kept held p' x' kept' held' d y' v' gain loss b') where
+    module _ {k h k' h' p' x' : List ℕ} {d y' v' gain loss : ℕ} {b' : Incumbent} (low : lo ≤ y) (top : y < hi)
+        (q : StretchDone (net m n cost cap x) p table y value (hi - y) b k h p' x' k' h' d y' v' gain loss b') where
       pub most : y + d ≤ hi
       most = omega (arith, q .over .most)
 
@@ -173,39 +198,73 @@ module _ {m n : ℕ} {cost cap x₀ p₀ : List ℕ} {lo hi v : ℕ} {table spli
       pub behind-next : b' .split ≤ y + d
       behind-next = elim (decLt y (b' .split)) [ yes h ↦ q .new h .0 | no h ↦ omega arith ]
 
-      -- the plan that is kept is the incumbent's
-      pub plan-next : PlanAt m n (cells cost) (cells cap) (bothIn n x₀) (row n (cells x₀)) (col m (cells x₀)) (b' .split) (b' .freight) kept'
-      plan-next = elim (decLt y (b' .split)) [
-        | yes h ↦
-            let k = q .new h .1 in
+      -- the plan that is held is the incumbent's
+      plan-next : k ≡ heldAt (b .split) y x kept
+          → PlanAt m n (cells cost) (cells cap) (bothIn n x₀) (row n (cells x₀)) (col m (cells x₀)) (b' .split) (b' .freight) k'
+      plan-next e = elim (decLt y (b' .split)) [
+        | yes l ↦
+            let w = q .new l .1 in
             plan-at (bothIn n x₀ - y - (b' .split - y)) two
-            (k .at (row n (cells x₀)) (col m (cells x₀)) (bothIn n x₀ - y) (s .at))
-            (omega (arith, both (y + d) most, q .new h .0)) (k .long) (k .under) (k .value)
-        | no h ↦ let o = q .same (omega arith) in rw (o .0, o .1) (s .plan)
+            (w .at (row n (cells x₀)) (col m (cells x₀)) (bothIn n x₀ - y) (s .at))
+            (omega (arith, both (y + d) most, q .new l .0)) (w .long) (w .under) (w .value)
+        | no l ↦
+            let o = q .same (omega arith) in
+            subst (λ (z : List ℕ). PlanAt m n (cells cost) (cells cap) (bothIn n x₀) (row n (cells x₀)) (col m (cells x₀)) (b' .split) (b' .freight) z)
+            (sym (o .1 ∙ e))
+            (subst
+            (λ (z : Incumbent). PlanAt m n (cells cost) (cells cap) (bothIn n x₀) (row n (cells x₀)) (col m (cells x₀)) (z .split) (z .freight) (heldAt (b .split) y x kept))
+            (sym (o .0)) (s .plan))
       ]
+
+      -- the plan at y is slack under the new potentials too
+      here-ready : CanonReady (net m n cost cap x) p'
+      here-ready = record {
+        sources = s .swinging .sound .sources;
+        terminals = s .swinging .sound .terminals;
+        costs = s .swinging .sound .costs;
+        high = q .over .swinging .sound .high;
+        slack = q .over .old;
+        under = s .swinging .under;
+        ceilings = s .swinging .ceilings;
+      }
 
       -- with its potentials
-      ready-next : CanonReady (net m n cost cap kept') held'
-      ready-next = elim (decLt y (b' .split)) [
-        | yes h ↦ q .new h .1 .ready
-        | no h ↦ let o = q .same (omega arith) in rw (o .1, o .2) (s .ready)
+      ready-next : k ≡ heldAt (b .split) y x kept → h ≡ heldAt (b .split) y p' held → CanonReady (net m n cost cap k') h'
+      ready-next e f = elim (decLt y (b' .split)) [
+        | yes l ↦ q .new l .1 .ready
+        | no l ↦
+            let o = q .same (omega arith) in
+            subst (λ (z : List ℕ). CanonReady (net m n cost cap z) h') (sym (o .1 ∙ e))
+            (subst (λ (z : List ℕ). CanonReady (net m n cost cap (heldAt (b .split) y x kept)) z) (sym (o .2 ∙ f))
+            (held-ready m n cost cap x kept p held (b .split) y here-ready (s .ready)))
       ]
 
-      pub stand-next : Standing m n cost cap x₀ x' p' kept' held' y' v' b'
-      stand-next =
+      pub stand-next : {kept' held' : List ℕ} → k ≡ heldAt (b .split) y x kept → h ≡ heldAt (b .split) y p' held → k' ≡ heldAt (b' .split) y' x' kept'
+          → h' ≡ heldAt (b' .split) y' p' held' → Standing m n cost cap x₀ x' p' kept' held' y' v' b'
+      stand-next {kept'} {held'} e f e' f' =
           let sw = q .over .swinging in
           let z : bothIn n x₀ - y - d ≡ bothIn n x₀ - (y + d) = omega arith in
-          rw (q .split) (record {
+          record {
             swinging = subst (λ (P : ℕ). Swinging (net m n cost cap x') P p' x') (sym (sw .one)) sw;
-            at = subst (λ (w : ℕ). At m n (row n (cells x₀)) (col m (cells x₀)) (y + d) w (cells x')) z next-at;
+            at =
+                subst (λ (w : ℕ). At m n (row n (cells x₀)) (col m (cells x₀)) w (bothIn n x₀ - w) (cells x')) (sym (q .split))
+                (subst (λ (w : ℕ). At m n (row n (cells x₀)) (col m (cells x₀)) (y + d) w (cells x')) z next-at);
             worth = q .value ∙ sym (q .reached);
-            plan = plan-next;
-            ready = ready-next;
-            behind = behind-next;
-          })
+            plan =
+                subst (λ (l : List ℕ). PlanAt m n (cells cost) (cells cap) (bothIn n x₀) (row n (cells x₀)) (col m (cells x₀)) (b' .split) (b' .freight) l) e'
+                (plan-next e);
+            ready =
+                subst (λ (l : List ℕ). CanonReady (net m n cost cap l) (heldAt (b' .split) y' p' held')) e'
+                (subst (λ (l : List ℕ). CanonReady (net m n cost cap k') l) f' (ready-next e f));
+            behind = omega (arith, behind-next, q .split);
+          }
 
       pub gain-most : gain ≤ 800000000
       gain-most = omega (arith, q .up, q .over .swinging .sound .high 1 (omega arith))
 
       pub loss-most : loss ≤ 800000000
       loss-most = omega (arith, q .down, q .over .swinging .sound .high 0 (omega arith))
+
+  -- the freight at the first split
+  pub start-most : v ≤ 512000000000
+  start-most = value-most (stand-start x₀ p₀)

@@ -1,5 +1,5 @@
 -- The climb from the first split to the last, turn by turn. Assumes nothing.
-use mathlib.Core.Path.{_≡_, sym, ap, _∙_}
+use mathlib.Core.Path.{_≡_, sym, ap, subst, _∙_}
 use mathlib.Core.Bool.{Bool}
 use mathlib.Core.List.{List}
 use Prim.Native.Nat.{ℕ, _+_, _-_, _≤_, _<_}
@@ -11,7 +11,7 @@ use Rattle.transport.specs.Curve.{amountsAt, leastIn, bestFrom}
 use Rattle.residual.specs.Cells.{cells}
 use Rattle.residual.specs.Network.{net}
 use Rattle.canonical.specs.Canonize.{Canonized}
-use Rattle.stretch.specs.Stretch.{StretchDone}
+use Rattle.stretch.specs.Stretch.{heldAt, StretchDone}
 use Rattle.stretch.specs.declared.Incumbent.{Incumbent}
 use Rattle.sweep.specs.Sweep.{Swept}
 use Rattle.sweep.specs.engine.StopsPassed.{turned, NoteReady, Noted, Marked, Climbing}
@@ -24,7 +24,7 @@ module _ {m n : ℕ} {cost cap x₀ p₀ : List ℕ} {lo hi v : ℕ} {table spli
   pub ascend-start : Climbing (curveFrom m n cost cap x₀) table splits freights lo hi splits freights lo v 0 0 0
       (record { split = lo; total = v + getD table lo 0; freight = v })
   ascend-start =
-      let h = here r (stand-start r) (r .order) in
+      let h = here r (stand-start r x₀ p₀) (r .order) in
       climb-start (curveFrom m n cost cap x₀) table splits freights lo hi v (v + getD table lo 0) (r .order) (sym h) (ap (λ z. z + getD table lo 0) (sym h))
 
   module _ {x p kept held splits' freights' : List ℕ} {y value count rise fall : ℕ} {b : Incumbent} (s : Standing m n cost cap x₀ x p kept held y value b)
@@ -38,8 +38,8 @@ module _ {m n : ℕ} {cost cap x₀ p₀ : List ℕ} {lo hi v : ℕ} {table spli
     pub ascend-freights : length freights' ≡ length freights
     ascend-freights = climb-freights (curveFrom m n cost cap x₀) table splits freights lo hi c (r .splits-room) (r .freights-room)
 
-    pub ascend-next : {kept' held' p' x' splits'' freights'' : List ℕ} {d y' v' gain loss count' : ℕ} {b' : Incumbent} {stop : Bool} → y < hi
-        → StretchDone (net m n cost cap x) p table y value (hi - y) b kept held p' x' kept' held' d y' v' gain loss b' → stop ≡ turned y lo gain loss rise fall
+    pub ascend-next : {k h k' h' p' x' splits'' freights'' : List ℕ} {d y' v' gain loss count' : ℕ} {b' : Incumbent} {stop : Bool} → y < hi
+        → StretchDone (net m n cost cap x) p table y value (hi - y) b k h p' x' k' h' d y' v' gain loss b' → stop ≡ turned y lo gain loss rise fall
         → Marked stop count y value splits' freights' splits'' freights'' count'
         → Climbing (curveFrom m n cost cap x₀) table splits freights lo hi splits'' freights'' y' v' count' gain loss b'
     ascend-next {d = d} {gain = gain} {loss = loss} h q e k =
@@ -47,16 +47,17 @@ module _ {m n : ℕ} {cost cap x₀ p₀ : List ℕ} {lo hi v : ℕ} {table spli
         (climb-next (curveFrom m n cost cap x₀) table splits freights lo hi c (r .splits-room) (r .freights-room) d gain loss (q .some) (most r s (c .low) h q)
         (stretch-line r s (c .low) h q) e k (value-next r s (c .low) h q) (q .look))
 
-    -- the plan that is kept has the least freight at its split
-    kept-least : freight m n (cells cost) (cells kept) ≡ leastFreightIn m n (cells cost) (cells cap) (amountsAt (bothIn n x₀) (row n (cells x₀)) (b .split)) (col m (cells x₀))
+    -- the plan that is held has the least freight at its split
+    kept-least : freight m n (cells cost) (cells (heldAt (b .split) y x kept)) ≡ leastFreightIn m n (cells cost) (cells cap) (amountsAt (bothIn n x₀) (row n (cells x₀)) (b .split)) (col m (cells x₀))
     unfolding leastIn
     kept-least = s .plan .worth ∙ c .best .freight
 
-    pub ascend-end : {splits'' freights'' kept' : List ℕ} {count' : ℕ} → hi ≤ y → Noted count y value splits' freights' splits'' freights'' count'
-        → Canonized (net m n cost cap kept) kept'
+    pub ascend-end : {splits'' freights'' k kept' : List ℕ} {count' : ℕ} → hi ≤ y → Noted count y value splits' freights' splits'' freights'' count'
+        → k ≡ heldAt (b .split) y x kept → Canonized (net m n cost cap k) kept'
         → Swept m n (cells cost) (cells cap) (bothIn n x₀) (row n (cells x₀)) (col m (cells x₀)) lo hi table splits freights splits'' freights'' kept' (b .split) (b .total) (b .freight) count'
-    ascend-end {kept' = kept'} h k o =
+    ascend-end {kept' = kept'} h k f held =
         let e : y ≡ hi = omega (arith, c .high) in
+        let o = subst (λ (l : List ℕ). Canonized (net m n cost cap l) kept') f held in
         let w = climb-end (curveFrom m n cost cap x₀) table splits freights lo hi c (r .splits-room) (r .freights-room) e k in
         record {
           split = c .best .split ∙ ap (λ z. bestFrom (λ z. curveFrom m n cost cap x₀ z + getD table z 0) lo (z - lo)) e;

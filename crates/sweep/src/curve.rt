@@ -6,15 +6,17 @@ ghost use Rattle.residual.specs.Cells.{cells};
 ghost use Rattle.residual.specs.Network.{net};
 ghost use Rattle.residual.specs.LanesInUse.{Covers};
 ghost use Rattle.paths.specs.Search.{Wanted};
+ghost use Rattle.cuts.specs.Columns.{Transposed};
 ghost use Rattle.range.specs.Begun.{Begun};
 ghost use Rattle.range.specs.Range.{amountIn, demandIn};
+ghost use Rattle.stretch.specs.Stretch.{heldAt};
 ghost use Rattle.sweep.specs.Sweep.{SweepReady, Swept};
 ghost use Rattle.sweep.specs.engine.StopsPassed.{NoteReady, Noted, Marked, turned};
 ghost use Rattle.sweep.specs.engine.Climb.{bothIn, ClimbReady};
 use super::freight::freight_of;
 use canonical::canon::canonize;
 use cuts::advance::advance;
-use cuts::grow::grow;
+use cuts::columns::by_terminal;
 use stretch::Incumbent;
 use stretch::stretch::stretch;
 
@@ -62,6 +64,24 @@ pub struct Curve {
     pub stops: usize,
 }
 
+// Keeps the plan of the last split with its potentials, where it is the incumbent's.
+fn keep_last(
+    split: u64,
+    y: u64,
+    x: &[u32; 2048],
+    pot: &[u32; 96],
+    kept: &mut [u32; 2048],
+    prices: &mut [u32; 96],
+)
+    ensures { λ _. ⌜ now (kept .exit) ≡ heldAt split y (now (x .entry)) (now (kept .entry)) ⌝ }
+    ensures { λ _. ⌜ now (prices .exit) ≡ heldAt split y (now (pot .entry)) (now (prices .entry)) ⌝ }
+{
+    if split == y {
+        *kept = *x;
+        *prices = *pot;
+    }
+}
+
 // Step 3 of report 4.1: from a cheapest plan x at lo, with its potentials and its freight, stretch by stretch up to hi, on the tree as far as it goes.
 fn climb(
     m: usize,
@@ -82,20 +102,21 @@ fn climb(
     up: &mut [u32; 128],
     rows: &mut [u32; 128],
     cols: &mut [u64; 128],
+    columns: &[u32; 2048],
 ) -> Curve
     requires { ⌜ ClimbReady m n (now cost) (now cap) (now x) (now pot) lo hi freight (now table) (now splits) (now freights) ⌝ }
     requires { ⌜ Wanted (net m n (now cost) (now cap) (now x)) (now demand) ⌝ }
     requires { ⌜ Covers m n (now x) (now serves) ⌝ }
+    requires { ⌜ Transposed m n (now cost) (now columns) ⌝ }
     ensures { λ r. ⌜ Swept m n (cells (now (cost .entry))) (cells (now (cap .entry))) (bothIn n (now (x .entry))) (row n (cells (now (x .entry)))) (col m (cells (now (x .entry)))) lo hi (now (table .entry)) (now (splits .entry)) (now (freights .entry)) (now (splits .exit)) (now (freights .exit)) (now (kept .exit)) (r .split) (r .total) (r .freight) (r .stops) ⌝ }
 {
-    // The end of step 1: the incumbent is the plan at lo.
+    // The end of step 1: the incumbent is the plan at lo. Its plan is kept when the climb leaves it.
     let at = lo as usize;
     let mut best = Incumbent {
         split: lo,
         total: freight + table[at],
         freight,
     };
-    *kept = *x;
     let mut prices = *pot;
     let mut y = lo;
     let mut value = freight;
@@ -104,7 +125,7 @@ fn climb(
     let mut fall: u64 = 0;
     // Step 3, which ends where the split is hi. Before each stretch the tree is cut until its path has room.
     while y < hi {
-        advance(m, n, cost, x, serves, pot, up, rows, cols);
+        advance(m, n, cost, columns, x, serves, pot, up, rows, cols);
         let left = (hi - y) as u32;
         let moved = stretch(
             m,
@@ -133,6 +154,7 @@ fn climb(
         best = moved.best;
     }
     count = note(count, y, value, splits, freights);
+    keep_last(best.split, y, x, pot, kept, &mut prices);
     canonize(m, n, cost, cap, &prices, kept);
     Curve {
         split: best.split,
@@ -143,7 +165,7 @@ fn climb(
 }
 
 // The sweep from split lo to split hi of a prepared case, of which x holds a cheapest plan at lo: the stops and their freights go into the
-// slices, the plan for everybody at the best split into kept.
+// slices, the plan for everybody at the best split into kept. Nothing is asked of the tree in up, rows and cols.
 pub fn sweep(
     m: usize,
     n: usize,
@@ -161,16 +183,16 @@ pub fn sweep(
     serves: &mut [u32; 64],
     pot: &mut [u32; 96],
     kept: &mut [u32; 2048],
+    up: &mut [u32; 128],
+    rows: &mut [u32; 128],
+    cols: &mut [u64; 128],
 ) -> Curve
     requires { ⌜ Begun m n (now cost) (now cap) (amountIn (now supply)) (demandIn (now demand)) made lo hi (now x) (now serves) (now pot) ⌝ }
     requires { ⌜ SweepReady m n (now demand) lo hi (now table) (now splits) (now freights) ⌝ }
     ensures { λ r. ⌜ Swept m n (byRow 64 (now (cost .entry))) (byRow 64 (now (cap .entry))) made (amountIn (now (supply .entry))) (demandIn (now (demand .entry))) lo hi (now (table .entry)) (now (splits .entry)) (now (freights .entry)) (now (splits .exit)) (now (freights .exit)) (now (kept .exit)) (r .split) (r .total) (r .freight) (r .stops) ⌝ }
 {
     let freight = freight_of(m, n, cost, x);
-    let mut up = [0u32; 128];
-    let mut rows = [0u32; 128];
-    let mut cols = [0u64; 128];
-    grow(m, n, cost, serves, pot, &mut up, &mut rows, &mut cols);
+    let columns = by_terminal(m, n, cost);
     climb(
         m,
         n,
@@ -187,8 +209,9 @@ pub fn sweep(
         serves,
         pot,
         kept,
-        &mut up,
-        &mut rows,
-        &mut cols,
+        up,
+        rows,
+        cols,
+        &columns,
     )
 }

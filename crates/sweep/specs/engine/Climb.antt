@@ -12,6 +12,7 @@ use Rattle.residual.specs.Network.{net, get}
 use Rattle.canonical.specs.Canonize.{CanonReady}
 use Rattle.range.specs.engine.PlantShift.{Swinging}
 use Rattle.range.specs.Begun.{Some}
+use Rattle.stretch.specs.Stretch.{heldAt}
 use Rattle.stretch.specs.declared.Incumbent.{Incumbent}
 use Rattle.sweep.specs.Sweep.{PlanAt}
 
@@ -38,11 +39,11 @@ pub record ClimbReady (m n : ℕ) (cost cap x p : List ℕ) (lo hi v : ℕ) (tab
   pub splits-room : hi - lo < length splits
   pub freights-room : hi - lo < length freights
 
--- the climb from plan x₀ stands at y with plan x and potentials p; held are the potentials of the plan that is kept
+-- the climb from plan x₀ stands at y with plan x and potentials p; at a split before y the incumbent's plan is kept, and held are its potentials
 pub record Standing (m n : ℕ) (cost cap x₀ x p kept held : List ℕ) (y value : ℕ) (b : Incumbent) : Type 0 where
   pub swinging : Swinging (net m n cost cap x) (get p 1) p x
   pub at : At m n (row n (cells x₀)) (col m (cells x₀)) y (bothIn n x₀ - y) (cells x)
   pub worth : freight m n (cells cost) (cells x) ≡ value
-  pub plan : PlanAt m n (cells cost) (cells cap) (bothIn n x₀) (row n (cells x₀)) (col m (cells x₀)) (b .split) (b .freight) kept
-  pub ready : CanonReady (net m n cost cap kept) held
+  pub plan : PlanAt m n (cells cost) (cells cap) (bothIn n x₀) (row n (cells x₀)) (col m (cells x₀)) (b .split) (b .freight) (heldAt (b .split) y x kept)
+  pub ready : CanonReady (net m n cost cap (heldAt (b .split) y x kept)) (heldAt (b .split) y p held)
   pub behind : b .split ≤ y

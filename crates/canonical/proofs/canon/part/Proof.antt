@@ -9,17 +9,17 @@ use Rattle.canonical.proofs.canon.part.Statement.{statement}
 use Rattle.canonical.proofs.canon.part.Tie as tie
 
 abbrev Inv-loop : tie.InvT-loop
-Inv-loop m n cost cap pot plan aside₀ free₀ x₀ serves₀ i₀ aside free x serves i = (i ≤ m) × PartedTo (net m n cost cap plan) pot (i * 64) aside free x serves
+Inv-loop m n cost cap pot plan aside₀ free₀ x₀ serves₀ ways₀ i₀ aside free x serves ways i = (i ≤ m) × PartedTo (net m n cost cap plan) pot (i * 64) aside free x serves ways
 
 abbrev μ-loop : tie.MeasureT-loop
-μ-loop m n cost cap pot plan aside₀ free₀ x₀ serves₀ i₀ aside free x serves i = m - i
+μ-loop m n cost cap pot plan aside₀ free₀ x₀ serves₀ ways₀ i₀ aside free x serves ways i = m - i
 
 loop-holds : tie.Need-loop-holds Inv-loop μ-loop
 loop-holds c = (omega arith, part-skip (c .pre .1) (λ a b ha hb l. omega arith) (omega arith))
 
 part-row-requires : tie.Need-part-row-requires Inv-loop μ-loop
 part-row-requires c κs =
-    let s = c .before .before .before .before .before .before in (c .before .before .before .before .loop-test .taken, (s .pre .0, c .before .before .before .before .before .loop .inv .1))
+    let s = c .before .before .before .before .before .before .before in (c .before .before .before .before .before .loop-test .taken, (s .pre .0, c .before .before .before .before .before .before .loop .inv .1))
 
 add-i : tie.Need-add-i Inv-loop μ-loop
 add-i c = search needs

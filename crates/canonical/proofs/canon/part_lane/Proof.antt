@@ -1,8 +1,10 @@
 -- `canonical::canon::part_lane` meets its contract. Assumes nothing.
+use Prim.Native.Nat.{_-_}
 use native.Mathlib.Omega.{arith}
-use borrow.Author.Tests.{eqb-true, eqb-false}
-use Rattle.canonical.proofs.LaneStores.{unless-most, part-lane, cover-brought, cover-still}
 use borrow.Author.Needs.{needs}
+use Rattle.canonical.proofs.LaneStores.{part-free, part-aside, cover-brought, cover-still}
+use Rattle.canonical.proofs.FreeLanes.{open-lane}
+use Rattle.reachability.proofs.MaskBits.{power-fits-long}
 use Rattle.canonical.proofs.canon.part_lane.Statement.{statement}
 use Rattle.canonical.proofs.canon.part_lane.Tie as tie
 
@@ -12,44 +14,35 @@ mul-k c = search needs
 add-k : tie.Need-add-k
 add-k c = search needs
 
-add-t : tie.Need-add-t
-add-t c = search needs
-
-mul-tight : tie.Need-mul-tight
-mul-tight c = search needs
-
-element-copy-out-tight : tie.Need-element-copy-out-tight
-element-copy-out-tight c = search needs
-
-mul-tight-2 : tie.Need-mul-tight-2
-mul-tight-2 c = search needs
-
-element-copy-out-tight-2 : tie.Need-element-copy-out-tight-2
-element-copy-out-tight-2 c = search needs
-
-add-tight : tie.Need-add-tight
-add-tight c = let s = c .before .before in omega (arith, s .pre .1 .0 .costs (s .args .i) (s .args .j) (s .pre .0 .0) (s .pre .0 .1), s .pre .1 .0 .high (s .args .i) (omega arith))
-
-mul-tight-3 : tie.Need-mul-tight-3
-mul-tight-3 c = search needs
-
-element-copy-out-tight-3 : tie.Need-element-copy-out-tight-3
-element-copy-out-tight-3 c = search needs
-
 mul-amount : tie.Need-mul-amount
 mul-amount c = search needs
 
 element-copy-out-amount : tie.Need-element-copy-out-amount
 element-copy-out-amount c = search needs
 
-mul-ceiling : tie.Need-mul-ceiling
-mul-ceiling c = search needs
+mul-if1 : tie.Need-mul-if1
+mul-if1 c = search needs
 
-element-copy-out-ceiling : tie.Need-element-copy-out-ceiling
-element-copy-out-ceiling c = search needs
+element-copy-out-if1 : tie.Need-element-copy-out-if1
+element-copy-out-if1 c = search needs
 
-unless-requires : tie.Need-unless-requires
-unless-requires c κs = search needs
+mul-if1-2 : tie.Need-mul-if1-2
+mul-if1-2 c = search needs
+
+element-copy-out-if1-2 : tie.Need-element-copy-out-if1-2
+element-copy-out-if1-2 c = search needs
+
+add-if1 : tie.Need-add-if1
+add-if1 c = let s = c .before .before .before in omega (arith, s .pre .1 .0 .costs (s .args .i) (s .args .j) (s .pre .0 .0) (s .pre .0 .1), s .pre .1 .0 .high (s .args .i) (omega arith))
+
+add-if1-2 : tie.Need-add-if1-2
+add-if1-2 c = search needs
+
+mul-if1-3 : tie.Need-mul-if1-3
+mul-if1-3 c = search needs
+
+element-copy-out-if1-3 : tie.Need-element-copy-out-if1-3
+element-copy-out-if1-3 c = search needs
 
 mul-aside : tie.Need-mul-aside
 mul-aside c = search needs
@@ -57,20 +50,20 @@ mul-aside c = search needs
 element-write-aside : tie.Need-element-write-aside
 element-write-aside c = search needs
 
-unless-requires-2 : tie.Need-unless-requires-2
-unless-requires-2 c κs = search needs
-
-sub-free : tie.Need-sub-free
-sub-free c = unless-most (c .unless2 .ensures)
+returns : tie.Need-returns
+returns c = let s = c .before .before .before .before .before in (part-aside (s .pre .1 .0) (s .pre .0 .0) (s .pre .0 .1) (s .pre .1 .1 .0) (c .if1 .taken), (s .pre .1 .1 .1 .0, s .pre .1 .1 .1 .1))
 
 mul-free : tie.Need-mul-free
 mul-free c = search needs
 
+element-copy-out-free : tie.Need-element-copy-out-free
+element-copy-out-free c = search needs
+
+mul-free-2 : tie.Need-mul-free-2
+mul-free-2 c = search needs
+
 element-write-free : tie.Need-element-write-free
 element-write-free c = search needs
-
-sub-x : tie.Need-sub-x
-sub-x c = unless-most (c .before .unless .ensures)
 
 mul-x : tie.Need-mul-x
 mul-x c = search needs
@@ -78,22 +71,32 @@ mul-x c = search needs
 element-write-x : tie.Need-element-write-x
 element-write-x c = search needs
 
+mul-ways : tie.Need-mul-ways
+mul-ways c = search needs
+
+element-copy-out-ways : tie.Need-element-copy-out-ways
+element-copy-out-ways c = search needs
+
+shl-ways : tie.Need-shl-ways
+shl-ways c = search needs
+
+mul-ways-2 : tie.Need-mul-ways-2
+mul-ways-2 c = search needs
+
+element-write-ways : tie.Need-element-write-ways
+element-write-ways c = search needs
+
+add-serve : tie.Need-add-serve
+add-serve c = search needs
+
 serve-requires : tie.Need-serve-requires
 serve-requires c κs = search needs
 
-returns : tie.Need-returns
-returns c =
-    let s = c .before .before .before .before .before .before .before .before .before .before in (
-      part-lane (s .pre .1 .0) (s .pre .0 .0) (s .pre .0 .1) (s .pre .1 .1 .0) (eqb-true _ _) (eqb-false _ _) (c .before .before .before .before .unless .ensures) (c .before .before .before .unless2 .ensures),
-      cover-brought (s .pre .1 .0) (s .pre .0 .0) (s .pre .0 .1) (s .pre .1 .1 .0) _ (s .pre .1 .1 .1) (c .serve .ensures),
-    )
-
 returns-2 : tie.Need-returns-2
-returns-2 c =
-    let s = c .before .before .before .before .before .before .before .before in (
-      part-lane (s .pre .1 .0) (s .pre .0 .0) (s .pre .0 .1) (s .pre .1 .1 .0) (eqb-true _ _) (eqb-false _ _) (c .before .before .unless .ensures) (c .before .unless2 .ensures),
-      cover-still (s .pre .1 .0) (s .pre .0 .0) (s .pre .0 .1) (s .pre .1 .1 .0) _ (s .pre .1 .1 .1) (omega (arith, c .if1 .left)),
-    )
+returns-2 c = let s = c .before .before .before .before .before .before .before .before .before .before in (part-free (s .pre .1 .0) (s .pre .0 .0) (s .pre .0 .1) (s .pre .1 .1 .0) (c .before .before .before .before .before .if1 .left), (cover-brought (s .pre .1 .0) (s .pre .0 .0) (s .pre .0 .1) (s .pre .1 .1 .0) _ (s .pre .1 .1 .1 .0) (c .serve .ensures), rw (power-fits-long (s .args .j) (omega (arith, s .pre .0 .1, s .pre .1 .0 .terminals))) (open-lane _ (s .pre .1 .0 .sources) (s .pre .1 .0 .terminals) (s .pre .0 .0) (s .pre .0 .1) (s .pre .1 .1 .1 .1))))
+
+returns-3 : tie.Need-returns-3
+returns-3 c = let s = c .before .before .before .before .before .before .before .before in (part-free (s .pre .1 .0) (s .pre .0 .0) (s .pre .0 .1) (s .pre .1 .1 .0) (c .before .before .before .if1 .left), (cover-still (s .pre .1 .0) (s .pre .0 .0) (s .pre .0 .1) (s .pre .1 .1 .0) _ (s .pre .1 .1 .1 .0) (omega (arith, c .if2 .left)), rw (power-fits-long (s .args .j) (omega (arith, s .pre .0 .1, s .pre .1 .0 .terminals))) (open-lane _ (s .pre .1 .0 .sources) (s .pre .1 .0 .terminals) (s .pre .0 .0) (s .pre .0 .1) (s .pre .1 .1 .1 .1))))
 
 pub part-lane-spec : {M : Type 1} → statement M
 part-lane-spec =
@@ -101,28 +104,31 @@ part-lane-spec =
     (tie.spec
     mul-k
     add-k
-    add-t
-    mul-tight
-    element-copy-out-tight
-    mul-tight-2
-    element-copy-out-tight-2
-    add-tight
-    mul-tight-3
-    element-copy-out-tight-3
     mul-amount
     element-copy-out-amount
-    mul-ceiling
-    element-copy-out-ceiling
-    unless-requires
+    mul-if1
+    element-copy-out-if1
+    mul-if1-2
+    element-copy-out-if1-2
+    add-if1
+    add-if1-2
+    mul-if1-3
+    element-copy-out-if1-3
     mul-aside
     element-write-aside
-    unless-requires-2
-    sub-free
+    returns
     mul-free
+    element-copy-out-free
+    mul-free-2
     element-write-free
-    sub-x
     mul-x
     element-write-x
+    mul-ways
+    element-copy-out-ways
+    shl-ways
+    mul-ways-2
+    element-write-ways
+    add-serve
     serve-requires
-    returns
-    returns-2)
+    returns-2
+    returns-3)

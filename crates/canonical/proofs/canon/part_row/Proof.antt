@@ -9,18 +9,18 @@ use Rattle.canonical.proofs.canon.part_row.Statement.{statement}
 use Rattle.canonical.proofs.canon.part_row.Tie as tie
 
 abbrev Inv-loop : tie.InvT-loop
-Inv-loop m n i cost cap pot plan aside₀ free₀ x₀ serves₀ j₀ aside free x serves j = (j ≤ n) × PartedTo (net m n cost cap plan) pot (i * 64 + j) aside free x serves
+Inv-loop m n i cost cap pot plan aside₀ free₀ x₀ serves₀ ways₀ j₀ aside free x serves ways j = (j ≤ n) × PartedTo (net m n cost cap plan) pot (i * 64 + j) aside free x serves ways
 
 abbrev μ-loop : tie.MeasureT-loop
-μ-loop m n i cost cap pot plan aside₀ free₀ x₀ serves₀ j₀ aside free x serves j = n - j
+μ-loop m n i cost cap pot plan aside₀ free₀ x₀ serves₀ ways₀ j₀ aside free x serves ways j = n - j
 
 loop-holds : tie.Need-loop-holds Inv-loop μ-loop
 loop-holds c = (omega arith, part-skip (c .pre .1 .1) (λ a b ha hb l. omega arith) (omega arith))
 
 part-lane-requires : tie.Need-part-lane-requires Inv-loop μ-loop
 part-lane-requires c κs =
-    let s = c .before .before .before .before .before .before in let q = c .before .before .before .before .before .loop .inv .1 in let h = c .before .before .before .before .loop-test .taken in
-    ((s .pre .0, h), (s .pre .1 .0, (clear-at (s .pre .1 .0 .terminals) (s .pre .0) h q, q .covers)))
+    let s = c .before .before .before .before .before .before .before in let q = c .before .before .before .before .before .before .loop .inv .1 in let h = c .before .before .before .before .before .loop-test .taken in
+    ((s .pre .0, h), (s .pre .1 .0, (clear-at (s .pre .1 .0 .terminals) (s .pre .0) h q, (q .covers, q .opens))))
 
 add-j : tie.Need-add-j Inv-loop μ-loop
 add-j c = search needs
@@ -30,8 +30,8 @@ loop-less c = search needs
 
 loop-again : tie.Need-loop-again Inv-loop μ-loop
 loop-again c =
-    let s = c .before .before .before .before .before .before .before in let q = c .before .before .before .before .before .before .loop .inv .1 in let h = c .before .before .before .before .before .loop-test .taken in
-    (omega arith, part-next (s .pre .1 .0 .terminals) (s .pre .0) h q (c .part-lane .ensures .0) (c .part-lane .ensures .1))
+    let s = c .before .before .before .before .before .before .before .before in let q = c .before .before .before .before .before .before .before .loop .inv .1 in let h = c .before .before .before .before .before .before .loop-test .taken in
+    (omega arith, part-next (s .pre .1 .0 .terminals) (s .pre .0) h q (c .part-lane .ensures .0) (c .part-lane .ensures .1 .0) (c .part-lane .ensures .1 .1))
 
 returns : tie.Need-returns Inv-loop μ-loop
 returns c =

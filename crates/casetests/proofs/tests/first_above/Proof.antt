@@ -15,35 +15,30 @@ Inv-loop s limit k₀ k = (k ≤ length s) × ((j : ℕ) → j < k → getD s j 
 abbrev μ-loop : tie.MeasureT-loop
 μ-loop s limit k₀ k = length s - k
 
--- src/tests.rt:25:5
-loop-holds : tie.Need-loop-holds Inv-loop μ-loop
-loop-holds c = (search needs, λ k h. absurd (omega arith))
+none-above-requires : tie.Need-none-above-requires Inv-loop μ-loop
+none-above-requires c κs = search needs
 
--- src/tests.rt:26:20
+loop-holds : tie.Need-loop-holds Inv-loop μ-loop
+loop-holds c = c .none-above .ensures
+
 mul-if1 : tie.Need-mul-if1 Inv-loop μ-loop
 mul-if1 c = search needs
 
--- src/tests.rt:26:20
 shared-slice-read-if1 : tie.Need-shared-slice-read-if1 Inv-loop μ-loop
 shared-slice-read-if1 c = search needs
 
--- src/tests.rt:27:13
 returns : tie.Need-returns Inv-loop μ-loop
 returns c = sym (above-some _ _ _ (search needs) (c .before .before .before .loop .inv .1) (c .if1 .taken))
 
--- src/tests.rt:29:9
 add-k : tie.Need-add-k Inv-loop μ-loop
 add-k c = search needs
 
--- src/tests.rt:25:5
 loop-less : tie.Need-loop-less Inv-loop μ-loop
 loop-less c = search needs
 
--- src/tests.rt:25:5
 loop-again : tie.Need-loop-again Inv-loop μ-loop
 loop-again c = (search needs, below-more _ _ (c .before .before .before .loop .inv .1) (c .if1 .left))
 
--- src/tests.rt:21:1
 returns-2 : tie.Need-returns-2 Inv-loop μ-loop
 returns-2 c = sym (above-none _ _ (λ k h. c .before .loop .inv .1 k (omega arith)))
 
@@ -53,6 +48,7 @@ first-above-spec =
     (tie.spec
     Inv-loop
     μ-loop
+    none-above-requires
     loop-holds
     mul-if1
     shared-slice-read-if1

@@ -1,5 +1,5 @@
 -- `cuts::advance::advance` meets its contract. Assumes nothing.
-use Prim.Native.Nat.{_-_, _≤_}
+use Prim.Native.Nat.{_≤_}
 use native.Mathlib.Omega.{arith}
 use Rattle.cuts.proofs.Advancing.{advance-start, advance-next, advance-ready}
 use borrow.Author.Needs.{needs}
@@ -8,10 +8,10 @@ use Rattle.cuts.proofs.advance.advance.Statement.{statement}
 use Rattle.cuts.proofs.advance.advance.Tie as tie
 
 abbrev Inv-loop : tie.InvT-loop
-Inv-loop m n cost x serves₀ pot₀ up₀ rows₀ cols₀ left₀ serves pot up rows cols left = (left ≤ 200) × Advanced m n cost x serves₀ pot₀ serves pot
+Inv-loop m n cost columns x serves₀ pot₀ up₀ rows₀ cols₀ left₀ serves pot up rows cols left = (left ≤ 200) × Advanced m n cost x serves₀ pot₀ serves pot
 
 abbrev μ-loop : tie.MeasureT-loop
-μ-loop m n cost x serves₀ pot₀ up₀ rows₀ cols₀ left₀ serves pot up rows cols left = left
+μ-loop m n cost columns x serves₀ pot₀ up₀ rows₀ cols₀ left₀ serves pot up rows cols left = left
 
 loop-holds : tie.Need-loop-holds Inv-loop μ-loop
 loop-holds c = (omega arith, advance-start (c .pre))

@@ -1,6 +1,5 @@
 -- `cuts::advance::blocked` is safe and ends. Assumes nothing.
-use Prim.Native.Nat.{_-_, _≤_}
-use native.Mathlib.Omega.{arith}
+use Prim.Native.Nat.{_≤_}
 use borrow.Author.Needs.{needs}
 use Rattle.cuts.proofs.advance.blocked.Statement.{statement}
 use Rattle.cuts.proofs.advance.blocked.Tie as tie

@@ -1,69 +1,64 @@
 -- `cuts::advance::enter` is safe and ends. Assumes nothing.
-use Prim.Native.Nat.{_-_, _≤_}
+use Prim.Native.Nat.{_^_, _<_}
 use native.Mathlib.Omega.{arith}
+use Rattle.cuts.proofs.PartBits.{rest-less}
 use borrow.Author.Needs.{needs}
 use Rattle.cuts.proofs.advance.enter.Statement.{statement}
 use Rattle.cuts.proofs.advance.enter.Tie as tie
 
 abbrev Inv-loop : tie.InvT-loop
-Inv-loop m j rows cost pot t q i₀ i = i ≤ 32
+Inv-loop i cols columns pot s p left₀ left = left < 2 ^ 64
 
 abbrev μ-loop : tie.MeasureT-loop
-μ-loop m j rows cost pot t q i₀ i = 32 - i
+μ-loop i cols columns pot s p left₀ left = left
 
-add-q : tie.Need-add-q Inv-loop μ-loop
-add-q c = search needs
+mul-p : tie.Need-mul-p Inv-loop μ-loop
+mul-p c = search needs
 
-mul-q : tie.Need-mul-q Inv-loop μ-loop
-mul-q c = search needs
-
-element-copy-out-q : tie.Need-element-copy-out-q Inv-loop μ-loop
-element-copy-out-q c = search needs
+element-copy-out-p : tie.Need-element-copy-out-p Inv-loop μ-loop
+element-copy-out-p c = search needs
 
 loop-holds : tie.Need-loop-holds Inv-loop μ-loop
-loop-holds c = search needs
+loop-holds c = omega (arith, c .before .fits .cols)
 
-cast-if2 : tie.Need-cast-if2 Inv-loop μ-loop
-cast-if2 c = search needs
+cast-k : tie.Need-cast-k Inv-loop μ-loop
+cast-k c = search needs
 
-shr-if2 : tie.Need-shr-if2 Inv-loop μ-loop
-shr-if2 c = search needs
+mul-if1 : tie.Need-mul-if1 Inv-loop μ-loop
+mul-if1 c = search needs
 
-mul-if3 : tie.Need-mul-if3 Inv-loop μ-loop
-mul-if3 c = search needs
+add-if1 : tie.Need-add-if1 Inv-loop μ-loop
+add-if1 c = search needs
 
-add-if3 : tie.Need-add-if3 Inv-loop μ-loop
-add-if3 c = search needs
+mul-if1-2 : tie.Need-mul-if1-2 Inv-loop μ-loop
+mul-if1-2 c = search needs
 
-mul-if3-2 : tie.Need-mul-if3-2 Inv-loop μ-loop
-mul-if3-2 c = search needs
+element-copy-out-if1 : tie.Need-element-copy-out-if1 Inv-loop μ-loop
+element-copy-out-if1 c = search needs
 
-element-copy-out-if3 : tie.Need-element-copy-out-if3 Inv-loop μ-loop
-element-copy-out-if3 c = search needs
+add-if1-2 : tie.Need-add-if1-2 Inv-loop μ-loop
+add-if1-2 c = search needs
 
-mul-if3-3 : tie.Need-mul-if3-3 Inv-loop μ-loop
-mul-if3-3 c = search needs
+add-if1-3 : tie.Need-add-if1-3 Inv-loop μ-loop
+add-if1-3 c = search needs
 
-element-copy-out-if3-2 : tie.Need-element-copy-out-if3-2 Inv-loop μ-loop
-element-copy-out-if3-2 c = search needs
+mul-if1-3 : tie.Need-mul-if1-3 Inv-loop μ-loop
+mul-if1-3 c = search needs
 
-add-if3-2 : tie.Need-add-if3-2 Inv-loop μ-loop
-add-if3-2 c = search needs
-
-cast-result : tie.Need-cast-result Inv-loop μ-loop
-cast-result c = search needs
+element-copy-out-if1-2 : tie.Need-element-copy-out-if1-2 Inv-loop μ-loop
+element-copy-out-if1-2 c = search needs
 
 returns : tie.Need-returns Inv-loop μ-loop
 returns c = search needs
 
-add-i : tie.Need-add-i Inv-loop μ-loop
-add-i c = search needs
+sub-left : tie.Need-sub-left Inv-loop μ-loop
+sub-left c = search needs
 
 loop-less : tie.Need-loop-less Inv-loop μ-loop
-loop-less c = search needs
+loop-less c = omega (arith, rest-less (c .before .before .before .loop-test .taken))
 
 loop-again : tie.Need-loop-again Inv-loop μ-loop
-loop-again c = search needs
+loop-again c = omega (arith, rest-less (c .before .before .before .loop-test .taken), c .before .before .before .before .loop .inv)
 
 returns-2 : tie.Need-returns-2 Inv-loop μ-loop
 returns-2 c = search needs
@@ -74,22 +69,20 @@ enter-spec =
     (tie.spec
     Inv-loop
     μ-loop
-    add-q
-    mul-q
-    element-copy-out-q
+    mul-p
+    element-copy-out-p
     loop-holds
-    cast-if2
-    shr-if2
-    mul-if3
-    add-if3
-    mul-if3-2
-    element-copy-out-if3
-    mul-if3-3
-    element-copy-out-if3-2
-    add-if3-2
-    cast-result
+    cast-k
+    mul-if1
+    add-if1
+    mul-if1-2
+    element-copy-out-if1
+    add-if1-2
+    add-if1-3
+    mul-if1-3
+    element-copy-out-if1-2
     returns
-    add-i
+    sub-left
     loop-less
     loop-again
     returns-2)

@@ -1,13 +1,9 @@
 -- `cuts::advance::forget` meets its contract. Assumes nothing.
-use Prim.Native.Nat.{_-_, _≤_}
 use native.Mathlib.Omega.{arith}
 use Rattle.residual.proofs.Bits.{power-fits}
 use Rattle.cuts.proofs.Advancing.{forgot-none, forgot}
 use Rattle.cuts.proofs.PartBits.{bit-in, bit-least}
 use Rattle.residual.specs.Network.{get}
-use lib.ListN.{set}
-use Prim.Native.Nat.{_^_}
-use mathlib.Core.Path.{_≡_, ap}
 use borrow.Author.Needs.{needs}
 use Rattle.cuts.proofs.advance.forget.Statement.{statement}
 use Rattle.cuts.proofs.advance.forget.Tie as tie

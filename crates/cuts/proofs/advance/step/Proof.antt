@@ -1,6 +1,4 @@
 -- `cuts::advance::step` meets its contract. Assumes nothing.
-use Prim.Native.Nat.{_-_, _≤_}
-use native.Mathlib.Omega.{arith}
 use Rattle.cuts.proofs.Advancing.{advance-cut}
 use borrow.Author.Needs.{needs}
 use Rattle.cuts.proofs.advance.step.Statement.{statement}
@@ -30,11 +28,11 @@ mul-part c = search needs
 element-copy-out-part : tie.Need-element-copy-out-part
 element-copy-out-part c = search needs
 
-mul-cut : tie.Need-mul-cut
-mul-cut c = search needs
+mul-below : tie.Need-mul-below
+mul-below c = search needs
 
-element-copy-out-cut : tie.Need-element-copy-out-cut
-element-copy-out-cut c = search needs
+element-copy-out-below : tie.Need-element-copy-out-below
+element-copy-out-below c = search needs
 
 cut-requires : tie.Need-cut-requires
 cut-requires c κs = search needs
@@ -42,14 +40,8 @@ cut-requires c κs = search needs
 returns : tie.Need-returns
 returns c = advance-cut (c .before .before .before .before .before .before .before .forget .ensures) (c .before .before .cut .ensures)
 
-enter-requires : tie.Need-enter-requires
-enter-requires c κs = search needs
-
-cast-rehang : tie.Need-cast-rehang
-cast-rehang c = search needs
-
-add-rehang : tie.Need-add-rehang
-add-rehang c = search needs
+came-in-requires : tie.Need-came-in-requires
+came-in-requires c κs = search needs
 
 rehang-requires : tie.Need-rehang-requires
 rehang-requires c κs = search needs
@@ -69,12 +61,10 @@ step-spec =
     forget-requires
     mul-part
     element-copy-out-part
-    mul-cut
-    element-copy-out-cut
+    mul-below
+    element-copy-out-below
     cut-requires
     returns
-    enter-requires
-    cast-rehang
-    add-rehang
+    came-in-requires
     rehang-requires
     returns-2)

@@ -1,7 +1,6 @@
 -- `cuts::cut::cut` meets its contract. Assumes nothing.
-use Prim.Native.Nat.{_-_, _≤_}
-use native.Mathlib.Omega.{arith}
 use Rattle.cuts.proofs.CutSlack.{shift-none, shift-lift}
+use Rattle.cuts.proofs.CutSteps.{weigh-most}
 use borrow.Author.Tests.{not-false}
 use borrow.Author.Needs.{needs}
 use Rattle.cuts.proofs.cut.cut.Statement.{statement}
@@ -13,20 +12,20 @@ closed-requires c κs = search needs
 returns : tie.Need-returns
 returns c = shift-none (c .before .before .pre)
 
-lows-requires : tie.Need-lows-requires
-lows-requires c κs = search needs
+weights-requires : tie.Need-weights-requires
+weights-requires c κs = let r = c .before .before .before .pre in record { high = r .high; long = r .long }
 
-least-requires : tie.Need-least-requires
-least-requires c κs = search needs
+nearest-requires : tie.Need-nearest-requires
+nearest-requires c κs = let r = c .before .before .before .before .before .pre in record { sources = r .sources; terminals = r .terminals; costs = r .costs; turned = r .turned; most = weigh-most (c .before .weights .ensures) (r .high) }
 
 returns-2 : tie.Need-returns-2
-returns-2 c = shift-none (c .before .before .before .before .before .before .before .before .before .pre)
+returns-2 c = shift-none (c .before .before .before .before .before .before .before .before .pre)
 
 lift-requires : tie.Need-lift-requires
 lift-requires c κs = search needs
 
 returns-3 : tie.Need-returns-3
-returns-3 c = shift-lift _ (c .before .before .before .before .before .before .before .before .before .before .before .before .pre) (c .before .before .before .before .before .before .before .before .before .before .before .closed .ensures (not-false _ (c .before .before .before .before .before .before .before .before .before .before .if1 .left))) (c .before .before .before .before .before .before .before .before .lows .ensures) (c .before .before .before .before .before .least .ensures) (c .before .before .before .if2 .left) (c .lift .ensures)
+returns-3 c = shift-lift _ (c .before .before .before .before .before .before .before .before .before .before .before .pre) (c .before .before .before .before .before .before .before .before .before .before .closed .ensures (not-false _ (c .before .before .before .before .before .before .before .before .before .if1 .left))) (c .before .before .before .before .before .before .before .weights .ensures) (c .before .before .before .before .before .nearest .ensures) (c .before .before .before .if2 .left) (c .lift .ensures)
 
 pub cut-spec : {M : Type 1} → statement M
 cut-spec =
@@ -34,8 +33,8 @@ cut-spec =
     (tie.spec
     closed-requires
     returns
-    lows-requires
-    least-requires
+    weights-requires
+    nearest-requires
     returns-2
     lift-requires
     returns-3)

@@ -2,44 +2,41 @@
 use Prim.Native.Nat.{_-_, _≤_}
 use native.Mathlib.Omega.{arith}
 use mathlib.Core.Path.{_≡_}
-use Rattle.cuts.specs.Cut.{Folded}
 use Rattle.cuts.proofs.CutSteps.{fold-start, fold-next}
+use Rattle.cuts.specs.Cut.{Folded}
 use borrow.Author.Needs.{needs}
 use Rattle.cuts.proofs.cut.fold.Statement.{statement}
 use Rattle.cuts.proofs.cut.fold.Tie as tie
 
 abbrev Inv-loop : tie.InvT-loop
-Inv-loop n i base cost acc₀ k j₀ acc j = (j ≤ n) × Folded i base cost acc₀ j acc
+Inv-loop k base table acc₀ i₀ acc i = (i ≤ 32) × Folded k base table acc₀ i acc
 
 abbrev μ-loop : tie.MeasureT-loop
-μ-loop n i base cost acc₀ k j₀ acc j = n - j
-
-mul-k : tie.Need-mul-k Inv-loop μ-loop
-mul-k c = search needs
+μ-loop k base table acc₀ i₀ acc i = 32 - i
 
 loop-holds : tie.Need-loop-holds Inv-loop μ-loop
 loop-holds c = (omega arith, fold-start (c .pre .long))
 
-add-smaller : tie.Need-add-smaller Inv-loop μ-loop
-add-smaller c = search needs
+add-lower : tie.Need-add-lower Inv-loop μ-loop
+add-lower c = search needs
 
-mul-smaller : tie.Need-mul-smaller Inv-loop μ-loop
-mul-smaller c = search needs
+mul-lower : tie.Need-mul-lower Inv-loop μ-loop
+mul-lower c = search needs
 
-element-copy-out-smaller : tie.Need-element-copy-out-smaller Inv-loop μ-loop
-element-copy-out-smaller c = search needs
+element-copy-out-lower : tie.Need-element-copy-out-lower Inv-loop μ-loop
+element-copy-out-lower c = search needs
 
-add-smaller-2 : tie.Need-add-smaller-2 Inv-loop μ-loop
-add-smaller-2 c = omega (arith, c .before .before .before .pre .costs (c .before .before .loop .j) (c .before .loop-test .taken), c .before .before .before .pre .base-most)
+add-lower-2 : tie.Need-add-lower-2 Inv-loop μ-loop
+add-lower-2 c = let s = c .before .before .before .pre in omega (arith, s .costs (c .before .before .loop .i) (c .before .loop-test .taken), s .base-most)
 
-mul-smaller-2 : tie.Need-mul-smaller-2 Inv-loop μ-loop
-mul-smaller-2 c = search needs
+mul-lower-2 : tie.Need-mul-lower-2 Inv-loop μ-loop
+mul-lower-2 c = search needs
 
-element-copy-out-smaller-2 : tie.Need-element-copy-out-smaller-2 Inv-loop μ-loop
-element-copy-out-smaller-2 c = search needs
+element-copy-out-lower-2 : tie.Need-element-copy-out-lower-2 Inv-loop μ-loop
+element-copy-out-lower-2 c = search needs
 
-smaller-requires : tie.Need-smaller-requires Inv-loop μ-loop
-smaller-requires c κs = search needs
+lower-requires : tie.Need-lower-requires Inv-loop μ-loop
+lower-requires c κs = let s = c .before .before .before .before .pre in (omega (arith, s .costs (c .before .before .before .loop .i) (c .before .before .loop-test .taken), s .base-most), omega (arith, c .before .before .before .loop .inv .1 .less (c .before .before .before .loop .i), s .most (c .before .before .before .loop .i)))
 
 mul-acc : tie.Need-mul-acc Inv-loop μ-loop
 mul-acc c = search needs
@@ -47,17 +44,17 @@ mul-acc c = search needs
 element-write-acc : tie.Need-element-write-acc Inv-loop μ-loop
 element-write-acc c = search needs
 
-add-j : tie.Need-add-j Inv-loop μ-loop
-add-j c = search needs
+add-i : tie.Need-add-i Inv-loop μ-loop
+add-i c = search needs
 
 loop-less : tie.Need-loop-less Inv-loop μ-loop
 loop-less c = search needs
 
 loop-again : tie.Need-loop-again Inv-loop μ-loop
-loop-again c = (omega (arith, c .before .before .before .loop-test .taken), fold-next (c .before .before .before .before .loop .inv .1) (omega (arith, c .before .before .before .loop-test .taken, c .before .before .before .before .before .pre .terminals)) (c .smaller .ensures))
+loop-again c = (omega (arith, c .before .before .before .loop-test .taken), fold-next (c .before .before .before .before .loop .inv .1) (c .before .before .before .loop-test .taken) (c .lower .ensures .0) (c .lower .ensures .1))
 
 returns : tie.Need-returns Inv-loop μ-loop
-returns c = let z : c .before .loop .j ≡ c .before .before .args .n = omega (arith, c .loop-test .left, c .before .loop .inv .0) in rw (← z) (c .before .loop .inv .1)
+returns c = let z : c .before .loop .i ≡ 32 = omega (arith, c .loop-test .left, c .before .loop .inv .0) in rw (← z) (c .before .loop .inv .1)
 
 pub fold-spec : {M : Type 1} → statement M
 fold-spec =
@@ -65,18 +62,17 @@ fold-spec =
     (tie.spec
     Inv-loop
     μ-loop
-    mul-k
     loop-holds
-    add-smaller
-    mul-smaller
-    element-copy-out-smaller
-    add-smaller-2
-    mul-smaller-2
-    element-copy-out-smaller-2
-    smaller-requires
+    add-lower
+    mul-lower
+    element-copy-out-lower
+    add-lower-2
+    mul-lower-2
+    element-copy-out-lower-2
+    lower-requires
     mul-acc
     element-write-acc
-    add-j
+    add-i
     loop-less
     loop-again
     returns)

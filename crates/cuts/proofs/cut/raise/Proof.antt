@@ -1,61 +1,59 @@
 -- `cuts::cut::raise` meets its contract. Assumes nothing.
-use Prim.Native.Nat.{_-_, _≤_}
+use Prim.Native.Nat.{_+_, _^_, _<_}
 use native.Mathlib.Omega.{arith}
-use Rattle.residual.specs.Network.{get}
-use Prim.Native.Nat.{_+_}
-use mathlib.Core.Path.{_≡_, ap}
-use Rattle.cuts.specs.Cut.{has}
-use Rattle.cuts.proofs.CutSlack.{share-most}
+use mathlib.Core.Path.{refl}
+use lib.Count.{trailingZeros}
+use Rattle.cuts.proofs.PartBits.{rest-less}
+use Rattle.cuts.proofs.CutSteps.{raise-start, raise-in, raise-old, raise-next, raise-end}
 use Rattle.cuts.specs.Cut.{Raised}
-use Rattle.cuts.proofs.CutSteps.{raise-start, raise-next}
-use borrow.Author.Needs.{needs}
 use Rattle.cuts.proofs.cut.raise.Statement.{statement}
 use Rattle.cuts.proofs.cut.raise.Tie as tie
 
 abbrev Inv-loop : tie.InvT-loop
-Inv-loop part first count d pot₀ k₀ pot k = (k ≤ count) × Raised part first d pot₀ k pot
+Inv-loop part first d pot₀ left₀ pot left = Raised part first d pot₀ left pot × (left < 2 ^ 64)
 
 abbrev μ-loop : tie.MeasureT-loop
-μ-loop part first count d pot₀ k₀ pot k = count - k
+μ-loop part first d pot₀ left₀ pot left = left
+
+-- the node that a turn takes
+node : (c : tie.In-loop Inv-loop μ-loop) → c .before .before .args .first + trailingZeros 64 (c .before .loop .left) < 96
+node c = c .before .before .pre .within (trailingZeros 64 (c .before .loop .left)) (raise-in (c .before .loop .inv .0) (c .loop-test .taken) (c .before .loop .inv .1))
 
 loop-holds : tie.Need-loop-holds Inv-loop μ-loop
-loop-holds c = (omega arith, raise-start (c .pre .long))
+loop-holds c = (raise-start (c .pre .long), omega (arith, c .fits .part))
 
-add-pot : tie.Need-add-pot Inv-loop μ-loop
-add-pot c = search needs
+cast-v : tie.Need-cast-v Inv-loop μ-loop
+cast-v c = omega (arith, node c)
+
+add-v : tie.Need-add-v Inv-loop μ-loop
+add-v c = omega (arith, node c)
 
 mul-pot : tie.Need-mul-pot Inv-loop μ-loop
-mul-pot c = search needs
+mul-pot c = omega (arith, node c)
 
 element-copy-out-pot : tie.Need-element-copy-out-pot Inv-loop μ-loop
-element-copy-out-pot c = search needs
+element-copy-out-pot c = omega (arith, node c)
 
-rise-requires : tie.Need-rise-requires Inv-loop μ-loop
-rise-requires c κs = search needs
-
-add-pot-2 : tie.Need-add-pot-2 Inv-loop μ-loop
-add-pot-2 c = omega (arith, c .rise .ensures, share-most (c .before .before .before .before .args .d) (has (c .before .before .before .before .args .part) (c .before .before .before .loop .k)), c .before .before .before .loop .inv .1 .above (c .before .before .before .before .args .first + c .before .before .before .loop .k) (omega arith), c .before .before .before .before .pre .top (c .before .before .before .loop .k) (c .before .before .loop-test .taken))
-
-add-pot-3 : tie.Need-add-pot-3 Inv-loop μ-loop
-add-pot-3 c = search needs
+add-pot : tie.Need-add-pot Inv-loop μ-loop
+add-pot c = let h = c .before in omega (arith, raise-old (h .before .loop .inv .0) (h .loop-test .taken) (h .before .loop .inv .1), h .before .before .pre .top (h .before .before .args .first + trailingZeros 64 (h .before .loop .left)) (node h))
 
 mul-pot-2 : tie.Need-mul-pot-2 Inv-loop μ-loop
-mul-pot-2 c = search needs
+mul-pot-2 c = omega (arith, node (c .before))
 
 element-write-pot : tie.Need-element-write-pot Inv-loop μ-loop
-element-write-pot c = search needs
+element-write-pot c = omega (arith, node (c .before))
 
-add-k : tie.Need-add-k Inv-loop μ-loop
-add-k c = search needs
+sub-left : tie.Need-sub-left Inv-loop μ-loop
+sub-left c = omega (arith, c .before .loop-test .taken)
 
 loop-less : tie.Need-loop-less Inv-loop μ-loop
-loop-less c = search needs
+loop-less c = omega (arith, rest-less (c .before .loop-test .taken))
 
 loop-again : tie.Need-loop-again Inv-loop μ-loop
-loop-again c = (omega (arith, c .before .before .loop-test .taken), raise-next (c .before .before .before .loop .inv .1) (omega (arith, c .before .before .loop-test .taken, c .before .before .before .before .pre .within)) (ap (λ z. get (c .before .before .before .loop .pot) (c .before .before .before .before .args .first + c .before .before .before .loop .k) + z) (c .rise .ensures)))
+loop-again c = let h = c .before in (raise-next (h .before .loop .inv .0) (h .loop-test .taken) (h .before .loop .inv .1) (node h) refl, omega (arith, rest-less (h .loop-test .taken), h .before .loop .inv .1))
 
 returns : tie.Need-returns Inv-loop μ-loop
-returns c = let z : c .before .loop .k ≡ c .before .before .args .count = omega (arith, c .loop-test .left, c .before .loop .inv .0) in rw (← z) (c .before .loop .inv .1)
+returns c = raise-end (c .before .loop .inv .0) (c .loop-test .left)
 
 pub raise-spec : {M : Type 1} → statement M
 raise-spec =
@@ -64,15 +62,14 @@ raise-spec =
     Inv-loop
     μ-loop
     loop-holds
-    add-pot
+    cast-v
+    add-v
     mul-pot
     element-copy-out-pot
-    rise-requires
-    add-pot-2
-    add-pot-3
+    add-pot
     mul-pot-2
     element-write-pot
-    add-k
+    sub-left
     loop-less
     loop-again
     returns)

@@ -2,8 +2,8 @@
 use Prim.Native.Nat.{_-_, _≤_}
 use native.Mathlib.Omega.{arith}
 use mathlib.Core.Path.{_≡_}
-use Rattle.cuts.specs.Cut.{Top}
 use Rattle.cuts.proofs.CutSteps.{top-next}
+use Rattle.cuts.specs.Cut.{Top}
 use borrow.Author.Needs.{needs}
 use Rattle.cuts.proofs.cut.top.Statement.{statement}
 use Rattle.cuts.proofs.cut.top.Tie as tie
@@ -17,14 +17,11 @@ abbrev μ-loop : tie.MeasureT-loop
 loop-holds : tie.Need-loop-holds Inv-loop μ-loop
 loop-holds c = (omega arith, record { each = λ v h. absurd (omega arith) })
 
-mul-larger : tie.Need-mul-larger Inv-loop μ-loop
-mul-larger c = search needs
+mul-most : tie.Need-mul-most Inv-loop μ-loop
+mul-most c = search needs
 
-element-copy-out-larger : tie.Need-element-copy-out-larger Inv-loop μ-loop
-element-copy-out-larger c = search needs
-
-larger-requires : tie.Need-larger-requires Inv-loop μ-loop
-larger-requires c κs = search needs
+element-copy-out-most : tie.Need-element-copy-out-most Inv-loop μ-loop
+element-copy-out-most c = search needs
 
 add-v : tie.Need-add-v Inv-loop μ-loop
 add-v c = search needs
@@ -33,7 +30,7 @@ loop-less : tie.Need-loop-less Inv-loop μ-loop
 loop-less c = search needs
 
 loop-again : tie.Need-loop-again Inv-loop μ-loop
-loop-again c = (omega (arith, c .before .before .loop-test .taken), top-next (c .before .before .before .loop .inv .1) (c .larger .ensures))
+loop-again c = (omega (arith, c .before .loop-test .taken), top-next (c .before .before .loop .inv .1))
 
 returns : tie.Need-returns Inv-loop μ-loop
 returns c = let z : c .before .loop .v ≡ 96 = omega (arith, c .loop-test .left, c .before .loop .inv .0) in rw (← z) (c .before .loop .inv .1)
@@ -45,9 +42,8 @@ top-spec =
     Inv-loop
     μ-loop
     loop-holds
-    mul-larger
-    element-copy-out-larger
-    larger-requires
+    mul-most
+    element-copy-out-most
     add-v
     loop-less
     loop-again

@@ -6,10 +6,9 @@ use borrow.Author.Tests.{not-false}
 use Rattle.cuts.proofs.TreePath.{walk-start, walk-next, steps-on}
 use Rattle.cuts.specs.Follow.{Walk}
 use Rattle.residual.specs.Network.{net}
-use Prim.Native.Nat.{ℕ, _+_}
 use mathlib.Core.Path.{_∙_}
 use mathlib.Core.Bool.{true≢false}
-use mathlib.Core.Path.{_≡_, sym, subst}
+use mathlib.Core.Path.{sym}
 use borrow.Author.Needs.{needs}
 use Rattle.cuts.proofs.follow.follow.Statement.{statement}
 use Rattle.cuts.proofs.follow.follow.Tie as tie

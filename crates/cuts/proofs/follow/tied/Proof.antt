@@ -1,6 +1,4 @@
 -- `cuts::follow::tied` meets its contract. Assumes nothing.
-use Prim.Native.Nat.{_-_, _≤_}
-use native.Mathlib.Omega.{arith}
 use borrow.Author.Needs.{needs}
 use Rattle.cuts.proofs.follow.tied.Statement.{statement}
 use Rattle.cuts.proofs.follow.tied.Tie as tie

@@ -1,7 +1,6 @@
 -- `cuts::follow::tied_back` meets its contract. Assumes nothing.
-use Prim.Native.Nat.{_-_, _≤_}
+use Prim.Native.Nat.{_-_}
 use native.Mathlib.Omega.{arith}
-use Prim.Native.Nat.{_+_, _<_}
 use Rattle.cuts.proofs.TreePath.{tied-back}
 use mathlib.Core.Bool.{true≢false}
 use mathlib.Core.Path.{sym}

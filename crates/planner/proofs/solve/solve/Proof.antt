@@ -44,14 +44,14 @@ prepared : (c : tie.After-wanted) → Prepared (the (c .before .before .before .
 prepared c = prepare (c .before .before .before .before .before .before .before .before .before .before .pre) (c .before .before .before .raised-rows .ensures) (c .before .before .ceiling-rows .ensures) (c .before .supplied .ensures) (c .wanted .ensures)
 
 -- past test 27, and past 9 and 11
-on : (c : tie.Else1) → OnSplits (the (c .before .before .before .before .before .before .before .before .before .before .before .before .before .before .before .before .before .before .before .before .before)) (c .before .before .begin-by .result .lo) (c .before .before .begin-by .result .hi) (c .before .before .before .before .before .before .before .before .before .before .before .before .before .before .before .before .before .before .before .before .before .args .made)
-on c = on-splits (c .before .before .before .before .before .before .before .before .before .before .before .before .before .before .before .before .before .before .before .before .before .pre) (prepared (c .before .before .before .before .before .before .before .before .before .before .before)) (c .before .before .begin-by .ensures) (not-false _ (c .if1 .left))
+on : (c : tie.Else1) → OnSplits (the (c .before .before .before .before .before .before .before .before .before .before .before .before .before .before .before .before .before .before .before .before .before .before .before .before)) (c .before .before .begin .result .lo) (c .before .before .begin .result .hi) (c .before .before .before .before .before .before .before .before .before .before .before .before .before .before .before .before .before .before .before .before .before .before .before .before .args .made)
+on c = on-splits (c .before .before .before .before .before .before .before .before .before .before .before .before .before .before .before .before .before .before .before .before .before .before .before .before .pre) (prepared (c .before .before .before .before .before .before .before .before .before .before .before .before .before .before)) (c .before .before .begin .ensures) (not-false _ (c .if1 .left))
 
-passed : (c : tie.After-enum-told) → Accepts (the (c .before .before .before .before .before .before .before .before .before .before .before .before .before .before .before .before .before .before .before .before .before .before .before .before)) (c .before .before .before .before .before .begin-by .result .lo) (c .before .before .before .before .before .begin-by .result .hi) (c .before .before .before .before .before .before .before .before .before .before .before .before .before .before .before .before .before .before .before .before .before .before .before .before .args .made)
+passed : (c : tie.After-enum-told) → Accepts (the (c .before .before .before .before .before .before .before .before .before .before .before .before .before .before .before .before .before .before .before .before .before .before .before .before .before .before .before)) (c .before .before .before .before .before .begin .result .lo) (c .before .before .before .before .before .begin .result .hi) (c .before .before .before .before .before .before .before .before .before .before .before .before .before .before .before .before .before .before .before .before .before .before .before .before .before .before .before .args .made)
 passed c = accepts (on (c .before .before .before)) (sym (c .before .before .splits-test .ensures) ∙ ap verdict (c .enum-told .given .1))
 
-room : (c : tie.After-enum-told) → Roomy (the (c .before .before .before .before .before .before .before .before .before .before .before .before .before .before .before .before .before .before .before .before .before .before .before .before))
-room c = roomy (the (c .before .before .before .before .before .before .before .before .before .before .before .before .before .before .before .before .before .before .before .before .before .before .before .before)) (passed c .t11)
+room : (c : tie.After-enum-told) → Roomy (the (c .before .before .before .before .before .before .before .before .before .before .before .before .before .before .before .before .before .before .before .before .before .before .before .before .before .before .before))
+room c = roomy (the (c .before .before .before .before .before .before .before .before .before .before .before .before .before .before .before .before .before .before .before .before .before .before .before .before .before .before .before)) (passed c .t11)
 
 raised-rows-requires : tie.Need-raised-rows-requires
 raised-rows-requires c κs = let f = form (c .before .before .before .before .before .before) in (f .few-sources, f .few-terminals, f .costs-long, costs-inside f)
@@ -74,20 +74,20 @@ mul-added c = omega (arith, few (c .before .before .before .before .before .befo
 cast-all : tie.Need-cast-all
 cast-all c = omega (arith, whole-most (c .before .before .before .before .before .before .before .before .before .before .before .pre))
 
-cast-begin-by : tie.Need-cast-begin-by
-cast-begin-by c = omega (arith, runs-most (c .before .before .before .before .before .before .before .before .before .before .before .before .before .before .before .pre))
+cast-begin : tie.Need-cast-begin
+cast-begin c = omega (arith, runs-most (c .before .before .before .before .before .before .before .before .before .before .before .before .before .before .before .pre))
 
-cast-begin-by-2 : tie.Need-cast-begin-by-2
-cast-begin-by-2 c = omega (arith, runs-most (c .before .before .before .before .before .before .before .before .before .before .before .before .before .before .before .pre))
+cast-begin-2 : tie.Need-cast-begin-2
+cast-begin-2 c = omega (arith, runs-most (c .before .before .before .before .before .before .before .before .before .before .before .before .before .before .before .pre))
 
-begin-by-requires : tie.Need-begin-by-requires
-begin-by-requires c κs = ready (c .before .before .before .before .before .before .before .before .before .before .before .before .before .before .before .before .before .before .pre) (prepared (c .before .before .before .before .before .before .before .before))
+begin-requires : tie.Need-begin-requires
+begin-requires c κs = ready (c .before .before .before .before .before .before .before .before .before .before .before .before .before .before .before .before .before .before .before .before .before .pre) (prepared (c .before .before .before .before .before .before .before .before .before .before .before))
 
 returns : tie.Need-returns
-returns c = refuses _ _ _ _ (refused-27 (c .before .before .before .before .before .before .before .before .before .before .before .before .before .before .before .before .before .before .before .before .before .pre) (prepared (c .before .before .before .before .before .before .before .before .before .before .before)) (c .before .before .begin-by .ensures) (not-true _ (c .if1 .taken)))
+returns c = refuses _ _ _ _ (refused-27 (c .before .before .before .before .before .before .before .before .before .before .before .before .before .before .before .before .before .before .before .before .before .before .before .before .pre) (prepared (c .before .before .before .before .before .before .before .before .before .before .before .before .before .before)) (c .before .before .begin .ensures) (not-true _ (c .if1 .taken)))
 
 mul-splits-test : tie.Need-mul-splits-test
-mul-splits-test c = let f = form (c .before .before .before .before .before .before .before .before .before .before .before .before .before .before .before .before .before .before .before .before .before) in omega (arith, mul-le-mul (f .few-sources) (f .few-terminals))
+mul-splits-test c = let f = form (c .before .before .before .before .before .before .before .before .before .before .before .before .before .before .before .before .before .before .before .before .before .before .before .before) in omega (arith, mul-le-mul (f .few-sources) (f .few-terminals))
 
 splits-test-requires : tie.Need-splits-test-requires
 splits-test-requires c κs = within (on c)
@@ -105,30 +105,30 @@ slice-aggregate-sweep : tie.Need-slice-aggregate-sweep
 slice-aggregate-sweep c = search needs
 
 sweep-requires : tie.Need-sweep-requires
-sweep-requires c κs = (c .before .before .before .before .before .before .before .before .before .before .before .before .before .before .before .begin-by .ensures .begun (not-false _ (c .before .before .before .before .before .before .before .before .before .before .before .before .before .if1 .left)), sweep-ready (passed (c .before .before .before .before .before .before .before .before .before .before)) (prepared (c .before .before .before .before .before .before .before .before .before .before .before .before .before .before .before .before .before .before .before .before .before .before .before .before)) _ _ refl refl)
+sweep-requires c κs = (c .before .before .before .before .before .before .before .before .before .before .before .before .before .before .before .before .before .before .begin .ensures .begun (not-false _ (c .before .before .before .before .before .before .before .before .before .before .before .before .before .before .before .before .if1 .left)), sweep-ready (passed (c .before .before .before .before .before .before .before .before .before .before .before .before .before)) (prepared (c .before .before .before .before .before .before .before .before .before .before .before .before .before .before .before .before .before .before .before .before .before .before .before .before .before .before .before .before .before .before)) _ _ refl refl)
 
 gather-rows-requires : tie.Need-gather-rows-requires
-gather-rows-requires c κs = let f = form (c .before .before .before .before .before .before .before .before .before .before .before .before .before .before .before .before .before .before .before .before .before .before .before .before .before .before .before .before .before .before .before .before .before .before .before .before .before .before .before .before) in (f .few-sources, f .few-terminals, room (c .before .before .before .before .before .before .before .before .before .before .before .before .before .before .before .before) .plan-room, c .before .before .before .before .before .sweep .ensures .plan .long)
+gather-rows-requires c κs = let f = form (c .before .before .before .before .before .before .before .before .before .before .before .before .before .before .before .before .before .before .before .before .before .before .before .before .before .before .before .before .before .before .before .before .before .before .before .before .before .before .before .before .before .before .before .before .before .before) in (f .few-sources, f .few-terminals, room (c .before .before .before .before .before .before .before .before .before .before .before .before .before .before .before .before .before .before .before) .plan-room, c .before .before .before .before .before .sweep .ensures .plan .long)
 
 slice-aggregate-lower-into : tie.Need-slice-aggregate-lower-into
 slice-aggregate-lower-into c = search needs
 
 lower-into-requires : tie.Need-lower-into-requires
 lower-into-requires c κs =
-    let a = passed (c .before .before .before .before .before .before .before .before .before .before .before .before .before .before .before .before .before .before .before .before .before) in
+    let a = passed (c .before .before .before .before .before .before .before .before .before .before .before .before .before .before .before .before .before .before .before .before .before .before .before .before) in
     let w = c .before .before .before .before .before .before .before .before .before .before .sweep in
-    let k = few-stops a (prepared (c .before .before .before .before .before .before .before .before .before .before .before .before .before .before .before .before .before .before .before .before .before .before .before .before .before .before .before .before .before .before .before .before .before .before .before)) (w .ensures) in (
+    let k = few-stops a (prepared (c .before .before .before .before .before .before .before .before .before .before .before .before .before .before .before .before .before .before .before .before .before .before .before .before .before .before .before .before .before .before .before .before .before .before .before .before .before .before .before .before .before)) (w .ensures) in (
       omega (arith, k .0, w .kept .1 .1 .1 .1 .1 .1 .1 .1 .1 .1 .1 .0),
-      omega (arith, k .1, gap (a .on), room (c .before .before .before .before .before .before .before .before .before .before .before .before .before .before .before .before .before .before .before .before .before) .freight-room),
-      omega (arith, few (c .before .before .before .before .before .before .before .before .before .before .before .before .before .before .before .before .before .before .before .before .before .before .before .before .before .before .before .before .before .before .before .before .before .before .before .before .before .before .before .before .before .before .before .before .before), sum-is (c .before .before .before .before .before .before .before .before .before .before .before .before .before .before .before .before .before .before .before .before .before .before .before .before .before .before .before .before .before .before .before .before .before .before)),
-      found-moderate a (prepared (c .before .before .before .before .before .before .before .before .before .before .before .before .before .before .before .before .before .before .before .before .before .before .before .before .before .before .before .before .before .before .before .before .before .before .before)) (w .ensures),
+      omega (arith, k .1, gap (a .on), room (c .before .before .before .before .before .before .before .before .before .before .before .before .before .before .before .before .before .before .before .before .before .before .before .before) .freight-room),
+      omega (arith, few (c .before .before .before .before .before .before .before .before .before .before .before .before .before .before .before .before .before .before .before .before .before .before .before .before .before .before .before .before .before .before .before .before .before .before .before .before .before .before .before .before .before .before .before .before .before .before .before .before .before .before .before), sum-is (c .before .before .before .before .before .before .before .before .before .before .before .before .before .before .before .before .before .before .before .before .before .before .before .before .before .before .before .before .before .before .before .before .before .before .before .before .before .before .before .before)),
+      found-moderate a (prepared (c .before .before .before .before .before .before .before .before .before .before .before .before .before .before .before .before .before .before .before .before .before .before .before .before .before .before .before .before .before .before .before .before .before .before .before .before .before .before .before .before .before)) (w .ensures),
     )
 
 lowered-requires : tie.Need-lowered-requires
-lowered-requires c κs = (total-moderate (passed (c .before .before .before .before .before .before .before .before .before .before .before .before .before .before .before .before .before .before .before .before .before .before .before)) (prepared (c .before .before .before .before .before .before .before .before .before .before .before .before .before .before .before .before .before .before .before .before .before .before .before .before .before .before .before .before .before .before .before .before .before .before .before .before .before)) (c .before .before .before .before .before .before .before .before .before .before .before .before .sweep .ensures), omega (arith, few (c .before .before .before .before .before .before .before .before .before .before .before .before .before .before .before .before .before .before .before .before .before .before .before .before .before .before .before .before .before .before .before .before .before .before .before .before .before .before .before .before .before .before .before .before .before .before .before), sum-is (c .before .before .before .before .before .before .before .before .before .before .before .before .before .before .before .before .before .before .before .before .before .before .before .before .before .before .before .before .before .before .before .before .before .before .before .before)))
+lowered-requires c κs = (total-moderate (passed (c .before .before .before .before .before .before .before .before .before .before .before .before .before .before .before .before .before .before .before .before .before .before .before .before .before .before)) (prepared (c .before .before .before .before .before .before .before .before .before .before .before .before .before .before .before .before .before .before .before .before .before .before .before .before .before .before .before .before .before .before .before .before .before .before .before .before .before .before .before .before .before .before .before)) (c .before .before .before .before .before .before .before .before .before .before .before .before .sweep .ensures), omega (arith, few (c .before .before .before .before .before .before .before .before .before .before .before .before .before .before .before .before .before .before .before .before .before .before .before .before .before .before .before .before .before .before .before .before .before .before .before .before .before .before .before .before .before .before .before .before .before .before .before .before .before .before .before .before .before), sum-is (c .before .before .before .before .before .before .before .before .before .before .before .before .before .before .before .before .before .before .before .before .before .before .before .before .before .before .before .before .before .before .before .before .before .before .before .before .before .before .before .before .before .before)))
 
 lowered-requires-2 : tie.Need-lowered-requires-2
-lowered-requires-2 c κs = (freight-moderate (passed (c .before .before .before .before .before .before .before .before .before .before .before .before .before .before .before .before .before .before .before .before .before .before .before .before)) (prepared (c .before .before .before .before .before .before .before .before .before .before .before .before .before .before .before .before .before .before .before .before .before .before .before .before .before .before .before .before .before .before .before .before .before .before .before .before .before .before)) (c .before .before .before .before .before .before .before .before .before .before .before .before .before .sweep .ensures), omega (arith, few (c .before .before .before .before .before .before .before .before .before .before .before .before .before .before .before .before .before .before .before .before .before .before .before .before .before .before .before .before .before .before .before .before .before .before .before .before .before .before .before .before .before .before .before .before .before .before .before .before), sum-is (c .before .before .before .before .before .before .before .before .before .before .before .before .before .before .before .before .before .before .before .before .before .before .before .before .before .before .before .before .before .before .before .before .before .before .before .before .before)))
+lowered-requires-2 c κs = (freight-moderate (passed (c .before .before .before .before .before .before .before .before .before .before .before .before .before .before .before .before .before .before .before .before .before .before .before .before .before .before .before)) (prepared (c .before .before .before .before .before .before .before .before .before .before .before .before .before .before .before .before .before .before .before .before .before .before .before .before .before .before .before .before .before .before .before .before .before .before .before .before .before .before .before .before .before .before .before .before)) (c .before .before .before .before .before .before .before .before .before .before .before .before .before .sweep .ensures), omega (arith, few (c .before .before .before .before .before .before .before .before .before .before .before .before .before .before .before .before .before .before .before .before .before .before .before .before .before .before .before .before .before .before .before .before .before .before .before .before .before .before .before .before .before .before .before .before .before .before .before .before .before .before .before .before .before .before), sum-is (c .before .before .before .before .before .before .before .before .before .before .before .before .before .before .before .before .before .before .before .before .before .before .before .before .before .before .before .before .before .before .before .before .before .before .before .before .before .before .before .before .before .before .before)))
 
 same-length : tie.Need-same-length
 same-length c = search needs
@@ -141,14 +141,14 @@ same-length-3 c = search needs
 
 returns-3 : tie.Need-returns-3
 returns-3 c =
-    let s = c .before .before .before .before .before .before .before .before .before .before .before .before .before .before .before .before .before .before .before .before .before .before .before .before .before .before .before .before .before .before .before .before .before .before .before .before .before .before .before .before .before .before .before .before .before .before .before .before .before in
+    let s = c .before .before .before .before .before .before .before .before .before .before .before .before .before .before .before .before .before .before .before .before .before .before .before .before .before .before .before .before .before .before .before .before .before .before .before .before .before .before .before .before .before .before .before .before .before .before .before .before .before .before .before .before .before .before .before in
     let w = c .before .before .before .before .before .before .before .before .before .before .before .before .before .before .sweep in
     let g = c .before .before .before .before .before .before .before .before .gather-rows .ensures in
-    let e = sum-is (c .before .before .before .before .before .before .before .before .before .before .before .before .before .before .before .before .before .before .before .before .before .before .before .before .before .before .before .before .before .before .before .before .before .before .before .before .before .before) in
+    let e = sum-is (c .before .before .before .before .before .before .before .before .before .before .before .before .before .before .before .before .before .before .before .before .before .before .before .before .before .before .before .before .before .before .before .before .before .before .before .before .before .before .before .before .before .before .before .before) in
     told
     (read-back (c .before .lowered .result) (c .before .lowered .ok) ∙ c .before .lowered .ensures ∙ ap (λ (v : ℕ). subℕ (w .result .total) v) e)
     (read-back (c .lowered2 .result) (c .lowered2 .ok) ∙ c .lowered2 .ensures ∙ ap (λ (v : ℕ). subℕ (w .result .freight) v) e)
-    (answered (passed (c .before .before .before .before .before .before .before .before .before .before .before .before .before .before .before .before .before .before .before .before .before .before .before .before .before)) (prepared (c .before .before .before .before .before .before .before .before .before .before .before .before .before .before .before .before .before .before .before .before .before .before .before .before .before .before .before .before .before .before .before .before .before .before .before .before .before .before .before)) (w .ensures) _ _ (g .0) (g .1) (g .2) refl
+    (answered (passed (c .before .before .before .before .before .before .before .before .before .before .before .before .before .before .before .before .before .before .before .before .before .before .before .before .before .before .before .before)) (prepared (c .before .before .before .before .before .before .before .before .before .before .before .before .before .before .before .before .before .before .before .before .before .before .before .before .before .before .before .before .before .before .before .before .before .before .before .before .before .before .before .before .before .before .before .before .before)) (w .ensures) _ _ (g .0) (g .1) (g .2) refl
     (c .before .before .before .lower-into .ensures ∙ ap (λ (v : ℕ). written (map (lower v) (take (w .result .stops) (w .last .1 .1 .1 .1 .1 .1 .1 .1 .1 .1 .1 .0))) (now (s .args .freights))) e))
 
 pub solve-spec : {M : Type 1} → statement M
@@ -162,9 +162,9 @@ solve-spec =
     sum-of-requires
     mul-added
     cast-all
-    cast-begin-by
-    cast-begin-by-2
-    begin-by-requires
+    cast-begin
+    cast-begin-2
+    begin-requires
     returns
     mul-splits-test
     splits-test-requires

@@ -1,18 +1,14 @@
 -- `simplex::flow::from_source` is safe and ends. Assumes nothing.
 use Prim.Native.Nat.{_-_, _≤_}
-use native.Mathlib.Omega.{arith}
 use borrow.Author.Needs.{needs}
 use Rattle.simplex.proofs.flow.from_source.Statement.{statement}
 use Rattle.simplex.proofs.flow.from_source.Tie as tie
 
 abbrev Inv-loop : tie.InvT-loop
-Inv-loop i bit up cols flow far₀ a₀ left₀ far a left = left ≤ 96
+Inv-loop i bit up cols flow node₀ amount₀ a₀ left₀ node amount a left = left ≤ 48
 
 abbrev μ-loop : tie.MeasureT-loop
-μ-loop i bit up cols flow far₀ a₀ left₀ far a left = left
-
-sub-t10 : tie.Need-sub-t10 Inv-loop μ-loop
-sub-t10 c = search needs
+μ-loop i bit up cols flow node₀ amount₀ a₀ left₀ node amount a left = left
 
 loop-holds : tie.Need-loop-holds Inv-loop μ-loop
 loop-holds c = search needs
@@ -29,14 +25,35 @@ element-copy-out-if1 c = search needs
 returns : tie.Need-returns Inv-loop μ-loop
 returns c = search needs
 
-mul-less : tie.Need-mul-less Inv-loop μ-loop
-mul-less c = search needs
+mul-if2 : tie.Need-mul-if2 Inv-loop μ-loop
+mul-if2 c = search needs
 
-element-copy-out-less : tie.Need-element-copy-out-less Inv-loop μ-loop
-element-copy-out-less c = search needs
+element-copy-out-if2 : tie.Need-element-copy-out-if2 Inv-loop μ-loop
+element-copy-out-if2 c = search needs
 
-less-requires : tie.Need-less-requires Inv-loop μ-loop
-less-requires c κs = search needs
+mul-amount : tie.Need-mul-amount Inv-loop μ-loop
+mul-amount c = search needs
+
+element-copy-out-amount : tie.Need-element-copy-out-amount Inv-loop μ-loop
+element-copy-out-amount c = search needs
+
+mul-b : tie.Need-mul-b Inv-loop μ-loop
+mul-b c = search needs
+
+element-copy-out-b : tie.Need-element-copy-out-b Inv-loop μ-loop
+element-copy-out-b c = search needs
+
+cast-w : tie.Need-cast-w Inv-loop μ-loop
+cast-w c = search needs
+
+mul-if3 : tie.Need-mul-if3 Inv-loop μ-loop
+mul-if3 c = search needs
+
+element-copy-out-if3 : tie.Need-element-copy-out-if3 Inv-loop μ-loop
+element-copy-out-if3 c = search needs
+
+returns-2 : tie.Need-returns-2 Inv-loop μ-loop
+returns-2 c = search needs
 
 mul-a : tie.Need-mul-a Inv-loop μ-loop
 mul-a c = search needs
@@ -53,8 +70,8 @@ loop-less c = search needs
 loop-again : tie.Need-loop-again Inv-loop μ-loop
 loop-again c = search needs
 
-returns-2 : tie.Need-returns-2 Inv-loop μ-loop
-returns-2 c = search needs
+returns-3 : tie.Need-returns-3 Inv-loop μ-loop
+returns-3 c = search needs
 
 pub from-source-spec : {M : Type 1} → statement M
 from-source-spec =
@@ -62,18 +79,24 @@ from-source-spec =
     (tie.spec
     Inv-loop
     μ-loop
-    sub-t10
     loop-holds
     cast-v
     mul-if1
     element-copy-out-if1
     returns
-    mul-less
-    element-copy-out-less
-    less-requires
+    mul-if2
+    element-copy-out-if2
+    mul-amount
+    element-copy-out-amount
+    mul-b
+    element-copy-out-b
+    cast-w
+    mul-if3
+    element-copy-out-if3
+    returns-2
     mul-a
     element-copy-out-a
     sub-left
     loop-less
     loop-again
-    returns-2)
+    returns-3)

@@ -1,15 +1,14 @@
 -- `simplex::flow::from_terminal` is safe and ends. Assumes nothing.
 use Prim.Native.Nat.{_-_, _≤_}
-use native.Mathlib.Omega.{arith}
 use borrow.Author.Needs.{needs}
 use Rattle.simplex.proofs.flow.from_terminal.Statement.{statement}
 use Rattle.simplex.proofs.flow.from_terminal.Tie as tie
 
 abbrev Inv-loop : tie.InvT-loop
-Inv-loop j up flow far₀ top a₀ left₀ far a left = left ≤ 96
+Inv-loop j up flow top node₀ amount₀ first₀ a₀ left₀ node amount first a left = left ≤ 48
 
 abbrev μ-loop : tie.MeasureT-loop
-μ-loop j up flow far₀ top a₀ left₀ far a left = left
+μ-loop j up flow top node₀ amount₀ first₀ a₀ left₀ node amount first a left = left
 
 loop-holds : tie.Need-loop-holds Inv-loop μ-loop
 loop-holds c = search needs
@@ -20,14 +19,29 @@ returns c = search needs
 cast-v : tie.Need-cast-v Inv-loop μ-loop
 cast-v c = search needs
 
-mul-no-more : tie.Need-mul-no-more Inv-loop μ-loop
-mul-no-more c = search needs
+mul-if2 : tie.Need-mul-if2 Inv-loop μ-loop
+mul-if2 c = search needs
 
-element-copy-out-no-more : tie.Need-element-copy-out-no-more Inv-loop μ-loop
-element-copy-out-no-more c = search needs
+element-copy-out-if2 : tie.Need-element-copy-out-if2 Inv-loop μ-loop
+element-copy-out-if2 c = search needs
 
-no-more-requires : tie.Need-no-more-requires Inv-loop μ-loop
-no-more-requires c κs = search needs
+mul-amount : tie.Need-mul-amount Inv-loop μ-loop
+mul-amount c = search needs
+
+element-copy-out-amount : tie.Need-element-copy-out-amount Inv-loop μ-loop
+element-copy-out-amount c = search needs
+
+mul-b : tie.Need-mul-b Inv-loop μ-loop
+mul-b c = search needs
+
+element-copy-out-b : tie.Need-element-copy-out-b Inv-loop μ-loop
+element-copy-out-b c = search needs
+
+returns-2 : tie.Need-returns-2 Inv-loop μ-loop
+returns-2 c = search needs
+
+cast-a : tie.Need-cast-a Inv-loop μ-loop
+cast-a c = search needs
 
 mul-a : tie.Need-mul-a Inv-loop μ-loop
 mul-a c = search needs
@@ -44,8 +58,8 @@ loop-less c = search needs
 loop-again : tie.Need-loop-again Inv-loop μ-loop
 loop-again c = search needs
 
-returns-2 : tie.Need-returns-2 Inv-loop μ-loop
-returns-2 c = search needs
+returns-3 : tie.Need-returns-3 Inv-loop μ-loop
+returns-3 c = search needs
 
 pub from-terminal-spec : {M : Type 1} → statement M
 from-terminal-spec =
@@ -56,12 +70,17 @@ from-terminal-spec =
     loop-holds
     returns
     cast-v
-    mul-no-more
-    element-copy-out-no-more
-    no-more-requires
+    mul-if2
+    element-copy-out-if2
+    mul-amount
+    element-copy-out-amount
+    mul-b
+    element-copy-out-b
+    returns-2
+    cast-a
     mul-a
     element-copy-out-a
     sub-left
     loop-less
     loop-again
-    returns-2)
+    returns-3)

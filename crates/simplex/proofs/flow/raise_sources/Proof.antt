@@ -1,9 +1,9 @@
 -- `simplex::flow::raise_sources` is safe and ends. Assumes nothing.
-use Prim.Native.Nat.{_-_, _≤_}
+use Prim.Native.Nat.{_-_}
 use native.Mathlib.Omega.{arith}
 use borrow.Author.Needs.{needs}
-use Prim.Native.Nat.{_^_, _<_}
 use lib.Bits.{and-le-r}
+use Prim.Native.Nat.{_^_, _<_}
 use Rattle.simplex.proofs.flow.raise_sources.Statement.{statement}
 use Rattle.simplex.proofs.flow.raise_sources.Tie as tie
 
@@ -19,17 +19,17 @@ loop-holds c = search needs
 cast-i : tie.Need-cast-i Inv-loop μ-loop
 cast-i c = search needs
 
+mul-wrapping-add-u32 : tie.Need-mul-wrapping-add-u32 Inv-loop μ-loop
+mul-wrapping-add-u32 c = search needs
+
+element-copy-out-wrapping-add-u32 : tie.Need-element-copy-out-wrapping-add-u32 Inv-loop μ-loop
+element-copy-out-wrapping-add-u32 c = search needs
+
+wrapping-add-u32-requires : tie.Need-wrapping-add-u32-requires Inv-loop μ-loop
+wrapping-add-u32-requires c κs = search needs
+
 mul-p : tie.Need-mul-p Inv-loop μ-loop
 mul-p c = search needs
-
-element-copy-out-p : tie.Need-element-copy-out-p Inv-loop μ-loop
-element-copy-out-p c = search needs
-
-add-p : tie.Need-add-p Inv-loop μ-loop
-add-p c = search needs
-
-mul-p-2 : tie.Need-mul-p-2 Inv-loop μ-loop
-mul-p-2 c = search needs
 
 element-write-p : tie.Need-element-write-p Inv-loop μ-loop
 element-write-p c = search needs
@@ -38,10 +38,10 @@ sub-rest : tie.Need-sub-rest Inv-loop μ-loop
 sub-rest c = search needs
 
 loop-less : tie.Need-loop-less Inv-loop μ-loop
-loop-less c = omega (arith, and-le-r (c .before .before .loop .rest) (c .before .before .loop .rest - 1))
+loop-less c = omega (arith, and-le-r (c .before .before .before .loop .rest) (c .before .before .before .loop .rest - 1))
 
 loop-again : tie.Need-loop-again Inv-loop μ-loop
-loop-again c = omega (arith, and-le-r (c .before .before .loop .rest) (c .before .before .loop .rest - 1))
+loop-again c = omega (arith, and-le-r (c .before .before .before .loop .rest) (c .before .before .before .loop .rest - 1))
 
 returns : tie.Need-returns Inv-loop μ-loop
 returns c = search needs
@@ -54,10 +54,10 @@ raise-sources-spec =
     μ-loop
     loop-holds
     cast-i
+    mul-wrapping-add-u32
+    element-copy-out-wrapping-add-u32
+    wrapping-add-u32-requires
     mul-p
-    element-copy-out-p
-    add-p
-    mul-p-2
     element-write-p
     sub-rest
     loop-less

@@ -1,9 +1,9 @@
 -- `simplex::flow::raise_terminals` is safe and ends. Assumes nothing.
-use Prim.Native.Nat.{_-_, _≤_}
+use Prim.Native.Nat.{_-_}
 use native.Mathlib.Omega.{arith}
 use borrow.Author.Needs.{needs}
-use Prim.Native.Nat.{_^_, _<_}
 use lib.Bits.{and-le-r}
+use Prim.Native.Nat.{_^_, _<_}
 use Rattle.simplex.proofs.flow.raise_terminals.Statement.{statement}
 use Rattle.simplex.proofs.flow.raise_terminals.Tie as tie
 
@@ -13,11 +13,8 @@ Inv-loop part d key₀ e rest₀ key rest = rest < 2 ^ 64
 abbrev μ-loop : tie.MeasureT-loop
 μ-loop part d key₀ e rest₀ key rest = rest
 
-sub-e : tie.Need-sub-e Inv-loop μ-loop
-sub-e c = search needs
-
-mul-e : tie.Need-mul-e Inv-loop μ-loop
-mul-e c = search needs
+wrapping-sub-u32-requires : tie.Need-wrapping-sub-u32-requires Inv-loop μ-loop
+wrapping-sub-u32-requires c κs = search needs
 
 loop-holds : tie.Need-loop-holds Inv-loop μ-loop
 loop-holds c = search needs
@@ -25,17 +22,17 @@ loop-holds c = search needs
 cast-j : tie.Need-cast-j Inv-loop μ-loop
 cast-j c = search needs
 
+mul-wrapping-add-u32 : tie.Need-mul-wrapping-add-u32 Inv-loop μ-loop
+mul-wrapping-add-u32 c = search needs
+
+element-copy-out-wrapping-add-u32 : tie.Need-element-copy-out-wrapping-add-u32 Inv-loop μ-loop
+element-copy-out-wrapping-add-u32 c = search needs
+
+wrapping-add-u32-requires : tie.Need-wrapping-add-u32-requires Inv-loop μ-loop
+wrapping-add-u32-requires c κs = search needs
+
 mul-key : tie.Need-mul-key Inv-loop μ-loop
 mul-key c = search needs
-
-element-copy-out-key : tie.Need-element-copy-out-key Inv-loop μ-loop
-element-copy-out-key c = search needs
-
-add-key : tie.Need-add-key Inv-loop μ-loop
-add-key c = search needs
-
-mul-key-2 : tie.Need-mul-key-2 Inv-loop μ-loop
-mul-key-2 c = search needs
 
 element-write-key : tie.Need-element-write-key Inv-loop μ-loop
 element-write-key c = search needs
@@ -44,10 +41,10 @@ sub-rest : tie.Need-sub-rest Inv-loop μ-loop
 sub-rest c = search needs
 
 loop-less : tie.Need-loop-less Inv-loop μ-loop
-loop-less c = omega (arith, and-le-r (c .before .before .loop .rest) (c .before .before .loop .rest - 1))
+loop-less c = omega (arith, and-le-r (c .before .before .before .loop .rest) (c .before .before .before .loop .rest - 1))
 
 loop-again : tie.Need-loop-again Inv-loop μ-loop
-loop-again c = omega (arith, and-le-r (c .before .before .loop .rest) (c .before .before .loop .rest - 1))
+loop-again c = omega (arith, and-le-r (c .before .before .before .loop .rest) (c .before .before .before .loop .rest - 1))
 
 returns : tie.Need-returns Inv-loop μ-loop
 returns c = search needs
@@ -58,14 +55,13 @@ raise-terminals-spec =
     (tie.spec
     Inv-loop
     μ-loop
-    sub-e
-    mul-e
+    wrapping-sub-u32-requires
     loop-holds
     cast-j
+    mul-wrapping-add-u32
+    element-copy-out-wrapping-add-u32
+    wrapping-add-u32-requires
     mul-key
-    element-copy-out-key
-    add-key
-    mul-key-2
     element-write-key
     sub-rest
     loop-less

@@ -1,6 +1,5 @@
 -- `simplex::price::least` is safe and ends. Assumes nothing.
 use Prim.Native.Nat.{_-_, _≤_}
-use native.Mathlib.Omega.{arith}
 use borrow.Author.Needs.{needs}
 use Rattle.simplex.proofs.price.least.Statement.{statement}
 use Rattle.simplex.proofs.price.least.Tie as tie

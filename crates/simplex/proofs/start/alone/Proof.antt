@@ -1,6 +1,5 @@
 -- `simplex::start::alone` is safe and ends. Assumes nothing.
 use Prim.Native.Nat.{_-_, _≤_}
-use native.Mathlib.Omega.{arith}
 use borrow.Author.Needs.{needs}
 use Rattle.simplex.proofs.start.alone.Statement.{statement}
 use Rattle.simplex.proofs.start.alone.Tie as tie

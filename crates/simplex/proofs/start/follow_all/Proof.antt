@@ -1,15 +1,14 @@
 -- `simplex::start::follow_all` is safe and ends. Assumes nothing.
 use Prim.Native.Nat.{_-_, _≤_}
-use native.Mathlib.Omega.{arith}
 use borrow.Author.Needs.{needs}
 use Rattle.simplex.proofs.start.follow_all.Statement.{statement}
 use Rattle.simplex.proofs.start.follow_all.Tie as tie
 
 abbrev Inv-loop : tie.InvT-loop
-Inv-loop count order cost up p₀ key₀ k₀ p key k = k ≤ 128
+Inv-loop count book cost up p₀ key₀ k₀ p key k = k ≤ 128
 
 abbrev μ-loop : tie.MeasureT-loop
-μ-loop count order cost up p₀ key₀ k₀ p key k = k
+μ-loop count book cost up p₀ key₀ k₀ p key k = k
 
 loop-holds : tie.Need-loop-holds Inv-loop μ-loop
 loop-holds c = search needs
@@ -19,6 +18,9 @@ sub-k c = search needs
 
 cast-follow : tie.Need-cast-follow Inv-loop μ-loop
 cast-follow c = search needs
+
+add-follow : tie.Need-add-follow Inv-loop μ-loop
+add-follow c = search needs
 
 mul-follow : tie.Need-mul-follow Inv-loop μ-loop
 mul-follow c = search needs
@@ -47,6 +49,7 @@ follow-all-spec =
     loop-holds
     sub-k
     cast-follow
+    add-follow
     mul-follow
     element-copy-out-follow
     follow-requires

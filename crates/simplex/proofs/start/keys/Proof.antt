@@ -1,6 +1,5 @@
 -- `simplex::start::keys` is safe and ends. Assumes nothing.
 use Prim.Native.Nat.{_-_, _≤_}
-use native.Mathlib.Omega.{arith}
 use borrow.Author.Needs.{needs}
 use Rattle.simplex.proofs.start.keys.Statement.{statement}
 use Rattle.simplex.proofs.start.keys.Tie as tie

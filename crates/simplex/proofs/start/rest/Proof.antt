@@ -1,15 +1,14 @@
 -- `simplex::start::rest` is safe and ends. Assumes nothing.
 use Prim.Native.Nat.{_-_, _≤_}
-use native.Mathlib.Omega.{arith}
 use borrow.Author.Needs.{needs}
 use Rattle.simplex.proofs.start.rest.Statement.{statement}
 use Rattle.simplex.proofs.start.rest.Tie as tie
 
 abbrev Inv-loop : tie.InvT-loop
-Inv-loop n first want order₀ up₀ rows₀ cols₀ flow₀ count₀ j₀ order up rows cols flow count j = j ≤ 64
+Inv-loop n first book₀ up₀ rows₀ cols₀ flow₀ count₀ j₀ book up rows cols flow count j = j ≤ 64
 
 abbrev μ-loop : tie.MeasureT-loop
-μ-loop n first want order₀ up₀ rows₀ cols₀ flow₀ count₀ j₀ order up rows cols flow count j = 64 - j
+μ-loop n first book₀ up₀ rows₀ cols₀ flow₀ count₀ j₀ book up rows cols flow count j = 64 - j
 
 loop-holds : tie.Need-loop-holds Inv-loop μ-loop
 loop-holds c = search needs
@@ -29,6 +28,9 @@ add-hang c = search needs
 cast-hang : tie.Need-cast-hang Inv-loop μ-loop
 cast-hang c = search needs
 
+add-hang-2 : tie.Need-add-hang-2 Inv-loop μ-loop
+add-hang-2 c = search needs
+
 mul-hang : tie.Need-mul-hang Inv-loop μ-loop
 mul-hang c = search needs
 
@@ -38,20 +40,23 @@ element-copy-out-hang c = search needs
 hang-requires : tie.Need-hang-requires Inv-loop μ-loop
 hang-requires c κs = search needs
 
-add-order : tie.Need-add-order Inv-loop μ-loop
-add-order c = search needs
+add-book : tie.Need-add-book Inv-loop μ-loop
+add-book c = search needs
 
-cast-order : tie.Need-cast-order Inv-loop μ-loop
-cast-order c = search needs
+cast-book : tie.Need-cast-book Inv-loop μ-loop
+cast-book c = search needs
 
-cast-order-2 : tie.Need-cast-order-2 Inv-loop μ-loop
-cast-order-2 c = search needs
+cast-book-2 : tie.Need-cast-book-2 Inv-loop μ-loop
+cast-book-2 c = search needs
 
-mul-order : tie.Need-mul-order Inv-loop μ-loop
-mul-order c = search needs
+add-book-2 : tie.Need-add-book-2 Inv-loop μ-loop
+add-book-2 c = search needs
 
-element-write-order : tie.Need-element-write-order Inv-loop μ-loop
-element-write-order c = search needs
+mul-book : tie.Need-mul-book Inv-loop μ-loop
+mul-book c = search needs
+
+element-write-book : tie.Need-element-write-book Inv-loop μ-loop
+element-write-book c = search needs
 
 add-count : tie.Need-add-count Inv-loop μ-loop
 add-count c = search needs
@@ -80,14 +85,16 @@ rest-spec =
     element-copy-out-if2
     add-hang
     cast-hang
+    add-hang-2
     mul-hang
     element-copy-out-hang
     hang-requires
-    add-order
-    cast-order
-    cast-order-2
-    mul-order
-    element-write-order
+    add-book
+    cast-book
+    cast-book-2
+    add-book-2
+    mul-book
+    element-write-book
     add-count
     add-j
     loop-less

@@ -1,30 +1,29 @@
 -- `simplex::start::stock` is safe and ends. Assumes nothing.
 use Prim.Native.Nat.{_-_, _≤_}
-use native.Mathlib.Omega.{arith}
 use borrow.Author.Needs.{needs}
 use Rattle.simplex.proofs.start.stock.Statement.{statement}
 use Rattle.simplex.proofs.start.stock.Tie as tie
 
 abbrev Inv-loop : tie.InvT-loop
-Inv-loop m amounts have₀ open₀ i₀ have «open» i = i ≤ 32
+Inv-loop m amounts book₀ open₀ i₀ book «open» i = i ≤ 32
 
 abbrev μ-loop : tie.MeasureT-loop
-μ-loop m amounts have₀ open₀ i₀ have «open» i = 32 - i
+μ-loop m amounts book₀ open₀ i₀ book «open» i = 32 - i
 
 loop-holds : tie.Need-loop-holds Inv-loop μ-loop
 loop-holds c = search needs
 
-mul-have : tie.Need-mul-have Inv-loop μ-loop
-mul-have c = search needs
+mul-book : tie.Need-mul-book Inv-loop μ-loop
+mul-book c = search needs
 
-element-copy-out-have : tie.Need-element-copy-out-have Inv-loop μ-loop
-element-copy-out-have c = search needs
+element-copy-out-book : tie.Need-element-copy-out-book Inv-loop μ-loop
+element-copy-out-book c = search needs
 
-mul-have-2 : tie.Need-mul-have-2 Inv-loop μ-loop
-mul-have-2 c = search needs
+mul-book-2 : tie.Need-mul-book-2 Inv-loop μ-loop
+mul-book-2 c = search needs
 
-element-write-have : tie.Need-element-write-have Inv-loop μ-loop
-element-write-have c = search needs
+element-write-book : tie.Need-element-write-book Inv-loop μ-loop
+element-write-book c = search needs
 
 cast-open : tie.Need-cast-open Inv-loop μ-loop
 cast-open c = search needs
@@ -51,10 +50,10 @@ stock-spec =
     Inv-loop
     μ-loop
     loop-holds
-    mul-have
-    element-copy-out-have
-    mul-have-2
-    element-write-have
+    mul-book
+    element-copy-out-book
+    mul-book-2
+    element-write-book
     cast-open
     shl-open
     add-i

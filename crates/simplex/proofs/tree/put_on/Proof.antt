@@ -1,15 +1,14 @@
 -- `simplex::tree::put_on` is safe and ends. Assumes nothing.
 use Prim.Native.Nat.{_-_, _≤_}
-use native.Mathlib.Omega.{arith}
 use borrow.Author.Needs.{needs}
 use Rattle.simplex.proofs.tree.put_on.Statement.{statement}
 use Rattle.simplex.proofs.tree.put_on.Tie as tie
 
 abbrev Inv-loop : tie.InvT-loop
-Inv-loop from stop r c up rows₀ cols₀ a₀ left₀ rows cols a left = left ≤ 96
+Inv-loop from stop r c source terminal up rows₀ cols₀ flow₀ a₀ left₀ rows cols flow a left = left ≤ 96
 
 abbrev μ-loop : tie.MeasureT-loop
-μ-loop from stop r c up rows₀ cols₀ a₀ left₀ rows cols a left = left
+μ-loop from stop r c source terminal up rows₀ cols₀ flow₀ a₀ left₀ rows cols flow a left = left
 
 loop-holds : tie.Need-loop-holds Inv-loop μ-loop
 loop-holds c = search needs
@@ -43,6 +42,24 @@ mul-cols-2 c = search needs
 
 element-write-cols : tie.Need-element-write-cols Inv-loop μ-loop
 element-write-cols c = search needs
+
+mul-wrapping-add-u32 : tie.Need-mul-wrapping-add-u32 Inv-loop μ-loop
+mul-wrapping-add-u32 c = search needs
+
+element-copy-out-wrapping-add-u32 : tie.Need-element-copy-out-wrapping-add-u32 Inv-loop μ-loop
+element-copy-out-wrapping-add-u32 c = search needs
+
+gain-requires : tie.Need-gain-requires Inv-loop μ-loop
+gain-requires c κs = search needs
+
+wrapping-add-u32-requires : tie.Need-wrapping-add-u32-requires Inv-loop μ-loop
+wrapping-add-u32-requires c κs = search needs
+
+mul-flow : tie.Need-mul-flow Inv-loop μ-loop
+mul-flow c = search needs
+
+element-write-flow : tie.Need-element-write-flow Inv-loop μ-loop
+element-write-flow c = search needs
 
 mul-a : tie.Need-mul-a Inv-loop μ-loop
 mul-a c = search needs
@@ -79,6 +96,12 @@ put-on-spec =
     element-copy-out-cols
     mul-cols-2
     element-write-cols
+    mul-wrapping-add-u32
+    element-copy-out-wrapping-add-u32
+    gain-requires
+    wrapping-add-u32-requires
+    mul-flow
+    element-write-flow
     mul-a
     element-copy-out-a
     sub-left

@@ -1,15 +1,14 @@
 -- `simplex::tree::turn_round` is safe and ends. Assumes nothing.
 use Prim.Native.Nat.{_-_, _≤_}
-use native.Mathlib.Omega.{arith}
 use borrow.Author.Needs.{needs}
 use Rattle.simplex.proofs.tree.turn_round.Statement.{statement}
 use Rattle.simplex.proofs.tree.turn_round.Tie as tie
 
 abbrev Inv-loop : tie.InvT-loop
-Inv-loop v e host amount r c up₀ rows₀ cols₀ flow₀ a₀ above₀ moved₀ off-rows₀ off-cols₀ left₀ up rows cols flow a above moved off-rows off-cols left = left ≤ 96
+Inv-loop v e host amount r c source terminal up₀ rows₀ cols₀ flow₀ a₀ above₀ moved₀ off-rows₀ off-cols₀ left₀ up rows cols flow a above moved off-rows off-cols left = left ≤ 96
 
 abbrev μ-loop : tie.MeasureT-loop
-μ-loop v e host amount r c up₀ rows₀ cols₀ flow₀ a₀ above₀ moved₀ off-rows₀ off-cols₀ left₀ up rows cols flow a above moved off-rows off-cols left = left
+μ-loop v e host amount r c source terminal up₀ rows₀ cols₀ flow₀ a₀ above₀ moved₀ off-rows₀ off-cols₀ left₀ up rows cols flow a above moved off-rows off-cols left = left
 
 loop-holds : tie.Need-loop-holds Inv-loop μ-loop
 loop-holds c = search needs
@@ -68,6 +67,12 @@ element-write-cols c = search needs
 returns : tie.Need-returns Inv-loop μ-loop
 returns c = search needs
 
+gain-requires : tie.Need-gain-requires Inv-loop μ-loop
+gain-requires c κs = search needs
+
+wrapping-add-u32-requires : tie.Need-wrapping-add-u32-requires Inv-loop μ-loop
+wrapping-add-u32-requires c κs = search needs
+
 sub-left : tie.Need-sub-left Inv-loop μ-loop
 sub-left c = search needs
 
@@ -105,6 +110,8 @@ turn-round-spec =
     mul-cols
     element-write-cols
     returns
+    gain-requires
+    wrapping-add-u32-requires
     sub-left
     loop-less
     loop-again

@@ -1,7 +1,6 @@
 -- `slackcheck::check::amount_at` meets its contract. Assumes nothing.
-use Prim.Native.Nat.{_-_, _≤_}
+use Prim.Native.Nat.{_-_}
 use native.Mathlib.Omega.{arith}
-use native.Mathlib.Numerals.{add-one}
 use Rattle.slackcheck.proofs.Checking.{amount-first, amount-second, amount-depot}
 use borrow.Author.Needs.{needs}
 use Rattle.slackcheck.proofs.check.amount_at.Statement.{statement}

@@ -1,15 +1,8 @@
 -- `slackcheck::check::good` meets its contract. Assumes nothing.
-use Prim.Native.Nat.{_-_, _≤_}
-use native.Mathlib.Omega.{arith}
-use mathlib.Core.Path.{_≡_, sym}
+use Prim.Native.Nat.{_-_}
+use mathlib.Core.Path.{sym}
 use mathlib.Core.Bool.{true≢false}
-use Prim.Native.Nat.{ℕ, _+_, _<_}
-use borrow.Author.Count.{below-more}
-use Rattle.residual.specs.Cells.{cells}
-use Rattle.residual.specs.Network.{get}
-use Rattle.transport.specs.Plan.{row, col}
-use Rattle.slackcheck.specs.Checked.{Good, RowsChecked, ColumnsChecked}
-use Rattle.slackcheck.proofs.Checking.{not-false, row-none, row-next, col-none, col-next}
+use Rattle.slackcheck.proofs.Checking.{not-false}
 use borrow.Author.Needs.{needs}
 use Rattle.slackcheck.proofs.check.good.Statement.{statement}
 use Rattle.slackcheck.proofs.check.good.Tie as tie
@@ -27,7 +20,7 @@ returns-2 : tie.Need-returns-2
 returns-2 c = λ e. absurd (true≢false (sym e))
 
 columns-good-requires : tie.Need-columns-good-requires
-columns-good-requires c κs = search needs
+columns-good-requires c κs = let r = c .before .before .before .before .pre .0 in record { sources = r .sources; terminals = r .terminals; few = λ i j hi hj. c .before .rows-good .ensures (not-false _ (c .if2 .left)) i hi .lanes j hj .few }
 
 returns-3 : tie.Need-returns-3
 returns-3 c = λ e. record { levels = c .before .before .before .before .levels-good .ensures (not-false _ (c .before .before .before .if1 .left)); rows = c .before .before .rows-good .ensures (not-false _ (c .before .if2 .left)); columns = c .columns-good .ensures e }

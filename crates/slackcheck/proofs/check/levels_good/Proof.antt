@@ -2,15 +2,11 @@
 use Prim.Native.Nat.{_-_, _≤_}
 use native.Mathlib.Omega.{arith}
 use borrow.Author.Needs.{needs}
-use mathlib.Core.Path.{_≡_, sym}
+use mathlib.Core.Path.{sym}
 use mathlib.Core.Bool.{true≢false}
-use Prim.Native.Nat.{ℕ, _+_, _<_}
+use Prim.Native.Nat.{ℕ, _<_}
 use borrow.Author.Count.{below-more}
-use Rattle.residual.specs.Cells.{cells}
 use Rattle.residual.specs.Network.{get}
-use Rattle.transport.specs.Plan.{row, col}
-use Rattle.slackcheck.specs.Checked.{Good, RowsChecked, ColumnsChecked}
-use Rattle.slackcheck.proofs.Checking.{not-false, row-none, row-next, col-none, col-next}
 use Rattle.slackcheck.proofs.check.levels_good.Statement.{statement}
 use Rattle.slackcheck.proofs.check.levels_good.Tie as tie
 

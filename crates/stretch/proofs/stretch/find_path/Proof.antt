@@ -25,7 +25,7 @@ sub-gap : tie.Need-sub-gap
 sub-gap c = path-low (c .before .before .before .before .before .before .before .pre .0) (only (c .before .before .before .before .before .before .before .args .limit)) (c .before .before .before .before .before .reach .ensures .searched)
 
 returns : tie.Need-returns
-returns c = let r = route (c .before .before .before .before .before .before .before .args .m) (c .before .before .before .before .before .before .before .args .n) (c .before .before .before .before .before .before .before .args .cost .now) (c .before .before .before .before .before .before .before .pre .0 .swinging .sound .sources) (omega arith) (c .before .before .before .before .before .reach .ensures .searched) in path-done (c .before .before .before .before .before .before .before .pre .0) (only (c .before .before .before .before .before .before .before .args .limit)) (c .before .before .before .before .before .reach .ensures .searched) refl refl (c .before .measure .ensures .arcs r) (c .before .measure .ensures .width r)
+returns c = let r = route (c .before .before .before .before .before .before .before .args .m) (c .before .before .before .before .before .before .before .args .n) (c .before .before .before .before .before .before .before .args .cost .now) (c .before .before .before .before .before .before .before .pre .0 .swinging .sound .sources) (omega arith) (c .before .before .before .before .before .reach .ensures .searched) in (path-done (c .before .before .before .before .before .before .before .pre .0) (only (c .before .before .before .before .before .before .before .args .limit)) (c .before .before .before .before .before .reach .ensures .searched) refl refl (c .before .measure .ensures .arcs r) (c .before .measure .ensures .width r), c .before .before .before .before .before .reach .ensures .searched .low)
 
 pub find-path-spec : {M : Type 1} → statement M
 find-path-spec =

@@ -13,57 +13,57 @@ element-copy-out-gain : tie.Need-element-copy-out-gain
 element-copy-out-gain c = search needs
 
 cast-gain : tie.Need-cast-gain
-cast-gain c = omega (arith, scan-ready (c .before .before .before .before .before .before .before .before .before .pre .0) (c .before .before .before .find-path .ensures) .rise)
+cast-gain c = omega (arith, scan-ready (c .before .before .before .before .before .before .before .before .before .pre .0) (c .before .before .before .find-path .ensures .0) .rise)
 
 element-copy-out-loss : tie.Need-element-copy-out-loss
 element-copy-out-loss c = search needs
 
 sub-loss : tie.Need-sub-loss
-sub-loss c = loss-ready (c .before .before .before .before .before .before .before .before .before .before .pre .0) (c .before .before .before .before .find-path .ensures)
+sub-loss c = loss-ready (c .before .before .before .before .before .before .before .before .before .before .pre .0) (c .before .before .before .before .find-path .ensures .0)
 
 cast-loss : tie.Need-cast-loss
-cast-loss c = omega (arith, scan-ready (c .before .before .before .before .before .before .before .before .before .before .pre .0) (c .before .before .before .before .find-path .ensures) .fall)
+cast-loss c = omega (arith, scan-ready (c .before .before .before .before .before .before .before .before .before .before .pre .0) (c .before .before .before .before .find-path .ensures .0) .fall)
 
 cast-drums : tie.Need-cast-drums
-cast-drums c = omega (arith, scan-ready (c .before .before .before .before .before .before .before .before .before .before .pre .0) (c .before .before .before .before .find-path .ensures) .few)
+cast-drums c = omega (arith, scan-ready (c .before .before .before .before .before .before .before .before .before .before .pre .0) (c .before .before .before .before .find-path .ensures .0) .few)
 
 add-next : tie.Need-add-next
 add-next c = search needs
 
 push-requires : tie.Need-push-requires
-push-requires c κs = c .before .before .before .before .before .before .find-path .ensures .able
+push-requires c κs = c .before .before .before .before .before .before .find-path .ensures .0 .able
 
 mul-value : tie.Need-mul-value
-mul-value c = omega (arith, gains (c .before .before .before .before .before .before .before .before .before .before .before .before .before .pre .0) (c .before .before .before .before .before .before .before .find-path .ensures))
+mul-value c = omega (arith, gains (c .before .before .before .before .before .before .before .before .before .before .before .before .before .pre .0) (c .before .before .before .before .before .before .before .find-path .ensures .0))
 
 add-value : tie.Need-add-value
-add-value c = omega (arith, gains (c .before .before .before .before .before .before .before .before .before .before .before .before .before .pre .0) (c .before .before .before .before .before .before .before .find-path .ensures), c .before .before .before .before .before .before .before .before .before .before .before .before .before .pre .0 .start)
+add-value c = omega (arith, gains (c .before .before .before .before .before .before .before .before .before .before .before .before .before .pre .0) (c .before .before .before .before .before .before .before .find-path .ensures .0), c .before .before .before .before .before .before .before .before .before .before .before .before .before .pre .0 .start)
 
 mul-value-2 : tie.Need-mul-value-2
-mul-value-2 c = omega (arith, losses (c .before .before .before .before .before .before .before .before .before .before .before .before .before .pre .0) (c .before .before .before .before .before .before .before .find-path .ensures))
+mul-value-2 c = omega (arith, losses (c .before .before .before .before .before .before .before .before .before .before .before .before .before .pre .0) (c .before .before .before .before .before .before .before .find-path .ensures .0))
 
 sub-value : tie.Need-sub-value
-sub-value c = losses-short (c .before .before .before .before .before .before .before .before .before .before .before .before .before .pre .0) (c .before .before .before .before .before .before .before .find-path .ensures)
+sub-value c = losses-short (c .before .before .before .before .before .before .before .before .before .before .before .before .before .pre .0) (c .before .before .before .before .before .before .before .find-path .ensures .0)
 
 scan-requires : tie.Need-scan-requires
-scan-requires c κs = scan-ready (c .before .before .before .before .before .before .before .before .before .before .before .before .before .pre .0) (c .before .before .before .before .before .before .before .find-path .ensures)
+scan-requires c κs = scan-ready (c .before .before .before .before .before .before .before .before .before .before .before .before .before .pre .0) (c .before .before .before .before .before .before .before .find-path .ensures .0)
 
 keep-requires : tie.Need-keep-requires
-keep-requires c κs = keep-ready (c .before .before .before .before .before .before .before .before .before .before .before .before .before .before .before .before .before .pre .0) (c .before .before .before .before .before .before .before .before .before .before .before .find-path .ensures) (c .before .before .before .scan .ensures) _ (c .before .before .before .before .push .ensures)
+keep-requires c κs = keep-ready (c .before .before .before .before .before .before .before .before .before .before .before .before .before .before .before .before .before .pre .0) (c .before .before .before .before .before .before .before .before .before .before .before .find-path .ensures .0) (c .before .before .before .scan .ensures) _ (c .before .before .before .before .push .ensures)
 
 mark-requires : tie.Need-mark-requires
-mark-requires c κs = trail-wide _ (c .before .before .before .before .before .before .before .before .before .before .before .before .before .before .before .before .before .before .before .before .pre .0 .shift .swinging .sound .sources) _ _ (c .before .before .before .before .before .before .before .before .before .before .before .before .before .before .find-path .ensures .trail)
+mark-requires c κs = trail-wide _ (c .before .before .before .before .before .before .before .before .before .before .before .before .before .before .before .before .before .before .before .before .pre .0 .shift .swinging .sound .sources) _ _ (c .before .before .before .before .before .before .before .before .before .before .before .before .before .before .find-path .ensures .0 .trail)
 
-lower-requires : tie.Need-lower-requires
-lower-requires c κs = c .before .before .before .before .before .before .before .before .before .before .before .before .before .before .before .before .before .find-path .ensures .ready
+lower-by-requires : tie.Need-lower-by-requires
+lower-by-requires c κs = (c .before .before .before .before .before .before .before .before .before .before .before .before .before .before .before .before .before .find-path .ensures .0 .ready, c .before .before .before .before .before .before .before .before .before .before .before .before .before .before .before .before .before .find-path .ensures .1)
 
 hold-requires : tie.Need-hold-requires
 hold-requires c κs = search needs
 
 returns : tie.Need-returns
 returns c = (
-  stretch-done (c .before .before .before .before .before .before .before .before .before .before .before .before .before .before .before .before .before .before .before .before .before .before .before .before .before .before .before .pre .0) (c .before .before .before .before .before .before .before .before .before .before .before .before .before .before .before .before .before .before .before .before .before .find-path .ensures) (c .before .before .before .before .before .before .before .before .before .before .before .before .before .scan .ensures) (c .before .before .before .before .before .before .before .before .before .keep .ensures) (c .before .before .before .before .before .before .before .before .before .before .before .before .before .before .push .ensures) (c .before .before .before .lower .ensures) (c .hold .ensures),
-  cover-walk (c .before .before .before .before .before .before .before .before .before .before .before .before .before .before .before .before .before .before .before .before .before .before .before .before .before .before .before .pre .0 .shift .swinging .sound .terminals) _ _ _ _ _ _ (c .before .before .before .before .before .before .before .before .before .before .before .before .before .before .before .before .before .before .before .before .before .find-path .ensures .trail) (c .before .before .before .before .before .before .before .before .before .before .before .before .before .before .before .before .before .before .before .before .before .before .before .before .before .before .before .pre .1 .1) (c .before .before .before .before .before .before .before .before .before .before .before .before .before .before .push .ensures) (c .before .before .before .before .before .before .mark .ensures),
+  stretch-done (c .before .before .before .before .before .before .before .before .before .before .before .before .before .before .before .before .before .before .before .before .before .before .before .before .before .before .before .pre .0) (c .before .before .before .before .before .before .before .before .before .before .before .before .before .before .before .before .before .before .before .before .before .find-path .ensures .0) (c .before .before .before .before .before .before .before .before .before .before .before .before .before .scan .ensures) (c .before .before .before .before .before .before .before .before .before .keep .ensures) (c .before .before .before .before .before .before .before .before .before .before .before .before .before .before .push .ensures) (c .before .before .before .lower-by .ensures) (c .hold .ensures),
+  cover-walk (c .before .before .before .before .before .before .before .before .before .before .before .before .before .before .before .before .before .before .before .before .before .before .before .before .before .before .before .pre .0 .shift .swinging .sound .terminals) _ _ _ _ _ _ (c .before .before .before .before .before .before .before .before .before .before .before .before .before .before .before .before .before .before .before .before .before .find-path .ensures .0 .trail) (c .before .before .before .before .before .before .before .before .before .before .before .before .before .before .before .before .before .before .before .before .before .before .before .before .before .before .before .pre .1 .1) (c .before .before .before .before .before .before .before .before .before .before .before .before .before .before .push .ensures) (c .before .before .before .before .before .before .mark .ensures),
 )
 
 pub stretch-spec : {M : Type 1} → statement M
@@ -86,6 +86,6 @@ stretch-spec =
     scan-requires
     keep-requires
     mark-requires
-    lower-requires
+    lower-by-requires
     hold-requires
     returns)

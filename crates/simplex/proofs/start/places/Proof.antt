@@ -1,0 +1,50 @@
+-- `simplex::start::places` is safe and ends. Assumes nothing.
+use Prim.Native.Nat.{_-_, _≤_}
+use borrow.Author.Needs.{needs}
+use Rattle.simplex.proofs.start.places.Statement.{statement}
+use Rattle.simplex.proofs.start.places.Tie as tie
+
+abbrev Inv-loop : tie.InvT-loop
+Inv-loop cost book₀ key₀ up₀ rows₀ cols₀ flow₀ now₀ turn₀ left₀ book key up rows cols flow now turn left = left ≤ 128
+
+abbrev μ-loop : tie.MeasureT-loop
+μ-loop cost book₀ key₀ up₀ rows₀ cols₀ flow₀ now₀ turn₀ left₀ book key up rows cols flow now turn left = left
+
+loop-holds : tie.Need-loop-holds Inv-loop μ-loop
+loop-holds c = search needs
+
+returns : tie.Need-returns Inv-loop μ-loop
+returns c = search needs
+
+sub-turn : tie.Need-sub-turn Inv-loop μ-loop
+sub-turn c = search needs
+
+place-requires : tie.Need-place-requires Inv-loop μ-loop
+place-requires c κs = search needs
+
+sub-left : tie.Need-sub-left Inv-loop μ-loop
+sub-left c = search needs
+
+loop-less : tie.Need-loop-less Inv-loop μ-loop
+loop-less c = search needs
+
+loop-again : tie.Need-loop-again Inv-loop μ-loop
+loop-again c = search needs
+
+returns-2 : tie.Need-returns-2 Inv-loop μ-loop
+returns-2 c = search needs
+
+pub places-spec : {M : Type 1} → statement M
+places-spec =
+    tie.close
+    (tie.spec
+    Inv-loop
+    μ-loop
+    loop-holds
+    returns
+    sub-turn
+    place-requires
+    sub-left
+    loop-less
+    loop-again
+    returns-2)
