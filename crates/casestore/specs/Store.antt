@@ -25,6 +25,16 @@ inLimits m n = leb 2 m && leb m 32 && leb 1 n && leb n 64
 unfoldable pub cellsToLend : ℕ → ℕ → ℕ
 cellsToLend m n = cond (inLimits m n) (cellsFor m n) 0
 
+-- ---- where the parts of a store begin
+
+-- the flag of mark k
+abbrev pub flagAt : ℕ → ℕ
+flagAt k = 1 + k
+
+-- the slots
+abbrev pub slotsAt : ℕ
+slotsAt = 10
+
 -- ---- where the parts of a slot begin, after the two least runs
 
 abbrev pub suppliesAt : ℕ
@@ -48,7 +58,7 @@ width m n = tableAt m n + 4001
 
 -- where slot k starts
 unfoldable pub start : ℕ → ℕ → ℕ → ℕ
-start m n k = 10 + k * width m n
+start m n k = slotsAt + k * width m n
 
 unfoldable pub slot : ℕ → ℕ → ℕ → List ℕ → List ℕ
 slot m n k cells = take (width m n) (drop (start m n k) cells)
@@ -78,7 +88,7 @@ draftIn m n s = record {
 }
 
 unfoldable pub markIn : ℕ → ℕ → List ℕ → ℕ → Option Draft
-markIn m n cells k = cond (absent k 8) none (cond (eqb (getD cells (1 + k) 0) 0) none (some (draftIn m n (slot m n k cells))))
+markIn m n cells k = cond (absent k 8) none (cond (eqb (getD cells (flagAt k) 0) 0) none (some (draftIn m n (slot m n k cells))))
 
 unfoldable pub stateAt : ℕ → ℕ → List ℕ → State
 stateAt m n cells = record { case = draftIn m n (slot m n 0 cells); marks = markIn m n cells }
@@ -109,7 +119,7 @@ zeroed cells from count = paste cells from (replicate count 0) count
 
 -- a cell of the working case by its index in the slot
 abbrev pub inCase : ℕ → ℕ
-inCase o = 10 + o
+inCase o = slotsAt + o
 
 -- the entries that the working case has
 unfoldable pub entriesIn : List ℕ → ℕ
@@ -125,7 +135,7 @@ writes m n (editDemand j v) cells = set cells (inCase (demandsAt m + (j - 1))) v
 writes m n (editSupply i v) cells = set (cond (eqb i 1) (extended m n (v + 1) cells) cells) (inCase (suppliesAt + (i - 1))) v
 writes m n (editCost i j v) cells = set cells (inCase (costsAt m n + ((i - 1) * n + (j - 1)))) (raisedOf v)
 writes m n (editEntry y v) cells = set cells (inCase (tableAt m n + y)) v
-writes m n (setMark k) cells = set (copied m n 0 k cells) (1 + k) 1
+writes m n (setMark k) cells = set (copied m n 0 k cells) (flagAt k) 1
 writes m n (goBack k) cells = copied m n k 0 cells
 
 -- ---- entering

@@ -12,6 +12,9 @@ pub fn cells_for(m: usize, n: usize) -> usize
     9 * (lanes + m + n + 4_020) + 9 * lanes
 }
 
+// The flag of mark k is at FLAGS + k.
+pub const FLAGS: usize = 1;
+
 // The two least runs and the supplies of the working case.
 pub const RUN1: usize = 10;
 

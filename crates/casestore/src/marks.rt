@@ -6,6 +6,7 @@ ghost use Rattle.casetests.specs.Verdict.{verdict};
 ghost use Rattle.casestore.specs.Calls.{setMark, goBack};
 ghost use Rattle.casestore.specs.Inner.{Open, Acted, Apart, Slots};
 ghost use Rattle.casestore.specs.Store.{copied};
+use crate::layout::FLAGS;
 use crate::layout::slot_start;
 use crate::layout::slot_width;
 use casetests::tests::Verdict;
@@ -46,7 +47,7 @@ pub fn put_mark(m: usize, n: usize, k: usize, store: &mut [u64]) -> Verdict
         return Verdict::Refused(24, 0);
     }
     copy_slot(m, n, 0, k, store);
-    store[1 + k] = 1;
+    store[FLAGS + k] = 1;
     Verdict::Passed
 }
 
@@ -60,7 +61,7 @@ pub fn put_back(m: usize, n: usize, k: usize, store: &mut [u64]) -> Verdict
     if k > 8 {
         return Verdict::Refused(24, 0);
     }
-    let set = store[1 + k];
+    let set = store[FLAGS + k];
     if set == 0 {
         return Verdict::Refused(25, k as u64);
     }

@@ -1,4 +1,5 @@
-// Prints as CSV into a lent slice, as far as there is room.
+// Prints as CSV into a lent slice, as far as there is room. The writers of bytes, fields and records ask for an offset far below 2^64, so that no
+// sum overflows: the crates of texts above this one alone call them, and meet it.
 ghost use mathlib.Core.List.{[], _∷_};
 ghost use Prim.Native.Nat.{_≤_, _<_, _^_};
 ghost use mathlib.Core.Path.{_≡_};

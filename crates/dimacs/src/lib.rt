@@ -1,4 +1,5 @@
-// DIMACS minimum-cost flow files: the bytes of a line, the lines, their order, and what they say, kept in cells.
+// DIMACS minimum-cost flow files: the bytes of a line, the lines, their order, and what they say, kept in cells. `network`, `arclist` and `flowtext`
+// alone call these functions, with arrays of the sizes that they ask for.
 pub mod bytes;
 pub mod form;
 pub mod line;

@@ -1,4 +1,5 @@
-// What callers outside Rattle are told of an answer: a number, a report and the worth.
+// What callers outside Rattle are told of an answer: a number, a report and the worth. `ffi` alone calls these functions, after it has looked at the
+// lengths of both: by a short one nothing may be planned.
 ghost use mathlib.Core.Path.{_≡_};
 ghost use Prim.Native.Nat.{_≤_};
 ghost use lib.ListN.{length};
