@@ -157,7 +157,7 @@ pub fn send(
     ensures { λ r. ⌜ SendDone (net m n (now (cost .entry)) (now (cap .entry)) (now (x .entry))) (now (pot .entry)) (now (room .entry)) start limit (now (x .entry)) (now (x .exit)) (now (pot .exit)) (r .goal) (r .amount) ⌝ }
     ensures { λ r. ⌜ Covers m n (now (x .exit)) (now (serves .exit)) ⌝ }
 {
-    let found = search(m, n, cost, x, cap, serves, pot, room, demand, start, limit);
+    let found = search(m, n, cost, x, cap, serves, pot, room, demand, start);
     let goal = found.goal;
     if goal == 96 {
         return Sent { goal, amount: 0 };

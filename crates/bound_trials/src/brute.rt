@@ -1,9 +1,9 @@
 // All tables between two bounds: for each its least total, and the splits that have it. A split's level is that of its freight; it is 0 of
 // an output that is no split.
-use crate::number::at;
-use crate::number::larger;
-use crate::number::plus;
-use crate::number::smaller;
+use trial_draws::at;
+use trial_draws::larger;
+use trial_draws::plus;
+use trial_draws::smaller;
 
 // The smallest and the largest least total, as levels, and how many tables there are.
 pub struct Reached {

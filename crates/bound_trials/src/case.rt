@@ -1,7 +1,7 @@
 // The planner on a small case: the freight at each split, and the refusals of the low table.
-use crate::number::first_cells;
 use crate::number::level;
 use planner::Answer;
+use trial_draws::first_cells;
 
 // A refusal's number and place; 0 and 0 of none.
 pub struct Told {

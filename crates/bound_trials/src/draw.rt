@@ -1,9 +1,9 @@
 // Draws the parts of a small case.
-use crate::number::after;
-use crate::number::at;
-use crate::number::below;
-use crate::number::minus;
-use crate::number::plus;
+use trial_draws::after;
+use trial_draws::at;
+use trial_draws::below;
+use trial_draws::minus;
+use trial_draws::plus;
 
 // Unit costs, rebates among them.
 const RATES: [i64; 16] = [-4, -1, 0, 1, 1, 2, 2, 3, 3, 4, 5, 5, 6, 7, 8, 9];
@@ -15,18 +15,6 @@ pub fn draw_costs(seed: u64, to: &mut [i64]) -> u64 {
     while k < to.len() {
         x = after(x);
         to[k] = RATES[(x / 8 % 16) as usize];
-        k += 1;
-    }
-    x
-}
-
-// Draws numbers from low on, below low + bound, and gives the generator's number after them.
-pub fn draw(seed: u64, low: u64, bound: u64, to: &mut [u64]) -> u64 {
-    let mut x = seed;
-    let mut k: usize = 0;
-    while k < to.len() {
-        x = after(x);
-        to[k] = plus(low, below(x, bound));
         k += 1;
     }
     x

@@ -1,6 +1,6 @@
 // What is to be answered.
-use crate::number::at;
-use crate::number::plus;
+use trial_draws::at;
+use trial_draws::plus;
 
 // One more than the first split at which the high entry is below the low one or above 1,000,000,000; 0 where there is none.
 pub fn bad_entry(levels: &[u64], low: &[u64], high: &[u64]) -> u64 {

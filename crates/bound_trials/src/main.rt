@@ -7,15 +7,16 @@ mod expect;
 mod number;
 mod trial;
 
-use crate::draw::draw;
 use crate::draw::draw_above;
 use crate::draw::draw_costs;
-use crate::number::after;
-use crate::number::at;
-use crate::number::below;
-use crate::number::plus;
 use crate::trial::Seen;
 use crate::trial::hold_first;
+use trial_draws::after;
+use trial_draws::at;
+use trial_draws::below;
+use trial_draws::draw;
+use trial_draws::one_if;
+use trial_draws::plus;
 
 const CASES: u64 = 3_000;
 
@@ -104,10 +105,6 @@ fn run_case(seed: u64) -> Seen {
         long,
         &mut answers,
     )
-}
-
-fn one_if(b: bool) -> u64 {
-    if b { 1 } else { 0 }
 }
 
 fn counted(t: Tally, s: Seen) -> Tally {

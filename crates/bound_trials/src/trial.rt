@@ -8,10 +8,10 @@ use crate::expect::alike;
 use crate::expect::bad_entry;
 use crate::expect::first_split;
 use crate::expect::others;
-use crate::number::first_cells;
 use crate::number::level;
 use tablebounds::possible_splits;
 use tablemarks::Answer;
+use trial_draws::first_cells;
 
 // The number of the refusal, 0 of none; whether the answer is the one wanted; how many splits there are, how many can be the cheapest, and
 // how many tables were tried.
@@ -97,6 +97,43 @@ fn same(reached: Reached, smallest: u64, largest: u64) -> bool {
     reached.largest == largest
 }
 
+// Holds an answer to what is wanted: a refusal to its number and place, with no answer written; splits to all tables.
+fn hold_answer(
+    answer: Answer,
+    want: Told,
+    levels: &[u64],
+    low: &[u64],
+    high: &[u64],
+    answers: &[u64],
+) -> Seen {
+    match answer {
+        Answer::Refused { number, place } => {
+            let kept = others(answers, 7) == 0;
+            as_refused(number, want.number == number && want.place == place && kept)
+        }
+        Answer::Known {
+            first,
+            count,
+            smallest,
+            largest,
+        } => {
+            if want.number != 0 {
+                return as_refused(0, false);
+            }
+            hold_known(
+                levels,
+                low,
+                high,
+                answers,
+                first,
+                count as u64,
+                level(smallest),
+                level(largest),
+            )
+        }
+    }
+}
+
 // Asks for the splits that can be the cheapest, and holds the answer to all tables. Each cell of the answers holds 7 before.
 fn hold(
     run1: u64,
@@ -135,32 +172,7 @@ fn hold(
         high,
         answers,
     );
-    match answer {
-        Answer::Refused { number, place } => {
-            let kept = others(answers, 7) == 0;
-            as_refused(number, want.number == number && want.place == place && kept)
-        }
-        Answer::Known {
-            first,
-            count,
-            smallest,
-            largest,
-        } => {
-            if want.number != 0 {
-                return as_refused(0, false);
-            }
-            hold_known(
-                &drawn,
-                low,
-                high,
-                answers,
-                first,
-                count as u64,
-                level(smallest),
-                level(largest),
-            )
-        }
-    }
+    hold_answer(answer, want, &drawn, low, high, answers)
 }
 
 // Holds the case with the first entries of the two tables.

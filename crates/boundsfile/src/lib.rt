@@ -16,14 +16,9 @@ use filecase::cells::cost_cells;
 use filecase::cells::entry_cells;
 use filecase::cells::lane_ceilings;
 use filecase::cells::stop_cells;
+use filetable::store::smaller;
 use tablebounds::possible_splits;
 use tablemarks::Answer;
-
-fn smaller(a: usize, b: usize) -> usize
-    ensures { λ r. ⌜ r ≡ min a b ⌝ }
-{
-    if a < b { a } else { b }
-}
 
 // Prints the two totals and the marks in the first count cells, of the splits from the first on.
 fn print_known(

@@ -4,22 +4,19 @@ use mathlib.Core.Logic.{_⊎_, inl, inr}
 use mathlib.Core.Option.{Option, none, some}
 use mathlib.Core.List.{List, [], _∷_}
 use Prim.Native.Nat.{ℕ, _+_, _*_, _≤_, _<_}
-use native.Mathlib.Nat.{mul-le-mul}
 use native.Mathlib.Omega.{arith}
 use lib.IntN.{ℤ}
 use lib.ListN.{length, getD, replicate}
-use borrow.Author.Tests.{le-ltb}
-use Rattle.problem.specs.Case.{Case, steps}
-use Rattle.problem.specs.Outcome.{Outcome, planned, refused, formRefusal, outcomeOf, test23, test26, test11}
+use Rattle.problem.specs.Case.{Case}
+use Rattle.problem.specs.Outcome.{Outcome, planned, refused, formRefusal, outcomeOf, test23, test26}
 use Rattle.problem.specs.LentTests.{firstOutside, amountsRefusal, runsRefusal, ceilingsRefusal, AtMost}
 use Rattle.problem.proofs.TestsPassed.{some≢none, Formed, formed, accepted}
 use Rattle.problem.proofs.RefusalNumbers.{planned-passes}
 use Rattle.problem.proofs.Promise.{refused-outcome}
-use Rattle.problem.proofs.Splits.{greatest-most}
 use Rattle.problem.proofs.WithoutCeilings as earlier
 use Rattle.problem.proofs.Unchanged.{no-26, unchanged}
 use Rattle.planner.proofs.LaterTests.{form-decides}
-use Rattle.problem.proofs.TestParts.{unmet, amounts-none, runs-pass}
+use Rattle.problem.proofs.TestParts.{amounts-none, runs-pass}
 use Rattle.casetests.proofs.FormTests.{Limits, by-amounts, by-cost, by-table}
 use Rattle.casefile.specs.Printed.{filedCase, caseOf, fileCase}
 
@@ -88,21 +85,3 @@ module _ (m n : ℕ) (costs : List ℤ) (s d t t′ : List ℕ) (h : Limits m n)
           alike-refused _ _ (refused 6 0)
           (by-table (C t) h lc ls ld ea runs eb caps (λ e. omega (arith, small)))
           (by-table (C t′) h lc ls ld ea runs eb caps (λ e. omega (arith, small)))
-
--- ---- 2,048 cells for lanes and 4,001 for stops are enough: of a case that passes the tests before the balance, test 11 refuses none
-
-pub never-11 :
-    (c : Case) → c .planCells ≡ 2048 → c .splitCells ≡ 4001 → c .freightCells ≡ 4001 → formRefusal c ≡ none → test11 c ≡ none
-unfolding test11 steps
-never-11 c ep es ef e =
-    let f = formed c e in
-    let last = greatest-most c in
-    let lanes : c .m * c .n ≤ 32 * 64 = mul-le-mul (f .few-sources) (f .few-terminals) in
-    let first = f .small-supply 0 (omega (arith, f .two-sources)) in
-    let stops : steps c + 1 ≤ 4001 = omega arith in
-    unmet 11 _
-    (simp (
-      le-ltb (c .planCells) (c .m * c .n) (omega arith),
-      le-ltb (c .splitCells) (steps c + 1) (omega arith),
-      le-ltb (c .freightCells) (steps c + 1) (omega arith),
-    ))

@@ -6,3 +6,4 @@ pub mod AfterField
 pub mod NoMinus
 pub mod Viable
 pub mod Places
+pub mod SignedNumbers

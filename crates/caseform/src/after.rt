@@ -3,6 +3,7 @@ use crate::Kind;
 ghost use mathlib.Core.Path.{_≡_};
 ghost use Prim.Native.Nat.{_≤_};
 ghost use lib.ListN.{length};
+ghost use Rattle.caseform.specs.declared.Kind as declared;
 ghost use Rattle.caseform.specs.declared.Kind.the-variants as kinds;
 ghost use Rattle.caseform.specs.Reader.{AfterRead, atField, atCost, atComma, atDemand, atCr, atLastCr, atLast, Any, Source, Known};
 
@@ -102,9 +103,9 @@ fn after_all(kind: Kind, at: usize) -> After
 }
 
 // After a field with a minus, which is a unit cost: a comma, and a further field.
-fn after_cost(kind: Kind, s: &[u8], at: usize) -> After
+fn after_cost(s: &[u8], at: usize) -> After
     requires { ⌜ at ≤ length (now s) ⌝ }
-    ensures { λ r. ⌜ AfterRead atCost Any kind (now (s .entry)) at r ⌝ }
+    ensures { λ r. ⌜ ((kind : declared.Kind) → AfterRead atCost Any kind (now (s .entry)) at r) ⌝ }
 {
     if s.len() <= at {
         return After::Refused { place: at };
@@ -121,7 +122,7 @@ pub fn read_after(kind: Kind, minus: bool, source: bool, s: &[u8], at: usize) ->
     ensures { λ r. ⌜ AfterRead atField (Known minus source) kind (now (s .entry)) at r ⌝ }
 {
     if minus {
-        return after_cost(kind, s, at);
+        return after_cost(s, at);
     }
     if s.len() <= at {
         return after_all(kind, at);

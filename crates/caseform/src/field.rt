@@ -1,9 +1,10 @@
 // A field, bare or in double quotes: 0, or 1 to 10 digits of which the first is not 0; these may have one minus before them in the tariff.
 use crate::Kind;
 ghost use mathlib.Core.Path.{_≡_};
-ghost use Prim.Native.Nat.{ℕ, _+_, _≤_, _<_};
+ghost use Prim.Native.Nat.{ℕ, _+_, _≤_, _<_, _^_};
 ghost use lib.ListN.{length, getD};
 ghost use Rattle.caseform.specs.Form.{mark, field, opened};
+ghost use Rattle.caseform.specs.Records.{signed};
 ghost use Rattle.caseform.specs.Reader.{digitOr10, isMinus, numberAt, DigitsRead, NumberRead, closeQuote, FieldRead};
 
 // What is read at a field: its value, and whether a minus stands before it, with the next offset; or a refusal with its place.
@@ -156,4 +157,15 @@ pub fn read_field(kind: Kind, s: &[u8], at: usize) -> Field
         return read_number(true, s, at + 1);
     }
     read_number(false, s, at)
+}
+
+// A number of at most ten digits as an integer: below 0, or 0, where it has a minus.
+pub fn with_sign(minus: bool, value: u64) -> i64
+    requires { ⌜ value < 10 ^ 10 ⌝ }
+    ensures { λ r. ⌜ r ≡ signed minus value ⌝ }
+{
+    if minus {
+        return 0 - value as i64;
+    }
+    value as i64
 }

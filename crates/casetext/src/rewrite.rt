@@ -3,7 +3,7 @@ use crate::Texts;
 use crate::write_case;
 use filecase::case::CaseAnswer;
 use filecase::case::read_case;
-ghost use mathlib.Core.Path.{_≡_};
+use filetable::store::smaller;
 ghost use Prim.Native.Nat.{min, _*_};
 ghost use lib.ListN.{take};
 ghost use Rattle.planner.specs.Judge.{freeCase};
@@ -18,12 +18,6 @@ fn cost_cells() -> [i64; 2048] {
 // One cell more than the longest table has entries.
 fn entry_cells() -> [u64; 4002] {
     [0; 4002]
-}
-
-fn smaller(a: usize, b: usize) -> usize
-    ensures { λ r. ⌜ r ≡ min a b ⌝ }
-{
-    if a < b { a } else { b }
 }
 
 // Cuts the stored case to what it has, and writes it.

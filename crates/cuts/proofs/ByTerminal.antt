@@ -8,7 +8,10 @@ use lib.ListN.{set, length-set, replicate, length-replicate, getD-replicate, Lis
 use lib.Seq.{getD-set-same, getD-set-other}
 use Rattle.residual.specs.Cells.{cells}
 use Rattle.residual.specs.Network.{get}
-use Rattle.cuts.specs.Columns.{Filled, Transposed}
+use Rattle.cuts.specs.Columns.{TurnReady, Filled, Transposed}
+
+pub turn-fewer : {k m n : ℕ} {cost : List ℕ} → TurnReady m n cost → k ≤ n → TurnReady m k cost
+turn-fewer r h = record { sources = r .sources; terminals = omega (arith, r .terminals); costs = λ i j a b. r .costs i j a (omega arith) }
 
 pub fill-start : {m : ℕ} {cost : List ℕ} → Filled m cost 0 0 (replicate 2048 0)
 fill-start = record {

@@ -68,7 +68,7 @@ shift-none r = record { long = r .long; up = λ v h. omega arith; high = r .high
 
 -- the whole cut, from what its parts found
 pub shift-cut : {m n rows cols : ℕ} {cost columns serves p p' w : List ℕ} {key : ℕ} → CutReady m n cost columns p → Shut n rows cols serves → Weighed p 96 w
-    → Near m n rows cols cost w key → 800000000 ≤ key → Rose m n rows cols (key - 800000000) p p' → Shifted m n cost serves p p'
+    → Near m n rows cols cost w key → 800000000 ≤ key → Rose rows cols (key - 800000000) p p' → Shifted m n cost serves p p'
 shift-cut {m} {n} {rows} {cols} {cost} {columns} {serves} {p} {p'} {w} {key} r shut weight far h q = record {
   long = q .long;
   up = q .up;
@@ -88,12 +88,12 @@ shift-cut {m} {n} {rows} {cols} {cost} {columns} {serves} {p} {p'} {w} {key} r s
           weight .source i (omega (arith, r .sources)),
           weight .terminal (32 + j) (omega arith) (omega (arith, r .terminals)),
         ))
-        (q .source) (q .terminal);
+        (λ i a. q .source i (omega (arith, r .sources))) (λ j b. q .terminal j (omega (arith, r .terminals)));
     high = q .high;
   };
 }
 
 pub shift-lift : {m n rows cols : ℕ} {cost columns serves p p' w : List ℕ} {key : ℕ} (made : Bool) → CutReady m n cost columns p → Shut n rows cols serves
-    → Weighed p 96 w → Near m n rows cols cost w key → 800000000 ≤ key → Lifted m n rows cols (key - 800000000) p p' made → Shifted m n cost serves p p'
+    → Weighed p 96 w → Near m n rows cols cost w key → 800000000 ≤ key → Lifted rows cols (key - 800000000) p p' made → Shifted m n cost serves p p'
 shift-lift true r shut weight far h q = shift-cut r shut weight far h (q .rose refl)
 shift-lift false r shut weight far h q = rw (q .same refl) (shift-none r)

@@ -91,8 +91,8 @@ module _ {rows d most : ℕ} {p p₁ : List ℕ} (fit : rows < 2 ^ 32) (t : Top 
   }
 
   -- both rises together
-  pub rose : {m n cols : ℕ} {p' : List ℕ} → m ≤ 32 → Raised cols 32 d p₁ 0 p' → Rose m n rows cols d p p'
-  rose {m} {n} {cols} {p'} hm b = record {
+  pub rose : {cols : ℕ} {p' : List ℕ} → Raised cols 32 d p₁ 0 p' → Rose rows cols d p p'
+  rose {cols} {p'} b = record {
     long = b .long;
     source = λ i l. b .below i (omega arith) ∙ sources i;
     terminal = λ j l. risen b j ∙ ap (λ (z : ℕ). z + share d (has cols j)) (terminals (32 + j) (omega arith));

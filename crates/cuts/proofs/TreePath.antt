@@ -1,12 +1,13 @@
 -- The path that a tree has is what a search promises of the path that it finds: the labels are the potentials. Assumes nothing.
 use mathlib.Core.Path.{_≡_, refl, sym, ap, subst, _∙_}
 use mathlib.Core.Logic.{_≢_}
-use mathlib.Core.List.{List, [], _∷_}
+use mathlib.Core.List.{List}
 use Prim.Native.Nat.{ℕ, zero, suc, min, _+_, _-_, _*_, _≤_, _<_}
 use native.Mathlib.Decide.{ℕ-discrete, decLt}
 use native.Mathlib.Omega.{arith}
 use lib.ListN.{length, set, length-set, replicate, getD-replicate, length-replicate}
 use lib.Seq.{getD-set-same, getD-set-other}
+use Rattle.transport.proofs.Tables.{cellsOf, cellsOf-length, cellsOf-at}
 use Rattle.residual.specs.Network.{Net, get, Arc}
 use Rattle.residual.specs.Network.Arc.{ahead, back}
 use Rattle.residual.specs.Labels.{Book, book, far}
@@ -177,20 +178,6 @@ walk-end {N} {p} {T} {P} {v} {steps} e h q = record { steps = steps; few = h; wa
 
 -- ---- the labels
 
--- f 0 up to f (k - 1)
-abbrev table : ℕ → (ℕ → ℕ) → List ℕ
-table zero f = []
-table (suc k) f = f 0 ∷ table k (λ i. f (suc i))
-
-length-table : (k : ℕ) (f : ℕ → ℕ) → length (table k f) ≡ k
-length-table zero f = refl
-length-table (suc k) f = ap suc (length-table k (λ i. f (suc i)))
-
-table-at : (k w : ℕ) (f : ℕ → ℕ) → w < k → get (table k f) w ≡ f w
-table-at zero w f h = absurd (omega arith)
-table-at (suc k) zero f h = refl
-table-at (suc k) (suc w) f h = table-at k w (λ i. f (suc i)) (omega arith)
-
 -- the smallest ceiling on the way of h arcs that P has to a
 width : Net → List ℕ → ℕ → ℕ → ℕ → ℕ
 width N P limit zero a = limit
@@ -244,15 +231,15 @@ module _ {N : Net} {p T P : List ℕ} (s : Sound N p) (q : Followed N p T P) (li
   wide a = width N P limit (hop a) a
 
   B : Book
-  B = book T P (table 96 hop) (table 96 wide)
+  B = book T P (cellsOf 96 hop) (cellsOf 96 wide)
 
-  hop-at : (a : ℕ) → a < 96 → get (table 96 hop) a ≡ q .steps - place a
+  hop-at : (a : ℕ) → a < 96 → get (cellsOf 96 hop) a ≡ q .steps - place a
   unfolding hop
-  hop-at a h = table-at 96 a hop h
+  hop-at a h = cellsOf-at 96 hop a h
 
-  wide-at : (a : ℕ) → a < 96 → get (table 96 wide) a ≡ width N P limit (q .steps - place a) a
+  wide-at : (a : ℕ) → a < 96 → get (cellsOf 96 wide) a ≡ width N P limit (q .steps - place a) a
   unfolding hop wide
-  wide-at a h = table-at 96 a wide h
+  wide-at a h = cellsOf-at 96 wide a h
 
   near : (a : ℕ) → a < 96 → get T a < far → Near p T 1 a
   near a h l = (l, omega (arith, q .walk .visited a h l .label, q .walk .visited 1 (omega arith) (q .walk .goal) .label))
@@ -293,10 +280,10 @@ module _ {N : Net} {p T P : List ℕ} (s : Sound N p) (q : Followed N p T P) (li
   pub tree-path : (room : List ℕ) → 0 < get room 1 → Labelled N p room 0 limit T P 1
   unfolding B place width
   tree-path room some = record {
-    hops = table 96 hop;
-    widths = table 96 wide;
+    hops = cellsOf 96 hop;
+    widths = cellsOf 96 wide;
     searched = record {
-      long = record { dists = q .walk .long-dist; prevs = q .walk .long-prev; hopss = length-table 96 hop; widths = length-table 96 wide };
+      long = record { dists = q .walk .long-dist; prevs = q .walk .long-prev; hopss = cellsOf-length 96 hop; widths = cellsOf-length 96 wide };
       low = q .walk .low;
       root-dist = q .walk .visited 0 (omega arith) (q .walk .here) .label;
       root-hops = omega (arith, hop-at 0 (omega arith), q .walk .last);

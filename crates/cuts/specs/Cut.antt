@@ -132,15 +132,15 @@ pub record Top (p : List ℕ) (k most : ℕ) : Type 0 where
   pub each : (v : ℕ) → v < k → get p v ≤ most
 
 -- the part has risen by d, or nothing has changed
-pub record Rose (m n rows cols d : ℕ) (p p' : List ℕ) : Type 0 where
+pub record Rose (rows cols d : ℕ) (p p' : List ℕ) : Type 0 where
   pub long : length p' ≡ 96
-  pub source : (i : ℕ) → i < m → get p' i ≡ get p i + share d (has rows i)
-  pub terminal : (j : ℕ) → j < n → get p' (32 + j) ≡ get p (32 + j) + share d (has cols j)
+  pub source : (i : ℕ) → i < 32 → get p' i ≡ get p i + share d (has rows i)
+  pub terminal : (j : ℕ) → j < 64 → get p' (32 + j) ≡ get p (32 + j) + share d (has cols j)
   pub up : (v : ℕ) → v < 96 → get p v ≤ get p' v
   pub high : (v : ℕ) → v < 96 → get p' v ≤ 800000000
 
-pub record Lifted (m n rows cols d : ℕ) (p p' : List ℕ) (r : Bool) : Type 0 where
-  pub rose : r ≡ true → Rose m n rows cols d p p'
+pub record Lifted (rows cols d : ℕ) (p p' : List ℕ) (r : Bool) : Type 0 where
+  pub rose : r ≡ true → Rose rows cols d p p'
   pub same : r ≡ false → p' ≡ p
 
 -- the potentials p' in place of p: none is lower, and every plan that was slack and whose lanes are noted in serves still is

@@ -1,10 +1,10 @@
 // The unit costs by terminal, 32 sources for each: what a cut reads stands together.
-ghost use Prim.Native.Nat.{_+_, _<_};
+ghost use Prim.Native.Nat.{_+_};
 ghost use Rattle.cuts.specs.Columns.{TurnReady, Filled, Transposed};
 
-fn turn_column(m: usize, n: usize, j: usize, cost: &[u32; 2048], to: &mut [u32; 2048])
-    requires { ⌜ TurnReady m n (now cost) ⌝ }
-    requires { ⌜ (j < n) × Filled m (now cost) j 0 (now to) ⌝ }
+fn turn_column(m: usize, j: usize, cost: &[u32; 2048], to: &mut [u32; 2048])
+    requires { ⌜ TurnReady m (j + 1) (now cost) ⌝ }
+    requires { ⌜ Filled m (now cost) j 0 (now to) ⌝ }
     ensures { λ _. ⌜ Filled m (now (cost .entry)) (j + 1) 0 (now (to .exit)) ⌝ }
 {
     let k = j * 32;
@@ -19,7 +19,7 @@ pub fn by_terminal(m: usize, n: usize, cost: &[u32; 2048]) -> [u32; 2048]
 {
     let mut to = [0u32; 2048];
     for j in 0..n {
-        turn_column(m, n, j, cost, &mut to);
+        turn_column(m, j, cost, &mut to);
     }
     to
 }

@@ -207,9 +207,9 @@ pub struct Outcome {
 }
 
 // The rise of a part by d, where it is plain that no potential comes above 800,000,000.
-fn lift(m: usize, n: usize, rows: u32, cols: u64, d: u32, pot: &mut [u32; 96]) -> bool
-    requires { ⌜ (m ≤ 32) × (n ≤ 64) × (length (now pot) ≡ 96) ⌝ }
-    ensures { λ r. ⌜ Lifted m n rows cols d (now (pot .entry)) (now (pot .exit)) r ⌝ }
+fn lift(rows: u32, cols: u64, d: u32, pot: &mut [u32; 96]) -> bool
+    requires { ⌜ length (now pot) ≡ 96 ⌝ }
+    ensures { λ r. ⌜ Lifted rows cols d (now (pot .entry)) (now (pot .exit)) r ⌝ }
 {
     let most = top(pot);
     if 800_000_000 < most {
@@ -249,7 +249,7 @@ pub fn cut(
     if far.key < 800_000_000 {
         return none;
     }
-    let done = lift(m, n, rows, cols, far.key - 800_000_000, pot);
+    let done = lift(rows, cols, far.key - 800_000_000, pot);
     Outcome {
         done,
         node: far.node,

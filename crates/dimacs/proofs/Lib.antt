@@ -2,7 +2,6 @@ pub mod Fronts
 pub mod LineLaws
 pub mod FormLaws
 pub mod Places
-pub mod Machine
 pub mod LinesLaws
 pub mod StoreLaws
 pub mod Examples

@@ -1,11 +1,12 @@
 -- What the parts of the reader answer, by what it means for the bytes of the line: contracts of inner functions. Assumes nothing.
 use mathlib.Core.Path.{_≡_}
-use mathlib.Core.Bool.{Bool, true, false}
+use mathlib.Core.Bool.{Bool}
 use mathlib.Core.Option.{Option, none, some}
 use mathlib.Core.List.{List}
 use Prim.Native.Nat.{ℕ, _≤_, _<_, _^_}
-use lib.IntN.{ℤ, pos, negℤ}
+use lib.IntN.{ℤ}
 use lib.ListN.{length, drop}
+use Rattle.caseform.specs.Records.{signed as withSign}
 use Rattle.dimacs.specs.declared.bytes.Number as number-answer
 use Rattle.dimacs.specs.declared.bytes.Number.the-variants as numbers
 use Rattle.dimacs.specs.declared.bytes.Signed as signed-answer
@@ -34,10 +35,6 @@ numberEnds s numbers.Wrong = Unit {0}
 pub record NumberRead (read : List ℕ → Option (Got ℕ)) (s : List ℕ) (at : ℕ) (answer : number-answer.Number) : Type 0 where
   pub ends : numberEnds s answer
   pub meaning : read (drop at s) ≡ onNumber s answer
-
-abbrev pub withSign : Bool → ℕ → ℤ
-withSign true v = negℤ (pos v)
-withSign false v = pos v
 
 abbrev pub onSigned : List ℕ → signed-answer.Signed → Option (Got ℤ)
 onSigned s (signeds.Value minus v next) = some (got (withSign minus v) (drop next s))

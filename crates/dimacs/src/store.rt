@@ -7,6 +7,7 @@ use crate::form::line_end;
 use crate::form::with_line;
 use crate::line::Line;
 use crate::line::read_line;
+use caseform::field::with_sign;
 ghost use mathlib.Core.Path.{_≡_};
 ghost use mathlib.Core.Bool.{Bool, true, false, cond, _||_};
 ghost use mathlib.Core.List.{List, [], _∷_, _++_};
@@ -15,7 +16,6 @@ ghost use lib.ListN.{length, getD};
 ghost use lib.Dec.{ltb, eqb};
 ghost use Rattle.dimacs.specs.Form.{ArcLine, NodeLine};
 ghost use Rattle.dimacs.specs.Lines.{anyOf, badArc};
-ghost use Rattle.dimacs.specs.Reader.{withSign};
 ghost use Rattle.dimacs.specs.LineReader.{Small};
 ghost use Rattle.dimacs.specs.Stored.{arcMade, nodeMade, arcIn, nodeIn, ArcsRead, NodesRead, flagged, ReadIs};
 
@@ -32,20 +32,9 @@ pub enum Reading {
     },
 }
 
-// The integer of a line's number.
-fn integer(minus: bool, size: u64) -> i64
-    requires { ⌜ size < 10 ^ 10 ⌝ }
-    ensures { λ r. ⌜ r ≡ withSign minus size ⌝ }
-{
-    if minus {
-        return 0 - size as i64;
-    }
-    size as i64
-}
-
 // Is an arc out of the limits?
-fn bad_arc(nodes: u64, start: u64, end: u64, low: u64, ceiling: u64, minus: bool, cost: u64) -> bool
-    ensures { λ r. ⌜ r ≡ anyOf (badArc nodes) (arcMade start end low ceiling minus cost) ⌝ }
+fn bad_arc(nodes: u64, start: u64, end: u64, low: u64, ceiling: u64, cost: u64) -> bool
+    ensures { λ r. ⌜ ((minus : Bool) → r ≡ anyOf (badArc nodes) (arcMade start end low ceiling minus cost)) ⌝ }
 {
     if start < 1 {
         return true;
@@ -96,12 +85,12 @@ fn put_arc(
     requires { ⌜ cost < 10 ^ 10 ⌝ }
     ensures { λ r. ⌜ ((arcs : List ArcLine) → length arcs ≡ k → ArcsRead nodes arcs bad (now (starts .entry)) (now (ends .entry)) (now (ceilings .entry)) (now (costs .entry)) → ArcsRead nodes (arcs ++ arcMade start end low ceiling minus cost) r (now (starts .exit)) (now (ends .exit)) (now (ceilings .exit)) (now (costs .exit))) ⌝ }
 {
-    let worse = either(bad, bad_arc(nodes, start, end, low, ceiling, minus, cost));
+    let worse = either(bad, bad_arc(nodes, start, end, low, ceiling, cost));
     if 64 <= k {
         return worse;
     }
     let j = k as usize;
-    let value = integer(minus, cost);
+    let value = with_sign(minus, cost);
     starts[j] = start;
     ends[j] = end;
     ceilings[j] = ceiling;

@@ -1,9 +1,9 @@
 // Draws the parts of a case.
-use crate::number::after;
-use crate::number::below;
-use crate::number::minus;
-use crate::number::plus;
-use crate::number::smaller;
+use trial_draws::after;
+use trial_draws::below;
+use trial_draws::minus;
+use trial_draws::plus;
+use trial_draws::smaller;
 
 // Unit costs of either end, and rebates among others.
 const ENDS: [i64; 2] = [-1_000_000, 1_000_000];
@@ -45,18 +45,6 @@ pub fn draw_costs(seed: u64, kind: u64, to: &mut [i64]) -> u64 {
     while k < to.len() {
         x = after(x);
         to[k] = cost(kind, x);
-        k += 1;
-    }
-    x
-}
-
-// Draws numbers from low on, below low + bound, and gives the generator's number after them.
-pub fn draw(seed: u64, low: u64, bound: u64, to: &mut [u64]) -> u64 {
-    let mut x = seed;
-    let mut k: usize = 0;
-    while k < to.len() {
-        x = after(x);
-        to[k] = plus(low, below(x, bound));
         k += 1;
     }
     x

@@ -5,15 +5,16 @@ mod number;
 mod trial;
 
 use crate::draw::deal;
-use crate::draw::draw;
 use crate::draw::draw_costs;
 use crate::draw::sum;
-use crate::number::after;
-use crate::number::below;
-use crate::number::minus;
-use crate::number::plus;
 use crate::trial::Seen;
 use crate::trial::hold_first;
+use trial_draws::after;
+use trial_draws::below;
+use trial_draws::draw;
+use trial_draws::minus;
+use trial_draws::one_if;
+use trial_draws::plus;
 
 const CASES: u64 = 2_000;
 
@@ -119,10 +120,6 @@ fn run_case(seed: u64) -> Seen {
         &table,
         (first % 4_000 + 1) as usize,
     )
-}
-
-fn one_if(b: bool) -> u64 {
-    if b { 1 } else { 0 }
 }
 
 fn counted(t: Tally, s: Seen) -> Tally {

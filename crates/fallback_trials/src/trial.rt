@@ -1,9 +1,9 @@
 // A case planned with the simplex and without: the answers and the cells written must be the same.
-use crate::number::first_cells;
 use crate::number::first_signed;
 use crate::number::same;
 use crate::number::same_signed;
 use planner::Answer;
+use trial_draws::first_cells;
 
 // An answer in numbers: 0 for a plan and its split, total, freight and count of stops; else the refusal's number and place.
 pub struct Told {

@@ -1,4 +1,4 @@
-pub mod FieldIntegers
+pub mod FieldSizes
 pub mod FieldCounts
 pub mod FieldLoop
 pub mod Examples

@@ -5,12 +5,11 @@ use caseform::after::After;
 use caseform::after::read_after;
 use caseform::field::Field;
 use caseform::field::read_field;
+use caseform::field::with_sign;
 ghost use mathlib.Core.Path.{_≡_};
 ghost use mathlib.Core.Bool.{_||_};
-ghost use Prim.Native.Nat.{_<_, _^_};
 ghost use Rattle.filetable.specs.Files.{judged, tableOf, stands};
 ghost use Rattle.caseform.specs.declared.Kind.the-variants as kinds;
-ghost use Rattle.caseform.specs.Records.{signed};
 ghost use Rattle.filetable.specs.Tallies.{startTally, fieldTally, recordTally, sourceTally, widthOr, oddOr, Countable, handedOn, TableRead};
 
 // The whole file's count of records and of each record's fields, or a refusal.
@@ -112,17 +111,6 @@ fn either(a: bool, b: bool) -> bool
     ensures { λ r. ⌜ r ≡ (a || b) ⌝ }
 {
     if a { true } else { b }
-}
-
-// The value of a field as an integer: below 0, or 0, where it has a minus.
-fn with_sign(minus: bool, value: u64) -> i64
-    requires { ⌜ value < 10 ^ 10 ⌝ }
-    ensures { λ r. ⌜ r ≡ signed minus value ⌝ }
-{
-    if minus {
-        return 0 - value as i64;
-    }
-    value as i64
 }
 
 fn expected(width: usize, fields: usize) -> usize

@@ -1,8 +1,8 @@
 // All flows of a small network.
-use crate::number::at;
-use crate::number::minus;
-use crate::number::plus;
 use crate::number::times;
+use trial_draws::at;
+use trial_draws::minus;
+use trial_draws::plus;
 
 // How many flows there are; the least total, raised by 1,000, and the least amount on the named arc at that total.
 pub struct Best {

@@ -1,23 +1,11 @@
 // Draws the parts of a small network. Unit costs are raised by 4 and supplies by 20, so that none is below 0.
 use crate::brute::at_node;
-use crate::number::after;
-use crate::number::at;
-use crate::number::below;
-use crate::number::minus;
-use crate::number::one_if;
-use crate::number::plus;
-
-// Draws numbers from low on, below low + bound, and gives the generator's number after them.
-pub fn draw(seed: u64, low: u64, bound: u64, to: &mut [u64]) -> u64 {
-    let mut x = seed;
-    let mut k: usize = 0;
-    while k < to.len() {
-        x = after(x);
-        to[k] = plus(low, below(x, bound));
-        k += 1;
-    }
-    x
-}
+use trial_draws::after;
+use trial_draws::at;
+use trial_draws::below;
+use trial_draws::minus;
+use trial_draws::one_if;
+use trial_draws::plus;
 
 // Draws for each start an end, another of the nodes 1 to n.
 pub fn draw_ends(seed: u64, nodes: u64, starts: &[u64], ends: &mut [u64]) -> u64 {

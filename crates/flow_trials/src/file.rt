@@ -1,7 +1,7 @@
 // A network as a DIMACS file, as far as there is room.
-use crate::number::at;
-use crate::number::minus;
-use crate::number::plus;
+use trial_draws::at;
+use trial_draws::minus;
+use trial_draws::plus;
 
 // Writes a byte, and gives the next offset.
 fn put(out: &mut [u8], next: usize, b: u8) -> usize {

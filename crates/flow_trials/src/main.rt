@@ -7,18 +7,18 @@ mod number;
 mod trial;
 
 use crate::draw::disturb;
-use crate::draw::draw;
 use crate::draw::draw_amounts;
 use crate::draw::draw_ends;
 use crate::draw::fill_supplies;
-use crate::number::after;
-use crate::number::at;
-use crate::number::below;
-use crate::number::first_cells;
-use crate::number::one_if;
-use crate::number::plus;
 use crate::trial::Seen;
 use crate::trial::hold;
+use trial_draws::after;
+use trial_draws::at;
+use trial_draws::below;
+use trial_draws::draw;
+use trial_draws::first_cells;
+use trial_draws::one_if;
+use trial_draws::plus;
 
 const NETWORKS: u64 = 4_000;
 

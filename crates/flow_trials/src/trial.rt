@@ -4,11 +4,11 @@ use crate::brute::kept;
 use crate::brute::level_of;
 use crate::brute::try_amounts;
 use crate::file::write_network;
-use crate::number::at;
 use crate::number::first_bytes;
 use crate::number::level;
 use network::Answer;
 use network::cheapest_flow;
+use trial_draws::at;
 
 // The number of the refusal, 0 of none; whether the answer is the one wanted; and how many flows there are.
 pub struct Seen {

@@ -1,6 +1,5 @@
 // From a network file, the text that names an arc, and the file of that arc's table to what is printed of the cheapest flow.
 ghost use mathlib.Core.Path.{_≡_};
-ghost use Prim.Native.Nat.{min};
 ghost use Rattle.casefile.specs.Printed.{Told};
 ghost use Rattle.flowtext.specs.Printing.{placeOf, NetworkPrinted, TablePrinted, FilesPrinted};
 ghost use Rattle.flowtext.specs.Cuts.{CountedIs, CountIs, ArcsCut, cutText};
@@ -12,6 +11,7 @@ use dimacs::store::read_file;
 use filecase::case::Entries;
 use filecase::case::read_entries;
 use filecase::cells::entry_cells;
+use filetable::store::smaller;
 use network::Answer;
 use network::cheapest_flow;
 use ratesfile::Output;
@@ -136,12 +136,6 @@ fn print_network(network: &[u8], count: u64, place: usize, table: &[u64], out: &
             &costs,
         ),
     }
-}
-
-fn smaller(a: usize, b: usize) -> usize
-    ensures { λ r. ⌜ r ≡ min a b ⌝ }
-{
-    if a < b { a } else { b }
 }
 
 // Reads the table file, and prints what is answered of the network file with it.

@@ -22,11 +22,10 @@ use Rattle.network.specs.declared.carry.Found.the-variants as founds
 use Rattle.network.specs.Found.{FoundAs}
 use Rattle.problem.proofs.FirstFailing.{first-none, above-none, outside-none}
 use Rattle.problem.proofs.TestsPassed.{Formed, second-decides, first-decides, refuseIf-cases}
-use Rattle.problem.proofs.TestParts.{unmet, no-place, amounts-pass, runs-pass, ceilings-pass}
-use Rattle.casetests.proofs.FormTests.{lanes, by-none}
+use Rattle.problem.proofs.TestParts.{never-11, no-place, amounts-pass, runs-pass, ceilings-pass}
+use Rattle.casetests.proofs.FormTests.{by-none}
 use Rattle.problem.proofs.Promise.{from7, from8, from27, from9, outcome-refused}
 use Rattle.problem.proofs.MachineIntegers.{read-back}
-use Rattle.problem.proofs.Splits.{greatest-most}
 
 -- ---- a case of the right form is refused for its balance alone
 
@@ -46,16 +45,6 @@ module _ (c : Case) (f : Formed c) where
     unfolding test9
     ninth = no-place 9 _ (first-none (λ y. ltb 1000000000 (entry c y)) (leastSplit c) (steps c + 1) (λ y a b. le-ltb 1000000000 (entry c y) (small y)))
 
-    few-steps : steps c ≤ 4000
-    unfolding steps
-    few-steps = omega (arith, greatest-most c, f .small-supply 0 (omega (arith, f .two-sources)))
-
-    eleventh : test11 c ≡ none
-    unfolding test11
-    eleventh =
-        let l = lanes (record { two = f .two-sources; sources = f .few-sources; one = f .one-terminal; terminals = f .few-terminals }) in
-        unmet 11 _ (simp (le-ltb (c .planCells) (c .m * c .n) (omega (arith, l)), le-ltb (c .splitCells) (steps c + 1) (omega (arith, few-steps)), le-ltb (c .freightCells) (steps c + 1) (omega (arith, few-steps))))
-
     for-balance : (k p : ℕ) → outcomeOf c ≡ refused k p → Unbalanced (refused k p)
     unfolding test7 test8 test27
     for-balance k p e = go (refuseIf-cases 7 _) (refuseIf-cases 8 _) (refuseIf-cases 27 _)
@@ -71,7 +60,7 @@ module _ (c : Case) (f : Formed c) where
         go (inl a) (inr b) d = inr (inl (one (refused 8 0) (from8 c form-passes a ∙ first-decides (test8 c) _ (refused 8 0) b)))
         go (inl a) (inl b) (inr d) = inr (inr (one (refused 27 0) (from27 c form-passes a b ∙ first-decides (test27 c) _ (refused 27 0) d)))
         go (inl a) (inl b) (inl d) =
-            absurd (let q : some (refused k p) ≡ none = sym r ∙ from9 c form-passes a b d ∙ second-decides (test9 c) (test11 c) ninth ∙ eleventh in let z : _≡_ {A = ℕ} 0 1 = cc in omega arith)
+            absurd (let q : some (refused k p) ≡ none = sym r ∙ from9 c form-passes a b d ∙ second-decides (test9 c) (test11 c) ninth ∙ never-11 c f room stops freights in let z : _≡_ {A = ℕ} 0 1 = cc in omega arith)
 
     pub no-plan-there : (k p : ℕ) → outcomeOf c ≡ refused k p → BalanceRule c (refused k p) → NoPlan c
     no-plan-there k p e r = r .no-plan form-passes (for-balance k p e)

@@ -2,6 +2,7 @@
 use crate::Answer;
 use crate::carry::Carried;
 use crate::carry::carry;
+use crate::refused;
 use flowcase::checks::dear;
 use flowcase::checks::over;
 use flowcase::checks::sum_of;
@@ -101,16 +102,10 @@ fn judge_by(
     ensures { λ r. ⌜ Judged (netOf (now (gives .entry)) (now (takes .entry)) (now (tails .entry)) (now (heads .entry)) (now (capacities .entry)) (now (prices .entry))) (now (tails .entry)) (now (heads .entry)) (now (capacities .entry)) (now (prices .entry)) place (now (table .entry)) (outcome r) (slicesOf (now (flow .entry)) (now (starts .entry)) (now (ends .entry)) (now (ceilings .entry)) (now (costs .entry))) (slicesOf (now (flow .exit)) (now (starts .exit)) (now (ends .exit)) (now (ceilings .exit)) (now (costs .exit))) ⌝ }
 {
     if over(haves, takes) {
-        return Answer::Refused {
-            number: 30,
-            place: 0,
-        };
+        return refused(30, 0);
     }
     if bad_name(capacities, place, table) {
-        return Answer::Refused {
-            number: 30,
-            place: 0,
-        };
+        return refused(30, 0);
     }
     if too_short(
         tails.len(),
@@ -120,16 +115,10 @@ fn judge_by(
         ceilings.len(),
         costs.len(),
     ) {
-        return Answer::Refused {
-            number: 30,
-            place: 0,
-        };
+        return refused(30, 0);
     }
     if uneven(gives, takes, haves) {
-        return Answer::Refused {
-            number: 27,
-            place: 0,
-        };
+        return refused(27, 0);
     }
     let c = carry(
         gives,
@@ -144,10 +133,7 @@ fn judge_by(
         flow,
     );
     let Carried::Flow { total } = c else {
-        return Answer::Refused {
-            number: 27,
-            place: 0,
-        };
+        return refused(27, 0);
     };
     copy_numbers(tails, starts);
     copy_numbers(heads, ends);

@@ -6,15 +6,22 @@ ghost use mathlib.Core.Path.{_≡_};
 ghost use mathlib.Core.Bool.{_||_};
 ghost use lib.Dec.{ltb};
 ghost use Rattle.flowproblem.specs.Promise.{Answered};
+ghost use Rattle.network.specs.declared.Answer.the-variants as answers;
 ghost use Rattle.network.specs.Judged.{outcome, slicesOf};
 
-pub mod carry;
-pub mod judge;
+mod carry;
+mod judge;
 
 // A flow was found, or the file is refused.
 pub enum Answer {
     Carried { total: i64 },
     Refused { number: u64, place: u64 },
+}
+
+fn refused(number: u64, place: u64) -> Answer
+    ensures { λ r. ⌜ r ≡ answers.Refused number place ⌝ }
+{
+    Answer::Refused { number, place }
 }
 
 // Is a count above the limits, or a line out of them?
@@ -65,10 +72,7 @@ pub fn cheapest_flow(
         &mut marks,
     );
     match reading {
-        Reading::Refused { line } => Answer::Refused {
-            number: 29,
-            place: line as u64,
-        },
+        Reading::Refused { line } => refused(29, line as u64),
         Reading::Whole {
             nodes,
             arcs,
@@ -76,10 +80,7 @@ pub fn cheapest_flow(
             bad,
         } => {
             if out_of_limits(nodes, arcs, odd, bad) {
-                return Answer::Refused {
-                    number: 30,
-                    place: 0,
-                };
+                return refused(30, 0);
             }
             let m = nodes as usize;
             let n = arcs as usize;

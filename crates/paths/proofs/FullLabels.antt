@@ -1,33 +1,20 @@
 -- The labels that only the proof keeps follow a pass over the distances and the nodes before. Assumes nothing.
-use mathlib.Core.Path.{_≡_, refl, sym, ap, _∙_}
-use mathlib.Core.List.{List, [], _∷_}
-use Prim.Native.Nat.{ℕ, zero, suc, min, _+_, _≤_, _<_}
+use mathlib.Core.Path.{_≡_, sym, _∙_}
+use mathlib.Core.List.{List}
+use Prim.Native.Nat.{ℕ, min, _+_, _≤_, _<_}
 use native.Mathlib.Decide.{decLt}
 use native.Mathlib.Omega.{arith}
 use lib.ListN.{length, set, replicate, List·getD-eq-default}
+use Rattle.transport.proofs.Tables.{cellsOf, cellsOf-length, cellsOf-at}
 use Rattle.residual.specs.Network.{Net, get}
 use Rattle.residual.specs.Labels.{book, Touched, Passed, Relabel, Relabelled}
 use Rattle.residual.specs.Labels.Relabel.{keeps, takes}
 use Rattle.residual.specs.Labels.Touched.{stays, gains}
 use Rattle.residual.specs.Keys.{shut, Rekeyed, Next}
 use Rattle.paths.specs.NearestNode.{Nearest}
-use Rattle.paths.specs.Search.{Sound, Wanted, SearchReady, Blank, Labelling}
-use Rattle.paths.specs.NodeTags.{Tagged}
+use Rattle.paths.specs.Search.{Sound, SearchReady, Blank, Labelling}
+use Rattle.paths.specs.NodeTags.{PlanTagged}
 use Rattle.paths.proofs.SearchTurns.{explore-start, explore-step}
-
--- f 0 up to f (k - 1)
-abbrev table : ℕ → (ℕ → ℕ) → List ℕ
-table zero f = []
-table (suc k) f = f 0 ∷ table k (λ i. f (suc i))
-
-length-table : (k : ℕ) (f : ℕ → ℕ) → length (table k f) ≡ k
-length-table zero f = refl
-length-table (suc k) f = ap suc (length-table k (λ i. f (suc i)))
-
-table-at : (k w : ℕ) (f : ℕ → ℕ) → w < k → get (table k f) w ≡ f w
-table-at zero w f h = absurd (omega arith)
-table-at (suc k) zero f h = refl
-table-at (suc k) (suc w) f h = table-at k w (λ i. f (suc i)) (omega arith)
 
 module _ {N : Net} {v b : ℕ} {T P T' P' : List ℕ} (q : Relabelled N v b T P T' P') (lt : length T ≡ 96) (H W : List ℕ) (lh : length H ≡ 96)
     (lw : length W ≡ 96) (hop wide : ℕ) where
@@ -59,10 +46,10 @@ module _ {N : Net} {v b : ℕ} {T P T' P' : List ℕ} (q : Relabelled N v b T P 
     hops,
     widths,
     record {
-      long = record { dists = q .long-dist; prevs = q .long-prev; hopss = length-table 96 fh; widths = length-table 96 fw };
+      long = record { dists = q .long-dist; prevs = q .long-prev; hopss = cellsOf-length 96 fh; widths = cellsOf-length 96 fw };
       each = λ w. elim (decLt w 96) [
-        | yes h ↦ within w (q .each w) (table-at 96 w fh h) (table-at 96 w fw h)
-        | no h ↦ beyond w (length-table 96 fh) (length-table 96 fw) (omega arith) (q .each w)
+        | yes h ↦ within w (q .each w) (cellsOf-at 96 fh w h) (cellsOf-at 96 fw w h)
+        | no h ↦ beyond w (cellsOf-length 96 fh) (cellsOf-length 96 fw) (omega arith) (q .each w)
       ];
       offers = q .offers;
     },
@@ -75,20 +62,20 @@ module _ {N : Net} {v b : ℕ} {T P T' P' : List ℕ} (q : Relabelled N v b T P 
       fw w = width-of w (q .each w)
 
       hops : List ℕ
-      hops = table 96 fh
+      hops = cellsOf 96 fh
 
       widths : List ℕ
-      widths = table 96 fw
+      widths = cellsOf 96 fw
 
-pub label-start : {N : Net} {p room : List ℕ} {s limit : ℕ} {T P : List ℕ} (K : List ℕ) → SearchReady N p s limit → Blank T P → length K ≡ 96
+pub label-start : {N : Net} {p room : List ℕ} {s limit : ℕ} {T P : List ℕ} (K : List ℕ) → SearchReady N p s → 0 < limit → Blank T P → length K ≡ 96
     → ((v : ℕ) → v < 96 → get K v ≡ shut) → Labelling N p room s limit (set T s (get p s)) P (set K s 0) s 0
-label-start {limit = limit} K r k e z = record { hops = replicate 96 0; widths = replicate 96 limit; exploring = explore-start K r k e z }
+label-start {limit = limit} K r o k e z = record { hops = replicate 96 0; widths = replicate 96 limit; exploring = explore-start K r o k e z }
 
-pub label-step : {N : Net} {p room : List ℕ} {s limit : ℕ} {T P K : List ℕ} {next turns : ℕ} {demand full want T' P' K' : List ℕ} {v next' : ℕ}
-    → Sound N p → (q : Labelling N p room s limit T P K next turns) → ((i j : ℕ) → i < N .m → j < N .n → N .u i j ≤ 4000000000) → Wanted N demand
-    → Tagged room demand full want → v < 96 → Nearest p T (q .exploring .marks) v → get room v ≡ 0 → Relabelled N v (get T v) T P T' P'
-    → Rekeyed N want v p T T' (set K v shut) K' → Next K' (get K v) (N .m) next' → Labelling N p room s limit T' P' K' next' (turns + 1)
-label-step {v = v} so q ceilings wanted tagged hv near none pass k named =
+pub label-step : {N : Net} {p room : List ℕ} {s limit : ℕ} {T P K : List ℕ} {next turns : ℕ} {full want T' P' K' : List ℕ} {v next' : ℕ}
+    → Sound N p → (q : Labelling N p room s limit T P K next turns) → ((i j : ℕ) → i < N .m → j < N .n → N .u i j ≤ 4000000000)
+    → PlanTagged N room full want → v < 96 → Nearest p T (q .exploring .marks) v → get room v ≡ 0 → Relabelled N v (get T v) T P T' P'
+    → Rekeyed N want v p T T' (set K v shut) K' → Next K' (get K v) 32 next' → Labelling N p room s limit T' P' K' next' (turns + 1)
+label-step {v = v} so q ceilings tagged hv near none pass k named =
     let e = q .exploring .searching .long in
     let l = lift pass (e .dists) (q .hops) (q .widths) (e .hopss) (e .widths) (get (q .hops) v + 1) (get (q .widths) v) in
-    record { hops = l .0; widths = l .1; exploring = explore-step so (q .exploring) ceilings wanted tagged hv near none (l .2) k named }
+    record { hops = l .0; widths = l .1; exploring = explore-step so (q .exploring) ceilings tagged hv near none (l .2) k named }

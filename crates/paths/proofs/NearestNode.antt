@@ -26,6 +26,9 @@ least-next {K} {lo} {k} {r} {r'} q b e = record {
 pub least-end : {K : List ℕ} {lo k hi r : ℕ} → LeastKey K lo k r → hi ≤ k → k ≤ hi → LeastKey K lo hi r
 least-end {K} {lo} {k} {hi} q h o = let e : hi ≡ k = omega arith in rw e q
 
+pub held-more : (K : List ℕ) {lo hi hi' r : ℕ} → hi ≤ hi' → Held K lo hi r → Held K lo hi' r
+held-more K h t = (t .0, t .1, omega (arith, t .2), t .3)
+
 -- it is not the first one
 pub held-next : (K : List ℕ) {lo hi r : ℕ} → Held K lo hi r → get K lo ≢ r → Held K (lo + 1) hi r
 held-next K {lo} {r = r} t d = elim (ℕ-discrete (t .0) lo) [

@@ -6,9 +6,10 @@ use native.Mathlib.Decide.{ℕ-discrete}
 use native.Mathlib.Omega.{arith}
 use lib.ListN.{set, length-set}
 use lib.Seq.{getD-set-same, getD-set-other}
-use Rattle.residual.specs.Network.{get}
+use Rattle.residual.specs.Network.{Net, get}
 use Rattle.residual.specs.Keys.{Bits}
-use Rattle.paths.specs.NodeTags.{Whole, Tagged, Tagging}
+use Rattle.paths.specs.Search.{Wanted}
+use Rattle.paths.specs.NodeTags.{Whole, Tagged, PlanTagged, Tagging}
 
 pub tag-step : {room demand full want : List ℕ} {k f w : ℕ} → Tagging room demand full want k → k < 96 → f ≤ 1 → Whole (get room k) (get demand k) w
     → Tagging room demand (set full k f) (set want k w) (k + 1)
@@ -42,3 +43,10 @@ bits-set k {full} {f} q b = record {
 
 pub tag-other : {room demand full full' want : List ℕ} → Tagged room demand full want → Bits full' → Tagged room demand full' want
 tag-other q b = record { tags = record { bits = b; long-want = q .tags .long-want }; whole = q .whole }
+
+-- no terminal gets more than its demand
+pub tag-plan : {N : Net} {room demand full want : List ℕ} → N .n ≤ 64 → Wanted N demand → Tagged room demand full want → PlanTagged N room full want
+tag-plan b wanted q = record {
+  tags = q .tags;
+  whole = λ j x h l e. let t = q .whole (32 + j) (omega arith) x l e in (t .0, t .1, omega (arith, t .2, wanted j h));
+}

@@ -16,20 +16,20 @@ use Rattle.residual.specs.Labels.Touched.{stays, gains}
 use Rattle.residual.specs.Keys.{shut, Lone, Rekey, Rekeyed, Next}
 use Rattle.residual.specs.Keys.Rekey.{same, new, lone}
 use Rattle.paths.specs.NearestNode.{Key, Nearest, Chosen}
-use Rattle.paths.specs.Search.{Sound, Wanted, Searching, Exploring, Searched, SearchReady, Blank}
-use Rattle.paths.specs.NodeTags.{Tagged}
+use Rattle.paths.specs.Search.{Sound, Searching, Exploring, Searched, SearchReady, Blank}
+use Rattle.paths.specs.NodeTags.{PlanTagged}
 use Rattle.transport.proofs.Sums.{sum-pair, marks-free}
 use Rattle.paths.proofs.NearestNode.{near-chosen}
 use Rattle.paths.proofs.SettledNode.{arc-near, stay, count, label-near, search-start, search-step, search-stuck}
 
 -- ---- the start
 
-pub explore-start : {N : Net} {p room : List ℕ} {s limit : ℕ} {T P : List ℕ} (K : List ℕ) → SearchReady N p s limit → Blank T P → length K ≡ 96
+pub explore-start : {N : Net} {p room : List ℕ} {s limit : ℕ} {T P : List ℕ} (K : List ℕ) → SearchReady N p s → 0 < limit → Blank T P → length K ≡ 96
     → ((v : ℕ) → v < 96 → get K v ≡ shut)
     → Exploring N p room s limit (book (set T s (get p s)) P (replicate 96 0) (replicate 96 limit)) (set K s 0) s 0
-explore-start {N} {p} {room} {s} {limit} {T} {P} K r k e z = record {
+explore-start {N} {p} {room} {s} {limit} {T} {P} K r o k e z = record {
   marks = replicate 96 0;
-  searching = search-start r k (length-replicate {A = ℕ} 96 0) zeros;
+  searching = search-start r o k (length-replicate {A = ℕ} 96 0) zeros;
   count = omega arith;
   most = λ v h. elim (ℕ-discrete v s) [ yes d ↦ rw d (omega (arith, own, r .sound .high s hs)) | no d ↦ omega (arith, apart v d, k .dists v h) ];
   hint = λ h. record {
@@ -87,10 +87,10 @@ module _ {N : Net} {p room : List ℕ} {s limit : ℕ} {B : Book} {K : List ℕ}
         least = λ v l e t. absurd (omega (arith, marks-free 96 v (λ w. get (q .marks) w) (q .searching .zero-one) l e, q .count));
       }) refl
 
-  module _ {demand full want : List ℕ} {B' : Book} {K' : List ℕ} {v next' : ℕ} (ceilings : (i j : ℕ) → i < N .m → j < N .n → N .u i j ≤ 4000000000) (wanted : Wanted N demand)
-      (tagged : Tagged room demand full want) (hv : v < 96) (near : Nearest p (B .dist) (q .marks) v) (none : get room v ≡ 0)
+  module _ {full want : List ℕ} {B' : Book} {K' : List ℕ} {v next' : ℕ} (ceilings : (i j : ℕ) → i < N .m → j < N .n → N .u i j ≤ 4000000000)
+      (tagged : PlanTagged N room full want) (hv : v < 96) (near : Nearest p (B .dist) (q .marks) v) (none : get room v ≡ 0)
       (pass : Passed N v (get (B .dist) v) (get (B .hops) v + 1) (get (B .width) v) B B') (k : Rekeyed N want v p (B .dist) (B' .dist) (set K v shut) K')
-      (named : Next K' (get K v) (N .m) next') where
+      (named : Next K' (get K v) 32 next') where
     D : List ℕ
     D = set (q .marks) v 1
 
@@ -126,8 +126,10 @@ module _ {N : Net} {p room : List ℕ} {s limit : ℕ} {B : Book} {K : List ℕ}
     -- ---- a lone terminal is settled with its source
 
     module _ (w : ℕ) (hw : w < 96) (less : get (B' .dist) w < get (B .dist) w) (o : Lone N want v w) where
-      full? : (get room w ≡ 0) × (0 < N .x v (o .j)) × (N .x v (o .j) ≡ get demand w)
-      full? = tagged .whole w hw (N .x v (o .j)) (omega (arith, o .free, ceilings v (o .j) (o .source) (o .terminal))) (o .all)
+      full? : (get room (32 + o .j) ≡ 0) × (0 < N .x v (o .j)) × (col (N .m) (N .x) (o .j) ≤ N .x v (o .j))
+      full? =
+          tagged .whole (o .j) (N .x v (o .j)) (o .terminal) (omega (arith, o .free, ceilings v (o .j) (o .source) (o .terminal)))
+          (o .all ∙ ap (λ z. get want z) (o .node))
 
       label : Touched N v (get (B .dist) v) (get (B .hops) v + 1) (get (B .width) v) B B' w → get (B' .dist) w ≡ get (B .dist) v + N .c v (o .j)
       label (stays e₁ e₂ e₃ e₄) = absurd (omega arith)
@@ -154,11 +156,9 @@ module _ {N : Net} {p room : List ℕ} {s limit : ℕ} {B : Book} {K : List ℕ}
                 | no y ↦ absurd (omega (
                   arith,
                   col-pair (N .x) u v (o .j) a (o .source) y,
-                  wanted (o .j) (o .terminal),
                   full? .2,
                   g,
                   ap (λ j. N .x u j) z,
-                  ap (λ z. get demand z) (o .node),
                 ))
               ]
 
@@ -170,7 +170,7 @@ module _ {N : Net} {p room : List ℕ} {s limit : ℕ} {B : Book} {K : List ℕ}
       }
 
       pub lone-empty : get room w ≡ 0
-      lone-empty = full? .0
+      lone-empty = ap (λ z. get room z) (o .node) ∙ full? .0
 
     -- ---- the marks below u are right
 

@@ -2,7 +2,7 @@
 use mathlib.Core.Path.{_≡_, refl, sym, ap, _∙_}
 use mathlib.Core.Logic.{_≢_, _⊎_, inl, inr}
 use mathlib.Core.List.{List}
-use Prim.Native.Nat.{ℕ, _+_, _-_, _≤_, _<_}
+use Prim.Native.Nat.{ℕ, _+_, _-_, _^_, _≤_, _<_}
 use native.Mathlib.Decide.{ℕ-discrete, decLt}
 use native.Mathlib.Omega.{arith}
 use lib.ListN.{length, set, length-set, replicate, length-replicate, getD-replicate}
@@ -12,11 +12,14 @@ use Rattle.residual.specs.Network.{Net, get, Arc}
 use Rattle.residual.specs.Network.Arc.{ahead, back}
 use Rattle.residual.specs.Labels.{Book, book, far, Touched, Passed, RelaxReady}
 use Rattle.residual.specs.Labels.Touched.{stays, gains}
+use Rattle.residual.specs.LanesInUse.{Covers, AtNode}
 use Rattle.paths.specs.NearestNode.{Nearest}
 use Rattle.paths.specs.Search.{Sound, Prev, Label, Searching, Near, Searched, SearchReady, Blank}
 use Rattle.paths.specs.Search.Prev.{root, step}
 use Rattle.transport.proofs.Sums.{sum-change, marks-most}
 use Rattle.residual.proofs.ResidualArc.{arc-room, arc-source, arc-terminal, arc-eq}
+use Rattle.residual.proofs.Bits.{bit-place}
+use Rattle.residual.proofs.LanesInUse.{word-fits}
 
 -- ---- arcs
 
@@ -182,10 +185,10 @@ module _ {N : Net} {p room : List ℕ} {s limit : ℕ} {B B' : Book} {D : List �
 
 -- ---- the start
 
-pub search-start : {N : Net} {p room : List ℕ} {s limit : ℕ} {T P D : List ℕ} → SearchReady N p s limit → Blank T P → length D ≡ 96
+pub search-start : {N : Net} {p room : List ℕ} {s limit : ℕ} {T P D : List ℕ} → SearchReady N p s → 0 < limit → Blank T P → length D ≡ 96
     → ((v : ℕ) → v < 96 → get D v ≡ 0)
     → Searching N p room s limit (book (set T s (get p s)) P (replicate 96 0) (replicate 96 limit)) D
-search-start {N} {p} {room} {s} {limit} {T} {P} {D} r k e z = record {
+search-start {N} {p} {room} {s} {limit} {T} {P} {D} r o k e z = record {
   long = record {
     dists = length-set T s (get p s) ∙ k .long-dist;
     prevs = k .long-prev;
@@ -233,7 +236,7 @@ search-start {N} {p} {room} {s} {limit} {T} {P} {D} r k e z = record {
       up = omega (arith, here, hops);
       down = omega (arith, here, hops);
       count = omega (arith, hops);
-      some = omega (arith, width, r .positive);
+      some = omega (arith, width);
       most = omega (arith, width);
       prev = root refl;
     }
@@ -247,24 +250,44 @@ module _ {N : Net} {p room : List ℕ} {s limit : ℕ} {B : Book} {D : List ℕ}
   pub label-near : {v : ℕ} → v < 96 → get (B .dist) v < far → (get (B .dist) v ≤ 1000000000) × (get (B .hops) v ≤ 96)
   label-near {v} hv l = omega (arith, q .label v hv l .up, q .label v hv l .count, counted, so .high s (q .start))
 
-  pub relax-ready : {v : ℕ} {K : List ℕ} → ((i j : ℕ) → i < N .m → j < N .n → N .u i j ≤ 4000000000) → ((w : ℕ) → w < 96 → get (B .dist) w ≤ far)
-      → v < 96 → get (B .dist) v < far → length K ≡ 96 → RelaxReady N p v (get (B .dist) v) (B .dist) (B .prev) K
-  relax-ready {v} ceilings most hv l e = record {
-    long-dist = q .long .dists;
-    long-prev = q .long .prevs;
-    long-key = e;
-    sources = so .sources;
-    terminals = so .terminals;
-    source = q .label v hv l .source;
-    terminal = q .label v hv l .terminal;
-    near = label-near hv l .0;
-    costs = so .costs;
-    ceilings = ceilings;
-    low = q .low;
-    most = most;
-    ahead = λ j a b o. omega (arith, so .slack v j a b .ahead o, q .low v hv);
-    back = λ i j a b e o. omega (arith, so .slack i j a b .back o, q .low v hv, ap (λ v. get p v) e);
+  pub at-node : {v : ℕ} {x serves : List ℕ} → v < 96 → get (B .dist) v < far → Covers (N .m) (N .n) x serves → AtNode (N .m) (N .n) x serves v
+  at-node {v} hv l k = record { sources = so .sources; source = q .label v hv l .source; terminal = q .label v hv l .terminal; covers = k }
+
+  pub relax-ready : {v : ℕ} {serves K : List ℕ} → ((i j : ℕ) → i < N .m → j < N .n → N .u i j ≤ 4000000000) → ((w : ℕ) → w < 96 → get (B .dist) w ≤ far)
+      → ((j : ℕ) → j < N .n → get serves j < 2 ^ N .m) → v < 96 → get (B .dist) v < far → length K ≡ 96
+      → RelaxReady (N .n) (N .c) (N .u) (N .x) serves p v (get (B .dist) v) (B .dist) (B .prev) K
+  relax-ready {v} {serves} ceilings most within hv l e = record {
+    row = λ h. let o = lv .source h in record {
+      long-dist = q .long .dists;
+      long-prev = q .long .prevs;
+      long-key = e;
+      terminals = so .terminals;
+      source = h;
+      near = label-near hv l .0;
+      costs = λ j b. so .costs v j o b;
+      ceilings = λ j b. ceilings v j o b;
+      low = q .low;
+      most = most;
+      ahead = λ j b f. omega (arith, so .slack v j o b .ahead f, q .low v hv);
+    };
+    column = λ h.
+        let b : v - 32 < N .n = omega (arith, lv .terminal h) in
+        let z : 32 + (v - 32) ≡ v = omega arith in
+        record {
+          long-dist = q .long .dists;
+          long-prev = q .long .prevs;
+          long-key = e;
+          low = h;
+          high = hv;
+          near = label-near hv l .0;
+          word = word-fits (within (v - 32) b) (so .sources);
+          back = λ i o f.
+              omega (arith, so .slack i (v - 32) (bit-place (N .m) (get serves (v - 32)) i (within (v - 32) b) o) b .back f, q .low v hv, ap (λ v. get p v) z);
+        };
   }
+    where
+      lv : Label N s (λ w. get D w ≡ 1) p (sum 96 (λ w. get D w)) limit B v
+      lv = q .label v hv l
 
   -- ---- the end
 

@@ -109,12 +109,15 @@ pub record Labelled (N : Net) (p room : List ℕ) (s limit : ℕ) (T P : List �
   pub widths : List ℕ
   pub searched : Searched N p room s limit (book T P hops widths) r
 
--- what a search asks: limit drums are at source s
-pub record SearchReady (N : Net) (p : List ℕ) (s limit : ℕ) : Type 0 where
+-- the same for any number of drums at s
+abbrev pub Answered : Net → List ℕ → List ℕ → ℕ → List ℕ → List ℕ → ℕ → Type 0
+Answered N p room s T P r = (limit : ℕ) → 0 < limit → Labelled N p room s limit T P r
+
+-- what a search from source s asks
+pub record SearchReady (N : Net) (p : List ℕ) (s : ℕ) : Type 0 where
   pub sound : Sound N p
   pub ceilings : (i j : ℕ) → i < N .m → j < N .n → N .u i j ≤ 4000000000
   pub start : s < N .m
-  pub positive : 0 < limit
 
 -- no node has a label
 pub record Blank (T P : List ℕ) : Type 0 where

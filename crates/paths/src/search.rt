@@ -6,8 +6,8 @@ ghost use Rattle.residual.specs.Network.{net, get};
 ghost use Rattle.residual.specs.LanesInUse.{Covers};
 ghost use Rattle.residual.specs.Keys.{Bits};
 ghost use Rattle.paths.specs.NearestNode.{LeastKey, Held, ClosestNode, Chosen};
-ghost use Rattle.paths.specs.Search.{SearchReady, Wanted, Blank, Labelled};
-ghost use Rattle.paths.specs.NodeTags.{Whole, Tagged};
+ghost use Rattle.paths.specs.Search.{SearchReady, Wanted, Blank, Answered};
+ghost use Rattle.paths.specs.NodeTags.{Whole, Tagged, PlanTagged};
 use residual::relax::SHUT;
 use residual::relax::relax;
 
@@ -33,10 +33,9 @@ fn least_key(lo: usize, hi: usize, key: &[u32; 96]) -> u32
 }
 
 // The first node from lo on whose key is least.
-fn holder(lo: usize, hi: usize, least: u32, key: &[u32; 96]) -> usize
-    requires { ⌜ hi ≤ 96 ⌝ }
-    requires { ⌜ Held (now key) lo hi least ⌝ }
-    ensures { λ r. ⌜ (r < hi) × (get (now (key .entry)) r ≡ least) ⌝ }
+fn holder(lo: usize, least: u32, key: &[u32; 96]) -> usize
+    requires { ⌜ Held (now key) lo 96 least ⌝ }
+    ensures { λ r. ⌜ (r < 96) × (get (now (key .entry)) r ≡ least) ⌝ }
 {
     let mut v = lo;
     while key[v] != least {
@@ -53,12 +52,12 @@ fn nearest(m: usize, n: usize, key: &[u32; 96]) -> usize
     let source = least_key(0, m, key);
     let terminal = least_key(32, 32 + n, key);
     if source < terminal {
-        return holder(0, m, source, key);
+        return holder(0, source, key);
     }
     if terminal == SHUT {
         return 96;
     }
-    holder(32, 32 + n, terminal, key)
+    holder(32, terminal, key)
 }
 
 // The node named, or if none is, the nearest.
@@ -83,20 +82,17 @@ fn explore(
     serves: &[u32; 64],
     pot: &[u32; 96],
     room: &[u32; 96],
-    demand: &[u32; 96],
     full: &[u32; 96],
     want: &[u32; 96],
     start: usize,
-    limit: u32,
     dist: &mut [u32; 96],
     prev: &mut [u32; 96],
 ) -> usize
-    requires { ⌜ SearchReady (net m n (now cost) (now cap) (now x)) (now pot) start limit ⌝ }
-    requires { ⌜ Wanted (net m n (now cost) (now cap) (now x)) (now demand) ⌝ }
-    requires { ⌜ Tagged (now room) (now demand) (now full) (now want) ⌝ }
+    requires { ⌜ SearchReady (net m n (now cost) (now cap) (now x)) (now pot) start ⌝ }
+    requires { ⌜ PlanTagged (net m n (now cost) (now cap) (now x)) (now room) (now full) (now want) ⌝ }
     requires { ⌜ Blank (now dist) (now prev) ⌝ }
     requires { ⌜ Covers m n (now x) (now serves) ⌝ }
-    ensures { λ r. ⌜ Labelled (net m n (now (cost .entry)) (now (cap .entry)) (now (x .entry))) (now (pot .entry)) (now (room .entry)) start limit (now (dist .exit)) (now (prev .exit)) r ⌝ }
+    ensures { λ r. ⌜ Answered (net m n (now (cost .entry)) (now (cap .entry)) (now (x .entry))) (now (pot .entry)) (now (room .entry)) start (now (dist .exit)) (now (prev .exit)) r ⌝ }
 {
     let mut key = [SHUT; 96];
     dist[start] = pot[start];
@@ -114,7 +110,6 @@ fn explore(
         key[v] = SHUT;
         let base = dist[v];
         next = relax(
-            m,
             n,
             v,
             cost,
@@ -205,12 +200,11 @@ pub fn search(
     room: &[u32; 96],
     demand: &[u32; 96],
     start: usize,
-    limit: u32,
 ) -> Paths
-    requires { ⌜ SearchReady (net m n (now cost) (now cap) (now x)) (now pot) start limit ⌝ }
+    requires { ⌜ SearchReady (net m n (now cost) (now cap) (now x)) (now pot) start ⌝ }
     requires { ⌜ Wanted (net m n (now cost) (now cap) (now x)) (now demand) ⌝ }
     requires { ⌜ Covers m n (now x) (now serves) ⌝ }
-    ensures { λ r. ⌜ Labelled (net m n (now (cost .entry)) (now (cap .entry)) (now (x .entry))) (now (pot .entry)) (now (room .entry)) start limit (r .dist) (r .prev) (r .goal) ⌝ }
+    ensures { λ r. ⌜ Answered (net m n (now (cost .entry)) (now (cap .entry)) (now (x .entry))) (now (pot .entry)) (now (room .entry)) start (r .dist) (r .prev) (r .goal) ⌝ }
 {
     let mut full = [0u32; 96];
     let mut want = [0u32; 96];
@@ -227,11 +221,9 @@ pub fn search(
         serves,
         pot,
         room,
-        demand,
         &full,
         &want,
         start,
-        limit,
         &mut dist,
         &mut prev,
     );

@@ -27,7 +27,7 @@ use Rattle.problem.specs.Plans.{PlanAt, freightOf, leastFreightAt, planFor, tot
 use Rattle.problem.specs.Outcome.{Outcome, planned, refused, refusalOf, planOf, outcomeOf, test27, test9, test11}
 use Rattle.problem.specs.Promise.{Cheapest, BalanceRule}
 use Rattle.planner.specs.Answer.{Slices, slices, Written, Answered}
-use Rattle.planner.specs.Copy.{Narrow, RowsMoved, Supplied, Wanted}
+use Rattle.worktables.specs.Copy.{Narrow, RowsMoved, Supplied, Wanted}
 use Rattle.planner.specs.Ready.{OnBalance}
 use Rattle.problem.proofs.TestsPassed.{Formed, formed, Balanced, balanced, has-split, split-passes, small-entry, roomy, first-decides, second-decides}
 use Rattle.problem.proofs.TestParts.{met, sum-under}

@@ -1,4 +1,3 @@
-pub mod Copy
 pub mod Answer
 pub mod Ready
 pub mod Judge

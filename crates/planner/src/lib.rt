@@ -10,7 +10,6 @@ use casetests::tests::made_of;
 
 pub mod judge;
 mod solve;
-mod work;
 
 // A plan was found, or the case is refused.
 pub enum Answer {

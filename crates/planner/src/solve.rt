@@ -4,18 +4,18 @@ ghost use Rattle.problem.specs.Case.{lent};
 ghost use Rattle.planner.specs.Ready.{OnBalance};
 ghost use Rattle.planner.specs.Answer.{outcome, slices, Answered};
 use crate::Answer;
-use crate::work::ceiling_rows;
-use crate::work::gather_rows;
-use crate::work::lower_into;
-use crate::work::lowered;
-use crate::work::raised_rows;
-use crate::work::supplied;
-use crate::work::wanted;
 use casetests::tests::Verdict;
 use casetests::tests::splits_test;
 use casetests::tests::sum_of;
 use range::begin::begin;
 use sweep::curve::sweep;
+use worktables::work::ceiling_rows;
+use worktables::work::gather_rows;
+use worktables::work::lower_into;
+use worktables::work::lowered;
+use worktables::work::raised_rows;
+use worktables::work::supplied;
+use worktables::work::wanted;
 
 // Prepares the working arrays with raised costs, has the engine find the first and the last split, tests 27, 9 and 11, has the engine sweep
 // the splits, copies the plan out and lowers freights and total. Whether step 1 tries the simplex does not show in the answer.

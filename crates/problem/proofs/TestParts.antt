@@ -4,18 +4,20 @@ use mathlib.Core.Bool.{Bool, true, false, _||_}
 use mathlib.Core.Option.{Option, none, some}
 use mathlib.Core.List.{List, _++_}
 use Prim.Native.Nat.{ℕ, zero, suc, _+_, _-_, _*_, _≤_, _<_}
-use native.Mathlib.Nat.{suc-mul}
+use native.Mathlib.Nat.{suc-mul, mul-le-mul}
 use native.Mathlib.Omega.{arith}
 use lib.Dec.{ltb}
 use lib.IntN.{ℤ}
 use lib.ListN.{length, getD, take, drop, List·getD-append, length-take, length-drop}
 use lib.Seq.{getD-append-add, getD-take, getD-drop}
 use borrow.Author.Tests.{lt-ltb, le-ltb, eq-eqb, ne-eqb, ltb-false}
-use Rattle.problem.specs.Outcome.{Outcome, refused, firstFrom, firstOver, refuseIf, refuseAt}
+use Rattle.problem.specs.Case.{Case, steps}
+use Rattle.problem.specs.Outcome.{Outcome, refused, firstFrom, firstOver, refuseIf, refuseAt, test11}
 use Rattle.problem.specs.LentTests.{firstAbove, firstOutside, amountsRefusal, runsRefusal, ceilingsRefusal, entriesRefusal, splitsRefusal, AtMost}
 use Rattle.transport.specs.Sum.{sum}
 use Rattle.transport.proofs.Sums.{sum-zero, sum-suc, sum-ext}
-use Rattle.problem.proofs.TestsPassed.{first-decides, second-decides}
+use Rattle.problem.proofs.TestsPassed.{Formed, first-decides, second-decides}
+use Rattle.problem.proofs.Splits.{greatest-most}
 use Rattle.problem.proofs.FirstFailing.{moved, first-moved, first-then, first-within, none-passes, some-first}
 
 -- ---- a condition, a place
@@ -181,6 +183,23 @@ module _ (t : List ℕ) (lo hi lanes plan splits freights : ℕ) where
     unfolding splitsRefusal
     splits-pass p q r =
         second-decides _ _ e ∙ unmet 11 _ (simp (le-ltb plan lanes p, le-ltb splits (hi - lo + 1) q, le-ltb freights (hi - lo + 1) r))
+
+-- ---- test 11
+
+-- 2,048 cells for lanes and 4,001 for stops are enough for every case that passes the tests before the balance
+pub never-11 : (c : Case) → Formed c → 2048 ≤ c .planCells → 4001 ≤ c .splitCells → 4001 ≤ c .freightCells → test11 c ≡ none
+unfolding test11 steps
+never-11 c f room stops freights =
+    let last = greatest-most c in
+    let lanes : c .m * c .n ≤ 32 * 64 = mul-le-mul (f .few-sources) (f .few-terminals) in
+    let first = f .small-supply 0 (omega (arith, f .two-sources)) in
+    let few : steps c + 1 ≤ 4001 = omega arith in
+    unmet 11 _
+    (simp (
+      le-ltb (c .planCells) (c .m * c .n) (omega arith),
+      le-ltb (c .splitCells) (steps c + 1) (omega arith),
+      le-ltb (c .freightCells) (steps c + 1) (omega arith),
+    ))
 
 -- ---- what an answer of the search for a number above a limit says
 

@@ -11,8 +11,8 @@ use Rattle.residual.specs.Cells.{cells}
 use Rattle.residual.specs.Network.{Net, get, again}
 use Rattle.slackcheck.specs.Checked.{CheckReady, Checked}
 use Rattle.slackcheck.proofs.Checking.{amount-first, amount-second, amount-depot}
-use Rattle.range.specs.engine.Shipment.{Stocked}
-use Rattle.range.specs.engine.FirstPlan.{Sending, Admitted, FirstPlan}
+use Rattle.firstsplit.specs.Shipment.{Stocked}
+use Rattle.firstsplit.specs.FirstPlan.{Sending, Admitted, FirstPlan}
 use Rattle.range.specs.Range.{amountIn, BeginReady}
 
 module _ {m n : ℕ} {cost cap supply demand : List ℕ} {run0 run1 d : ℕ} (r : BeginReady m n cost cap supply demand run0 run1 d) where

@@ -13,13 +13,27 @@ use Rattle.residual.specs.Cells.{cells}
 use Rattle.residual.specs.Network.{Net, net, get}
 use Rattle.residual.specs.LanesInUse.{Covers}
 use Rattle.paths.specs.Search.{Wanted}
-use Rattle.range.specs.engine.FirstPlan.{BaseReady, PlantsReady, Admitted, FirstDone}
-use Rattle.range.specs.engine.PlantShift.{Swinging}
-use Rattle.range.specs.Begun.{Some}
-use Rattle.range.specs.engine.LastSplit.{Reached, LastReady}
+use Rattle.firstsplit.specs.Shipment.{Stocked}
+use Rattle.firstsplit.specs.FirstPlan.{BaseReady, PlantsReady, Admitted, FirstDone}
+use Rattle.lastsplit.specs.PlantShift.{Swinging}
+use Rattle.lastsplit.specs.LastSplit.{Some, Reached, LastReady}
 use Rattle.range.specs.Range.{amountIn, demandIn, BeginReady, Ranged}
 use Rattle.transport.proofs.Splits.{at-has, has-at, at-none, least-split, greatest-split-is, no-split}
-use Rattle.range.proofs.FirstSplit.{first-at, base-swing}
+use Rattle.firstsplit.proofs.FirstSplit.{first-at}
+
+-- the stretches go on from step 1
+pub base-swing : {N : Net} {p room x : List ℕ} → 2 ≤ N .m → Stocked N p room x → Swinging N (get p 1) p x
+base-swing two k = record {
+  sound = k .sound;
+  under = k .under;
+  ceilings = k .ceilings;
+  long-x = k .long-x;
+  long-p = k .long-p;
+  plants = omega arith;
+  one = refl;
+  high = k .floor 1 (omega arith);
+  floor = λ v h. omega (arith, k .floor v h);
+}
 
 module _ {m n : ℕ} {cost cap supply demand : List ℕ} {run0 run1 d : ℕ} (r : BeginReady m n cost cap supply demand run0 run1 d) where
   pub base-ready : {x : List ℕ} → length x ≡ 2048 → ((k : ℕ) → k < 2048 → getD x k 0 ≡ 0) → BaseReady (net m n cost cap x) demand x

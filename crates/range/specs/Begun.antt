@@ -1,18 +1,12 @@
 -- Where the engine stands after step 1: a cheapest plan at the first split, with its potentials, and a plan at the last. Assumes nothing.
 use mathlib.Core.List.{List}
 use Prim.Native.Nat.{ℕ, _-_, _≤_}
-use Rattle.transport.specs.Plan.{Table, Under}
 use Rattle.transport.specs.theory.AtSplit.{At}
 use Rattle.residual.specs.Cells.{cells}
 use Rattle.residual.specs.Network.{net, get}
 use Rattle.residual.specs.LanesInUse.{Covers}
-use Rattle.range.specs.engine.PlantShift.{Swinging}
-
--- there is a plan within the ceilings at a split
-pub record Some (m n : ℕ) (u : Table) (a b : ℕ → ℕ) (y z : ℕ) : Type 0 where
-  pub plan : Table
-  pub at : At m n a b y z plan
-  pub under : Under m n plan u
+use Rattle.lastsplit.specs.PlantShift.{Swinging}
+use Rattle.lastsplit.specs.LastSplit.{Some}
 
 pub record Begun (m n : ℕ) (cost cap : List ℕ) (a b : ℕ → ℕ) (d lo hi : ℕ) (x serves p : List ℕ) : Type 0 where
   pub swinging : Swinging (net m n cost cap x) (get p 1) p x

@@ -1,3 +1,3 @@
 pub mod Begun
 pub mod Range
-pub mod engine
+pub mod QuickPlan

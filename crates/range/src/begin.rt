@@ -1,7 +1,7 @@
 // The first and the last split that have a plan within the ceilings.
 ghost use Rattle.range.specs.Range.{BeginReady, Ranged};
 use super::quick::cheapest_first;
-use super::reach::last;
+use lastsplit::reach::last;
 use paths::search::smaller;
 
 // Whether there is a plan, and the first and the last split.

@@ -13,8 +13,8 @@ use Rattle.residual.specs.LanesInUse.{Covers}
 use Rattle.residual.proofs.Relaxation.{pass-skip}
 use Rattle.residual.proofs.Bits.{bit-place, left-set}
 
-pub word-fits : {m n : ℕ} {x s : List ℕ} (j : ℕ) → Covers m n x s → m ≤ 32 → j < n → get s j < 2 ^ 32
-word-fits {m} j c h l = omega (arith, c .within j l, pow-mono {i = m} {j = 32} h)
+pub word-fits : {m s : ℕ} → s < 2 ^ m → m ≤ 32 → s < 2 ^ 32
+word-fits {m} l h = omega (arith, pow-mono {i = m} {j = 32} h)
 
 -- no arc leads from a terminal to a source whose bit is not set
 unserved : {m n : ℕ} (cost cap : List ℕ) {x s : List ℕ} {v w b : ℕ} (j : ℕ) → Covers m n x s → m ≤ 32 → v ≡ 32 + j → bit (get s j) w ≡ 0
@@ -30,6 +30,5 @@ pub column-skip : {m n : ℕ} (cost cap : List ℕ) {x s : List ℕ} {v b lo hi 
 column-skip cost cap j c h e p l f = pass-skip p l (λ w a o. unserved cost cap j c h e (f w a o))
 
 -- and what it comes to is a source
-pub next-source : {m n : ℕ} {x s : List ℕ} {r lo : ℕ} (j : ℕ) → Covers m n x s → j < n → Left (get s j) r lo → 0 < r → r < 2 ^ 32
-    → trailingZeros 32 r < m
-next-source {m} {s = s} {r} j c h q p b = bit-place m (get s j) (trailingZeros 32 r) (c .within j h) (left-set 32 q p b)
+pub next-source : {m s r lo : ℕ} → s < 2 ^ m → Left s r lo → 0 < r → r < 2 ^ 32 → trailingZeros 32 r < m
+next-source {m} {s} {r} h q p b = bit-place m s (trailingZeros 32 r) h (left-set 32 q p b)

@@ -111,6 +111,10 @@ offer-made false w t from f T P K e₁ e₂ e₃ = kept refl (same T e₁) (same
     same : (l : List ℕ) {r : ℕ} → r ≡ get l w → set l w r ≡ l
     same l e = ap (λ z. set l w z) e ∙ set-getD l w 0
 
+pub offer-long : {take : Bool} {w t from f : ℕ} {T T' P P' K K' : List ℕ} → Offered take w t from f T T' P P' K K' → length T ≡ 96 → length T' ≡ 96
+offer-long (kept h qt qp qk) e = rw qt e
+offer-long {w = w} {t} {T = T} (won h qt qp qk) e = rw qt (length-set T w t ∙ e)
+
 -- the label that stands after an offer can have a key
 pub pick-low : {take : Bool} {t old x u p r : ℕ} → Wins t old x u take → (x < u → p ≤ t) → p ≤ old → old ≤ far → r ≡ cond take t old → (p ≤ r) × (r ≤ far)
 pick-low {take = true} w a b c e = (omega (arith, a (w .taken refl .1)), omega (arith, w .taken refl .0))

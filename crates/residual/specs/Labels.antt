@@ -2,9 +2,11 @@
 use mathlib.Core.Path.{_≡_}
 use mathlib.Core.Bool.{Bool, true, false}
 use mathlib.Core.List.{List}
-use Prim.Native.Nat.{ℕ, min, _+_, _≤_, _<_}
+use Prim.Native.Nat.{ℕ, min, _+_, _-_, _^_, _≤_, _<_}
 use lib.ListN.{length, set}
+use Rattle.transport.specs.Plan.{Table}
 use Rattle.residual.specs.Network.{Net, get, Arc}
+use Rattle.residual.specs.Bits.{bit}
 
 -- the labels: distance plus potential, the node before, and, only in the proof, the arcs to it and the smallest ceiling on the way
 pub record Book : Type 0 where
@@ -69,48 +71,35 @@ pub record Wins (t old x u : ℕ) (r : Bool) : Type 0 where
   pub taken : r ≡ true → (t < old) × (x < u)
   pub left : r ≡ false → x < u → old ≤ t
 
--- what a pass asks
-pub record RowReady (N : Net) (p : List ℕ) (v b : ℕ) (T P K : List ℕ) : Type 0 where
+-- what a pass over the arcs out of source v asks, of n terminals, unit costs c, ceilings u and the plan x
+pub record RowReady (n : ℕ) (c u x : Table) (p : List ℕ) (v b : ℕ) (T P K : List ℕ) : Type 0 where
   pub long-dist : length T ≡ 96
   pub long-prev : length P ≡ 96
   pub long-key : length K ≡ 96
-  pub sources : N .m ≤ 32
-  pub terminals : N .n ≤ 64
-  pub source : v < N .m
+  pub terminals : n ≤ 64
+  pub source : v < 32
   pub near : b ≤ 1000000000
-  pub costs : (i j : ℕ) → i < N .m → j < N .n → N .c i j ≤ 2000000
-  pub ceilings : (i j : ℕ) → i < N .m → j < N .n → N .u i j ≤ 4000000000
+  pub costs : (j : ℕ) → j < n → c v j ≤ 2000000
+  pub ceilings : (j : ℕ) → j < n → u v j ≤ 4000000000
   pub low : (w : ℕ) → w < 96 → get p w ≤ get T w
   pub most : (w : ℕ) → w < 96 → get T w ≤ far
-  pub ahead : (j : ℕ) → j < N .n → N .x v j < N .u v j → get p (32 + j) ≤ b + N .c v j
+  pub ahead : (j : ℕ) → j < n → x v j < u v j → get p (32 + j) ≤ b + c v j
 
-pub record ColumnReady (N : Net) (p : List ℕ) (v b : ℕ) (T P K : List ℕ) : Type 0 where
+-- the same out of terminal v - 32; s has the sources to look at, bit by bit
+pub record ColumnReady (c x : Table) (s p : List ℕ) (v b : ℕ) (T P K : List ℕ) : Type 0 where
   pub long-dist : length T ≡ 96
   pub long-prev : length P ≡ 96
   pub long-key : length K ≡ 96
-  pub sources : N .m ≤ 32
-  pub terminals : N .n ≤ 64
   pub low : 32 ≤ v
-  pub high : v < 32 + N .n
+  pub high : v < 96
   pub near : b ≤ 1000000000
-  pub back : (i j : ℕ) → i < N .m → j < N .n → v ≡ 32 + j → 0 < N .x i j → get p i + N .c i j ≤ b
+  pub word : get s (v - 32) < 2 ^ 32
+  pub back : (i : ℕ) → bit (get s (v - 32)) i ≡ 1 → 0 < x i (v - 32) → get p i + c i (v - 32) ≤ b
 
 -- what a pass asks, at a source or a terminal
-pub record RelaxReady (N : Net) (p : List ℕ) (v b : ℕ) (T P K : List ℕ) : Type 0 where
-  pub long-dist : length T ≡ 96
-  pub long-prev : length P ≡ 96
-  pub long-key : length K ≡ 96
-  pub sources : N .m ≤ 32
-  pub terminals : N .n ≤ 64
-  pub source : v < 32 → v < N .m
-  pub terminal : 32 ≤ v → v < 32 + N .n
-  pub near : b ≤ 1000000000
-  pub costs : (i j : ℕ) → i < N .m → j < N .n → N .c i j ≤ 2000000
-  pub ceilings : (i j : ℕ) → i < N .m → j < N .n → N .u i j ≤ 4000000000
-  pub low : (w : ℕ) → w < 96 → get p w ≤ get T w
-  pub most : (w : ℕ) → w < 96 → get T w ≤ far
-  pub ahead : (j : ℕ) → v < N .m → j < N .n → N .x v j < N .u v j → get p (32 + j) ≤ b + N .c v j
-  pub back : (i j : ℕ) → i < N .m → j < N .n → v ≡ 32 + j → 0 < N .x i j → get p i + N .c i j ≤ b
+pub record RelaxReady (n : ℕ) (c u x : Table) (s p : List ℕ) (v b : ℕ) (T P K : List ℕ) : Type 0 where
+  pub row : v < 32 → RowReady n c u x p v b T P K
+  pub column : 32 ≤ v → ColumnReady c x s p v b T P K
 
 abbrev pub Low : List ℕ → List ℕ → Type 0
 Low p T = (v : ℕ) → v < 96 → get p v ≤ get T v

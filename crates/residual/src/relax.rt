@@ -1,11 +1,13 @@
 // One pass over the arcs out of a node: each node that an open arc leads to is offered a label and a key.
 ghost use mathlib.Core.Path.{_≡_};
 ghost use mathlib.Core.Bool.{cond};
-ghost use Prim.Native.Nat.{_+_, _-_, _*_, _≤_, _<_};
-ghost use Rattle.residual.specs.Network.{net};
+ghost use mathlib.Core.List.{List};
+ghost use Prim.Native.Nat.{ℕ, _+_, _-_, _*_, _≤_, _<_};
+ghost use Rattle.residual.specs.Cells.{cells};
+ghost use Rattle.residual.specs.Network.{Net, net};
 ghost use Rattle.residual.specs.Labels.{far, Offered, Relabelled, Wins, RowReady, ColumnReady, RelaxReady};
-ghost use Rattle.residual.specs.LanesInUse.{Covers};
-ghost use Rattle.residual.specs.Keys.{Rekeyed, Next, Named, RowKey, Tags};
+ghost use Rattle.residual.specs.LanesInUse.{AtNode};
+ghost use Rattle.residual.specs.Keys.{Rekeyed, Next, Named, RowKey, Bits, Tags};
 
 // Above every key.
 pub const SHUT: u32 = 4_000_000_000;
@@ -71,7 +73,6 @@ fn offer(
 
 // Offers each terminal that source i still has room to serve a path through that source.
 fn relax_row(
-    m: usize,
     n: usize,
     i: usize,
     cost: &[u32; 2048],
@@ -85,10 +86,10 @@ fn relax_row(
     prev: &mut [u32; 96],
     key: &mut [u32; 96],
 )
-    requires { ⌜ RowReady (net m n (now cost) (now cap) (now x)) (now pot) i base (now dist) (now prev) (now key) ⌝ }
+    requires { ⌜ RowReady n (cells (now cost)) (cells (now cap)) (cells (now x)) (now pot) i base (now dist) (now prev) (now key) ⌝ }
     requires { ⌜ Tags (now full) (now want) ⌝ }
-    ensures { λ _. ⌜ Relabelled (net m n (now (cost .entry)) (now (cap .entry)) (now (x .entry))) i base (now (dist .entry)) (now (prev .entry)) (now (dist .exit)) (now (prev .exit)) ⌝ }
-    ensures { λ _. ⌜ Rekeyed (net m n (now (cost .entry)) (now (cap .entry)) (now (x .entry))) (now (want .entry)) i (now (pot .entry)) (now (dist .entry)) (now (dist .exit)) (now (key .entry)) (now (key .exit)) ⌝ }
+    ensures { λ _. ⌜ ((m : ℕ) → i < m → m ≤ 32 → Relabelled (net m n (now (cost .entry)) (now (cap .entry)) (now (x .entry))) i base (now (dist .entry)) (now (prev .entry)) (now (dist .exit)) (now (prev .exit))) ⌝ }
+    ensures { λ _. ⌜ ((m : ℕ) → i < m → m ≤ 32 → Rekeyed (net m n (now (cost .entry)) (now (cap .entry)) (now (x .entry))) (now (want .entry)) i (now (pot .entry)) (now (dist .entry)) (now (dist .exit)) (now (key .entry)) (now (key .exit))) ⌝ }
 {
     for j in 0..n {
         let k = i * 64 + j;
@@ -117,28 +118,23 @@ fn named(take: bool, d: u32, level: u32, i: usize, next: usize) -> usize
 // Offers each source that serves terminal v - 32 a path back through that terminal; serves has the sources to look at, bit by bit.
 // One of them that is as near as the terminal, or 96.
 fn relax_column(
-    m: usize,
-    n: usize,
     v: usize,
     cost: &[u32; 2048],
     x: &[u32; 2048],
-    cap: &[u32; 2048],
     serves: &[u32; 64],
     base: u32,
     level: u32,
     pot: &[u32; 96],
     full: &[u32; 96],
-    want: &[u32; 96],
     dist: &mut [u32; 96],
     prev: &mut [u32; 96],
     key: &mut [u32; 96],
 ) -> usize
-    requires { ⌜ ColumnReady (net m n (now cost) (now cap) (now x)) (now pot) v base (now dist) (now prev) (now key) ⌝ }
-    requires { ⌜ Tags (now full) (now want) ⌝ }
-    requires { ⌜ Covers m n (now x) (now serves) ⌝ }
-    ensures { λ r. ⌜ Relabelled (net m n (now (cost .entry)) (now (cap .entry)) (now (x .entry))) v base (now (dist .entry)) (now (prev .entry)) (now (dist .exit)) (now (prev .exit)) ⌝ }
-    ensures { λ r. ⌜ Rekeyed (net m n (now (cost .entry)) (now (cap .entry)) (now (x .entry))) (now (want .entry)) v (now (pot .entry)) (now (dist .entry)) (now (dist .exit)) (now (key .entry)) (now (key .exit)) ⌝ }
-    ensures { λ r. ⌜ Next (now (key .exit)) level m r ⌝ }
+    requires { ⌜ ColumnReady (cells (now cost)) (cells (now x)) (now serves) (now pot) v base (now dist) (now prev) (now key) ⌝ }
+    requires { ⌜ Bits (now full) ⌝ }
+    ensures { λ r. ⌜ ((m n : ℕ) (cap : List ℕ) → AtNode m n (now (x .entry)) (now (serves .entry)) v → Relabelled (net m n (now (cost .entry)) cap (now (x .entry))) v base (now (dist .entry)) (now (prev .entry)) (now (dist .exit)) (now (prev .exit))) ⌝ }
+    ensures { λ r. ⌜ ((N : Net) (want : List ℕ) → Rekeyed N want v (now (pot .entry)) (now (dist .entry)) (now (dist .exit)) (now (key .entry)) (now (key .exit))) ⌝ }
+    ensures { λ r. ⌜ Next (now (key .exit)) level 32 r ⌝ }
 {
     let j = v - 32;
     let mut next: usize = 96;
@@ -160,7 +156,6 @@ fn relax_column(
 
 // Offers each node that an open arc out of v leads to a path through v. A node that is as near as v, or 96.
 pub fn relax(
-    m: usize,
     n: usize,
     v: usize,
     cost: &[u32; 2048],
@@ -176,46 +171,15 @@ pub fn relax(
     prev: &mut [u32; 96],
     key: &mut [u32; 96],
 ) -> usize
-    requires { ⌜ RelaxReady (net m n (now cost) (now cap) (now x)) (now pot) v base (now dist) (now prev) (now key) ⌝ }
+    requires { ⌜ RelaxReady n (cells (now cost)) (cells (now cap)) (cells (now x)) (now serves) (now pot) v base (now dist) (now prev) (now key) ⌝ }
     requires { ⌜ Tags (now full) (now want) ⌝ }
-    requires { ⌜ Covers m n (now x) (now serves) ⌝ }
-    ensures { λ r. ⌜ Relabelled (net m n (now (cost .entry)) (now (cap .entry)) (now (x .entry))) v base (now (dist .entry)) (now (prev .entry)) (now (dist .exit)) (now (prev .exit)) ⌝ }
-    ensures { λ r. ⌜ Rekeyed (net m n (now (cost .entry)) (now (cap .entry)) (now (x .entry))) (now (want .entry)) v (now (pot .entry)) (now (dist .entry)) (now (dist .exit)) (now (key .entry)) (now (key .exit)) ⌝ }
-    ensures { λ r. ⌜ Next (now (key .exit)) level m r ⌝ }
+    ensures { λ r. ⌜ ((m : ℕ) → AtNode m n (now (x .entry)) (now (serves .entry)) v → Relabelled (net m n (now (cost .entry)) (now (cap .entry)) (now (x .entry))) v base (now (dist .entry)) (now (prev .entry)) (now (dist .exit)) (now (prev .exit))) ⌝ }
+    ensures { λ r. ⌜ ((m : ℕ) → AtNode m n (now (x .entry)) (now (serves .entry)) v → Rekeyed (net m n (now (cost .entry)) (now (cap .entry)) (now (x .entry))) (now (want .entry)) v (now (pot .entry)) (now (dist .entry)) (now (dist .exit)) (now (key .entry)) (now (key .exit))) ⌝ }
+    ensures { λ r. ⌜ Next (now (key .exit)) level 32 r ⌝ }
 {
     if v < 32 {
-        relax_row(
-            m,
-            n,
-            v,
-            cost,
-            x,
-            cap,
-            base,
-            pot,
-            full,
-            want,
-            dist,
-            prev,
-            key,
-        );
+        relax_row(n, v, cost, x, cap, base, pot, full, want, dist, prev, key);
         return 96;
     }
-    relax_column(
-        m,
-        n,
-        v,
-        cost,
-        x,
-        cap,
-        serves,
-        base,
-        level,
-        pot,
-        full,
-        want,
-        dist,
-        prev,
-        key,
-    )
+    relax_column(v, cost, x, serves, base, level, pot, full, dist, prev, key)
 }

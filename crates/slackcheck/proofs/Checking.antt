@@ -95,6 +95,9 @@ pub add-start : {n : ℕ} {x : Table} {i : ℕ} {g : List ℕ} → Got n x i g �
 add-start q = record { most = omega arith; long = q .long; done = λ b l. absurd (omega arith); rest = λ b _ l. q .sums b l }
 
 -- sums fit
+pub few-fewer : {k m n : ℕ} {x : Table} → Few m n x → k ≤ m → Few k n x
+few-fewer f h = record { sources = omega (arith, f .sources); terminals = f .terminals; few = λ i j a b. f .few i j (omega arith) b }
+
 pub add-fits : {m n : ℕ} {x : Table} {i j : ℕ} {g : List ℕ} → Few m n x → i < m → AddedTo n x i j g → j < n → get g j + x i j ≤ 64000000
 unfolding col
 add-fits {x = x} {i} {j} {g} f h q l =

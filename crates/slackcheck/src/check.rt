@@ -87,9 +87,8 @@ fn rows_good(
 }
 
 // Adds what source i sends to what the terminals get.
-fn add_row(m: usize, n: usize, i: usize, x: &[u32; 2048], got: &mut [u32; 64])
-    requires { ⌜ i < m ⌝ }
-    requires { ⌜ Few m n (cells (now x)) ⌝ }
+fn add_row(n: usize, i: usize, x: &[u32; 2048], got: &mut [u32; 64])
+    requires { ⌜ Few (i + 1) n (cells (now x)) ⌝ }
     requires { ⌜ Got n (cells (now x)) i (now got) ⌝ }
     ensures { λ _. ⌜ Got n (cells (now (x .entry))) (i + 1) (now (got .exit)) ⌝ }
 {
@@ -105,7 +104,7 @@ fn column_sums(m: usize, n: usize, x: &[u32; 2048]) -> [u32; 64]
 {
     let mut got = [0u32; 64];
     for i in 0..m {
-        add_row(m, n, i, x, &mut got);
+        add_row(n, i, x, &mut got);
     }
     got
 }

@@ -1,5 +1,5 @@
 // The sources that serve each terminal under a plan.
-ghost use Prim.Native.Nat.{_+_, _≤_, _<_};
+ghost use Prim.Native.Nat.{ℕ, _+_, _≤_, _<_};
 ghost use mathlib.Core.Path.{_≡_};
 ghost use lib.ListN.{length};
 ghost use Rattle.residual.specs.Cells.{cells};
@@ -14,10 +14,9 @@ fn served(amount: u32, bit: u32) -> u32
 }
 
 // The terminals that source i serves: its bit in the word of each.
-fn serve_row(m: usize, n: usize, i: usize, x: &[u32; 2048], serves: &mut [u32; 64])
-    requires { ⌜ (i < m) × (m ≤ 32) × (n ≤ 64) ⌝ }
-    requires { ⌜ ServersTo m n (now x) i (now serves) ⌝ }
-    ensures { λ _. ⌜ ServersTo m n (now (x .entry)) (i + 1) (now (serves .exit)) ⌝ }
+fn serve_row(n: usize, i: usize, x: &[u32; 2048], serves: &mut [u32; 64])
+    requires { ⌜ (i < 32) × (n ≤ 64) ⌝ }
+    ensures { λ _. ⌜ ((m : ℕ) → i < m → ServersTo m n (now (x .entry)) i (now (serves .entry)) → ServersTo m n (now (x .entry)) (i + 1) (now (serves .exit))) ⌝ }
 {
     let bit = 1u32 << i;
     for j in 0..n {
@@ -32,6 +31,6 @@ pub fn all_servers(m: usize, n: usize, x: &[u32; 2048], serves: &mut [u32; 64])
 {
     *serves = [0u32; 64];
     for i in 0..m {
-        serve_row(m, n, i, x, serves);
+        serve_row(n, i, x, serves);
     }
 }

@@ -16,8 +16,8 @@ use Rattle.stretch.specs.Stretch.{ShiftReady, Reached, PathDone}
 use Rattle.paths.proofs.SearchCut.{cut-greatest}
 use Rattle.augment.proofs.Delivery.{lower-ready, stroll-ready, push-ready, mark-ready, pushed, delivered, after}
 use Rattle.cuts.proofs.TreePath.{tree-path}
-use Rattle.range.proofs.PlantShift.{Only, swing-ready, swing-over}
-use Rattle.range.proofs.LastSplit.{only}
+use Rattle.lastsplit.proofs.PlantShift.{Only, swing-ready, swing-over}
+use Rattle.lastsplit.proofs.LastSplit.{only}
 use Rattle.stretch.proofs.PathLanes.{lanes}
 use Rattle.stretch.proofs.PathArcs.{route}
 

@@ -18,7 +18,7 @@ use Rattle.residual.specs.Network.{Net, get, again}
 use Rattle.augment.specs.Potentials.{Lowered}
 use Rattle.augment.specs.PathWalk.{Walked}
 use Rattle.canonical.specs.Canonize.{CanonReady}
-use Rattle.range.specs.engine.PlantShift.{Over}
+use Rattle.lastsplit.specs.PlantShift.{Over}
 use Rattle.stretch.specs.Scan.{along, better, scanned, ScanReady}
 use Rattle.stretch.specs.ResidualPath.{Arc, PathIn, pathCost, StretchPath}
 use Rattle.stretch.specs.PathUndone.{Undoing}

@@ -17,8 +17,8 @@ use Rattle.augment.specs.LaneMarks.{Trail}
 use Rattle.augment.specs.Potentials.{LowerReady, Lowered}
 use Rattle.augment.specs.PathWalk.{Walkable, Walked}
 use Rattle.canonical.specs.Canonize.{CanonReady}
-use Rattle.range.specs.engine.PlantShift.{Swinging, Over}
-use Rattle.range.specs.Begun.{Some}
+use Rattle.lastsplit.specs.PlantShift.{Swinging, Over}
+use Rattle.lastsplit.specs.LastSplit.{Some}
 use Rattle.stretch.specs.Scan.{along, scanned}
 use Rattle.stretch.specs.ResidualPath.{Amounts, Route, StretchPath}
 use Rattle.stretch.specs.PathUndone.{Lanes, Undoing}

@@ -59,7 +59,7 @@ fn reach(
     up[1] = 96;
     let mut room = [0u32; 96];
     room[1] = limit;
-    let found = search(m, n, cost, x, cap, serves, pot, &room, demand, 0, limit);
+    let found = search(m, n, cost, x, cap, serves, pot, &room, demand, 0);
     let dist = found.dist;
     let prev = found.prev;
     Labels { dist, prev }

@@ -12,7 +12,7 @@ use Rattle.residual.specs.Network.{net, get}
 use Rattle.residual.specs.LanesInUse.{Covers}
 use Rattle.canonical.specs.Canonize.{CanonReady}
 use Rattle.cuts.specs.Advance.{Advanced}
-use Rattle.range.specs.engine.PlantShift.{Swinging}
+use Rattle.lastsplit.specs.PlantShift.{Swinging}
 use Rattle.stretch.specs.Scan.{along}
 use Rattle.stretch.specs.Stretch.{heldAt, StretchReady, StretchDone}
 use Rattle.stretch.specs.declared.Incumbent.{Incumbent}

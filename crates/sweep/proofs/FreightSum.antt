@@ -8,6 +8,14 @@ use Rattle.transport.specs.Plan.{Table, total, freight}
 use Rattle.sweep.specs.engine.FreightSum.{FreightReady}
 use Rattle.transport.proofs.Sums.{sum-most}
 
+pub ready-fewer : {k m n : ℕ} {c x : Table} → FreightReady m n c x → k ≤ m → FreightReady k n c x
+ready-fewer r h = record {
+  sources = omega (arith, r .sources);
+  terminals = r .terminals;
+  costs = λ i j a b. r .costs i j (omega arith) b;
+  amounts = λ i j a b. r .amounts i j (omega arith) b;
+}
+
 module _ {m n : ℕ} {c x : Table} (r : FreightReady m n c x) where
   pub lane-most : (i j : ℕ) → i < m → j < n → c i j * x i j ≤ 8000000000000000
   lane-most i j h l = mul-le-mul {n₂ = 2000000} {m₂ = 4000000000} (r .costs i j h l) (r .amounts i j h l)

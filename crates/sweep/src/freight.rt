@@ -1,15 +1,14 @@
 // The freight of a plan.
 ghost use mathlib.Core.Path.{_≡_};
-ghost use Prim.Native.Nat.{_*_, _<_};
+ghost use Prim.Native.Nat.{_+_, _*_};
 ghost use Rattle.transport.specs.Sum.{sum};
 ghost use Rattle.transport.specs.Plan.{freight};
 ghost use Rattle.residual.specs.Cells.{cells};
 ghost use Rattle.sweep.specs.engine.FreightSum.{FreightReady};
 
 // The freight of what source i sends.
-fn row_freight(m: usize, n: usize, i: usize, cost: &[u32; 2048], x: &[u32; 2048]) -> u64
-    requires { ⌜ i < m ⌝ }
-    requires { ⌜ FreightReady m n (cells (now cost)) (cells (now x)) ⌝ }
+fn row_freight(n: usize, i: usize, cost: &[u32; 2048], x: &[u32; 2048]) -> u64
+    requires { ⌜ FreightReady (i + 1) n (cells (now cost)) (cells (now x)) ⌝ }
     ensures { λ r. ⌜ r ≡ sum n (λ j. cells (now (cost .entry)) i j * cells (now (x .entry)) i j) ⌝ }
 {
     let mut total: u64 = 0;
@@ -27,7 +26,7 @@ pub fn freight_of(m: usize, n: usize, cost: &[u32; 2048], x: &[u32; 2048]) -> u6
 {
     let mut total: u64 = 0;
     for i in 0..m {
-        total = total + row_freight(m, n, i, cost, x);
+        total = total + row_freight(n, i, cost, x);
     }
     total
 }

@@ -2,15 +2,12 @@
 use mathlib.Core.Path.{_≡_, sym, ap, ap₂, _∙_}
 use mathlib.Core.Option.{Option, none, some}
 use Prim.Native.Nat.{ℕ, _+_, _-_, _*_, _≤_}
-use native.Mathlib.Nat.{mul-le-mul}
 use native.Mathlib.Omega.{arith}
 use lib.IntN.{ℤ, pos, natAbs, subℕ, _+ℤ_}
 use lib.ListN.{length}
-use borrow.Author.Tests.{le-ltb}
-use Rattle.problem.proofs.TestParts.{unmet}
-use Rattle.problem.specs.Case.{Case, supply, entry, leastSplit, greatestSplit, steps}
+use Rattle.problem.specs.Case.{Case, supply, entry, leastSplit, greatestSplit}
 use Rattle.problem.specs.Plans.{leastFreightAt, totalAt, bestSplit, stops}
-use Rattle.problem.specs.Outcome.{Outcome, planned, formRefusal, refusalOf, planOf, outcomeOf, test11}
+use Rattle.problem.specs.Outcome.{Outcome, planned, refusalOf, planOf, outcomeOf}
 use Rattle.problem.proofs.TestsPassed.{formed, balanced, has-split, small-entry, accepted}
 use Rattle.problem.proofs.RefusalNumbers.{planned-passes}
 use Rattle.problem.proofs.Splits.{fitting, in-order, last-split, greatest-most}
@@ -27,23 +24,6 @@ pub record Ready (c : Case) : Type 0 where
   pub low-long : length (c .table) ≡ supply c 0 + 1
   pub entries : (y : ℕ) → Split c y → entry c y ≤ 1000000000
   pub freights : (y : ℕ) → Split c y → Moderate (leastFreightAt c y)
-
--- ---- 2,048 cells for lanes and 4,001 for stops are enough: test 11 of the planner refuses no case that passes the tests before the balance
-
-pub never-11 : (c : Case) → c .planCells ≡ 2048 → c .splitCells ≡ 4001 → c .freightCells ≡ 4001 → formRefusal c ≡ none → test11 c ≡ none
-unfolding test11 steps
-never-11 c ep es ef e =
-    let f = formed c e in
-    let last = greatest-most c in
-    let lanes : c .m * c .n ≤ 32 * 64 = mul-le-mul (f .few-sources) (f .few-terminals) in
-    let first = f .small-supply 0 (omega (arith, f .two-sources)) in
-    let stops : steps c + 1 ≤ 4001 = omega arith in
-    unmet 11 _
-    (simp (
-      le-ltb (c .planCells) (c .m * c .n) (omega arith),
-      le-ltb (c .splitCells) (steps c + 1) (omega arith),
-      le-ltb (c .freightCells) (steps c + 1) (omega arith),
-    ))
 
 -- ---- what the tests leave
 

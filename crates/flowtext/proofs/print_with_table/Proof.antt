@@ -13,7 +13,7 @@ use Rattle.filecase.proofs.cells.entry_cells.Reads as entry-cells-reads
 use Rattle.casefile.proofs.planned.print_refusal.Reads as print-refusal-reads
 use Rattle.flowtext.proofs.print_network.Reads as print-network-reads
 use Rattle.flowtext.proofs.read_place.Reads as read-place-reads
-use Rattle.flowtext.proofs.smaller.Reads as smaller-reads
+use Rattle.filetable.proofs.store.smaller.Reads as smaller-reads
 
 -- how many cells are lent
 room : (c : tie.After-entry-cells) → length (c .entry-cells .result) ≡ 4002

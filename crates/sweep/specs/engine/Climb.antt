@@ -10,8 +10,8 @@ use Rattle.transport.specs.theory.AtSplit.{At}
 use Rattle.residual.specs.Cells.{cells}
 use Rattle.residual.specs.Network.{net, get}
 use Rattle.canonical.specs.Canonize.{CanonReady}
-use Rattle.range.specs.engine.PlantShift.{Swinging}
-use Rattle.range.specs.Begun.{Some}
+use Rattle.lastsplit.specs.PlantShift.{Swinging}
+use Rattle.lastsplit.specs.LastSplit.{Some}
 use Rattle.stretch.specs.Stretch.{heldAt}
 use Rattle.stretch.specs.declared.Incumbent.{Incumbent}
 use Rattle.sweep.specs.Sweep.{PlanAt}

@@ -1,6 +1,6 @@
 -- `augment::send::send` meets its contract. Assumes nothing.
 use mathlib.Core.Path.{refl}
-use Prim.Native.Nat.{_<_}
+use Prim.Native.Nat.{_≤_, _<_}
 use native.Mathlib.Omega.{arith}
 use Rattle.augment.proofs.PathMeasure.{route}
 use Rattle.augment.proofs.Delivery.{lower-ready, push-ready, mark-ready, pushed, delivered}
@@ -12,9 +12,12 @@ use Rattle.augment.proofs.send.send.Tie as tie
 search-requires : tie.Need-search-requires
 search-requires c κs = search needs
 
+goal : (c : tie.After-search) → c .search .result .goal ≤ 96
+goal c = c .search .ensures (c .before .before .before .before .args .limit) (c .before .before .before .before .pre .0 .positive) .searched .bound
+
 returns : tie.Need-returns
 returns c =
-    let q = c .before .search .ensures .searched in (
+    let q = c .before .search .ensures (c .before .before .before .before .before .args .limit) (c .before .before .before .before .before .pre .0 .positive) .searched in (
       record {
         bound = q .bound;
         found = λ h. absurd (omega (arith, c .if1 .taken));
@@ -25,22 +28,22 @@ returns c =
 
 measure-requires : tie.Need-measure-requires
 measure-requires c κs =
-    let q = c .before .before .before .before .before .search .ensures .searched in
+    let q = c .before .before .before .before .before .search .ensures (c .before .before .before .before .before .before .before .before .before .args .limit) (c .before .before .before .before .before .before .before .before .before .pre .0 .positive) .searched in
     let hg : c .before .before .before .before .before .search .result .goal < 96 = omega (arith, q .bound, c .before .before .before .before .if1 .left) in
     route (c .before .before .before .before .before .before .before .before .before .args .m) (c .before .before .before .before .before .before .before .before .before .args .n) (c .before .before .before .before .before .before .before .before .before .args .cost .now) (c .before .before .before .before .before .before .before .before .before .pre .0 .sound .sources) hg q
 
 mul-smaller : tie.Need-mul-smaller
-mul-smaller c = search needs
+mul-smaller c = let b = goal (c .before .before .before .before .before .before) in search needs
 
 element-copy-out-smaller : tie.Need-element-copy-out-smaller
-element-copy-out-smaller c = search needs
+element-copy-out-smaller c = let b = goal (c .before .before .before .before .before .before) in search needs
 
 smaller-requires : tie.Need-smaller-requires
 smaller-requires c κs = search needs
 
 push-requires : tie.Need-push-requires
 push-requires c κs =
-    let q = c .before .before .before .before .before .before .before .before .before .before .search .ensures .searched in
+    let q = c .before .before .before .before .before .before .before .before .before .before .search .ensures (c .before .before .before .before .before .before .before .before .before .before .before .before .before .before .args .limit) (c .before .before .before .before .before .before .before .before .before .before .before .before .before .before .pre .0 .positive) .searched in
     let hg : c .before .before .before .before .before .before .before .before .before .before .search .result .goal < 96 = omega (arith, q .bound, c .before .before .before .before .before .before .before .before .before .if1 .left) in
     let way = c .before .before .before .before .measure .ensures in
     let r = route (c .before .before .before .before .before .before .before .before .before .before .before .before .before .before .args .m) (c .before .before .before .before .before .before .before .before .before .before .before .before .before .before .args .n) (c .before .before .before .before .before .before .before .before .before .before .before .before .before .before .args .cost .now) (c .before .before .before .before .before .before .before .before .before .before .before .before .before .before .pre .0 .sound .sources) hg q in
@@ -48,37 +51,37 @@ push-requires c κs =
 
 mark-requires : tie.Need-mark-requires
 mark-requires c κs =
-    let q = c .before .before .before .before .before .before .before .before .before .before .before .before .before .search .ensures .searched in
+    let q = c .before .before .before .before .before .before .before .before .before .before .before .before .before .search .ensures (c .before .before .before .before .before .before .before .before .before .before .before .before .before .before .before .before .before .args .limit) (c .before .before .before .before .before .before .before .before .before .before .before .before .before .before .before .before .before .pre .0 .positive) .searched in
     let hg : c .before .before .before .before .before .before .before .before .before .before .before .before .before .search .result .goal < 96 = omega (arith, q .bound, c .before .before .before .before .before .before .before .before .before .before .before .before .if1 .left) in
     trail-wide _ (c .before .before .before .before .before .before .before .before .before .before .before .before .before .before .before .before .before .pre .0 .sound .sources) _ _ (mark-ready (c .before .before .before .before .before .before .before .before .before .before .before .before .before .before .before .before .before .pre .0) q hg {d = 0} refl (c .before .before .before .before .before .before .before .measure .ensures .arcs (route (c .before .before .before .before .before .before .before .before .before .before .before .before .before .before .before .before .before .args .m) (c .before .before .before .before .before .before .before .before .before .before .before .before .before .before .before .before .before .args .n) (c .before .before .before .before .before .before .before .before .before .before .before .before .before .before .before .before .before .args .cost .now) (c .before .before .before .before .before .before .before .before .before .before .before .before .before .before .before .before .before .pre .0 .sound .sources) hg q)) (omega arith))
 
 mul-gap : tie.Need-mul-gap
-mul-gap c = search needs
+mul-gap c = let b = goal (c .before .before .before .before .before .before .before .before .before .before .before .before .before .before) in search needs
 
 array-read-gap : tie.Need-array-read-gap
-array-read-gap c = search needs
+array-read-gap c = let b = goal (c .before .before .before .before .before .before .before .before .before .before .before .before .before .before) in search needs
 
 mul-gap-2 : tie.Need-mul-gap-2
-mul-gap-2 c = search needs
+mul-gap-2 c = let b = goal (c .before .before .before .before .before .before .before .before .before .before .before .before .before .before) in search needs
 
 element-copy-out-gap : tie.Need-element-copy-out-gap
-element-copy-out-gap c = search needs
+element-copy-out-gap c = let b = goal (c .before .before .before .before .before .before .before .before .before .before .before .before .before .before) in search needs
 
 sub-gap : tie.Need-sub-gap
 sub-gap c =
-    let q = c .before .before .before .before .before .before .before .before .before .before .before .before .before .before .before .search .ensures .searched in
+    let q = c .before .before .before .before .before .before .before .before .before .before .before .before .before .before .before .search .ensures (c .before .before .before .before .before .before .before .before .before .before .before .before .before .before .before .before .before .before .before .args .limit) (c .before .before .before .before .before .before .before .before .before .before .before .before .before .before .before .before .before .before .before .pre .0 .positive) .searched in
     let hg : c .before .before .before .before .before .before .before .before .before .before .before .before .before .before .before .search .result .goal < 96 = omega (arith, q .bound, c .before .before .before .before .before .before .before .before .before .before .before .before .before .before .if1 .left) in
     omega (arith, q .low (c .before .before .before .before .before .before .before .before .before .before .before .before .before .before .before .search .result .goal) hg)
 
 lower-requires : tie.Need-lower-requires
 lower-requires c κs =
-    let q = c .before .before .before .before .before .before .before .before .before .before .before .before .before .before .before .before .before .search .ensures .searched in
+    let q = c .before .before .before .before .before .before .before .before .before .before .before .before .before .before .before .before .before .search .ensures (c .before .before .before .before .before .before .before .before .before .before .before .before .before .before .before .before .before .before .before .before .before .args .limit) (c .before .before .before .before .before .before .before .before .before .before .before .before .before .before .before .before .before .before .before .before .before .pre .0 .positive) .searched in
     let hg : c .before .before .before .before .before .before .before .before .before .before .before .before .before .before .before .before .before .search .result .goal < 96 = omega (arith, q .bound, c .before .before .before .before .before .before .before .before .before .before .before .before .before .before .before .before .if1 .left) in
     lower-ready (c .before .before .before .before .before .before .before .before .before .before .before .before .before .before .before .before .before .before .before .before .before .pre .0) q hg refl
 
 returns-2 : tie.Need-returns-2
 returns-2 c =
-    let q = c .before .before .before .before .before .before .before .before .before .before .before .before .before .before .before .before .before .before .search .ensures .searched in
+    let q = c .before .before .before .before .before .before .before .before .before .before .before .before .before .before .before .before .before .before .search .ensures (c .before .before .before .before .before .before .before .before .before .before .before .before .before .before .before .before .before .before .before .before .before .before .args .limit) (c .before .before .before .before .before .before .before .before .before .before .before .before .before .before .before .before .before .before .before .before .before .before .pre .0 .positive) .searched in
     let hg : c .before .before .before .before .before .before .before .before .before .before .before .before .before .before .before .before .before .before .search .result .goal < 96 = omega (arith, q .bound, c .before .before .before .before .before .before .before .before .before .before .before .before .before .before .before .before .before .if1 .left) in
     let way = c .before .before .before .before .before .before .before .before .before .before .before .before .measure .ensures in
     let small = c .before .before .before .before .before .before .before .before .before .before .smaller .ensures in (

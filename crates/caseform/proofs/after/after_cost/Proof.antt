@@ -9,19 +9,19 @@ use Rattle.caseform.proofs.after.after_cost.Reads as reads
 use Rattle.caseform.proofs.after.after_cost.Lts as lts
 
 returns : tie.Need-returns
-returns c = let a = c .before .args in cost-none (now (a .s)) (a .at) (a .kind) (past (now (a .s)) (a .at) 43 (c .if1 .taken))
+returns c kind = let a = c .before .args in cost-none (now (a .s)) (a .at) kind (past (now (a .s)) (a .at) 43 (c .if1 .taken))
 
 shared-slice-read-if2 : tie.Need-shared-slice-read-if2
 shared-slice-read-if2 c = search needs
 
 returns-2 : tie.Need-returns-2
-returns-2 c = let a = c .before .before .before .args in cost-none (now (a .s)) (a .at) (a .kind) (c .if2 .taken)
+returns-2 c kind = let a = c .before .before .before .args in cost-none (now (a .s)) (a .at) kind (c .if2 .taken)
 
-add-t4 : tie.Need-add-t4
-add-t4 c = search needs
+add-t3 : tie.Need-add-t3
+add-t3 c = search needs
 
 returns-3 : tie.Need-returns-3
-returns-3 c = let a = c .before .before .before .args in cost-comma (now (a .s)) (a .at) (a .kind) (c .before .before .if1 .left) (c .if2 .left)
+returns-3 c kind = let a = c .before .before .before .args in cost-comma (now (a .s)) (a .at) kind (c .before .before .if1 .left) (c .if2 .left)
 
 pub after-cost-spec : {M : Type 1} → statement M
-after-cost-spec = tie.close (tie.spec returns shared-slice-read-if2 returns-2 add-t4 returns-3)
+after-cost-spec = tie.close (tie.spec returns shared-slice-read-if2 returns-2 add-t3 returns-3)

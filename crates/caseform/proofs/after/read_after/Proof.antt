@@ -15,7 +15,7 @@ after-cost-requires : tie.Need-after-cost-requires
 after-cost-requires c κs = search needs
 
 returns : tie.Need-returns
-returns c = let a = c .before .before .before .args in after-minus (now (a .s)) (a .at) (a .minus) (a .source) (a .kind) _ (c .before .if1 .taken) (c .after-cost .ensures)
+returns c = let a = c .before .before .before .args in after-minus (now (a .s)) (a .at) (a .minus) (a .source) (a .kind) _ (c .before .if1 .taken) (c .after-cost .ensures (a .kind))
 
 after-all-requires : tie.Need-after-all-requires
 after-all-requires c κs = search needs

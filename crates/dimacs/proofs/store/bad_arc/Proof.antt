@@ -6,28 +6,28 @@ use Rattle.dimacs.proofs.store.bad_arc.Reads as reads
 use Rattle.dimacs.proofs.store.bad_arc.Lts as lts
 
 returns : tie.Need-returns
-returns c = let a = c .before .args in bad-1 (a .nodes) (a .start) (a .end) (a .low) (a .ceiling) (a .minus) (a .cost) (c .if1 .taken)
+returns c minus = let a = c .before .args in bad-1 (a .nodes) (a .start) (a .end) (a .low) (a .ceiling) minus (a .cost) (c .if1 .taken)
 
 returns-2 : tie.Need-returns-2
-returns-2 c = let a = c .before .before .args in bad-2 (a .nodes) (a .start) (a .end) (a .low) (a .ceiling) (a .minus) (a .cost) (c .if2 .taken)
+returns-2 c minus = let a = c .before .before .args in bad-2 (a .nodes) (a .start) (a .end) (a .low) (a .ceiling) minus (a .cost) (c .if2 .taken)
 
 returns-3 : tie.Need-returns-3
-returns-3 c = let a = c .before .before .before .args in bad-3 (a .nodes) (a .start) (a .end) (a .low) (a .ceiling) (a .minus) (a .cost) (c .if3 .taken)
+returns-3 c minus = let a = c .before .before .before .args in bad-3 (a .nodes) (a .start) (a .end) (a .low) (a .ceiling) minus (a .cost) (c .if3 .taken)
 
 returns-4 : tie.Need-returns-4
-returns-4 c = let a = c .before .before .before .before .args in bad-4 (a .nodes) (a .start) (a .end) (a .low) (a .ceiling) (a .minus) (a .cost) (c .if4 .taken)
+returns-4 c minus = let a = c .before .before .before .before .args in bad-4 (a .nodes) (a .start) (a .end) (a .low) (a .ceiling) minus (a .cost) (c .if4 .taken)
 
 returns-5 : tie.Need-returns-5
-returns-5 c = let a = c .before .before .before .before .before .args in bad-5 (a .nodes) (a .start) (a .end) (a .low) (a .ceiling) (a .minus) (a .cost) (c .if5 .taken)
+returns-5 c minus = let a = c .before .before .before .before .before .args in bad-5 (a .nodes) (a .start) (a .end) (a .low) (a .ceiling) minus (a .cost) (c .if5 .taken)
 
 returns-6 : tie.Need-returns-6
-returns-6 c = let a = c .before .before .before .before .before .before .args in bad-6 (a .nodes) (a .start) (a .end) (a .low) (a .ceiling) (a .minus) (a .cost) (c .if6 .taken)
+returns-6 c minus = let a = c .before .before .before .before .before .before .args in bad-6 (a .nodes) (a .start) (a .end) (a .low) (a .ceiling) minus (a .cost) (c .if6 .taken)
 
 returns-7 : tie.Need-returns-7
-returns-7 c = let a = c .before .before .before .before .before .before .before .args in bad-7 (a .nodes) (a .start) (a .end) (a .low) (a .ceiling) (a .minus) (a .cost) (c .if7 .taken)
+returns-7 c minus = let a = c .before .before .before .before .before .before .before .args in bad-7 (a .nodes) (a .start) (a .end) (a .low) (a .ceiling) minus (a .cost) (c .if7 .taken)
 
 returns-8 : tie.Need-returns-8
-returns-8 c = let a = c .before .before .before .before .before .before .before .args in bad-8 (a .nodes) (a .start) (a .end) (a .low) (a .ceiling) (a .minus) (a .cost) (c .before .before .before .before .before .before .if1 .left) (c .before .before .before .before .before .if2 .left) (c .before .before .before .before .if3 .left) (c .before .before .before .if4 .left) (c .before .before .if5 .left) (c .before .if6 .left) (c .if7 .left)
+returns-8 c minus = let a = c .before .before .before .before .before .before .before .args in bad-8 (a .nodes) (a .start) (a .end) (a .low) (a .ceiling) minus (a .cost) (c .before .before .before .before .before .before .if1 .left) (c .before .before .before .before .before .if2 .left) (c .before .before .before .before .if3 .left) (c .before .before .before .if4 .left) (c .before .before .if5 .left) (c .before .if6 .left) (c .if7 .left)
 
 pub bad-arc-spec : {M : Type 1} → statement M
 bad-arc-spec =

@@ -12,7 +12,7 @@ use Rattle.dimacs.proofs.store.put_arc.Reads as reads
 use Rattle.dimacs.proofs.store.put_arc.Lts as lts
 use Rattle.dimacs.proofs.store.bad_arc.Reads as bad-arc-reads
 use Rattle.dimacs.proofs.store.either.Reads as either-reads
-use Rattle.dimacs.proofs.store.integer.Reads as integer-reads
+use Rattle.caseform.proofs.field.with_sign.Reads as with-sign-reads
 
 bad-arc-requires : tie.Need-bad-arc-requires
 bad-arc-requires c κs = search needs
@@ -21,10 +21,10 @@ either-requires : tie.Need-either-requires
 either-requires c κs = search needs
 
 returns : tie.Need-returns
-returns c = λ arcs e r. let a = c .before .before .before .args in arc-past (a .nodes) arcs _ (a .bad) _ _ _ _ _ (c .before .either .ensures ∙ ap (λ (b : Bool). a .bad || b) (c .before .before .bad-arc .ensures)) r (omega (arith, c .if1 .taken))
+returns c = λ arcs e r. let a = c .before .before .before .args in arc-past (a .nodes) arcs _ (a .bad) _ _ _ _ _ (c .before .either .ensures ∙ ap (λ (b : Bool). a .bad || b) (c .before .before .bad-arc .ensures (a .minus))) r (omega (arith, c .if1 .taken))
 
-integer-requires : tie.Need-integer-requires
-integer-requires c κs = search needs
+with-sign-requires : tie.Need-with-sign-requires
+with-sign-requires c κs = search needs
 
 mul-starts : tie.Need-mul-starts
 mul-starts c = search needs
@@ -51,7 +51,7 @@ element-set-from-value : tie.Need-element-set-from-value
 element-set-from-value c = search needs
 
 returns-2 : tie.Need-returns-2
-returns-2 c = λ arcs e r. let a = c .before .before .before .before .args in arc-next (a .nodes) arcs _ (a .bad) _ _ _ _ _ (c .before .before .either .ensures ∙ ap (λ (b : Bool). a .bad || b) (c .before .before .before .bad-arc .ensures)) r (a .k) _ e (c .before .if1 .left) (toZ-ofZ w64 (c .integer .result) (record { sfits = c .integer .ok }) ∙ c .integer .ensures)
+returns-2 c = λ arcs e r. let a = c .before .before .before .before .args in arc-next (a .nodes) arcs _ (a .bad) _ _ _ _ _ (c .before .before .either .ensures ∙ ap (λ (b : Bool). a .bad || b) (c .before .before .before .bad-arc .ensures (a .minus))) r (a .k) _ e (c .before .if1 .left) (toZ-ofZ w64 (c .with-sign .result) (record { sfits = c .with-sign .ok }) ∙ c .with-sign .ensures)
 
 pub put-arc-spec : {M : Type 1} → statement M
 put-arc-spec =
@@ -60,7 +60,7 @@ put-arc-spec =
     bad-arc-requires
     either-requires
     returns
-    integer-requires
+    with-sign-requires
     mul-starts
     element-write-starts
     mul-ends

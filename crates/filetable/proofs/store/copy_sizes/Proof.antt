@@ -8,7 +8,7 @@ use denote.Ref.{now}
 use lib.IntN.{pos, natAbs}
 use lib.ListN.{length, take, drop, getD}
 use Rattle.csvtext.proofs.Stores.{Storing, storing-start, storing-next, storing-end}
-use Rattle.filetable.proofs.FieldIntegers.{sizes-at, sizes-length}
+use Rattle.filetable.proofs.FieldSizes.{sizes-at, sizes-length}
 use Rattle.csvtext.proofs.PrintedSigns.{read-back}
 use Rattle.filetable.proofs.store.copy_sizes.Statement.{statement}
 use Rattle.filetable.proofs.store.copy_sizes.Tie as tie

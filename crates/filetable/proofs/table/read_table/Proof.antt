@@ -25,7 +25,7 @@ use Rattle.filetable.proofs.table.Tally.table.Reads as table-reads
 use Rattle.filetable.proofs.table.Tally.with_field.Reads as with-field-reads
 use Rattle.filetable.proofs.table.Tally.with_record.Reads as with-record-reads
 use Rattle.filetable.proofs.table.handed_on.Reads as handed-on-reads
-use Rattle.filetable.proofs.table.with_sign.Reads as with-sign-reads
+use Rattle.caseform.proofs.field.with_sign.Reads as with-sign-reads
 
 abbrev Inv-loop : tie.InvT-loop
 Inv-loop kind s cells₀ t₀ at₀ cells t at = Along kind s cells₀ cells t at

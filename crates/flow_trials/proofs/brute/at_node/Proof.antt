@@ -6,8 +6,8 @@ use Rattle.flow_trials.proofs.brute.at_node.Statement.{statement}
 use Rattle.flow_trials.proofs.brute.at_node.Tie as tie
 use Rattle.flow_trials.proofs.brute.at_node.Reads as reads
 use Rattle.flow_trials.proofs.brute.at_node.Lts as lts
-use Rattle.flow_trials.proofs.number.at.Reads as at-reads
-use Rattle.flow_trials.proofs.number.plus.Reads as plus-reads
+use Rattle.trial_draws.proofs.at.Reads as at-reads
+use Rattle.trial_draws.proofs.plus.Reads as plus-reads
 
 abbrev Inv-loop : tie.InvT-loop
 Inv-loop nodes id amounts sum₀ k₀ sum k = Unit {0}

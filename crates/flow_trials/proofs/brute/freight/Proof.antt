@@ -7,8 +7,8 @@ use Rattle.flow_trials.proofs.brute.freight.Tie as tie
 use Rattle.flow_trials.proofs.brute.freight.Reads as reads
 use Rattle.flow_trials.proofs.brute.freight.Lts as lts
 use Rattle.flow_trials.proofs.brute.less_or.Reads as less-or-reads
-use Rattle.flow_trials.proofs.number.at.Reads as at-reads
-use Rattle.flow_trials.proofs.number.plus.Reads as plus-reads
+use Rattle.trial_draws.proofs.at.Reads as at-reads
+use Rattle.trial_draws.proofs.plus.Reads as plus-reads
 use Rattle.flow_trials.proofs.number.times.Reads as times-reads
 
 abbrev Inv-loop : tie.InvT-loop

@@ -11,7 +11,7 @@ use Rattle.flow_trials.proofs.brute.better.Reads as better-reads
 use Rattle.flow_trials.proofs.brute.kept.Reads as kept-reads
 use Rattle.flow_trials.proofs.brute.level_of.Reads as level-of-reads
 use Rattle.flow_trials.proofs.brute.next_amounts.Reads as next-amounts-reads
-use Rattle.flow_trials.proofs.number.at.Reads as at-reads
+use Rattle.trial_draws.proofs.at.Reads as at-reads
 
 abbrev Inv-loop : tie.InvT-loop
 Inv-loop starts ends ceilings costs supplies named table amounts₀ best₀ turns₀ amounts best turns = length amounts ≡ 5

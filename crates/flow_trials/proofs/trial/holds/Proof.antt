@@ -6,7 +6,7 @@ use Rattle.flow_trials.proofs.trial.holds.Statement.{statement}
 use Rattle.flow_trials.proofs.trial.holds.Tie as tie
 use Rattle.flow_trials.proofs.trial.holds.Reads as reads
 use Rattle.flow_trials.proofs.trial.holds.Lts as lts
-use Rattle.flow_trials.proofs.number.at.Reads as at-reads
+use Rattle.trial_draws.proofs.at.Reads as at-reads
 use Rattle.flow_trials.proofs.trial.later.Reads as later-reads
 
 abbrev Inv-loop : tie.InvT-loop

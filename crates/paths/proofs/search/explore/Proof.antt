@@ -5,7 +5,7 @@ use lib.ListN.{replicate, length-set, length-replicate, getD-replicate}
 use Rattle.residual.specs.Network.{net}
 use Rattle.residual.specs.Keys.{shut}
 use Rattle.paths.specs.Search.{Labelling}
-use Rattle.paths.proofs.SettledNode.{relax-ready, search-found, search-stuck}
+use Rattle.paths.proofs.SettledNode.{at-node, relax-ready, search-found, search-stuck}
 use Rattle.paths.proofs.SearchTurns.{explore-near, explore-end}
 use Rattle.paths.proofs.FullLabels.{label-start, label-step}
 use borrow.Author.Needs.{needs}
@@ -13,10 +13,10 @@ use Rattle.paths.proofs.search.explore.Statement.{statement}
 use Rattle.paths.proofs.search.explore.Tie as tie
 
 abbrev Inv-loop : tie.InvT-loop
-Inv-loop m n cost x cap serves pot room demand full want start limit dist₀ prev₀ key₀ next₀ turn₀ dist prev key next turn = Labelling (net m n cost cap x) pot room start limit dist prev key next turn
+Inv-loop m n cost x cap serves pot room full want start dist₀ prev₀ key₀ next₀ turn₀ dist prev key next turn = (limit : ℕ) → 0 < limit → Labelling (net m n cost cap x) pot room start limit dist prev key next turn
 
 abbrev μ-loop : tie.MeasureT-loop
-μ-loop m n cost x cap serves pot room demand full want start limit dist₀ prev₀ key₀ next₀ turn₀ dist prev key next turn = 96 - turn
+μ-loop m n cost x cap serves pot room full want start dist₀ prev₀ key₀ next₀ turn₀ dist prev key next turn = 96 - turn
 
 mul-dist : tie.Need-mul-dist Inv-loop μ-loop
 mul-dist c = search needs
@@ -37,73 +37,73 @@ array-write-key : tie.Need-array-write-key Inv-loop μ-loop
 array-write-key c = search needs
 
 loop-holds : tie.Need-loop-holds Inv-loop μ-loop
-loop-holds c = label-start (replicate {A = ℕ} 96 shut) (c .before .pre .0) (c .before .pre .1 .1 .1 .0) (length-replicate {A = ℕ} 96 shut) (λ v h. getD-replicate {A = ℕ} 96 v shut 0 h)
+loop-holds c limit o = label-start (replicate {A = ℕ} 96 shut) (c .before .pre .0) o (c .before .pre .1 .1 .0) (length-replicate {A = ℕ} 96 shut) (λ v h. getD-replicate {A = ℕ} 96 v shut 0 h)
 
 choose-requires : tie.Need-choose-requires Inv-loop μ-loop
 choose-requires c κs = search needs
 
 returns : tie.Need-returns Inv-loop μ-loop
-returns c = record { hops = c .before .before .before .before .loop .inv .hops; widths = c .before .before .before .before .loop .inv .widths; searched = search-stuck (c .before .before .before .before .before .before .pre .0 .sound) (c .before .before .before .before .loop .inv .exploring .searching) (explore-near (c .before .before .before .before .before .before .pre .0 .sound) (c .before .before .before .before .loop .inv .exploring) (c .before .choose .ensures)) (c .if1 .taken) }
+returns c limit o = record { hops = c .before .before .before .before .loop .inv limit o .hops; widths = c .before .before .before .before .loop .inv limit o .widths; searched = search-stuck (c .before .before .before .before .before .before .pre .0 .sound) (c .before .before .before .before .loop .inv limit o .exploring .searching) (explore-near (c .before .before .before .before .before .before .pre .0 .sound) (c .before .before .before .before .loop .inv limit o .exploring) (c .before .choose .ensures)) (c .if1 .taken) }
 
 mul-if2 : tie.Need-mul-if2 Inv-loop μ-loop
 mul-if2 c =
-    let near = explore-near (c .before .before .before .before .before .before .pre .0 .sound) (c .before .before .before .before .loop .inv .exploring) (c .before .choose .ensures) in
+    let near = explore-near (c .before .before .before .before .before .before .pre .0 .sound) (c .before .before .before .before .loop .inv 1 (omega arith) .exploring) (c .before .choose .ensures) in
     let hv : c .before .choose .result < 96 = omega (arith, near .bound, c .if1 .left) in
     search needs
 
 element-copy-out-if2 : tie.Need-element-copy-out-if2 Inv-loop μ-loop
 element-copy-out-if2 c =
-    let near = explore-near (c .before .before .before .before .before .before .pre .0 .sound) (c .before .before .before .before .loop .inv .exploring) (c .before .choose .ensures) in
+    let near = explore-near (c .before .before .before .before .before .before .pre .0 .sound) (c .before .before .before .before .loop .inv 1 (omega arith) .exploring) (c .before .choose .ensures) in
     let hv : c .before .choose .result < 96 = omega (arith, near .bound, c .if1 .left) in
     search needs
 
 returns-2 : tie.Need-returns-2 Inv-loop μ-loop
-returns-2 c =
-    let near = explore-near (c .before .before .before .before .before .before .before .before .pre .0 .sound) (c .before .before .before .before .before .before .loop .inv .exploring) (c .before .before .before .choose .ensures) in
+returns-2 c limit o =
+    let near = explore-near (c .before .before .before .before .before .before .before .before .pre .0 .sound) (c .before .before .before .before .before .before .loop .inv limit o .exploring) (c .before .before .before .choose .ensures) in
     let hv : c .before .before .before .choose .result < 96 = omega (arith, near .bound, c .before .before .if1 .left) in
-    record { hops = c .before .before .before .before .before .before .loop .inv .hops; widths = c .before .before .before .before .before .before .loop .inv .widths; searched = search-found (c .before .before .before .before .before .before .before .before .pre .0 .sound) (c .before .before .before .before .before .before .loop .inv .exploring .searching) near hv (c .if2 .taken) }
+    record { hops = c .before .before .before .before .before .before .loop .inv limit o .hops; widths = c .before .before .before .before .before .before .loop .inv limit o .widths; searched = search-found (c .before .before .before .before .before .before .before .before .pre .0 .sound) (c .before .before .before .before .before .before .loop .inv limit o .exploring .searching) near hv (c .if2 .taken) }
 
 mul-level : tie.Need-mul-level Inv-loop μ-loop
 mul-level c =
-    let near = explore-near (c .before .before .before .before .before .before .before .before .pre .0 .sound) (c .before .before .before .before .before .before .loop .inv .exploring) (c .before .before .before .choose .ensures) in
+    let near = explore-near (c .before .before .before .before .before .before .before .before .pre .0 .sound) (c .before .before .before .before .before .before .loop .inv 1 (omega arith) .exploring) (c .before .before .before .choose .ensures) in
     let hv : c .before .before .before .choose .result < 96 = omega (arith, near .bound, c .before .before .if1 .left) in
     search needs
 
 array-read-level : tie.Need-array-read-level Inv-loop μ-loop
 array-read-level c =
-    let near = explore-near (c .before .before .before .before .before .before .before .before .pre .0 .sound) (c .before .before .before .before .before .before .loop .inv .exploring) (c .before .before .before .choose .ensures) in
+    let near = explore-near (c .before .before .before .before .before .before .before .before .pre .0 .sound) (c .before .before .before .before .before .before .loop .inv 1 (omega arith) .exploring) (c .before .before .before .choose .ensures) in
     let hv : c .before .before .before .choose .result < 96 = omega (arith, near .bound, c .before .before .if1 .left) in
     search needs
 
 mul-key-2 : tie.Need-mul-key-2 Inv-loop μ-loop
 mul-key-2 c =
-    let near = explore-near (c .before .before .before .before .before .before .before .before .pre .0 .sound) (c .before .before .before .before .before .before .loop .inv .exploring) (c .before .before .before .choose .ensures) in
+    let near = explore-near (c .before .before .before .before .before .before .before .before .pre .0 .sound) (c .before .before .before .before .before .before .loop .inv 1 (omega arith) .exploring) (c .before .before .before .choose .ensures) in
     let hv : c .before .before .before .choose .result < 96 = omega (arith, near .bound, c .before .before .if1 .left) in
     search needs
 
 array-write-key-2 : tie.Need-array-write-key-2 Inv-loop μ-loop
 array-write-key-2 c =
-    let near = explore-near (c .before .before .before .before .before .before .before .before .pre .0 .sound) (c .before .before .before .before .before .before .loop .inv .exploring) (c .before .before .before .choose .ensures) in
+    let near = explore-near (c .before .before .before .before .before .before .before .before .pre .0 .sound) (c .before .before .before .before .before .before .loop .inv 1 (omega arith) .exploring) (c .before .before .before .choose .ensures) in
     let hv : c .before .before .before .choose .result < 96 = omega (arith, near .bound, c .before .before .if1 .left) in
     search needs
 
 mul-base : tie.Need-mul-base Inv-loop μ-loop
 mul-base c =
-    let near = explore-near (c .before .before .before .before .before .before .before .before .pre .0 .sound) (c .before .before .before .before .before .before .loop .inv .exploring) (c .before .before .before .choose .ensures) in
+    let near = explore-near (c .before .before .before .before .before .before .before .before .pre .0 .sound) (c .before .before .before .before .before .before .loop .inv 1 (omega arith) .exploring) (c .before .before .before .choose .ensures) in
     let hv : c .before .before .before .choose .result < 96 = omega (arith, near .bound, c .before .before .if1 .left) in
     search needs
 
 element-copy-out-base : tie.Need-element-copy-out-base Inv-loop μ-loop
 element-copy-out-base c =
-    let near = explore-near (c .before .before .before .before .before .before .before .before .pre .0 .sound) (c .before .before .before .before .before .before .loop .inv .exploring) (c .before .before .before .choose .ensures) in
+    let near = explore-near (c .before .before .before .before .before .before .before .before .pre .0 .sound) (c .before .before .before .before .before .before .loop .inv 1 (omega arith) .exploring) (c .before .before .before .choose .ensures) in
     let hv : c .before .before .before .choose .result < 96 = omega (arith, near .bound, c .before .before .if1 .left) in
     search needs
 
 relax-requires : tie.Need-relax-requires Inv-loop μ-loop
 relax-requires c κs =
-    let near = explore-near (c .before .before .before .before .before .before .before .before .before .before .before .before .pre .0 .sound) (c .before .before .before .before .before .before .before .before .before .before .loop .inv .exploring) (c .before .before .before .before .before .before .before .choose .ensures) in
+    let near = explore-near (c .before .before .before .before .before .before .before .before .before .before .before .before .pre .0 .sound) (c .before .before .before .before .before .before .before .before .before .before .loop .inv 1 (omega arith) .exploring) (c .before .before .before .before .before .before .before .choose .ensures) in
     let hv : c .before .before .before .before .before .before .before .choose .result < 96 = omega (arith, near .bound, c .before .before .before .before .before .before .if1 .left) in
-    (relax-ready (c .before .before .before .before .before .before .before .before .before .before .before .before .pre .0 .sound) (c .before .before .before .before .before .before .before .before .before .before .loop .inv .exploring .searching) (c .before .before .before .before .before .before .before .before .before .before .before .before .pre .0 .ceilings) (c .before .before .before .before .before .before .before .before .before .before .loop .inv .exploring .most) hv (near .fresh hv .1) (simp length-set (c .before .before .before .before .before .before .before .before .before .before .loop .inv .exploring .long-key)), (c .before .before .before .before .before .before .before .before .before .before .before .before .pre .1 .1 .0 .tags, c .before .before .before .before .before .before .before .before .before .before .before .before .pre .1 .1 .1 .1))
+    (relax-ready (c .before .before .before .before .before .before .before .before .before .before .before .before .pre .0 .sound) (c .before .before .before .before .before .before .before .before .before .before .loop .inv 1 (omega arith) .exploring .searching) (c .before .before .before .before .before .before .before .before .before .before .before .before .pre .0 .ceilings) (c .before .before .before .before .before .before .before .before .before .before .loop .inv 1 (omega arith) .exploring .most) (c .before .before .before .before .before .before .before .before .before .before .before .before .pre .1 .1 .1 .within) hv (near .fresh hv .1) (simp length-set (c .before .before .before .before .before .before .before .before .before .before .loop .inv 1 (omega arith) .exploring .long-key)), c .before .before .before .before .before .before .before .before .before .before .before .before .pre .1 .0 .tags)
 
 add-turn : tie.Need-add-turn Inv-loop μ-loop
 add-turn c = search needs
@@ -112,13 +112,14 @@ loop-less : tie.Need-loop-less Inv-loop μ-loop
 loop-less c = search needs
 
 loop-again : tie.Need-loop-again Inv-loop μ-loop
-loop-again c =
-    let near = explore-near (c .before .before .before .before .before .before .before .before .before .before .before .before .before .pre .0 .sound) (c .before .before .before .before .before .before .before .before .before .before .before .loop .inv .exploring) (c .before .before .before .before .before .before .before .before .choose .ensures) in
+loop-again c limit o =
+    let near = explore-near (c .before .before .before .before .before .before .before .before .before .before .before .before .before .pre .0 .sound) (c .before .before .before .before .before .before .before .before .before .before .before .loop .inv limit o .exploring) (c .before .before .before .before .before .before .before .before .choose .ensures) in
     let hv : c .before .before .before .before .before .before .before .before .choose .result < 96 = omega (arith, near .bound, c .before .before .before .before .before .before .before .if1 .left) in
-    label-step (c .before .before .before .before .before .before .before .before .before .before .before .before .before .pre .0 .sound) (c .before .before .before .before .before .before .before .before .before .before .before .loop .inv) (c .before .before .before .before .before .before .before .before .before .before .before .before .before .pre .0 .ceilings) (c .before .before .before .before .before .before .before .before .before .before .before .before .before .pre .1 .0) (c .before .before .before .before .before .before .before .before .before .before .before .before .before .pre .1 .1 .0) hv near (omega (arith, c .before .before .before .before .before .if2 .left)) (c .relax .ensures .0) (c .relax .ensures .1 .0) (c .relax .ensures .1 .1)
+    let at = at-node (c .before .before .before .before .before .before .before .before .before .before .before .before .before .pre .0 .sound) (c .before .before .before .before .before .before .before .before .before .before .before .loop .inv limit o .exploring .searching) hv (near .fresh hv .1) (c .before .before .before .before .before .before .before .before .before .before .before .before .before .pre .1 .1 .1) in
+    label-step (c .before .before .before .before .before .before .before .before .before .before .before .before .before .pre .0 .sound) (c .before .before .before .before .before .before .before .before .before .before .before .loop .inv limit o) (c .before .before .before .before .before .before .before .before .before .before .before .before .before .pre .0 .ceilings) (c .before .before .before .before .before .before .before .before .before .before .before .before .before .pre .1 .0) hv near (omega (arith, c .before .before .before .before .before .if2 .left)) (c .relax .ensures .0 _ at) (c .relax .ensures .1 .0 _ at) (c .relax .ensures .1 .1)
 
 returns-3 : tie.Need-returns-3 Inv-loop μ-loop
-returns-3 c = record { hops = c .before .loop .inv .hops; widths = c .before .loop .inv .widths; searched = explore-end (c .before .before .before .pre .0 .sound) (c .before .loop .inv .exploring) (c .loop-test .left) }
+returns-3 c limit o = record { hops = c .before .loop .inv limit o .hops; widths = c .before .loop .inv limit o .widths; searched = explore-end (c .before .before .before .pre .0 .sound) (c .before .loop .inv limit o .exploring) (c .loop-test .left) }
 
 pub explore-spec : {M : Type 1} → statement M
 explore-spec =

@@ -7,25 +7,25 @@ use Rattle.paths.proofs.search.holder.Statement.{statement}
 use Rattle.paths.proofs.search.holder.Tie as tie
 
 abbrev Inv-loop : tie.InvT-loop
-Inv-loop lo hi least key v₀ v = Held key v hi least
+Inv-loop lo least key v₀ v = Held key v 96 least
 
 abbrev μ-loop : tie.MeasureT-loop
-μ-loop lo hi least key v₀ v = hi - v
+μ-loop lo least key v₀ v = 96 - v
 
 loop-holds : tie.Need-loop-holds Inv-loop μ-loop
-loop-holds c = c .pre .1
+loop-holds c = c .pre
 
 mul-if1 : tie.Need-mul-if1 Inv-loop μ-loop
-mul-if1 c = let t = c .loop .inv in omega (arith, t .1, t .2, c .before .pre .0)
+mul-if1 c = let t = c .loop .inv in omega (arith, t .1, t .2)
 
 element-copy-out-if1 : tie.Need-element-copy-out-if1 Inv-loop μ-loop
-element-copy-out-if1 c = let t = c .loop .inv in omega (arith, t .1, t .2, c .before .pre .0)
+element-copy-out-if1 c = let t = c .loop .inv in omega (arith, t .1, t .2)
 
 add-v : tie.Need-add-v Inv-loop μ-loop
-add-v c = let t = c .before .before .loop .inv in omega (arith, t .1, t .2, c .before .before .before .pre .0)
+add-v c = let t = c .before .before .loop .inv in omega (arith, t .1, t .2)
 
 loop-less : tie.Need-loop-less Inv-loop μ-loop
-loop-less c = let t = c .before .before .loop .inv in omega (arith, t .1, t .2, c .before .before .before .pre .0)
+loop-less c = let t = c .before .before .loop .inv in omega (arith, t .1, t .2)
 
 loop-again : tie.Need-loop-again Inv-loop μ-loop
 loop-again c = held-next (c .before .before .before .args .key .now) (c .before .before .loop .inv) (c .if1 .taken)

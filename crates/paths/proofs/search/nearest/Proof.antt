@@ -1,6 +1,6 @@
 -- `paths::search::nearest` meets its contract. Assumes nothing.
 use native.Mathlib.Omega.{arith}
-use Rattle.paths.proofs.NearestNode.{side-source, side-terminal, side-none}
+use Rattle.paths.proofs.NearestNode.{held-more, side-source, side-terminal, side-none}
 use borrow.Author.Needs.{needs}
 use Rattle.paths.proofs.search.nearest.Statement.{statement}
 use Rattle.paths.proofs.search.nearest.Tie as tie
@@ -15,22 +15,19 @@ least-key-requires-2 : tie.Need-least-key-requires-2
 least-key-requires-2 c κs = search needs
 
 holder-requires : tie.Need-holder-requires
-holder-requires c κs = (omega (arith, c .before .before .before .pre .0), c .before .before .least-key .ensures .held (omega (arith, c .before .least-key2 .ensures .bound, c .if1 .taken)))
+holder-requires c κs = held-more (c .before .before .before .args .key .now) (omega (arith, c .before .before .before .pre .0)) (c .before .before .least-key .ensures .held (omega (arith, c .before .least-key2 .ensures .bound, c .if1 .taken)))
 
 returns : tie.Need-returns
-returns c = side-source (c .before .before .before .least-key .ensures) (c .before .before .least-key2 .ensures) (c .before .if1 .taken) (omega (arith, c .holder .ensures .0, c .before .before .before .before .pre .0)) (c .holder .ensures .1)
+returns c = side-source (c .before .before .before .least-key .ensures) (c .before .before .least-key2 .ensures) (c .before .if1 .taken) (c .holder .ensures .0) (c .holder .ensures .1)
 
 returns-2 : tie.Need-returns-2
 returns-2 c = side-none (c .before .before .before .least-key .ensures) (c .before .before .least-key2 .ensures) (c .before .if1 .left) (c .if2 .taken)
 
-add-holder : tie.Need-add-holder
-add-holder c = search needs
-
 holder-requires-2 : tie.Need-holder-requires-2
-holder-requires-2 c κs = (omega (arith, c .before .before .before .before .pre .1), c .before .before .least-key2 .ensures .held (omega (arith, c .before .before .least-key2 .ensures .bound, c .if2 .left)))
+holder-requires-2 c κs = held-more (c .before .before .before .before .args .key .now) (omega (arith, c .before .before .before .before .pre .1)) (c .before .before .least-key2 .ensures .held (omega (arith, c .before .before .least-key2 .ensures .bound, c .if2 .left)))
 
 returns-3 : tie.Need-returns-3
-returns-3 c = side-terminal (c .before .before .before .before .least-key .ensures) (c .before .before .before .least-key2 .ensures) (c .before .before .if1 .left) (omega (arith, c .before .before .before .least-key2 .ensures .bound, c .before .if2 .left)) (omega (arith, c .holder2 .ensures .0, c .before .before .before .before .before .pre .1)) (c .holder2 .ensures .1)
+returns-3 c = side-terminal (c .before .before .before .before .least-key .ensures) (c .before .before .before .least-key2 .ensures) (c .before .before .if1 .left) (omega (arith, c .before .before .before .least-key2 .ensures .bound, c .before .if2 .left)) (c .holder2 .ensures .0) (c .holder2 .ensures .1)
 
 pub nearest-spec : {M : Type 1} → statement M
 nearest-spec =
@@ -42,6 +39,5 @@ nearest-spec =
     holder-requires
     returns
     returns-2
-    add-holder
     holder-requires-2
     returns-3)

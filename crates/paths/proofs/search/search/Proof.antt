@@ -3,7 +3,7 @@ use mathlib.Core.Path.{refl}
 use Prim.Native.Nat.{ℕ}
 use lib.ListN.{getD-replicate}
 use Rattle.residual.specs.Labels.{far}
-use Rattle.paths.proofs.NodeTags.{tag-other}
+use Rattle.paths.proofs.NodeTags.{tag-other, tag-plan}
 use borrow.Author.Needs.{needs}
 use Rattle.paths.proofs.search.search.Statement.{statement}
 use Rattle.paths.proofs.search.search.Tie as tie
@@ -18,11 +18,8 @@ explore-requires : tie.Need-explore-requires
 explore-requires c κs = (
   c .before .before .before .before .before .before .before .before .before .pre .0,
   (
-    c .before .before .before .before .before .before .before .before .before .pre .1 .0,
-    (
-      tag-other (c .before .before .before .before .before .before .tag .ensures) (c .before .before .before .before .prefer .ensures),
-      (record { long-dist = refl; long-prev = refl; dists = λ v h. getD-replicate {A = ℕ} 96 v far 0 h }, c .before .before .before .before .before .before .before .before .before .pre .1 .1),
-    ),
+    tag-plan (c .before .before .before .before .before .before .before .before .before .pre .0 .sound .terminals) (c .before .before .before .before .before .before .before .before .before .pre .1 .0) (tag-other (c .before .before .before .before .before .before .tag .ensures) (c .before .before .before .before .prefer .ensures)),
+    (record { long-dist = refl; long-prev = refl; dists = λ v h. getD-replicate {A = ℕ} 96 v far 0 h }, c .before .before .before .before .before .before .before .before .before .pre .1 .1),
   ),
 )
 

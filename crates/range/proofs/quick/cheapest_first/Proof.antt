@@ -5,7 +5,7 @@ use Prim.Native.Nat.{ℕ, _+_, _*_}
 use lib.ListN.{length-replicate, getD-replicate}
 use Rattle.augment.proofs.LaneMarks.{cover-none}
 use Rattle.range.proofs.SplitRange.{plants-ready, base-ready}
-use Rattle.range.proofs.FirstSplit.{first-again}
+use Rattle.firstsplit.proofs.FirstSplit.{first-again}
 use borrow.Author.Needs.{needs}
 use Rattle.range.proofs.quick.cheapest_first.Statement.{statement}
 use Rattle.range.proofs.quick.cheapest_first.Tie as tie

@@ -5,48 +5,18 @@ use Rattle.residual.proofs.relax.relax.Statement.{statement}
 use Rattle.residual.proofs.relax.relax.Tie as tie
 
 relax-row-requires : tie.Need-relax-row-requires
-relax-row-requires c κs =
-    let r = c .before .before .before .before .pre .0 in
-    let l = r .source (c .before .before .before .if1 .taken) in (
-      record {
-        long-dist = r .long-dist;
-        long-prev = r .long-prev;
-        long-key = r .long-key;
-        sources = r .sources;
-        terminals = r .terminals;
-        source = l;
-        near = r .near;
-        costs = r .costs;
-        ceilings = r .ceilings;
-        low = r .low;
-        most = r .most;
-        ahead = λ j h o. r .ahead j l h o;
-      },
-      c .before .before .before .before .pre .1 .0,
-    )
+relax-row-requires c κs = (c .before .before .before .before .pre .0 .row (c .before .before .before .if1 .taken), c .before .before .before .before .pre .1)
 
 returns : tie.Need-returns
-returns c = (c .relax-row .ensures .0, (c .relax-row .ensures .1, next-start))
+returns c =
+    let l = c .before .before .before .before .if1 .taken in
+    (λ m a. c .relax-row .ensures .0 m (a .source l) (a .sources), (λ m a. c .relax-row .ensures .1 m (a .source l) (a .sources), next-start))
 
 relax-column-requires : tie.Need-relax-column-requires
-relax-column-requires c κs =
-    let r = c .before .before .before .before .pre .0 in (
-      record {
-        long-dist = r .long-dist;
-        long-prev = r .long-prev;
-        long-key = r .long-key;
-        sources = r .sources;
-        terminals = r .terminals;
-        low = c .before .before .before .if1 .left;
-        high = r .terminal (c .before .before .before .if1 .left);
-        near = r .near;
-        back = r .back;
-      },
-      c .before .before .before .before .pre .1,
-    )
+relax-column-requires c κs = (c .before .before .before .before .pre .0 .column (c .before .before .before .if1 .left), c .before .before .before .before .pre .1 .bits)
 
 returns-2 : tie.Need-returns-2
-returns-2 c = search needs
+returns-2 c = (λ m a. c .relax-column .ensures .0 m _ (c .before .before .before .before .before .args .cap .now) a, (λ m a. c .relax-column .ensures .1 .0 _ _, c .relax-column .ensures .1 .1))
 
 pub relax-spec : {M : Type 1} → statement M
 relax-spec = tie.close (tie.spec relax-row-requires returns relax-column-requires returns-2)

@@ -2,35 +2,43 @@
 use mathlib.Core.Path.{_≡_, refl}
 use Prim.Native.Nat.{ℕ, _+_, _-_, _*_, _^_, _≤_, _<_}
 use mathlib.Core.Logic.{inl}
+use mathlib.Core.List.{List, []}
 use native.Mathlib.Omega.{arith}
 use lib.Bits.{bitAnd, and-le-r}
 use lib.Count.{trailingZeros}
+use lib.ListN.{length}
 use Rattle.residual.specs.Network.Arc.{back}
-use Rattle.residual.specs.Network.{net, get}
+use Rattle.residual.specs.Network.{Net, net, get}
 use Rattle.residual.specs.Labels.{Relabelling}
 use Rattle.residual.specs.Keys.{Rekeyed, Next}
+use Rattle.residual.specs.LanesInUse.{AtNode}
 use Rattle.residual.specs.Bits.{Left}
-use Rattle.residual.proofs.Relaxation.{column-left, pass-start, pass-skip, pass-open, pass-column}
+use Rattle.residual.proofs.Relaxation.{column-left, pass-start, pass-skip, pass-open, pass-column, offer-long}
 use Rattle.residual.proofs.ResidualArc.{shut-back}
 use Rattle.residual.proofs.Keys.{rekey-start, rekey-open, next-start, next-kept, next-most, next-open}
-use Rattle.residual.proofs.Bits.{left-start, left-low, left-none, left-next, left-end}
-use Rattle.residual.proofs.LanesInUse.{column-skip, word-fits, next-source}
+use Rattle.residual.proofs.Bits.{left-start, left-low, left-set, left-none, left-next, left-end}
+use Rattle.residual.proofs.LanesInUse.{column-skip, next-source}
 use borrow.Author.Needs.{needs}
 use Rattle.residual.proofs.relax.relax_column.Statement.{statement}
 use Rattle.residual.proofs.relax.relax_column.Tie as tie
 
+-- the sources below hi are passed, in every network with these costs and this plan
+record Passing (cost x serves pot dist₀ prev₀ key₀ : List ℕ) (v base level : ℕ) (dist prev key : List ℕ) (next rest : ℕ) : Type 0 where
+  hi : ℕ
+  most : hi ≤ 32
+  labels : (m n : ℕ) (cap : List ℕ) → AtNode m n x serves v → Relabelling (net m n cost cap x) v base 0 hi dist₀ prev₀ dist prev
+  long : length dist ≡ 96
+  keys : (N : Net) (want : List ℕ) → Rekeyed N want v pot dist₀ dist key₀ key
+  named : Next key level hi next
+  left : Left (get serves (v - 32)) rest hi
+  word : rest < 2 ^ 32
+
 abbrev Inv-loop : tie.InvT-loop
-Inv-loop m n v cost x cap serves base level pot full want dist₀ prev₀ key₀ j next₀ rest₀ dist prev key next rest =
-    (hi : ℕ)
-    × (hi ≤ m)
-    × Relabelling (net m n cost cap x) v base 0 hi dist₀ prev₀ dist prev
-    × Rekeyed (net m n cost cap x) want v pot dist₀ dist key₀ key
-    × Next key level hi next
-    × Left (get serves j) rest hi
-    × (rest < 2 ^ 32)
+Inv-loop v cost x serves base level pot full dist₀ prev₀ key₀ j next₀ rest₀ dist prev key next rest =
+    Passing cost x serves pot dist₀ prev₀ key₀ v base level dist prev key next rest
 
 abbrev μ-loop : tie.MeasureT-loop
-μ-loop m n v cost x cap serves base level pot full want dist₀ prev₀ key₀ j next₀ rest₀ dist prev key next rest = rest
+μ-loop v cost x serves base level pot full dist₀ prev₀ key₀ j next₀ rest₀ dist prev key next rest = rest
 
 -- ---- a turn of the loop
 
@@ -38,35 +46,39 @@ positive : (c : tie.In-loop Inv-loop μ-loop) → 0 < c .before .loop .rest
 positive c = omega (arith, c .loop-test .taken)
 
 -- the bit that it takes is a source's
-source : (c : tie.In-loop Inv-loop μ-loop) → trailingZeros 32 (c .before .loop .rest) < c .before .before .before .args .m
-source c =
-    let s = c .before .before .before .pre in
-    let i = c .before .loop .inv in
-    next-source (c .before .before .before .args .v - 32) (s .1 .1) (omega (arith, s .0 .low, s .0 .high)) (i .5) (positive c) (i .6)
+source : (c : tie.In-loop Inv-loop μ-loop) (m : ℕ) → get (c .before .before .before .args .serves .now) (c .before .before .before .args .v - 32) < 2 ^ m
+    → trailingZeros 32 (c .before .loop .rest) < m
+source c m h = let i = c .before .loop .inv in next-source h (i .left) (positive c) (i .word)
+
+-- a source of every such network
+own : (c : tie.In-loop Inv-loop μ-loop) (m n : ℕ)
+    → AtNode m n (c .before .before .before .args .x .now) (c .before .before .before .args .serves .now) (c .before .before .before .args .v)
+    → trailingZeros 32 (c .before .loop .rest) < m
+own c m n a = let s = c .before .before .before .pre .0 in source c m (a .covers .within _ (omega (arith, s .low, a .terminal (s .low))))
 
 -- its lane
 fits : (c : tie.In-loop Inv-loop μ-loop) → trailingZeros 32 (c .before .loop .rest) * 64 + (c .before .before .before .args .v - 32) < 2048
-fits c = let s = c .before .before .before .pre .0 in omega (arith, source c, s .sources, s .low, s .high, s .terminals)
+fits c = let s = c .before .before .before .pre .0 in omega (arith, source c 32 (s .word), s .low, s .high)
 
 -- the bits that are left are fewer
 fewer : (c : tie.In-loop Inv-loop μ-loop) → bitAnd (c .before .loop .rest) (c .before .loop .rest - 1) < c .before .loop .rest
 fewer c = omega (arith, and-le-r (c .before .loop .rest) (c .before .loop .rest - 1), positive c)
 
 -- the sources below it
-passed : (c : tie.In-loop Inv-loop μ-loop) → c .before .loop .inv .0 ≤ trailingZeros 32 (c .before .loop .rest)
-passed c = left-low 32 (c .before .loop .inv .5) (positive c) (c .before .loop .inv .6)
+passed : (c : tie.In-loop Inv-loop μ-loop) → c .before .loop .inv .hi ≤ trailingZeros 32 (c .before .loop .rest)
+passed c = left-low 32 (c .before .loop .inv .left) (positive c) (c .before .loop .inv .word)
 
-skipped : (c : tie.In-loop Inv-loop μ-loop)
+skipped : (c : tie.In-loop Inv-loop μ-loop) (m n : ℕ) (cap : List ℕ)
+    → AtNode m n (c .before .before .before .args .x .now) (c .before .before .before .args .serves .now) (c .before .before .before .args .v)
     → Relabelling
-    (net (c .before .before .before .args .m) (c .before .before .before .args .n) (c .before .before .before .args .cost .now)
-    (c .before .before .before .args .cap .now) (c .before .before .before .args .x .now)) (c .before .before .before .args .v)
+    (net m n (c .before .before .before .args .cost .now) cap (c .before .before .before .args .x .now)) (c .before .before .before .args .v)
     (c .before .before .before .args .base) 0 (trailingZeros 32 (c .before .loop .rest)) (c .before .before .before .args .dist .now)
     (c .before .before .before .args .prev .now) (c .before .loop .dist) (c .before .loop .prev)
-skipped c =
-    let s = c .before .before .before .pre in
+skipped c m n cap a =
+    let s = c .before .before .before .pre .0 in
     let i = c .before .loop .inv in
-    column-skip (c .before .before .before .args .cost .now) (c .before .before .before .args .cap .now) (c .before .before .before .args .v - 32) (s .1 .1)
-    (s .0 .sources) (omega (arith, s .0 .low)) (i .2) (passed c) (left-none 32 (i .5) (positive c) (i .6))
+    column-skip (c .before .before .before .args .cost .now) cap (c .before .before .before .args .v - 32) (a .covers) (a .sources)
+    (omega (arith, s .low)) (i .labels m n cap a) (passed c) (left-none 32 (i .left) (positive c) (i .word))
 
 -- where it serves the terminal, its new label has a key
 low : (c : tie.Then1 Inv-loop μ-loop)
@@ -75,20 +87,31 @@ low : (c : tie.Then1 Inv-loop μ-loop)
     (trailingZeros 32 (c .before .before .before .loop .rest) * 64 + (c .before .before .before .before .before .args .v - 32))
     ≤ c .before .before .before .before .before .args .base
 low c =
-    let s = c .before .before .before .before .before .pre .0 in
-    s .back _ (c .before .before .before .before .before .args .v - 32) (source (c .before .before)) (omega (arith, s .low, s .high)) (omega (arith, s .low)) (c .if1 .taken)
+    let i = c .before .before .before .loop .inv in
+    c .before .before .before .before .before .pre .0 .back _ (left-set 32 (i .left) (positive (c .before .before)) (i .word)) (c .if1 .taken)
 
 sub-j : tie.Need-sub-j Inv-loop μ-loop
 sub-j c = search needs
 
 mul-rest : tie.Need-mul-rest Inv-loop μ-loop
-mul-rest c = omega (arith, c .pre .0 .high, c .pre .0 .terminals)
+mul-rest c = omega (arith, c .pre .0 .high)
 
 element-copy-out-rest : tie.Need-element-copy-out-rest Inv-loop μ-loop
-element-copy-out-rest c = omega (arith, c .pre .0 .low, c .pre .0 .high, c .pre .0 .terminals)
+element-copy-out-rest c = omega (arith, c .pre .0 .low, c .pre .0 .high)
 
 loop-holds : tie.Need-loop-holds Inv-loop μ-loop
-loop-holds c = (0, omega arith, pass-start (c .before .pre .0 .long-dist) (c .before .pre .0 .long-prev) (omega arith), rekey-start (c .before .pre .0 .long-key), next-start, left-start, word-fits (c .before .args .v - 32) (c .before .pre .1 .1) (c .before .pre .0 .sources) (omega (arith, c .before .pre .0 .low, c .before .pre .0 .high)))
+loop-holds c =
+    let s = c .before .pre .0 in
+    record {
+      hi = 0;
+      most = omega arith;
+      labels = λ m n cap a. pass-start (s .long-dist) (s .long-prev) (omega arith);
+      long = s .long-dist;
+      keys = λ N want. rekey-start (s .long-key);
+      named = next-start;
+      left = left-start;
+      word = s .word;
+    }
 
 cast-i : tie.Need-cast-i Inv-loop μ-loop
 cast-i c = omega (arith, fits c)
@@ -147,10 +170,10 @@ element-copy-out-key-of-2 c = omega (arith, fits (c .before .before .before .bef
 key-of-requires : tie.Need-key-of-requires Inv-loop μ-loop
 key-of-requires c κs =
     let s = c .before .before .before .before .before .before .before .before .before .before .before .pre in
-    (omega (arith, low (c .before .before .before .before .before .before)), omega (arith, s .0 .near), s .1 .0 .bits .bit _ (omega (arith, fits (c .before .before .before .before .before .before .before .before))))
+    (omega (arith, low (c .before .before .before .before .before .before)), omega (arith, s .0 .near), s .1 .bit _ (omega (arith, fits (c .before .before .before .before .before .before .before .before))))
 
 cast-offer : tie.Need-cast-offer Inv-loop μ-loop
-cast-offer c = omega (arith, c .before .before .before .before .before .before .before .before .before .before .before .before .pre .0 .high, c .before .before .before .before .before .before .before .before .before .before .before .before .pre .0 .terminals)
+cast-offer c = omega (arith, c .before .before .before .before .before .before .before .before .before .before .before .before .pre .0 .high)
 
 offer-requires : tie.Need-offer-requires Inv-loop μ-loop
 offer-requires c κs = omega (arith, fits (c .before .before .before .before .before .before .before .before .before .before .before .before))
@@ -170,20 +193,23 @@ loop-again c =
     let taken = c .before .before .before .before .before .before .before .before .before .before .before .before .if1 .taken in
     let l = low (c .before .before .before .before .before .before .before .before .before .before .before .before) in
     let f = fits i in
-    let bit = s .1 .0 .bits .bit (trailingZeros 32 (i .before .loop .rest)) (omega arith) in
+    let bit = s .1 .bit (trailingZeros 32 (i .before .loop .rest)) (omega arith) in
     let wins = c .before .before .before .before .before .before .before .before .wins .ensures in
     let key = c .before .before .before .before .before .key-of .ensures in
-    let offered = c .before .offer .ensures in (
-      trailingZeros 32 (i .before .loop .rest) + 1,
-      omega (arith, source i),
-      pass-open (skipped i) (omega arith) (s .0 .sources) (omega arith)
-          (λ h. (back (v - 32) (source i) (omega (arith, s .0 .high)) (omega (arith, s .0 .low)) taken (omega arith) refl, wins .taken h .0))
-          (λ h t' k' a. column-left _ (v - 32) wins (omega arith) (s .0 .sources) (omega (arith, s .0 .low)) taken h a) offered,
-      rekey-open (inv .3) (inv .2 .long-dist) (omega arith) (λ h. wins .taken h .0) (λ h. inl (omega arith, omega arith)) offered,
-      next-open (next-most (inv .4) (passed i)) (inv .3 .long) (omega arith) (omega (arith, s .0 .near)) offered (c .named .ensures),
-      left-next 32 (inv .5) (positive i) (inv .6),
-      omega (arith, fewer i, inv .6),
-    )
+    let offered = c .before .offer .ensures in
+    record {
+      hi = trailingZeros 32 (i .before .loop .rest) + 1;
+      most = omega (arith, source i 32 (s .0 .word));
+      labels = λ m n cap a.
+          pass-open (skipped i m n cap a) (omega arith) (a .sources) (omega arith)
+          (λ h. (back (v - 32) (own i m n a) (omega (arith, a .terminal (s .0 .low))) (omega (arith, s .0 .low)) taken (omega arith) refl, wins .taken h .0))
+          (λ h t' k' o. column-left _ (v - 32) wins (omega arith) (a .sources) (omega (arith, s .0 .low)) taken h o) offered;
+      long = offer-long offered (inv .long);
+      keys = λ N want. rekey-open (inv .keys N want) (inv .long) (omega arith) (λ h. wins .taken h .0) (λ h. inl (omega arith, omega arith)) offered;
+      named = next-open (next-most (inv .named) (passed i)) (inv .keys (net 0 0 [] [] []) [] .long) (omega arith) (omega (arith, s .0 .near)) offered (c .named .ensures);
+      left = left-next 32 (inv .left) (positive i) (inv .word);
+      word = omega (arith, fewer i, inv .word);
+    }
 
 loop-less-2 : tie.Need-loop-less-2 Inv-loop μ-loop
 loop-less-2 c = omega (arith, fewer (c .before .before))
@@ -192,27 +218,31 @@ loop-again-2 : tie.Need-loop-again-2 Inv-loop μ-loop
 loop-again-2 c =
     let i = c .before .before in
     let inv = i .before .loop .inv in
-    let s = c .before .before .before .before .before .pre in (
-      trailingZeros 32 (i .before .loop .rest) + 1,
-      omega (arith, source i),
-      pass-skip (skipped i) (omega arith)
-          (λ w h o t k a.
+    let s = c .before .before .before .before .before .pre .0 in
+    record {
+      hi = trailingZeros 32 (i .before .loop .rest) + 1;
+      most = omega (arith, source i 32 (s .word));
+      labels = λ m n cap a.
+          pass-skip (skipped i m n cap a) (omega arith)
+          (λ w h o t k arc.
           let z : w ≡ trailingZeros 32 (i .before .loop .rest) = omega arith in
-          shut-back (c .before .before .before .before .before .args .v - 32) (s .0 .sources) (source i) (omega (arith, s .0 .low)) (c .if1 .left) t k (rw z at a)),
-      inv .3,
-      next-kept (next-most (inv .4) (passed i)),
-      left-next 32 (inv .5) (positive i) (inv .6),
-      omega (arith, fewer i, inv .6),
-    )
+          shut-back (c .before .before .before .before .before .args .v - 32) (a .sources) (own i m n a) (omega (arith, s .low)) (c .if1 .left) t k (rw z at arc));
+      long = inv .long;
+      keys = inv .keys;
+      named = next-kept (next-most (inv .named) (passed i));
+      left = left-next 32 (inv .left) (positive i) (inv .word);
+      word = omega (arith, fewer i, inv .word);
+    }
 
 returns : tie.Need-returns Inv-loop μ-loop
 returns c =
     let i = c .before .loop .inv in
-    let s = c .before .before .before .pre in (
-      pass-column
-          (column-skip (c .before .before .before .args .cost .now) (c .before .before .before .args .cap .now) (c .before .before .before .args .v - 32) (s .1 .1) (s .0 .sources) (omega (arith, s .0 .low)) (i .2) (i .1)
-          (λ w a b. left-end (i .5) (omega (arith, c .loop-test .left)) w a)) (s .0 .low) (s .0 .sources) (omega arith),
-      (i .3, next-most (i .4) (i .1)),
+    let s = c .before .before .before .pre .0 in (
+      λ m n cap a.
+          pass-column
+          (column-skip (c .before .before .before .args .cost .now) cap (c .before .before .before .args .v - 32) (a .covers) (a .sources) (omega (arith, s .low)) (i .labels m n cap a) (i .most)
+          (λ w h o. left-end (i .left) (omega (arith, c .loop-test .left)) w h)) (s .low) (a .sources) (a .sources),
+      (i .keys, next-most (i .named) (i .most)),
     )
 
 pub relax-column-spec : {M : Type 1} → statement M

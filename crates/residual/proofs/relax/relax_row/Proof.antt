@@ -1,6 +1,6 @@
 -- `residual::relax::relax_row` meets its contract. Assumes nothing.
 use mathlib.Core.Path.{refl}
-use Prim.Native.Nat.{_+_, _-_, _≤_}
+use Prim.Native.Nat.{ℕ, _+_, _-_, _≤_, _<_}
 use native.Mathlib.Omega.{arith}
 use Rattle.residual.specs.Network.Arc.{ahead}
 use Rattle.residual.specs.Network.{net}
@@ -13,13 +13,13 @@ use Rattle.residual.proofs.relax.relax_row.Statement.{statement}
 use Rattle.residual.proofs.relax.relax_row.Tie as tie
 
 abbrev Inv-loop : tie.InvT-loop
-Inv-loop m n i cost x cap base pot full want dist₀ prev₀ key₀ j₀ dist prev key j = (j ≤ n) × Relabelling (net m n cost cap x) i base 32 (32 + j) dist₀ prev₀ dist prev × Rekeyed (net m n cost cap x) want i pot dist₀ dist key₀ key
+Inv-loop n i cost x cap base pot full want dist₀ prev₀ key₀ j₀ dist prev key j = (j ≤ n) × ((m : ℕ) → i < m → m ≤ 32 → Relabelling (net m n cost cap x) i base 32 (32 + j) dist₀ prev₀ dist prev × Rekeyed (net m n cost cap x) want i pot dist₀ dist key₀ key)
 
 abbrev μ-loop : tie.MeasureT-loop
-μ-loop m n i cost x cap base pot full want dist₀ prev₀ key₀ j₀ dist prev key j = n - j
+μ-loop n i cost x cap base pot full want dist₀ prev₀ key₀ j₀ dist prev key j = n - j
 
 loop-holds : tie.Need-loop-holds Inv-loop μ-loop
-loop-holds c = (omega arith, pass-start (c .pre .0 .long-dist) (c .pre .0 .long-prev) (omega arith), rekey-start (c .pre .0 .long-key))
+loop-holds c = (omega arith, λ m hi s. (pass-start (c .pre .0 .long-dist) (c .pre .0 .long-prev) (omega arith), rekey-start (c .pre .0 .long-key)))
 
 mul-k : tie.Need-mul-k Inv-loop μ-loop
 mul-k c = search needs
@@ -37,7 +37,7 @@ element-copy-out-t : tie.Need-element-copy-out-t Inv-loop μ-loop
 element-copy-out-t c = search needs
 
 add-t : tie.Need-add-t Inv-loop μ-loop
-add-t c = omega (arith, c .before .before .before .pre .0 .costs _ _ (c .before .before .before .pre .0 .source) (c .before .loop-test .taken))
+add-t c = omega (arith, c .before .before .before .pre .0 .costs _ (c .before .loop-test .taken))
 
 mul-drums : tie.Need-mul-drums Inv-loop μ-loop
 mul-drums c = search needs
@@ -85,12 +85,12 @@ row-key-requires : tie.Need-row-key-requires Inv-loop μ-loop
 row-key-requires c κs =
     let j = c .before .before .before .before .before .before .before .before .before .before .loop .j in
     let s = c .before .before .before .before .before .before .before .before .before .before .before .pre .0 in
-    let old = c .before .before .before .before .before .before .before .before .before .before .loop .inv .1 .rest (32 + j) (omega arith) in
+    let old = c .before .before .before .before .before .before .before .before .before .before .loop .inv .1 32 (s .source) (omega arith) .0 .rest (32 + j) (omega arith) in
     let z = pick-low (c .before .before .before .before .wins .ensures) (λ o. s .ahead j (c .before .before .before .before .before .before .before .before .before .loop-test .taken) o) (omega (arith, s .low (32 + j) (omega (arith, s .terminals)), old)) (omega (arith, s .most (32 + j) (omega (arith, s .terminals)), old)) (c .before .before .pick .ensures) in
     (z .0, z .1, c .before .before .before .before .before .before .before .before .before .before .before .pre .1 .bits .bit (32 + j) (omega (arith, s .terminals)))
 
 cast-offer : tie.Need-cast-offer Inv-loop μ-loop
-cast-offer c = omega (arith, c .before .before .before .before .before .before .before .before .before .before .before .before .pre .0 .source, c .before .before .before .before .before .before .before .before .before .before .before .before .pre .0 .sources)
+cast-offer c = omega (arith, c .before .before .before .before .before .before .before .before .before .before .before .before .pre .0 .source)
 
 offer-requires : tie.Need-offer-requires Inv-loop μ-loop
 offer-requires c κs = search needs
@@ -109,16 +109,18 @@ loop-again c =
     let l = c .before .before .before .before .before .before .before .before .before .before .before .before .before .before .loop-test .taken in
     let w = c .before .before .before .before .before .before .before .before .before .wins .ensures in (
       omega arith,
-      pass-open (inv .1) (omega arith) (s .sources) (omega (arith, s .terminals))
-          (λ h. (ahead j (s .source) l refl (w .taken h .1) refl refl, w .taken h .0))
-          (λ h t' k' a. row-left _ j w refl (s .sources) (s .source) h a)
-          (c .offer .ensures),
-      rekey-open (inv .2) (inv .1 .long-dist) (omega (arith, s .terminals)) (λ h. w .taken h .0)
-          (row-made w (c .before .before .before .before .before .before .before .pick .ensures) (c .before .before .before .before .row-key .ensures) (s .source) l refl) (c .offer .ensures),
+      λ m hi hm. (
+        pass-open (inv .1 m hi hm .0) (omega arith) hm (omega (arith, s .terminals))
+            (λ h. (ahead j hi l refl (w .taken h .1) refl refl, w .taken h .0))
+            (λ h t' k' a. row-left _ j w refl hm hi h a)
+            (c .offer .ensures),
+        rekey-open (inv .1 m hi hm .1) (inv .1 m hi hm .0 .long-dist) (omega (arith, s .terminals)) (λ h. w .taken h .0)
+            (row-made w (c .before .before .before .before .before .before .before .pick .ensures) (c .before .before .before .before .row-key .ensures) hi l refl) (c .offer .ensures),
+      ),
     )
 
 returns : tie.Need-returns Inv-loop μ-loop
-returns c = (pass-row (c .before .loop .inv .1) (c .before .before .pre .0 .source) (c .before .before .pre .0 .sources) (omega arith), c .before .loop .inv .2)
+returns c = (λ m hi hm. pass-row (c .before .loop .inv .1 m hi hm .0) hi hm (omega arith), λ m hi hm. c .before .loop .inv .1 m hi hm .1)
 
 pub relax-row-spec : {M : Type 1} → statement M
 relax-row-spec =

@@ -1,5 +1,5 @@
 -- `round_trip::draw::below_zero` is safe and ends: a number of ten digits fits with a minus. Assumes nothing.
-use Rattle.filetable.proofs.FieldIntegers.{minus-fits}
+use Rattle.caseform.proofs.SignedNumbers.{minus-fits}
 use borrow.Author.Needs.{needs}
 use Rattle.round_trip.proofs.draw.below_zero.Statement.{statement}
 use Rattle.round_trip.proofs.draw.below_zero.Tie as tie

@@ -8,13 +8,13 @@ use Rattle.slackcheck.proofs.check.add_row.Statement.{statement}
 use Rattle.slackcheck.proofs.check.add_row.Tie as tie
 
 abbrev Inv-loop : tie.InvT-loop
-Inv-loop m n i x got₀ j₀ got j = AddedTo n (cells x) i j got
+Inv-loop n i x got₀ j₀ got j = AddedTo n (cells x) i j got
 
 abbrev μ-loop : tie.MeasureT-loop
-μ-loop m n i x got₀ j₀ got j = n - j
+μ-loop n i x got₀ j₀ got j = n - j
 
 loop-holds : tie.Need-loop-holds Inv-loop μ-loop
-loop-holds c = add-start (c .pre .1 .1)
+loop-holds c = add-start (c .pre .1)
 
 mul-got : tie.Need-mul-got Inv-loop μ-loop
 mul-got c = search needs
@@ -35,7 +35,7 @@ element-copy-out-got-2 : tie.Need-element-copy-out-got-2 Inv-loop μ-loop
 element-copy-out-got-2 c = search needs
 
 add-got-2 : tie.Need-add-got-2 Inv-loop μ-loop
-add-got-2 c = let s = c .before .before .before .before in omega (arith, add-fits (s .pre .1 .0) (s .pre .0) (c .before .before .before .loop .inv) (c .before .before .loop-test .taken))
+add-got-2 c = let s = c .before .before .before .before in omega (arith, add-fits (s .pre .0) (omega arith) (c .before .before .before .loop .inv) (c .before .before .loop-test .taken))
 
 mul-got-4 : tie.Need-mul-got-4 Inv-loop μ-loop
 mul-got-4 c = search needs
@@ -50,7 +50,7 @@ loop-less : tie.Need-loop-less Inv-loop μ-loop
 loop-less c = search needs
 
 loop-again : tie.Need-loop-again Inv-loop μ-loop
-loop-again c = add-next (c .before .before .before .before .pre .1 .0 .terminals) (c .before .before .before .loop .inv) (c .before .before .loop-test .taken)
+loop-again c = add-next (c .before .before .before .before .pre .0 .terminals) (c .before .before .before .loop .inv) (c .before .before .loop-test .taken)
 
 returns : tie.Need-returns Inv-loop μ-loop
 returns c = add-end (c .before .loop .inv) (c .loop-test .left)

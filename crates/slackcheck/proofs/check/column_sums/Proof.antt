@@ -5,7 +5,7 @@ use borrow.Author.Needs.{needs}
 use mathlib.Core.Path.{_≡_}
 use Rattle.slackcheck.specs.Checked.{Got}
 use Rattle.residual.specs.Cells.{cells}
-use Rattle.slackcheck.proofs.Checking.{got-none}
+use Rattle.slackcheck.proofs.Checking.{few-fewer, got-none}
 use Rattle.slackcheck.proofs.check.column_sums.Statement.{statement}
 use Rattle.slackcheck.proofs.check.column_sums.Tie as tie
 
@@ -19,7 +19,7 @@ loop-holds : tie.Need-loop-holds Inv-loop μ-loop
 loop-holds c = (omega arith, got-none (omega arith))
 
 add-row-requires : tie.Need-add-row-requires Inv-loop μ-loop
-add-row-requires c κs = (c .before .loop-test .taken, (c .before .before .before .pre, c .before .before .loop .inv .1))
+add-row-requires c κs = (few-fewer (c .before .before .before .pre) (omega (arith, c .before .loop-test .taken)), c .before .before .loop .inv .1)
 
 add-i : tie.Need-add-i Inv-loop μ-loop
 add-i c = search needs

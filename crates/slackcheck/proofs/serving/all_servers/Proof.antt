@@ -17,7 +17,7 @@ loop-holds : tie.Need-loop-holds Inv-loop μ-loop
 loop-holds c = servers-start (c .before .pre .1)
 
 serve-row-requires : tie.Need-serve-row-requires Inv-loop μ-loop
-serve-row-requires c κs = let s = c .before .before .before .before in ((omega (arith, c .before .loop-test .taken), s .pre .0, s .pre .1), c .before .before .loop .inv)
+serve-row-requires c κs = let s = c .before .before .before .before in (omega (arith, c .before .loop-test .taken, s .pre .0), s .pre .1)
 
 add-i : tie.Need-add-i Inv-loop μ-loop
 add-i c = search needs
@@ -26,7 +26,7 @@ loop-less : tie.Need-loop-less Inv-loop μ-loop
 loop-less c = search needs
 
 loop-again : tie.Need-loop-again Inv-loop μ-loop
-loop-again c = c .serve-row .ensures
+loop-again c = c .serve-row .ensures _ (c .before .before .loop-test .taken) (c .before .before .before .loop .inv)
 
 returns : tie.Need-returns Inv-loop μ-loop
 returns c = servers-end (c .before .loop .inv) (c .loop-test .left)

@@ -1,17 +1,18 @@
 -- `slackcheck::serving::serve_row` meets its contract. Assumes nothing.
-use Prim.Native.Nat.{_-_}
+use Prim.Native.Nat.{ℕ, _-_, _<_}
 use native.Mathlib.Omega.{arith}
 use borrow.Author.Needs.{needs}
 use Rattle.residual.proofs.Bits.{power-fits}
+use Rattle.slackcheck.specs.Serving.{ServersTo}
 use Rattle.slackcheck.proofs.Checking.{ServedTo, serve-start, serve-next, serve-end}
 use Rattle.slackcheck.proofs.serving.serve_row.Statement.{statement}
 use Rattle.slackcheck.proofs.serving.serve_row.Tie as tie
 
 abbrev Inv-loop : tie.InvT-loop
-Inv-loop m n i x serves₀ bit j₀ serves j = ServedTo m n x i j serves
+Inv-loop n i x serves₀ bit j₀ serves j = (m : ℕ) → i < m → ServersTo m n x i serves₀ → ServedTo m n x i j serves
 
 abbrev μ-loop : tie.MeasureT-loop
-μ-loop m n i x serves₀ bit j₀ serves j = n - j
+μ-loop n i x serves₀ bit j₀ serves j = n - j
 
 cast-bit : tie.Need-cast-bit Inv-loop μ-loop
 cast-bit c = search needs
@@ -20,7 +21,7 @@ shl-bit : tie.Need-shl-bit Inv-loop μ-loop
 shl-bit c = search needs
 
 loop-holds : tie.Need-loop-holds Inv-loop μ-loop
-loop-holds c = serve-start (c .pre .1)
+loop-holds c m h q = serve-start q
 
 mul-serves : tie.Need-mul-serves Inv-loop μ-loop
 mul-serves c = search needs
@@ -56,10 +57,10 @@ loop-less : tie.Need-loop-less Inv-loop μ-loop
 loop-less c = search needs
 
 loop-again : tie.Need-loop-again Inv-loop μ-loop
-loop-again c = let s = c .before .before .before .before .before in serve-next (s .pre .0 .0) (s .pre .0 .2) (c .before .before .before .before .loop .inv) (c .before .before .before .loop-test .taken) (rw (power-fits (s .args .i) (omega (arith, s .pre .0))) at (c .served .ensures))
+loop-again c m h q = let s = c .before .before .before .before .before in serve-next h (s .pre .1) (c .before .before .before .before .loop .inv m h q) (c .before .before .before .loop-test .taken) (rw (power-fits (s .args .i) (s .pre .0)) at (c .served .ensures))
 
 returns : tie.Need-returns Inv-loop μ-loop
-returns c = serve-end (c .before .loop .inv) (c .loop-test .left)
+returns c m h q = serve-end (c .before .loop .inv m h q) (c .loop-test .left)
 
 pub serve-row-spec : {M : Type 1} → statement M
 serve-row-spec =

@@ -1,7 +1,7 @@
 -- `stretch::stretch::find_path` meets its contract. Assumes nothing.
 use Prim.Native.Nat.{_-_, _≤_}
 use native.Mathlib.Omega.{arith}
-use Rattle.range.proofs.LastSplit.{only}
+use Rattle.lastsplit.proofs.LastSplit.{only}
 use Rattle.stretch.proofs.ShiftPath.{path-low, path-done}
 use Rattle.augment.proofs.PathMeasure.{route}
 use mathlib.Core.Path.{refl}

@@ -19,10 +19,10 @@ array-write-room : tie.Need-array-write-room
 array-write-room c = search needs
 
 search-requires : tie.Need-search-requires
-search-requires c κs = let r = c .before .before .before .before .pre .0 in (record { sound = r .swinging .sound; ceilings = r .swinging .ceilings; start = omega (arith, r .swinging .plants); positive = r .some }, c .before .before .before .before .pre .1)
+search-requires c κs = let r = c .before .before .before .before .pre .0 in (record { sound = r .swinging .sound; ceilings = r .swinging .ceilings; start = omega (arith, r .swinging .plants) }, c .before .before .before .before .pre .1)
 
 returns-2 : tie.Need-returns-2
-returns-2 c = reached-by (c .before .before .before .before .before .before .before .pre .0) (c .before .before .search .ensures)
+returns-2 c = let r = c .before .before .before .before .before .before .before .pre .0 in reached-by r (c .before .before .search .ensures _ (r .some))
 
 pub reach-spec : {M : Type 1} → statement M
 reach-spec =

@@ -5,7 +5,7 @@ use native.Mathlib.Omega.{arith}
 use Rattle.transport.specs.Sum.{sum}
 use Rattle.residual.specs.Cells.{cells}
 use Rattle.transport.proofs.Sums.{sum-zero, sum-more}
-use Rattle.sweep.proofs.FreightSum.{row-most, rows-most, freight-is}
+use Rattle.sweep.proofs.FreightSum.{ready-fewer, row-most, rows-most, freight-is}
 use borrow.Author.Needs.{needs}
 use Rattle.sweep.proofs.freight.freight_of.Statement.{statement}
 use Rattle.sweep.proofs.freight.freight_of.Tie as tie
@@ -20,7 +20,7 @@ loop-holds : tie.Need-loop-holds Inv-loop μ-loop
 loop-holds c = (omega arith, sym (sum-zero _))
 
 row-freight-requires : tie.Need-row-freight-requires Inv-loop μ-loop
-row-freight-requires c κs = (omega arith, c .before .before .pre)
+row-freight-requires c κs = ready-fewer (c .before .before .pre) (omega arith)
 
 add-total : tie.Need-add-total Inv-loop μ-loop
 add-total c =

@@ -11,10 +11,10 @@ use Rattle.sweep.proofs.freight.row_freight.Statement.{statement}
 use Rattle.sweep.proofs.freight.row_freight.Tie as tie
 
 abbrev Inv-loop : tie.InvT-loop
-Inv-loop m n i cost x total₀ j₀ total j = (j ≤ n) × (total ≡ sum j (λ j. cells cost i j * cells x i j))
+Inv-loop n i cost x total₀ j₀ total j = (j ≤ n) × (total ≡ sum j (λ j. cells cost i j * cells x i j))
 
 abbrev μ-loop : tie.MeasureT-loop
-μ-loop m n i cost x total₀ j₀ total j = n - j
+μ-loop n i cost x total₀ j₀ total j = n - j
 
 loop-holds : tie.Need-loop-holds Inv-loop μ-loop
 loop-holds c = (omega arith, sym (sum-zero _))
@@ -32,7 +32,7 @@ element-copy-out-total : tie.Need-element-copy-out-total Inv-loop μ-loop
 element-copy-out-total c = search needs
 
 cast-total : tie.Need-cast-total Inv-loop μ-loop
-cast-total c = let s = c .before .before .before in omega (arith, s .pre .1 .costs (s .args .i) (c .before .before .loop .j) (omega arith) (omega arith))
+cast-total c = let s = c .before .before .before in omega (arith, s .pre .costs (s .args .i) (c .before .before .loop .j) (omega arith) (omega arith))
 
 mul-total-2 : tie.Need-mul-total-2 Inv-loop μ-loop
 mul-total-2 c = search needs
@@ -41,16 +41,16 @@ element-copy-out-total-2 : tie.Need-element-copy-out-total-2 Inv-loop μ-loop
 element-copy-out-total-2 c = search needs
 
 cast-total-2 : tie.Need-cast-total-2 Inv-loop μ-loop
-cast-total-2 c = let s = c .before .before .before .before in omega (arith, s .pre .1 .amounts (s .args .i) (c .before .before .before .loop .j) (omega arith) (omega arith))
+cast-total-2 c = let s = c .before .before .before .before in omega (arith, s .pre .amounts (s .args .i) (c .before .before .before .loop .j) (omega arith) (omega arith))
 
 mul-total-3 : tie.Need-mul-total-3 Inv-loop μ-loop
 mul-total-3 c =
     let a = c .before .before .before .before .args in
-    omega (arith, lane-most (c .before .before .before .before .pre .1) (a .i) (c .before .before .before .loop .j) (omega arith) (omega arith))
+    omega (arith, lane-most (c .before .before .before .before .pre) (a .i) (c .before .before .before .loop .j) (omega arith) (omega arith))
 
 add-total : tie.Need-add-total Inv-loop μ-loop
 add-total c =
-    let p = c .before .before .before .before .pre .1 in
+    let p = c .before .before .before .before .pre in
     let i = c .before .before .before .before .args .i in
     let j = c .before .before .before .loop .j in
     omega (arith, lane-most p i j (omega arith) (omega arith), row-most p i j (omega arith) (omega arith), p .terminals)

@@ -1,0 +1,3 @@
+pub mod Shipment
+pub mod DepotShipments
+pub mod FirstSplit

@@ -1,0 +1,2 @@
+// Step 1 by cheapest paths: a cheapest plan at the first split that has one within the ceilings.
+pub mod base;

@@ -1,0 +1,114 @@
+// The last split that has a plan within the ceilings.
+ghost use mathlib.Core.Path.{_≡_};
+ghost use mathlib.Core.Bool.{true};
+ghost use Prim.Native.Nat.{ℕ, _+_, _≤_, _<_};
+ghost use Rattle.residual.specs.Cells.{cells};
+ghost use Rattle.residual.specs.Network.{net, get};
+ghost use Rattle.residual.specs.LanesInUse.{Covers};
+ghost use Rattle.paths.specs.Search.{Wanted};
+ghost use Rattle.lastsplit.specs.LastSplit.{ReachReady, Reached, LastReady};
+use augment::send::send;
+
+// Is no ceiling of source i below a demand?
+fn row_wide(n: usize, i: usize, cap: &[u32; 2048], demand: &[u32; 96]) -> bool
+    requires { ⌜ (i < 32) × (n ≤ 64) ⌝ }
+    ensures { λ r. ⌜ (r ≡ true → (j : ℕ) → j < n → get (now (demand .entry)) (32 + j) ≤ cells (now (cap .entry)) i j) ⌝ }
+{
+    for j in 0..n {
+        if cap[i * 64 + j] < demand[32 + j] {
+            return false;
+        }
+    }
+    true
+}
+
+// Is no ceiling below a demand?
+fn all_wide(m: usize, n: usize, cap: &[u32; 2048], demand: &[u32; 96]) -> bool
+    requires { ⌜ (m ≤ 32) × (n ≤ 64) ⌝ }
+    ensures { λ r. ⌜ (r ≡ true → (i j : ℕ) → i < m → j < n → get (now (demand .entry)) (32 + j) ≤ cells (now (cap .entry)) i j) ⌝ }
+{
+    for i in 0..m {
+        if !row_wide(n, i, cap, demand) {
+            return false;
+        }
+    }
+    true
+}
+
+// How many drums can go over from plant 1 to plant 0, limit at most.
+fn reach(
+    m: usize,
+    n: usize,
+    cost: &[u32; 2048],
+    cap: &[u32; 2048],
+    limit: u32,
+    demand: &[u32; 96],
+    x: &mut [u32; 2048],
+    serves: &mut [u32; 64],
+    pot: &mut [u32; 96],
+) -> u32
+    requires { ⌜ ReachReady (net m n (now cost) (now cap) (now x)) (now pot) (now x) limit ⌝ }
+    requires { ⌜ Wanted (net m n (now cost) (now cap) (now x)) (now demand) ⌝ }
+    requires { ⌜ Covers m n (now x) (now serves) ⌝ }
+    ensures { λ r. ⌜ Reached m n (cells (now (cap .entry))) (cells (now (x .entry))) limit r ⌝ }
+{
+    let mut gone: u32 = 0;
+    while gone < limit {
+        let mut room = [0u32; 96];
+        room[1] = limit - gone;
+        let sent = send(
+            m,
+            n,
+            cost,
+            cap,
+            &room,
+            demand,
+            0,
+            limit - gone,
+            x,
+            serves,
+            pot,
+        );
+        if sent.goal == 96 {
+            return gone;
+        }
+        gone = gone + sent.amount;
+    }
+    gone
+}
+
+// The same from a plan x that is to stay. Where no ceiling is below a demand, limit drums can go over; else they go along any paths, since
+// what the lanes cost does not matter.
+pub fn last(
+    m: usize,
+    n: usize,
+    cap: &[u32; 2048],
+    limit: u32,
+    demand: &[u32; 96],
+    x: &[u32; 2048],
+    serves: &[u32; 64],
+) -> u32
+    requires { ⌜ LastReady m n (cells (now cap)) (now x) limit ⌝ }
+    requires { ⌜ Wanted (net m n (now x) (now cap) (now x)) (now demand) ⌝ }
+    requires { ⌜ Covers m n (now x) (now serves) ⌝ }
+    ensures { λ r. ⌜ Reached m n (cells (now (cap .entry))) (cells (now (x .entry))) limit r ⌝ }
+{
+    if all_wide(m, n, cap, demand) {
+        return limit;
+    }
+    let free = [0u32; 2048];
+    let mut far_x = *x;
+    let mut far_serves = *serves;
+    let mut pot = [800_000_000u32; 96];
+    reach(
+        m,
+        n,
+        &free,
+        cap,
+        limit,
+        demand,
+        &mut far_x,
+        &mut far_serves,
+        &mut pot,
+    )
+}

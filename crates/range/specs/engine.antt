@@ -1,4 +1,0 @@
-pub mod Shipment
-pub mod FirstPlan
-pub mod PlantShift
-pub mod LastSplit

@@ -1,0 +1,2 @@
+pub mod LoweredCells
+pub mod CellCopies
