@@ -49,21 +49,6 @@ pub fn carry(v: usize, w: usize, amount: u32, x: &mut [u32; 2048])
     }
 }
 
-// Carries amount over the last count arcs of the path to goal.
-pub fn push(prev: &[u32; 96], count: u32, goal: usize, amount: u32, x: &mut [u32; 2048])
-    requires { ⌜ Walkable (now prev) amount count goal (now x) ⌝ }
-    ensures { λ _. ⌜ Walked (now (prev .entry)) amount count goal (now (x .entry)) (now (x .exit)) ⌝ }
-{
-    let mut v = goal;
-    let mut left = count;
-    while 0 < left {
-        let w = prev[v] as usize;
-        carry(v, w, amount, x);
-        v = w;
-        left = left - 1;
-    }
-}
-
 // Notes that source w serves terminal v - 32, where the arc from w to v leads to a terminal.
 pub fn serve(v: usize, w: usize, serves: &mut [u32; 64])
     requires { ⌜ (v < 96) × (32 ≤ v → w < 32) ⌝ }
@@ -74,15 +59,25 @@ pub fn serve(v: usize, w: usize, serves: &mut [u32; 64])
     }
 }
 
-// Notes the lanes that the last count arcs of the path to goal bring drums on.
-pub fn mark(prev: &[u32; 96], count: u32, goal: usize, serves: &mut [u32; 64])
+// Carries amount over the last count arcs of the path to goal, and notes the lanes that they bring drums on.
+pub fn push(
+    prev: &[u32; 96],
+    count: u32,
+    goal: usize,
+    amount: u32,
+    x: &mut [u32; 2048],
+    serves: &mut [u32; 64],
+)
+    requires { ⌜ Walkable (now prev) amount count goal (now x) ⌝ }
     requires { ⌜ Trail 32 (now prev) count goal ⌝ }
+    ensures { λ _. ⌜ Walked (now (prev .entry)) amount count goal (now (x .entry)) (now (x .exit)) ⌝ }
     ensures { λ _. ⌜ Marks (now (prev .entry)) count goal (now (serves .entry)) (now (serves .exit)) ⌝ }
 {
     let mut v = goal;
     let mut left = count;
     while 0 < left {
         let w = prev[v] as usize;
+        carry(v, w, amount, x);
         serve(v, w, serves);
         v = w;
         left = left - 1;
@@ -166,8 +161,7 @@ pub fn send(
     let prev = found.prev;
     let way = measure(&prev, start, goal, limit, x, cap);
     let amount = smaller(way.amount, room[goal]);
-    push(&prev, way.count, goal, amount, x);
-    mark(&prev, way.count, goal, serves);
+    push(&prev, way.count, goal, amount, x, serves);
     let gap = dist[goal] - pot[goal];
     lower(gap, &dist, pot);
     Sent { goal, amount }

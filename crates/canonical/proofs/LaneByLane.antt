@@ -10,7 +10,7 @@ use Rattle.transport.specs.theory.Slackness.{Slack}
 use Rattle.transport.specs.theory.PathFlow.{pulse}
 use Rattle.residual.specs.Cells.{cells}
 use Rattle.residual.specs.Network.{Net, get}
-use Rattle.canonical.specs.Canonize.{Rival, Agree, both, SlackWith, TightLane, free, aside, PartedAt, Parting, Settling, Settled, LaneSettled}
+use Rattle.canonical.specs.Canonize.{Rival, Agree, both, SlackWith, TightLane, free, aside, PartedAt, Settling, Settled, LaneSettled}
 use Rattle.transport.proofs.Sums.{sum-ext, sum-add, sum-none}
 use Rattle.transport.proofs.CellChange.{Put, row-put, row-put-off, col-put, col-put-off}
 use Rattle.transport.proofs.Optimality.{cheapest}
@@ -30,41 +30,36 @@ col-both m o x y j h = sym (sum-add m (λ i. o i j) (λ i. x i j)) ∙ sum-ext m
 
 -- ---- the lanes are parted
 
-module _ {N : Net} {p : List ℕ} {o f x : Table} (small : N .n ≤ 64) (s : SlackWith N p) (h : Under (N .m) (N .n) (N .x) (N .u)) where
-  pub settle-start : Parting N p (N .m * 64) o f x → Settling N p 0 o f x
-  settle-start g = record {
-    rows = λ i a. row-both (N .n) o x (N .x) i (λ j b. adds i j (all i j a b));
-    cols = λ j b. col-both (N .m) o x (N .x) j (λ i a. adds i j (all i j a b));
-    under = λ i j a b. most i j (h i j a b) (all i j a b);
-    within = λ i j a b. inside i j (h i j a b) (all i j a b);
+module _ {N : Net} {p : List ℕ} {o f x : Table} (s : SlackWith N p) (h : Under (N .m) (N .n) (N .x) (N .u)) where
+  pub settle-start : ((i j : ℕ) → i < N .m → j < N .n → PartedAt N p o f x i j)
+      → ((i j : ℕ) → i < N .m → j < N .n → o i j + x i j ≡ N .x i j) → Settling N p 0 o f x
+  settle-start all sums = record {
+    rows = λ i a. row-both (N .n) o x (N .x) i (λ j b. sums i j a b);
+    cols = λ j b. col-both (N .m) o x (N .x) j (λ i a. sums i j a b);
+    under = λ i j a b. most i j (h i j a b) (sums i j a b) (all i j a b);
+    within = λ i j a b. inside i j (h i j a b) (sums i j a b) (all i j a b);
     done = λ i j a b l. absurd (omega arith);
-    aside = λ i j a b z. off i j z (all i j a b);
-    box = λ z r e i j a b. boxed z r i j a b (all i j a b);
+    aside = λ i j a b z. off i j z (sums i j a b) (all i j a b);
+    box = λ z r e i j a b. boxed z r i j a b (sums i j a b) (all i j a b);
     leads = λ z r i j a b l e. absurd (omega arith);
   }
     where
-      all : (i j : ℕ) → i < N .m → j < N .n → PartedAt N p o f x i j
-      all i j a b = g .done i j a b (omega arith)
+      most : (i j : ℕ) → N .x i j ≤ N .u i j → o i j + x i j ≡ N .x i j → PartedAt N p o f x i j → x i j ≤ f i j
+      most i j l g (free t d e) = omega arith
+      most i j l g (aside t d e) = omega arith
 
-      adds : (i j : ℕ) → PartedAt N p o f x i j → o i j + x i j ≡ N .x i j
-      adds i j (free t d e k) = omega arith
-      adds i j (aside t d e k) = omega arith
+      inside : (i j : ℕ) → N .x i j ≤ N .u i j → o i j + x i j ≡ N .x i j → PartedAt N p o f x i j → o i j + f i j ≤ N .u i j
+      inside i j l g (free t d e) = omega arith
+      inside i j l g (aside t d e) = omega arith
 
-      most : (i j : ℕ) → N .x i j ≤ N .u i j → PartedAt N p o f x i j → x i j ≤ f i j
-      most i j l (free t d e k) = omega arith
-      most i j l (aside t d e k) = omega arith
+      off : (i j : ℕ) → ¬ TightLane N p i j → o i j + x i j ≡ N .x i j → PartedAt N p o f x i j → (o i j ≡ N .x i j) × (f i j ≡ 0)
+      off i j z g (free t d e) = absurd (z t)
+      off i j z g (aside t d e) = (omega arith, d)
 
-      inside : (i j : ℕ) → N .x i j ≤ N .u i j → PartedAt N p o f x i j → o i j + f i j ≤ N .u i j
-      inside i j l (free t d e k) = omega arith
-      inside i j l (aside t d e k) = omega arith
-
-      off : (i j : ℕ) → ¬ TightLane N p i j → PartedAt N p o f x i j → (o i j ≡ N .x i j) × (f i j ≡ 0)
-      off i j z (free t d e k) = absurd (z t)
-      off i j z (aside t d e k) = (d, e)
-
-      boxed : (z : Table) → Rival N z → (i j : ℕ) → i < N .m → j < N .n → PartedAt N p o f x i j → (o i j ≤ z i j) × (z i j ≤ o i j + f i j)
-      boxed z r i j a b (free t d e k) = let l = r .under i j a b in omega arith
-      boxed z r i j a b (aside t d e k) = elim (ℕ-discrete (z i j) (N .x i j)) [
+      boxed : (z : Table) → Rival N z → (i j : ℕ) → i < N .m → j < N .n → o i j + x i j ≡ N .x i j → PartedAt N p o f x i j
+          → (o i j ≤ z i j) × (z i j ≤ o i j + f i j)
+      boxed z r i j a b g (free t d e) = let l = r .under i j a b in omega arith
+      boxed z r i j a b g (aside t d e) = elim (ℕ-discrete (z i j) (N .x i j)) [
         | yes q ↦ omega arith
         | no q ↦ absurd (t (differ-tight (N .m) (N .n) (N .c) (N .u) (λ i. get p i) (λ j. get p (32 + j)) (N .x) z s (r .under)
             (λ i l a. sym (r .rows i a)) (λ j l a. sym (r .cols j a)) (r .cheap) i j a b q))

@@ -2,11 +2,11 @@
 use mathlib.Core.Path.{_≡_, refl, sym, ap, _∙_}
 use mathlib.Core.Logic.{_≢_}
 use mathlib.Core.List.{List}
-use Prim.Native.Nat.{ℕ, _+_, _-_, _*_, _^_, _≤_, _<_}
+use Prim.Native.Nat.{ℕ, _+_, _-_, _*_, _%_, _^_, _≤_, _<_}
 use native.Mathlib.Decide.{ℕ-discrete, decLt}
 use native.Mathlib.Omega.{arith}
 use lib.ListN.{length, set, length-set, replicate, length-replicate, getD-replicate, List·getD-eq-default}
-use lib.Bits.{bitAnd, and-le-l}
+use lib.Bits.{bitAnd, bitOr, and-le-l}
 use lib.Count.{trailingZeros}
 use lib.Pow.{pow-mono}
 use lib.Seq.{getD-set-same, getD-set-other}
@@ -18,69 +18,97 @@ use Rattle.residual.specs.LanesInUse.{Covers}
 use Rattle.augment.specs.LaneMarks.{Served}
 use Rattle.augment.specs.PathWalk.{Carried}
 use Rattle.reachability.specs.Reachability.{Opens, Supplied}
-use Rattle.canonical.specs.Canonize.{TightLane, PartedAt, free, aside, Settling, FreeReady, LaneSettled, Longs, CanonReady, Clear, LaneParted, PartedTo, Open, Onward, Canonized}
-use Rattle.residual.proofs.Bits.{bit-none, bit-place, low-set, rest-other, left-start, left-low, left-none, left-next}
+use Rattle.canonical.specs.Canonize.{Doors, TightLane, PartedAt, free, aside, Settling, FreeReady, LaneSettled, Longs, CanonReady, bare, PartReady, Kept, Clear, LaneParted, PartedTo, Open, Onward, Canonized}
+use Rattle.residual.proofs.Bits.{bit-none, bit-place, power-fits, low-set, rest-other, left-start, left-low, left-none, left-next}
 use Rattle.augment.proofs.LaneMarks.{cover-arc, cover-none, set-less}
+use Rattle.reachability.proofs.Reachability.{cover-drop}
 use Rattle.canonical.proofs.FreeLanes.{open-none, supplied-whole, supplied-but}
 use Rattle.canonical.proofs.Rerouting.{cover-under}
 use Rattle.canonical.proofs.LaneByLane.{settle-start, settle-next, settle-end}
 
+-- ---- the drums of a lane, set aside or free
+
+pub kept-none : {o x : List ℕ} → Kept o x o x
+kept-none = record { sums = λ k. refl }
+
+pub kept-both : {o x o' x' o'' x'' : List ℕ} → Kept o x o' x' → Kept o' x' o'' x'' → Kept o x o'' x''
+kept-both g h = record { sums = λ k. h .sums k ∙ g .sums k }
+
 -- ---- one lane is parted
 
-module _ {N : Net} {p o f x : List ℕ} {i j : ℕ} (r : CanonReady N p) (hi : i < N .m) (hj : j < N .n) (w : Clear i j o f x) where
+module _ {N : Net} {p o f x : List ℕ} {i j : ℕ} (r : PartReady N p) (hi : i < N .m) (hj : j < N .n) (w : Clear i j o f x) where
   inside : i * 64 + j < 2048
   inside = omega (arith, r .sources, r .terminals)
 
-  -- the lane with v drums
-  pub brought : (v : ℕ) → Carried (32 + j) i v x (set x (i * 64 + j) v)
-  brought v =
+  -- an empty lane of x or of f gets v
+  brought : (v : ℕ) {y : List ℕ} → cells y i j ≡ 0 → Carried (32 + j) i v y (set y (i * 64 + j) v)
+  brought v {y} h =
       let e : 32 + j - 32 ≡ j = omega arith in
-      let z : get x (i * 64 + j) + v ≡ v = omega (arith, w .free-x) in
+      let z : get y (i * 64 + j) + v ≡ v = omega (arith, h) in
       record { less = λ l. absurd (omega arith); more = λ l. rw (e, z) refl }
 
-  -- a tight lane is free
-  pub part-free : TightLane N p i j → LaneParted N p i j o f x o (set f (i * 64 + j) (N .u i j)) (set x (i * 64 + j) (N .x i j))
-  part-free t = record {
-    longs = record {
-      long-o = w .longs .long-o;
-      long-f = length-set f (i * 64 + j) (N .u i j) ∙ w .longs .long-f;
-      long-x = length-set x (i * 64 + j) (N .x i j) ∙ w .longs .long-x;
+  -- a tight lane is free, and none of its drums is set aside any longer
+  part-free : {o' x' : List ℕ} → TightLane N p i j → length o' ≡ 2048 → length x' ≡ 2048 → cells o' i j ≡ 0 → cells x' i j ≡ cells o i j
+      → ((k : ℕ) → k ≢ i * 64 + j → get o' k ≡ get o k) → ((k : ℕ) → k ≢ i * 64 + j → get x' k ≡ get x k)
+      → LaneParted N p i j o f x o' (set f (i * 64 + j) (N .u i j)) x'
+  part-free {o'} {x'} t lo lx none all off-o off-x = record {
+    longs = record { long-o = lo; long-f = length-set f (i * 64 + j) (N .u i j) ∙ w .longs .long-f; long-x = lx };
+    own = free t none (getD-set-same f (i * 64 + j) (N .u i j) 0 (omega (arith, inside, w .longs .long-f)));
+    kept = record {
+      sums = λ k. elim (ℕ-discrete k (i * 64 + j)) [
+        | yes z ↦ rw z (omega (arith, none, all, w .free-x))
+        | no z ↦ omega (arith, off-o k z, off-x k z)
+      ];
     };
-    own =
-        free t (w .free-o)
-        (getD-set-same f (i * 64 + j) (N .u i j) 0 (omega (arith, inside, w .longs .long-f)))
-        (getD-set-same x (i * 64 + j) (N .x i j) 0 (omega (arith, inside, w .longs .long-x)));
-    off-o = λ k z. refl;
+    off-o = off-o;
     off-f = λ k z. getD-set-other f (i * 64 + j) k (N .u i j) 0 z;
-    off-x = λ k z. getD-set-other x (i * 64 + j) k (N .x i j) 0 z;
+    off-x = off-x;
   }
 
-  -- what another carries is set aside
-  pub part-aside : ¬ TightLane N p i j → LaneParted N p i j o f x (set o (i * 64 + j) (N .x i j)) f x
+  -- they are moved
+  pub part-moved : TightLane N p i j
+      → LaneParted N p i j o f x (set o (i * 64 + j) 0) (set f (i * 64 + j) (N .u i j)) (set x (i * 64 + j) (get o (i * 64 + j)))
+  part-moved t =
+      part-free t (length-set o (i * 64 + j) 0 ∙ w .longs .long-o) (length-set x (i * 64 + j) (get o (i * 64 + j)) ∙ w .longs .long-x)
+      (getD-set-same o (i * 64 + j) 0 0 (omega (arith, inside, w .longs .long-o)))
+      (getD-set-same x (i * 64 + j) (get o (i * 64 + j)) 0 (omega (arith, inside, w .longs .long-x)))
+      (λ k z. getD-set-other o (i * 64 + j) k 0 0 z) (λ k z. getD-set-other x (i * 64 + j) k (get o (i * 64 + j)) 0 z)
+
+  -- there are none
+  pub part-empty : TightLane N p i j → cells o i j ≤ 0 → LaneParted N p i j o f x o (set f (i * 64 + j) (N .u i j)) x
+  part-empty t e =
+      part-free t (w .longs .long-o) (w .longs .long-x) (omega arith) (omega (arith, w .free-x)) (λ k z. refl) (λ k z. refl)
+
+  -- what another carries is set aside as it stands
+  pub part-aside : ¬ TightLane N p i j → LaneParted N p i j o f x o f x
   part-aside t = record {
-    longs = record { long-o = length-set o (i * 64 + j) (N .x i j) ∙ w .longs .long-o; long-f = w .longs .long-f; long-x = w .longs .long-x };
-    own = aside t (getD-set-same o (i * 64 + j) (N .x i j) 0 (omega (arith, inside, w .longs .long-o))) (w .free-f) (w .free-x);
-    off-o = λ k z. getD-set-other o (i * 64 + j) k (N .x i j) 0 z;
+    longs = w .longs;
+    own = aside t (w .free-f) (w .free-x);
+    kept = kept-none;
+    off-o = λ k z. refl;
     off-f = λ k z. refl;
     off-x = λ k z. refl;
   }
 
   pub cover-brought : (v : ℕ) {s s' : List ℕ} → Covers (N .m) (N .n) x s → Served (32 + j) i s s' → Covers (N .m) (N .n) (set x (i * 64 + j) v) s'
-  cover-brought v c l = cover-arc (r .terminals) (omega (arith, r .terminals)) (λ o. hi) c (brought v) l
+  cover-brought v c l = cover-arc (r .terminals) (omega (arith, r .terminals)) (λ o. hi) c (brought v (w .free-x)) l
 
-  -- no drums
-  pub cover-still : (v : ℕ) {s : List ℕ} → Covers (N .m) (N .n) x s → v ≤ 0 → Covers (N .m) (N .n) (set x (i * 64 + j) v) s
-  cover-still v c l = cover-under c (λ a b ha hb. set-less x (i * 64 + j) (a * 64 + b) v (omega arith))
+  -- a lane that is free is noted with its terminal
+  pub door-open : (v : ℕ) {d : List ℕ} → Doors (N .m) (N .n) f d → Doors (N .m) (N .n) (set f (i * 64 + j) v) (set d j (bitOr (get d j) ((1 * 2 ^ i) % 2 ^ 32)))
+  door-open v {d} q =
+      let e : 32 + j - 32 ≡ j = omega arith in
+      rw (power-fits i (omega (arith, r .sources)))
+      (cover-arc (r .terminals) (omega (arith, r .terminals)) (λ o. hi) q (brought v (w .free-f)) (record { less = λ l. absurd (omega arith); more = λ l. rw e refl }))
 
 -- ---- lane by lane
 
-module _ {N : Net} {p o f x s w : List ℕ} {i j : ℕ} (small : N .n ≤ 64) (hi : i < N .m) (hj : j < N .n) (q : PartedTo N p (i * 64 + j) o f x s w) where
+module _ {N : Net} {p o f x s w d : List ℕ} {i j : ℕ} (small : N .n ≤ 64) (hi : i < N .m) (hj : j < N .n) (q : PartedTo N p (i * 64 + j) o f x s w d) where
   pub clear-at : Clear i j o f x
-  clear-at = let z = q .parting .rest i j hi hj (omega arith) in record { longs = q .longs; free-o = z .0; free-f = z .1; free-x = z .2 }
+  clear-at = let z = q .parting .rest i j hi hj (omega arith) in record { longs = q .longs; free-f = z .0; free-x = z .1 }
 
-  pub part-next : {o' f' x' s' w' : List ℕ} → LaneParted N p i j o f x o' f' x' → Covers (N .m) (N .n) x' s' → Opens (N .m) (N .n) f' w'
-      → PartedTo N p (i * 64 + (j + 1)) o' f' x' s' w'
-  part-next {o'} {f'} {x'} {s'} d c e = record {
+  pub part-next : {o' f' x' s' w' d' : List ℕ} → LaneParted N p i j o f x o' f' x' → Covers (N .m) (N .n) x' s' → Opens (N .m) (N .n) f' w'
+      → Doors (N .m) (N .n) f' d' → PartedTo N p (i * 64 + (j + 1)) o' f' x' s' w' d'
+  part-next {o'} {f'} {x'} {s'} d c e g = record {
     longs = d .longs;
     parting = record {
       done = λ a b ha hb l. elim (ℕ-discrete (a * 64 + b) (i * 64 + j)) [
@@ -89,18 +117,19 @@ module _ {N : Net} {p o f x s w : List ℕ} {i j : ℕ} (small : N .n ≤ 64) (h
       ];
       rest = λ a b ha hb l.
           let z : a * 64 + b ≢ i * 64 + j = omega arith in
-          rw (d .off-o (a * 64 + b) z, d .off-f (a * 64 + b) z, d .off-x (a * 64 + b) z) (q .parting .rest a b ha hb (omega arith));
+          rw (d .off-f (a * 64 + b) z, d .off-x (a * 64 + b) z) (q .parting .rest a b ha hb (omega arith));
     };
     covers = c;
     opens = e;
+    doors = g;
   }
     where
       here : (a b : ℕ) → a ≡ i → b ≡ j → PartedAt N p (cells o') (cells f') (cells x') a b
       here a b ea eb = rw (ea, eb) (d .own)
 
 -- places between which no lane lies
-pub part-skip : {N : Net} {p o f x s w : List ℕ} {k k' : ℕ} → PartedTo N p k o f x s w
-    → ((i j : ℕ) → i < N .m → j < N .n → i * 64 + j < k' → i * 64 + j < k) → k ≤ k' → PartedTo N p k' o f x s w
+pub part-skip : {N : Net} {p o f x s w d : List ℕ} {k k' : ℕ} → PartedTo N p k o f x s w d
+    → ((i j : ℕ) → i < N .m → j < N .n → i * 64 + j < k' → i * 64 + j < k) → k ≤ k' → PartedTo N p k' o f x s w d
 part-skip q h l = record {
   longs = q .longs;
   parting = record {
@@ -109,11 +138,12 @@ part-skip q h l = record {
   };
   covers = q .covers;
   opens = q .opens;
+  doors = q .doors;
 }
 
 -- ---- settled, lane by lane
 
-pub free-ready : {m n i j : ℕ} {o f x s w : List ℕ} → i < m → j < n → Open m n o f x s w → FreeReady m n i j f x
+pub free-ready : {m n i j : ℕ} {o f x s w d : List ℕ} → i < m → j < n → Open m n o f x s w d → FreeReady m n i j f x
 free-ready hi hj q = record {
   source = hi;
   terminal = hj;
@@ -137,10 +167,18 @@ opens-under q h = record { long = q .long; within = q .within; has = λ a b ha h
 pub opens-closed : {m n : ℕ} {f w : List ℕ} (k : ℕ) → Opens m n f w → Opens m n (set f k 0) w
 opens-closed {f = f} k q = opens-under q (λ a b ha hb. set-less f k (a * 64 + b) 0 (omega arith))
 
+-- one that is closed no longer
+pub door-closed : {m n i j : ℕ} {o f x s w d : List ℕ} → i < m → j < n → Open m n o f x s w d
+    → Doors m n (set f (i * 64 + j) 0) (set d j (bitAnd (get d j) (2 ^ 32 - 1 - (1 * 2 ^ i) % 2 ^ 32)))
+door-closed {m} {n} {i} {j} {f = f} {d = d} hi hj q =
+    rw (power-fits i (omega (arith, q .sources)))
+    (cover-drop (q .sources) hi hj (cover-under (q .doors) (λ a b ha hb. set-less f (i * 64 + j) (a * 64 + b) 0 (omega arith)))
+    (omega (arith, getD-set-same f (i * 64 + j) 0 0 (omega (arith, q .longs .long-f, q .sources, q .terminals)))) (q .terminals) (record { same = refl }))
+
 -- the first lane left of source i is closed, and taken from the mask
-pub open-less : {m n i : ℕ} {o f x s w : List ℕ} {r : ℕ} → i < m → Open m n o f x s w → get w i ≡ r → 0 < r → r < 2 ^ 64 → cells f i (trailingZeros 64 r) ≡ 0
-    → Open m n o f x s (set w i (bitAnd r (r - 1)))
-open-less {m} {n} {i} {o} {f} {x} {s} {w} {r} hi q e p l h = record {
+pub open-less : {m n i : ℕ} {o f x s w d : List ℕ} {r : ℕ} → i < m → Open m n o f x s w d → get w i ≡ r → 0 < r → r < 2 ^ 64
+    → cells f i (trailingZeros 64 r) ≡ 0 → Open m n o f x s (set w i (bitAnd r (r - 1))) d
+open-less {m} {n} {i} {o} {f} {x} {s} {w} {d} {r} hi q e p l h = record {
   sources = q .sources;
   terminals = q .terminals;
   longs = q .longs;
@@ -158,6 +196,7 @@ open-less {m} {n} {i} {o} {f} {x} {s} {w} {r} hi q e p l h = record {
       | no z ↦ rw (getD-set-other w i a (bitAnd r (r - 1)) 0 z) (q .opens .has a b ha hb o)
     ];
   };
+  doors = q .doors;
 }
   where
     own : get (set w i (bitAnd r (r - 1))) i ≡ bitAnd r (r - 1)
@@ -166,9 +205,9 @@ open-less {m} {n} {i} {o} {f} {x} {s} {w} {r} hi q e p l h = record {
     was : (b : ℕ) → b < n → 0 < cells f i b → bit r b ≡ 1
     was b hb o = ap (λ y. bit y b) (sym e) ∙ q .opens .has i b hi hb o
 
-pub open-next : {m n i j : ℕ} {o f x s w o' f' x' s' : List ℕ} → i < m → j < n → Open m n o f x s w → LaneSettled m n i j o f x o' f' x'
-    → Longs o' f' x' → Covers m n x' s' → Open m n o' f' x' s' w
-open-next {m} {n} {i} {j} {o} {f} {x} {s} {w} {o'} {f'} {x'} hi hj q d l c = record {
+pub open-next : {m n i j : ℕ} {o f x s w g o' f' x' s' g' : List ℕ} → i < m → j < n → Open m n o f x s w g → LaneSettled m n i j o f x o' f' x'
+    → Longs o' f' x' → Covers m n x' s' → Doors m n f' g' → Open m n o' f' x' s' w g'
+open-next {m} {n} {i} {j} {o} {f} {x} {s} {w} {g} {o'} {f'} {x'} hi hj q d l c y = record {
   sources = q .sources;
   terminals = q .terminals;
   longs = l;
@@ -191,6 +230,7 @@ open-next {m} {n} {i} {j} {o} {f} {x} {s} {w} {o'} {f'} {x'} hi hj q d l c = rec
     | yes z ↦ omega (arith, ap (λ v. get f' v) z, d .own-f)
     | no z ↦ omega (arith, d .off-f (a * 64 + b) z)
   ]);
+  doors = y;
 }
 
 pub settle-skip : {N : Net} {p : List ℕ} {k k' : ℕ} {o f x : Table} → ((i j : ℕ) → i < N .m → j < N .n → i * 64 + j < k' → i * 64 + j < k) → k ≤ k'
@@ -248,16 +288,16 @@ onward-both q d = record { each = λ c u y p s. d .each c u y p (q .each c u y p
 -- ---- the free lanes of a source, bit by bit
 
 -- those left in rest are to be settled
-pub record RowTo (m n i : ℕ) (o₀ f₀ x₀ o f x s w : List ℕ) (t all rest : ℕ) : Type 0 where
+pub record RowTo (m n i : ℕ) (o₀ f₀ x₀ o f x s w d : List ℕ) (t all rest : ℕ) : Type 0 where
   pub hi : ℕ
   pub most : hi ≤ 64
   pub past : Left all rest hi
   pub onward : Onward m n (i * 64) (i * 64 + hi) o₀ f₀ x₀ o f x
-  pub state : Open m n o f x s w
+  pub state : Open m n o f x s w d
   pub left : get w i ≡ rest
   pub supplied : Supplied m n i x t
 
-module _ {m n i : ℕ} {o₀ f₀ x₀ o f x s w : List ℕ} {t all rest : ℕ} (ha : i < m) (q : RowTo m n i o₀ f₀ x₀ o f x s w t all rest) where
+module _ {m n i : ℕ} {o₀ f₀ x₀ o f x s w g : List ℕ} {t all rest : ℕ} (ha : i < m) (q : RowTo m n i o₀ f₀ x₀ o f x s w g t all rest) where
   pub row-fits : rest < 2 ^ 64
   row-fits = omega (arith, q .left, q .state .opens .within i ha, pow-mono {i = n} {j = 64} (q .state .terminals))
 
@@ -284,9 +324,9 @@ module _ {m n i : ℕ} {o₀ f₀ x₀ o f x s w : List ℕ} {t all rest : ℕ} 
     row-terminal =
         bit-place n rest (trailingZeros 64 rest) (omega (arith, q .left, q .state .opens .within i ha)) (low-set 64 rest p row-fits)
 
-    pub row-next : {o' f' x' s' : List ℕ} → LaneSettled m n i (trailingZeros 64 rest) o f x o' f' x' → Open m n o' f' x' s' w
-        → {t' : ℕ} → Supplied m n i x' t' → RowTo m n i o₀ f₀ x₀ o' f' x' s' (set w i (bitAnd rest (rest - 1))) t' all (bitAnd rest (rest - 1))
-    row-next {o'} {f'} {x'} {s'} d r u = record {
+    pub row-next : {o' f' x' s' g' : List ℕ} → LaneSettled m n i (trailingZeros 64 rest) o f x o' f' x' → Open m n o' f' x' s' w g'
+        → {t' : ℕ} → Supplied m n i x' t' → RowTo m n i o₀ f₀ x₀ o' f' x' s' (set w i (bitAnd rest (rest - 1))) g' t' all (bitAnd rest (rest - 1))
+    row-next {o'} {f'} {x'} {s'} {g'} d r u = record {
       hi = trailingZeros 64 rest + 1;
       most = omega (arith, row-terminal, r .terminals);
       past = left-next 64 (q .past) p row-fits;
@@ -304,7 +344,7 @@ module _ {m n i : ℕ} {o₀ f₀ x₀ o f x s w : List ℕ} {t all rest : ℕ} 
             onward-over (λ a b c e g h. lane a b c e (omega (arith, r .terminals, row-terminal, q .most)) (omega (arith, r .terminals, row-terminal, q .most)) (omega (arith, r .terminals, row-terminal, q .most)))
             (omega (arith, left-low 64 (q .past) p row-fits)) (q .onward)
 
-pub row-start : {m n i : ℕ} {o f x s w : List ℕ} {t : ℕ} → Open m n o f x s w → Supplied m n 32 x t → RowTo m n i o f x o f x s w t (get w i) (get w i)
+pub row-start : {m n i : ℕ} {o f x s w d : List ℕ} {t : ℕ} → Open m n o f x s w d → Supplied m n 32 x t → RowTo m n i o f x o f x s w d t (get w i) (get w i)
 row-start q u = record {
   hi = 0;
   most = omega arith;
@@ -323,24 +363,36 @@ blank k = elim (decLt k 2048) [
   | no l ↦ List·getD-eq-default (replicate 2048 0) 0 {n = k} (omega (arith, length-replicate {A = ℕ} 2048 0))
 ]
 
-pub part-begin : {N : Net} {p : List ℕ} → CanonReady N p
-    → PartedTo N p 0 (replicate 2048 0) (replicate 2048 0) (replicate 2048 0) (replicate 64 0) (replicate 32 0)
-part-begin r = record {
-  longs = record { long-o = length-replicate {A = ℕ} 2048 0; long-f = length-replicate {A = ℕ} 2048 0; long-x = length-replicate {A = ℕ} 2048 0 };
+pub part-ready : {N : Net} {p : List ℕ} → CanonReady N p → PartReady (bare (N .m) (N .n) (N .c) (N .u)) p
+part-ready r = record { sources = r .sources; terminals = r .terminals; costs = r .costs; high = r .high }
+
+pub part-begin : {N : Net} {p y : List ℕ} → PartReady N p → length y ≡ 2048
+    → PartedTo N p 0 y (replicate 2048 0) (replicate 2048 0) (replicate 64 0) (replicate 32 0) (replicate 64 0)
+part-begin {N} r h = record {
+  longs = record { long-o = h; long-f = length-replicate {A = ℕ} 2048 0; long-x = length-replicate {A = ℕ} 2048 0 };
   parting = record {
     done = λ i j a b l. absurd (omega arith);
-    rest = λ i j a b l. (blank (i * 64 + j), blank (i * 64 + j), blank (i * 64 + j));
+    rest = λ i j a b l. (blank (i * 64 + j), blank (i * 64 + j));
   };
-  covers =
-      cover-none (length-replicate {A = ℕ} 64 0) (λ i j a b. blank (i * 64 + j)) (λ j h. getD-replicate {A = ℕ} 64 j 0 0 h) (r .terminals);
+  covers = none;
   opens = open-none (r .sources) blank;
+  doors = none;
 }
+  where
+    none : Covers (N .m) (N .n) (replicate 2048 0) (replicate 64 0)
+    none =
+        cover-none (length-replicate {A = ℕ} 64 0) (λ i j a b. blank (i * 64 + j)) (λ j h. getD-replicate {A = ℕ} 64 j 0 0 h) (r .terminals)
 
-module _ {N : Net} {p o f x s w : List ℕ} (r : CanonReady N p) (q : PartedTo N p (N .m * 64) o f x s w) where
+-- nothing was free before
+pub kept-all : {y o x : List ℕ} → Kept y (replicate 2048 0) o x → (i j : ℕ) → cells o i j + cells x i j ≡ cells y i j
+kept-all g i j = omega (arith, g .sums (i * 64 + j), blank (i * 64 + j))
+
+module _ {N : Net} {p o f x s w d : List ℕ} (r : CanonReady N p) (q : PartedTo (bare (N .m) (N .n) (N .c) (N .u)) p (N .m * 64) o f x s w d)
+    (g : (i j : ℕ) → cells o i j + cells x i j ≡ N .x i j) where
   begun : Settling N p 0 (cells o) (cells f) (cells x)
-  begun = settle-start (r .terminals) (r .slack) (r .under) (q .parting)
+  begun = settle-start (r .slack) (r .under) (λ i j a b. q .parting .done i j a b (omega (arith, r .terminals))) (λ i j a b. g i j)
 
-  pub open-start : Open (N .m) (N .n) o f x s w
+  pub open-start : Open (N .m) (N .n) o f x s w d
   open-start = record {
     sources = r .sources;
     terminals = r .terminals;
@@ -349,10 +401,11 @@ module _ {N : Net} {p o f x s w : List ℕ} (r : CanonReady N p) (q : PartedTo N
     ceilings = λ i j a b. omega (arith, begun .within i j a b, r .ceilings i j a b);
     covers = q .covers;
     opens = q .opens;
+    doors = q .doors;
   }
 
   pub canonized : {o' f' x' : List ℕ} → Onward (N .m) (N .n) 0 (N .m * 64) o f x o' f' x' → length o' ≡ 2048 → Canonized N o'
-  canonized d l = record {
+  canonized e l = record {
     long = l;
-    settled = settle-end (r .terminals) (r .slack) (r .under) (d .each (N .c) (N .u) (N .x) p begun);
+    settled = settle-end (r .terminals) (r .slack) (r .under) (e .each (N .c) (N .u) (N .x) p begun);
   }

@@ -13,6 +13,7 @@ use Rattle.transport.specs.theory.PathFlow.{pulse}
 use Rattle.residual.specs.Cells.{cells}
 use Rattle.residual.specs.Network.{net, get}
 use Rattle.residual.specs.Labels.{book}
+use Rattle.residual.specs.Bits.{bit}
 use Rattle.residual.specs.LanesInUse.{Covers}
 use Rattle.paths.specs.Search.{Near, Label}
 use Rattle.augment.specs.Send.{SendReady}
@@ -20,11 +21,12 @@ use Rattle.augment.specs.LaneMarks.{Trail, Marks}
 use Rattle.augment.specs.PathWalk.{Walkable, Walked, Walking}
 use Rattle.augment.specs.PathMeasure.{Route, Measured}
 use Rattle.reachability.specs.Reachability.{level, RoamAt, Trodden}
-use Rattle.canonical.specs.Canonize.{FreeReady, Followed, Rerouting, Rerouted, Resent, LaneSettled}
+use Rattle.canonical.specs.Canonize.{FreeReady, Followed, Rerouting, Rerouted, Doors, Resent, LaneSettled}
 use Rattle.transport.proofs.Sums.{sum-mono}
 use Rattle.transport.proofs.CellChange.{Put, row-put, row-put-off, col-put, col-put-off}
 use Rattle.transport.proofs.PathFlow.{pulse-same, pulse-off}
 use Rattle.transport.proofs.TightLanes.{spot, row-spot, row-spot-off, col-spot, col-spot-off}
+use Rattle.residual.proofs.Bits.{bit-none}
 use Rattle.augment.proofs.CellStores.{cells-put}
 use Rattle.augment.proofs.PathMeasure.{route}
 use Rattle.augment.proofs.Delivery.{push-ready, mark-ready, pushed}
@@ -39,10 +41,6 @@ sum-but (suc k) i f g h a = elim (ℕ-discrete k i) [
   | yes e ↦ omega (arith, ap f e, sum-mono k f g (λ l b. a l (omega arith) (omega arith)))
   | no d ↦ omega (arith, a k (omega arith) d, sum-but k i f g (omega arith) (λ l b. a l (omega arith)))
 ]
-
--- one more member, from the last back
-pub above-more : {m i : ℕ} (f g : ℕ → ℕ) → 0 < i → ((l : ℕ) → i ≤ l → l < m → f l ≤ g l) → f (i - 1) ≤ g (i - 1) → (l : ℕ) → i - 1 ≤ l → l < m → f l ≤ g l
-above-more {m} {i} f g p h e l b c = elim (ℕ-discrete l (i - 1)) [ yes z ↦ rw z e | no z ↦ h l (omega arith) c ]
 
 -- ---- one way
 
@@ -162,6 +160,13 @@ module _ {m n i j amount : ℕ} {f x : List ℕ} (r : FreeReady m n i j f x) whe
 
 -- ---- the closed lane
 
+-- no lane to terminal j is free
+no-door : {m n j : ℕ} {f d : List ℕ} → j < n → Doors m n f d → get d j ≡ 0 → (l : ℕ) → l < m → cells f l j ≡ 0
+no-door {j = j} {f = f} hj q e l h = elim (decLt 0 (cells f l j)) [
+  | yes o ↦ absurd (omega (arith, q .serving l j h hj o, ap (λ v. bit v l) e, bit-none l))
+  | no o ↦ omega arith
+]
+
 module _ {m n i j : ℕ} {f x : List ℕ} (r : FreeReady m n i j f x) (shut : cells f i j ≡ 0) where
   empty : cells x i j ≡ 0
   empty = omega (arith, r .under i j (r .source) (r .terminal))
@@ -179,17 +184,17 @@ module _ {m n i j : ℕ} {f x : List ℕ} (r : FreeReady m n i j f x) (shut : ce
     least = h;
   }
 
-  -- no other lane to the terminal has room
-  pub stays-col : {amount : ℕ} → ((l : ℕ) → l < m → cells f l j ≤ cells x l j) → Resent m n i j amount f x x amount
+  -- no other lane to the terminal is free
+  pub stays-col : {amount : ℕ} {d : List ℕ} → Doors m n f d → get d j ≡ 0 → Resent m n i j amount f x x amount
   unfolding col
-  stays-col {amount} h = stays (λ u z e un er ec.
+  stays-col {amount} q h = stays (λ u z e un er ec.
       omega (
         arith,
         empty,
         ec j (r .terminal),
         pulse-same amount j j refl,
         sum-but m i (λ l. z l j) (λ l. cells x l j) (r .source)
-            (λ l b d. omega (arith, un l j b (r .terminal), e l j b (r .terminal) (omega (arith, r .terminal, r .terminals)), h l b)),
+            (λ l b d. omega (arith, un l j b (r .terminal), e l j b (r .terminal) (omega (arith, r .terminal, r .terminals)), no-door (r .terminal) q h l b)),
       ))
 
   -- a search was made

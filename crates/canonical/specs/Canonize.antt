@@ -1,7 +1,6 @@
 -- How the plan for everybody is found from a slack plan: the lanes are settled one by one in row order, each at the least amount that a plan as
 -- cheap can have there. Lane (i, j) is at place i · 64 + j. Assumes nothing.
 use mathlib.Core.Path.{_≡_}
-use mathlib.Core.Bool.{Bool, true}
 use mathlib.Core.Logic.{_≢_}
 use mathlib.Core.List.{List}
 use Prim.Native.Nat.{ℕ, _+_, _*_, _≤_, _<_}
@@ -42,18 +41,18 @@ SlackWith N p = Slack (N .m) (N .n) (N .c) (N .u) (N .x) (λ i. get p i) (λ j. 
 abbrev pub TightLane : Net → List ℕ → ℕ → ℕ → Type 0
 TightLane N p i j = N .c i j + get p i ≡ get p (32 + j)
 
--- one lane of ceiling u and amount y, tight or not: free, or set aside
-pub data Parted (t : Type 0) (u y o f x : ℕ) : Type 0 where
-  free : t → o ≡ 0 → f ≡ u → x ≡ y → Parted t u y o f x
-  aside : ¬ t → o ≡ y → f ≡ 0 → x ≡ 0 → Parted t u y o f x
+-- one lane of ceiling u, tight or not: nothing of it is set aside, or nothing of it is free
+pub data Parted (t : Type 0) (u o f x : ℕ) : Type 0 where
+  free : t → o ≡ 0 → f ≡ u → Parted t u o f x
+  aside : ¬ t → f ≡ 0 → x ≡ 0 → Parted t u o f x
 
 abbrev pub PartedAt : Net → List ℕ → Table → Table → Table → ℕ → ℕ → Type 0
-PartedAt N p o f x i j = Parted (TightLane N p i j) (N .u i j) (N .x i j) (o i j) (f i j) (x i j)
+PartedAt N p o f x i j = Parted (TightLane N p i j) (N .u i j) (o i j) (f i j) (x i j)
 
--- the lanes before place k are parted, the others still have nothing
+-- the lanes before place k are parted, of the others nothing is free yet
 pub record Parting (N : Net) (p : List ℕ) (k : ℕ) (o f x : Table) : Type 0 where
   pub done : (i j : ℕ) → i < N .m → j < N .n → i * 64 + j < k → PartedAt N p o f x i j
-  pub rest : (i j : ℕ) → i < N .m → j < N .n → k ≤ i * 64 + j → (o i j ≡ 0) × (f i j ≡ 0) × (x i j ≡ 0)
+  pub rest : (i j : ℕ) → i < N .m → j < N .n → k ≤ i * 64 + j → (f i j ≡ 0) × (x i j ≡ 0)
 
 -- the lanes before place k are settled: o has their amounts and those of the lanes that are not tight, x the amounts of the others, f their ceilings
 pub record Settling (N : Net) (p : List ℕ) (k : ℕ) (o f x : Table) : Type 0 where
@@ -107,9 +106,9 @@ pub record Rerouted (m n i j amount : ℕ) (f x x' : List ℕ) (left : ℕ) : Ty
   pub rerouting : Rerouting m n i j amount f x x' left
   pub none : 0 < left → NoRoute m n i j f x'
 
--- whether no lane to terminal j has room
-pub record ColFull (m j : ℕ) (f x : List ℕ) (r : Bool) : Type 0 where
-  pub full : r ≡ true → (l : ℕ) → l < m → cells f l j ≤ cells x l j
+-- bit i of entry j is set for each lane (i, j) that is free, and may be for one that was: the free lanes of each terminal
+abbrev pub Doors : ℕ → ℕ → List ℕ → List ℕ → Type 0
+Doors m n f d = Covers m n f d
 
 -- all but left of amount went another way, and no plan has less than left on the closed lane (i, j)
 pub record Resent (m n i j amount : ℕ) (f x x' : List ℕ) (left : ℕ) : Type 0 where
@@ -151,10 +150,27 @@ pub record CanonReady (N : Net) (p : List ℕ) : Type 0 where
   pub under : Under (N .m) (N .n) (N .x) (N .u)
   pub ceilings : (i j : ℕ) → i < N .m → j < N .n → N .u i j ≤ 4000000000
 
--- nothing stands in lane (i, j) yet
+abbrev pub lanes : ℕ → ℕ → Table → Table → Table → Net
+lanes m n c u y = record { m = m; n = n; c = c; u = u; x = y }
+
+-- no plan on them
+abbrev pub bare : ℕ → ℕ → Table → Table → Net
+bare m n c u = lanes m n c u (λ i j. 0)
+
+-- sizes, unit costs and potentials that the engine admits
+pub record PartReady (N : Net) (p : List ℕ) : Type 0 where
+  pub sources : N .m ≤ 32
+  pub terminals : N .n ≤ 64
+  pub costs : (i j : ℕ) → i < N .m → j < N .n → N .c i j ≤ 2000000
+  pub high : (v : ℕ) → v < 96 → get p v ≤ 800000000
+
+-- what is set aside and what is free of a lane are together as many drums as before
+pub record Kept (o x o' x' : List ℕ) : Type 0 where
+  pub sums : (k : ℕ) → get o' k + get x' k ≡ get o k + get x k
+
+-- nothing of lane (i, j) is free yet
 pub record Clear (i j : ℕ) (o f x : List ℕ) : Type 0 where
   pub longs : Longs o f x
-  pub free-o : cells o i j ≡ 0
   pub free-f : cells f i j ≡ 0
   pub free-x : cells x i j ≡ 0
 
@@ -162,21 +178,23 @@ pub record Clear (i j : ℕ) (o f x : List ℕ) : Type 0 where
 pub record LaneParted (N : Net) (p : List ℕ) (i j : ℕ) (o f x o' f' x' : List ℕ) : Type 0 where
   pub longs : Longs o' f' x'
   pub own : PartedAt N p (cells o') (cells f') (cells x') i j
+  pub kept : Kept o x o' x'
   pub off-o : (k : ℕ) → k ≢ i * 64 + j → get o' k ≡ get o k
   pub off-f : (k : ℕ) → k ≢ i * 64 + j → get f' k ≡ get f k
   pub off-x : (k : ℕ) → k ≢ i * 64 + j → get x' k ≡ get x k
 
 -- the lanes before place k are, x is covered, and the free lanes are noted
-pub record PartedTo (N : Net) (p : List ℕ) (k : ℕ) (o f x s w : List ℕ) : Type 0 where
+pub record PartedTo (N : Net) (p : List ℕ) (k : ℕ) (o f x s w d : List ℕ) : Type 0 where
   pub longs : Longs o f x
   pub parting : Parting N p k (cells o) (cells f) (cells x)
   pub covers : Covers (N .m) (N .n) x s
   pub opens : Opens (N .m) (N .n) f w
+  pub doors : Doors (N .m) (N .n) f d
 
 -- ---- the lanes are settled
 
 -- what is set aside, the ceilings and the amounts of what is free, who serves, and which lanes are free
-pub record Open (m n : ℕ) (o f x s w : List ℕ) : Type 0 where
+pub record Open (m n : ℕ) (o f x s w d : List ℕ) : Type 0 where
   pub sources : m ≤ 32
   pub terminals : n ≤ 64
   pub longs : Longs o f x
@@ -184,9 +202,7 @@ pub record Open (m n : ℕ) (o f x s w : List ℕ) : Type 0 where
   pub ceilings : (i j : ℕ) → i < m → j < n → cells o i j + cells f i j ≤ 4000000000
   pub covers : Covers m n x s
   pub opens : Opens m n f w
-
-abbrev pub lanes : ℕ → ℕ → Table → Table → Table → Net
-lanes m n c u y = record { m = m; n = n; c = c; u = u; x = y }
+  pub doors : Doors m n f d
 
 -- the lanes from place k up to place k' are settled too
 pub record Onward (m n k k' : ℕ) (o f x o' f' x' : List ℕ) : Type 0 where

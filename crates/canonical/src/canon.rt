@@ -2,19 +2,19 @@
 // differs from another. Such plans differ on tight lanes only. There each lane in turn keeps what cannot go another way, and is closed.
 ghost use mathlib.Core.Path.{_≡_};
 ghost use Prim.Native.Nat.{_+_, _*_, _≤_, _<_};
-ghost use lib.ListN.{getD};
+ghost use lib.ListN.{getD, length};
 ghost use Rattle.residual.specs.Cells.{cells};
 ghost use Rattle.residual.specs.Network.{net};
 ghost use Rattle.residual.specs.LanesInUse.{Covers};
 ghost use Rattle.reachability.specs.Reachability.{Opens, Supplied, Known, Trodden};
-ghost use Rattle.canonical.specs.Canonize.{FreeReady, Followed, Rerouted, ColFull, Resent, LaneSettled, CanonReady, Clear, LaneParted, PartedTo, Open, Onward, Canonized};
-use augment::send::mark;
+ghost use Rattle.canonical.specs.Canonize.{FreeReady, Followed, Rerouted, Doors, Resent, LaneSettled, CanonReady, bare, Kept, PartReady, Clear, LaneParted, PartedTo, Open, Onward, Canonized};
 use augment::send::measure;
 use augment::send::push;
 use augment::send::serve;
 use reachability::roam::roam;
 
-// A tight lane is free, with its ceiling and its drums; what another lane carries is set aside.
+// A tight lane is free, with its ceiling and its drums, and noted with its source and its terminal; what another lane carries stays in the plan,
+// set aside.
 fn part_lane(
     m: usize,
     n: usize,
@@ -23,32 +23,35 @@ fn part_lane(
     cost: &[u32; 2048],
     cap: &[u32; 2048],
     pot: &[u32; 96],
-    plan: &[u32; 2048],
-    aside: &mut [u32; 2048],
+    plan: &mut [u32; 2048],
     free: &mut [u32; 2048],
     x: &mut [u32; 2048],
     serves: &mut [u32; 64],
     ways: &mut [u64; 32],
+    doors: &mut [u32; 64],
 )
     requires { ⌜ (i < m) × (j < n) ⌝ }
-    requires { ⌜ CanonReady (net m n (now cost) (now cap) (now plan)) (now pot) ⌝ }
-    requires { ⌜ Clear i j (now aside) (now free) (now x) ⌝ }
+    requires { ⌜ PartReady (bare m n (cells (now cost)) (cells (now cap))) (now pot) ⌝ }
+    requires { ⌜ Clear i j (now plan) (now free) (now x) ⌝ }
     requires { ⌜ Covers m n (now x) (now serves) ⌝ }
     requires { ⌜ Opens m n (now free) (now ways) ⌝ }
-    ensures { λ _. ⌜ LaneParted (net m n (now (cost .entry)) (now (cap .entry)) (now (plan .entry))) (now (pot .entry)) i j (now (aside .entry)) (now (free .entry)) (now (x .entry)) (now (aside .exit)) (now (free .exit)) (now (x .exit)) ⌝ }
+    requires { ⌜ Doors m n (now free) (now doors) ⌝ }
+    ensures { λ _. ⌜ LaneParted (bare m n (cells (now (cost .entry))) (cells (now (cap .entry)))) (now (pot .entry)) i j (now (plan .entry)) (now (free .entry)) (now (x .entry)) (now (plan .exit)) (now (free .exit)) (now (x .exit)) ⌝ }
     ensures { λ _. ⌜ Covers m n (now (x .exit)) (now (serves .exit)) ⌝ }
     ensures { λ _. ⌜ Opens m n (now (free .exit)) (now (ways .exit)) ⌝ }
+    ensures { λ _. ⌜ Doors m n (now (free .exit)) (now (doors .exit)) ⌝ }
 {
     let k = i * 64 + j;
-    let amount = plan[k];
     if cost[k] + pot[i] != pot[32 + j] {
-        aside[k] = amount;
         return;
     }
     free[k] = cap[k];
-    x[k] = amount;
     ways[i] = ways[i] | (1 << j);
+    doors[j] = doors[j] | (1 << i);
+    let amount = plan[k];
     if 0 < amount {
+        x[k] = amount;
+        plan[k] = 0;
         serve(32 + j, i, serves);
     }
 }
@@ -61,17 +64,18 @@ fn part_row(
     cost: &[u32; 2048],
     cap: &[u32; 2048],
     pot: &[u32; 96],
-    plan: &[u32; 2048],
-    aside: &mut [u32; 2048],
+    plan: &mut [u32; 2048],
     free: &mut [u32; 2048],
     x: &mut [u32; 2048],
     serves: &mut [u32; 64],
     ways: &mut [u64; 32],
+    doors: &mut [u32; 64],
 )
     requires { ⌜ i < m ⌝ }
-    requires { ⌜ CanonReady (net m n (now cost) (now cap) (now plan)) (now pot) ⌝ }
-    requires { ⌜ PartedTo (net m n (now cost) (now cap) (now plan)) (now pot) (i * 64) (now aside) (now free) (now x) (now serves) (now ways) ⌝ }
-    ensures { λ _. ⌜ PartedTo (net m n (now (cost .entry)) (now (cap .entry)) (now (plan .entry))) (now (pot .entry)) (i * 64 + 64) (now (aside .exit)) (now (free .exit)) (now (x .exit)) (now (serves .exit)) (now (ways .exit)) ⌝ }
+    requires { ⌜ PartReady (bare m n (cells (now cost)) (cells (now cap))) (now pot) ⌝ }
+    requires { ⌜ PartedTo (bare m n (cells (now cost)) (cells (now cap))) (now pot) (i * 64) (now plan) (now free) (now x) (now serves) (now ways) (now doors) ⌝ }
+    ensures { λ _. ⌜ PartedTo (bare m n (cells (now (cost .entry))) (cells (now (cap .entry)))) (now (pot .entry)) (i * 64 + 64) (now (plan .exit)) (now (free .exit)) (now (x .exit)) (now (serves .exit)) (now (ways .exit)) (now (doors .exit)) ⌝ }
+    ensures { λ _. ⌜ Kept (now (plan .entry)) (now (x .entry)) (now (plan .exit)) (now (x .exit)) ⌝ }
 {
     for j in 0..n {
         part_lane(
@@ -83,11 +87,11 @@ fn part_row(
             cap,
             pot,
             plan,
-            aside,
             free,
             x,
             serves,
             ways,
+            doors,
         );
     }
 }
@@ -99,19 +103,20 @@ fn part(
     cost: &[u32; 2048],
     cap: &[u32; 2048],
     pot: &[u32; 96],
-    plan: &[u32; 2048],
-    aside: &mut [u32; 2048],
+    plan: &mut [u32; 2048],
     free: &mut [u32; 2048],
     x: &mut [u32; 2048],
     serves: &mut [u32; 64],
     ways: &mut [u64; 32],
+    doors: &mut [u32; 64],
 )
-    requires { ⌜ CanonReady (net m n (now cost) (now cap) (now plan)) (now pot) ⌝ }
-    requires { ⌜ PartedTo (net m n (now cost) (now cap) (now plan)) (now pot) 0 (now aside) (now free) (now x) (now serves) (now ways) ⌝ }
-    ensures { λ _. ⌜ PartedTo (net m n (now (cost .entry)) (now (cap .entry)) (now (plan .entry))) (now (pot .entry)) (m * 64) (now (aside .exit)) (now (free .exit)) (now (x .exit)) (now (serves .exit)) (now (ways .exit)) ⌝ }
+    requires { ⌜ PartReady (bare m n (cells (now cost)) (cells (now cap))) (now pot) ⌝ }
+    requires { ⌜ PartedTo (bare m n (cells (now cost)) (cells (now cap))) (now pot) 0 (now plan) (now free) (now x) (now serves) (now ways) (now doors) ⌝ }
+    ensures { λ _. ⌜ PartedTo (bare m n (cells (now (cost .entry))) (cells (now (cap .entry)))) (now (pot .entry)) (m * 64) (now (plan .exit)) (now (free .exit)) (now (x .exit)) (now (serves .exit)) (now (ways .exit)) (now (doors .exit)) ⌝ }
+    ensures { λ _. ⌜ Kept (now (plan .entry)) (now (x .entry)) (now (plan .exit)) (now (x .exit)) ⌝ }
 {
     for i in 0..m {
-        part_row(m, n, i, cost, cap, pot, plan, aside, free, x, serves, ways);
+        part_row(m, n, i, cost, cap, pot, plan, free, x, serves, ways, doors);
     }
 }
 
@@ -136,8 +141,7 @@ fn follow(
 {
     let goal = 32 + j;
     let way = measure(prev, i, goal, limit, x, free);
-    push(prev, way.count, goal, way.amount, x);
-    mark(prev, way.count, goal, serves);
+    push(prev, way.count, goal, way.amount, x, serves);
     way.amount
 }
 
@@ -175,23 +179,7 @@ fn reroute(
     left
 }
 
-// Has no lane to terminal j room? The last source is looked at first, as the first are closed.
-fn column_full(m: usize, j: usize, free: &[u32; 2048], x: &[u32; 2048]) -> bool
-    requires { ⌜ (m ≤ 32) × (j < 64) ⌝ }
-    ensures { λ r. ⌜ ColFull m j (now (free .entry)) (now (x .entry)) r ⌝ }
-{
-    let mut i = m;
-    while 0 < i {
-        i = i - 1;
-        let k = i * 64 + j;
-        if x[k] < free[k] {
-            return false;
-        }
-    }
-    true
-}
-
-// Sends amount round the closed lane (i, j), as far as it can go; what is left. No search is made where no lane to terminal j has room.
+// Sends amount round the closed lane (i, j), as far as it can go; what is left. No search is made where no lane to terminal j is free.
 fn resend(
     m: usize,
     n: usize,
@@ -203,17 +191,19 @@ fn resend(
     x: &mut [u32; 2048],
     supplied: &mut u64,
     serves: &mut [u32; 64],
+    doors: &[u32; 64],
 ) -> u32
     requires { ⌜ FreeReady m n i j (now free) (now x) ⌝ }
     requires { ⌜ getD (now free) (i * 64 + j) 0 ≡ 0 ⌝ }
     requires { ⌜ Known m n i j (now x) (now supplied) ⌝ }
     requires { ⌜ Opens m n (now free) (now ways) ⌝ }
     requires { ⌜ Covers m n (now x) (now serves) ⌝ }
+    requires { ⌜ Doors m n (now free) (now doors) ⌝ }
     ensures { λ r. ⌜ Resent m n i j amount (now (free .entry)) (now (x .entry)) (now (x .exit)) r ⌝ }
     ensures { λ r. ⌜ Supplied m n i (now (x .exit)) (now (supplied .exit)) ⌝ }
     ensures { λ r. ⌜ Covers m n (now (x .exit)) (now (serves .exit)) ⌝ }
 {
-    if column_full(m, j, free, x) {
+    if doors[j] == 0 {
         return amount;
     }
     reroute(m, n, ways, free, i, j, amount, x, supplied, serves)
@@ -231,23 +221,25 @@ fn settle_lane(
     x: &mut [u32; 2048],
     supplied: &mut u64,
     serves: &mut [u32; 64],
+    doors: &mut [u32; 64],
 )
     requires { ⌜ (i < m) × (j < n) ⌝ }
     requires { ⌜ Supplied m n i (now x) (now supplied) ⌝ }
-    requires { ⌜ Open m n (now aside) (now free) (now x) (now serves) (now ways) ⌝ }
+    requires { ⌜ Open m n (now aside) (now free) (now x) (now serves) (now ways) (now doors) ⌝ }
     ensures { λ _. ⌜ LaneSettled m n i j (now (aside .entry)) (now (free .entry)) (now (x .entry)) (now (aside .exit)) (now (free .exit)) (now (x .exit)) ⌝ }
-    ensures { λ _. ⌜ Open m n (now (aside .exit)) (now (free .exit)) (now (x .exit)) (now (serves .exit)) (now (ways .entry)) ⌝ }
+    ensures { λ _. ⌜ Open m n (now (aside .exit)) (now (free .exit)) (now (x .exit)) (now (serves .exit)) (now (ways .entry)) (now (doors .exit)) ⌝ }
     ensures { λ _. ⌜ Supplied m n i (now (x .exit)) (now (supplied .exit)) ⌝ }
 {
     let k = i * 64 + j;
     let amount = x[k];
     free[k] = 0;
+    doors[j] = doors[j] & (u32::MAX - (1 << i));
     if amount == 0 {
         return;
     }
     x[k] = 0;
     *supplied = *supplied | (1 << j);
-    let left = resend(m, n, ways, free, i, j, amount, x, supplied, serves);
+    let left = resend(m, n, ways, free, i, j, amount, x, supplied, serves, doors);
     aside[k] = aside[k] + left;
 }
 
@@ -262,18 +254,19 @@ fn settle_row(
     x: &mut [u32; 2048],
     supplied: &mut u64,
     serves: &mut [u32; 64],
+    doors: &mut [u32; 64],
 )
     requires { ⌜ i < m ⌝ }
     requires { ⌜ Supplied m n 32 (now x) (now supplied) ⌝ }
-    requires { ⌜ Open m n (now aside) (now free) (now x) (now serves) (now ways) ⌝ }
+    requires { ⌜ Open m n (now aside) (now free) (now x) (now serves) (now ways) (now doors) ⌝ }
     ensures { λ _. ⌜ Onward m n (i * 64) (i * 64 + 64) (now (aside .entry)) (now (free .entry)) (now (x .entry)) (now (aside .exit)) (now (free .exit)) (now (x .exit)) ⌝ }
-    ensures { λ _. ⌜ Open m n (now (aside .exit)) (now (free .exit)) (now (x .exit)) (now (serves .exit)) (now (ways .exit)) ⌝ }
+    ensures { λ _. ⌜ Open m n (now (aside .exit)) (now (free .exit)) (now (x .exit)) (now (serves .exit)) (now (ways .exit)) (now (doors .exit)) ⌝ }
     ensures { λ _. ⌜ Supplied m n 32 (now (x .exit)) (now (supplied .exit)) ⌝ }
 {
     let mut rest = ways[i];
     while 0 < rest {
         let j = u64::trailing_zeros(rest) as usize;
-        settle_lane(m, n, i, j, ways, aside, free, x, supplied, serves);
+        settle_lane(m, n, i, j, ways, aside, free, x, supplied, serves, doors);
         rest = rest & (rest - 1);
         ways[i] = rest;
     }
@@ -288,15 +281,24 @@ fn settle(
     free: &mut [u32; 2048],
     x: &mut [u32; 2048],
     serves: &mut [u32; 64],
+    doors: &mut [u32; 64],
 )
-    requires { ⌜ Open m n (now aside) (now free) (now x) (now serves) (now ways) ⌝ }
+    requires { ⌜ Open m n (now aside) (now free) (now x) (now serves) (now ways) (now doors) ⌝ }
     ensures { λ _. ⌜ Onward m n 0 (m * 64) (now (aside .entry)) (now (free .entry)) (now (x .entry)) (now (aside .exit)) (now (free .exit)) (now (x .exit)) ⌝ }
-    ensures { λ _. ⌜ Open m n (now (aside .exit)) (now (free .exit)) (now (x .exit)) (now (serves .exit)) (now (ways .exit)) ⌝ }
+    ensures { λ _. ⌜ Open m n (now (aside .exit)) (now (free .exit)) (now (x .exit)) (now (serves .exit)) (now (ways .exit)) (now (doors .exit)) ⌝ }
 {
     let mut supplied = u64::MAX;
     for i in 0..m {
-        settle_row(m, n, i, ways, aside, free, x, &mut supplied, serves);
+        settle_row(m, n, i, ways, aside, free, x, &mut supplied, serves, doors);
     }
+}
+
+// How many places the plan's array has. Called for its promise: an array lent as a slice has a length that proofs know.
+fn places(plan: &[u32; 2048]) -> usize
+    ensures { λ _. ⌜ length (now (plan .entry)) ≡ 2048 ⌝ }
+{
+    let all: &[u32] = plan;
+    all.len()
 }
 
 // Puts the plan for everybody in the place of a plan that is slack with the given potentials.
@@ -311,11 +313,12 @@ pub fn canonize(
     requires { ⌜ CanonReady (net m n (now cost) (now cap) (now plan)) (now pot) ⌝ }
     ensures { λ _. ⌜ Canonized (net m n (now (cost .entry)) (now (cap .entry)) (now (plan .entry))) (now (plan .exit)) ⌝ }
 {
-    let mut aside = [0u32; 2048];
+    places(plan);
     let mut free = [0u32; 2048];
     let mut x = [0u32; 2048];
     let mut serves = [0u32; 64];
     let mut ways = [0u64; 32];
+    let mut doors = [0u32; 64];
     part(
         m,
         n,
@@ -323,12 +326,20 @@ pub fn canonize(
         cap,
         pot,
         plan,
-        &mut aside,
         &mut free,
         &mut x,
         &mut serves,
         &mut ways,
+        &mut doors,
     );
-    settle(m, n, &mut ways, &mut aside, &mut free, &mut x, &mut serves);
-    *plan = aside;
+    settle(
+        m,
+        n,
+        &mut ways,
+        plan,
+        &mut free,
+        &mut x,
+        &mut serves,
+        &mut doors,
+    );
 }

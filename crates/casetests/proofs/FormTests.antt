@@ -2,9 +2,7 @@
 use mathlib.Core.Path.{_≡_, refl, sym, ap, _∙_}
 use mathlib.Core.Bool.{Bool, true, false, not, _||_, cond}
 use mathlib.Core.Option.{Option, none, some}
-use mathlib.Core.List.{List}
-use Prim.Native.Nat.{ℕ, _+_, _-_, _*_, _≤_, _<_}
-use native.Mathlib.Decide.{ℕ-discrete, decLt}
+use Prim.Native.Nat.{ℕ, _+_, _-_, _*_, _≤_}
 use native.Mathlib.Nat.{mul-le-mul}
 use native.Mathlib.Omega.{arith}
 use lib.Dec.{ltb, eqb}
@@ -21,20 +19,6 @@ use lib.IntN.{pos}
 use Rattle.problem.proofs.FirstFailing.{moved, first-moved}
 use Rattle.problem.proofs.TestsPassed.{first-decides, second-decides, either-first, either-second}
 use Rattle.problem.proofs.TestParts.{or-true, met, unmet, at-place, no-place, moved-some, moved-none}
-
--- none of the numbers before k is above the limit, and none of the next four
-pub four-more : (s : List ℕ) (limit k : ℕ) → ((j : ℕ) → j < k → getD s j 0 ≤ limit)
-    → getD s k 0 ≤ limit → getD s (k + 1) 0 ≤ limit → getD s (k + 2) 0 ≤ limit → getD s (k + 3) 0 ≤ limit → (j : ℕ) → j < k + 4 → getD s j 0 ≤ limit
-four-more s limit k h a b c d j l = elim (decLt j k) [
-  | yes z ↦ h j z
-  | no z ↦ elim (ℕ-discrete j k) [
-    | yes e ↦ rw e a
-    | no e ↦ elim (ℕ-discrete j (k + 1)) [
-      | yes e' ↦ rw e' b
-      | no e' ↦ elim (ℕ-discrete j (k + 2)) [ yes e'' ↦ rw e'' c | no e'' ↦ let y : j ≡ k + 3 = omega arith in rw y d ]
-    ]
-  ]
-]
 
 pub record Limits (m n : ℕ) : Type 0 where
   pub two : 2 ≤ m

@@ -8,6 +8,7 @@ ghost use Rattle.problem.specs.Range.{outside};
 ghost use Rattle.problem.specs.Outcome.{formRefusal};
 ghost use Rattle.problem.specs.Case.{lent};
 ghost use Rattle.problem.specs.LentTests.{firstAbove, firstOutside, amountsRefusal, runsRefusal, ceilingsRefusal, entriesRefusal, splitsRefusal, AtMost, Amounts, Within};
+ghost use Rattle.casetests.specs.Above.{NoneAbove};
 ghost use Rattle.casetests.specs.Verdict.{found, verdict, madeOf};
 use crate::limits::Checked;
 use crate::limits::Size;
@@ -24,32 +25,44 @@ pub enum Found {
     Nowhere,
 }
 
-// Is none of four numbers above the limit?
-fn none_of(a: u64, b: u64, c: u64, d: u64, limit: u64) -> bool
-    ensures { λ r. ⌜ (r ≡ true → (a ≤ limit) × (b ≤ limit) × (c ≤ limit) × (d ≤ limit)) ⌝ }
+// A number that none of sixteen is above: it has each bit that one of them has.
+fn all_bits(s: &[u64], k: usize) -> u64
+    requires { ⌜ k + 16 ≤ length (now s) ⌝ }
+    ensures { λ r. ⌜ NoneAbove (now (s .entry)) k 16 r ⌝ }
 {
-    if limit < a {
-        return false;
+    let mut all: u64 = 0;
+    for i in 0..16 {
+        all = all | s[k + i];
     }
-    if limit < b {
-        return false;
-    }
-    if limit < c {
-        return false;
-    }
-    d <= limit
+    all
 }
 
-// How far no number is above the limit, four at a time.
+// Is none of sixteen numbers above the limit? As a rule their bits tell it.
+fn fits(s: &[u64], k: usize, limit: u64) -> bool
+    requires { ⌜ k + 16 ≤ length (now s) ⌝ }
+    ensures { λ r. ⌜ (r ≡ true → NoneAbove (now (s .entry)) k 16 limit) ⌝ }
+{
+    if all_bits(s, k) <= limit {
+        return true;
+    }
+    for i in 0..16 {
+        if limit < s[k + i] {
+            return false;
+        }
+    }
+    true
+}
+
+// How far no number is above the limit, sixteen at a time.
 fn none_above(s: &[u64], limit: u64) -> usize
     ensures { λ r. ⌜ (r ≤ length (now (s .entry))) × ((j : ℕ) → j < r → getD (now (s .entry)) j 0 ≤ limit) ⌝ }
 {
     let mut k: usize = 0;
-    while k + 4 <= s.len() {
-        if !none_of(s[k], s[k + 1], s[k + 2], s[k + 3], limit) {
+    while k + 16 <= s.len() {
+        if !fits(s, k, limit) {
             return k;
         }
-        k += 4;
+        k += 16;
     }
     k
 }

@@ -1,7 +1,7 @@
 -- The least into a part, source by source or terminal by terminal: both are at most each lane's. Assumes nothing.
 use mathlib.Core.Path.{_≡_, ap, _∙_}
 use mathlib.Core.List.{List}
-use Prim.Native.Nat.{ℕ, _+_, _-_, _*_, _/_, _^_, _<_}
+use Prim.Native.Nat.{ℕ, _+_, _-_, _*_, _/_, _^_, _≤_, _<_}
 use native.Mathlib.Decide.{decLt}
 use native.Mathlib.Omega.{arith}
 use lib.Bits.{bitAnd}
@@ -11,11 +11,11 @@ use Rattle.residual.specs.Network.{get}
 use Rattle.residual.proofs.Bits.{bit-none, bit-place}
 use Rattle.cuts.specs.Columns.{byTerminal}
 use Rattle.cuts.specs.Cut.{has, Others, LowsReady, Lows, Low, SourcesReady, TerminalsReady, Nearest, NearReady, Near}
-use Rattle.cuts.proofs.PartBits.{low-half, high-half}
+use Rattle.cuts.proofs.PartBits.{low-half, high-half, low-half-fits}
 
 -- ---- source by source
 
-pub source-lows : {out : ℕ} {cost w : List ℕ} → SourcesReady out cost w → LowsReady out 0 64 0 cost w
+pub source-lows : {out : ℕ} {cost w : List ℕ} → SourcesReady out 32 cost w → LowsReady out 0 64 0 cost w
 source-lows {out} {cost} r = record {
   within = λ b e. omega (arith, bit-place 32 out b (r .few) e);
   nodes = λ b e. omega (arith, bit-place 32 out b (r .few) e);
@@ -23,7 +23,7 @@ source-lows {out} {cost} r = record {
   most = r .most;
 }
 
-pub source-lows-2 : {out : ℕ} {cost w : List ℕ} → SourcesReady out cost w → LowsReady out 0 64 32 cost w
+pub source-lows-2 : {out : ℕ} {cost w : List ℕ} → SourcesReady out 64 cost w → LowsReady out 0 64 32 cost w
 source-lows-2 {out} {cost} r = record {
   within = λ b e. omega (arith, bit-place 32 out b (r .few) e);
   nodes = λ b e. omega (arith, bit-place 32 out b (r .few) e);
@@ -31,16 +31,26 @@ source-lows-2 {out} {cost} r = record {
   most = r .most;
 }
 
-pub sources-nearest : {out cols : ℕ} {cost w acc acc' : List ℕ} {from key key' : ℕ} → Lows out 0 64 0 cost w 0 acc
-    → Low (bitAnd cols 4294967295) 32 acc w from 0 key → Lows out 0 64 32 cost w 0 acc' → Low (cols / 2 ^ 32) 64 acc' w key 0 key'
-    → Nearest out cols (cells cost) w key'
-sources-nearest {out} {cols} {cost} {w} {acc} {acc'} {from} {key} {key'} a b c d = record {
+pub fewer : {out k n : ℕ} {cost w : List ℕ} → k ≤ n → SourcesReady out n cost w → SourcesReady out k cost w
+fewer l r = record { few = r .few; costs = λ i j e h. r .costs i j e (omega arith); most = r .most }
+
+pub half-nearest : {out : ℕ} (cols : ℕ) {cost w acc : List ℕ} {from key : ℕ} → Lows out 0 64 0 cost w 0 acc → Low (bitAnd cols 4294967295) 32 acc w from 0 key
+    → Nearest out (bitAnd cols 4294967295) (cells cost) w key
+half-nearest {out} cols {cost} {w} a b = record {
+  each = λ i j hi hj o u.
+      let s : 0 + i ≡ i = omega arith in
+      let z : i * 64 + 0 + j ≡ i * 64 + j = omega arith in
+      let l = bit-place 32 (bitAnd cols 4294967295) j (low-half-fits cols) u in
+      omega (arith, b .each j u (bit-none j), a .low i j o (bit-none i) l, ap (λ v. get cost v) z, ap (λ v. get w v) s);
+}
+
+pub sources-nearest : {out cols : ℕ} {cost w acc : List ℕ} {key key' : ℕ} → Nearest out (bitAnd cols 4294967295) (cells cost) w key
+    → Lows out 0 64 32 cost w 0 acc → Low (cols / 2 ^ 32) 64 acc w key 0 key' → Nearest out cols (cells cost) w key'
+sources-nearest {out} {cols} {cost} {w} {acc} {key} {key'} a c d = record {
   each = λ i j hi hj o u.
       let s : 0 + i ≡ i = omega arith in
       elim (decLt j 32) [
-        | yes l ↦
-            let z : i * 64 + 0 + j ≡ i * 64 + j = omega arith in
-            omega (arith, d .less, b .each j (low-half cols j l ∙ u) (bit-none j), a .low i j o (bit-none i) l, ap (λ v. get cost v) z, ap (λ v. get w v) s)
+        | yes l ↦ omega (arith, d .less, a .each i j hi hj o (low-half cols j l ∙ u))
         | no l ↦
             let y : 32 + (j - 32) ≡ j = omega arith in
             let z : i * 64 + 32 + (j - 32) ≡ i * 64 + j = omega arith in
@@ -81,7 +91,7 @@ module _ {m n rows out : ℕ} {cost columns w : List ℕ} (r : NearReady m n cos
   near-few : out < 2 ^ 32
   near-few = omega (arith, o .within, pow-mono (r .sources))
 
-  pub near-sources : n ≡ 64 → SourcesReady out cost w
+  pub near-sources : {k : ℕ} → k ≤ n → SourcesReady out k cost w
   near-sources e = record {
     few = near-few;
     costs = λ i j u h. r .costs i j (bit-place m out i (o .within) u) (omega arith);
@@ -94,6 +104,13 @@ module _ {m n rows out : ℕ} {cost columns w : List ℕ} (r : NearReady m n cos
   pub near-by-sources : {cols key : ℕ} → Nearest out cols (cells cost) w key → Near m n rows cols cost w key
   near-by-sources q = record {
     each = λ i j a b e u. q .each i j (omega (arith, r .sources)) (omega (arith, r .terminals)) (o .out i a e) u;
+  }
+
+  pub near-by-half : {cols key : ℕ} → cols ≤ 4294967295 → Nearest out (bitAnd cols 4294967295) (cells cost) w key → Near m n rows cols cost w key
+  near-by-half {cols} few q = record {
+    each = λ i j a b e u.
+        let l = bit-place 32 cols j (omega arith) u in
+        q .each i j (omega (arith, r .sources)) (omega (arith, r .terminals)) (o .out i a e) (low-half cols j l ∙ u);
   }
 
   pub near-by-terminals : {cols key : ℕ} → Nearest out cols (byTerminal columns) w key → Near m n rows cols cost w key

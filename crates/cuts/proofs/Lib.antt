@@ -2,6 +2,7 @@ pub mod PartBits
 pub mod CutSlack
 pub mod CutSteps
 pub mod CutSides
+pub mod TreeWalk
 pub mod TreePath
 pub mod Advancing
 pub mod ByTerminal

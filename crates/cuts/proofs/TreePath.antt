@@ -1,304 +1,288 @@
 -- The path that a tree has is what a search promises of the path that it finds: the labels are the potentials. Assumes nothing.
-use mathlib.Core.Path.{_≡_, refl, sym, ap, subst, _∙_}
+use mathlib.Core.Path.{_≡_, refl, sym, ap, _∙_}
 use mathlib.Core.Logic.{_≢_}
 use mathlib.Core.List.{List}
-use Prim.Native.Nat.{ℕ, zero, suc, min, _+_, _-_, _*_, _≤_, _<_}
-use native.Mathlib.Decide.{ℕ-discrete, decLt}
+use Prim.Native.Nat.{ℕ, zero, suc, min, _+_, _*_, _≤_, _<_}
+use native.Mathlib.Decide.{ℕ-discrete}
 use native.Mathlib.Omega.{arith}
-use lib.ListN.{length, set, length-set, replicate, getD-replicate, length-replicate}
-use lib.Seq.{getD-set-same, getD-set-other}
+use lib.ListN.{length}
 use Rattle.transport.proofs.Tables.{cellsOf, cellsOf-length, cellsOf-at}
 use Rattle.residual.specs.Network.{Net, get, Arc}
 use Rattle.residual.specs.Network.Arc.{ahead, back}
 use Rattle.residual.specs.Labels.{Book, book, far}
-use Rattle.paths.specs.Search.{Sound, Near, Label, Prev, Labelled}
+use Rattle.paths.specs.Search.{Sound, Near, Label, Prev, Searched}
 use Rattle.paths.specs.Search.Prev.{root, step}
-use Rattle.cuts.specs.Follow.{either, carries, Tied, Walk, Followed}
+use Rattle.cuts.specs.Follow.{either, carries, Tied, Chain, width, Followed}
+use Rattle.cuts.proofs.TreeWalk.{either-yes, either-no, within}
 
--- ---- one arc
+-- ---- the nodes of a list
 
-either-yes : {P : Type 0} (d : Dec P) (a b : ℕ) → P → either d a b ≡ a
-unfolding either
-either-yes (yes h) a b p = refl
-either-yes (no h) a b p = absurd (h p)
-
-either-no : {P : Type 0} (d : Dec P) (a b : ℕ) → (P → ⊥) → either d a b ≡ b
-unfolding either
-either-no (yes h) a b p = absurd (p h)
-either-no (no h) a b p = refl
-
-module _ {N : Net} {p : List ℕ} {w v : ℕ} (hm : N .m ≤ 32) (hn : N .n ≤ 64) where
-  pub tied-back : v < 32 → v < N .m → 32 ≤ w → w < 32 + N .n → 0 < N .x v (w - 32) → N .c v (w - 32) + get p v ≡ get p w → Tied N p w v
-  unfolding carries
-  tied-back h hv l u o e =
-      let f = either-yes (decLt v 32) (N .x v (w - 32)) (N .u w (v - 32) - N .x w (v - 32)) h in
-      record {
-        node = omega arith;
-        source = λ z. absurd (omega arith);
-        terminal = λ z. u;
-        some = omega arith;
-        arc = back (w - 32) hv (omega arith) (omega arith) o (omega arith) f;
-      }
-
-  pub tied-ahead : 32 ≤ v → v < 32 + N .n → w < N .m → N .x w (v - 32) < N .u w (v - 32) → N .c w (v - 32) + get p w ≡ get p v → Tied N p w v
-  unfolding carries
-  tied-ahead h hv l o e =
-      let f = either-no (decLt v 32) (N .x v (w - 32)) (N .u w (v - 32) - N .x w (v - 32)) (λ z. absurd (omega arith)) in
-      record {
-        node = omega arith;
-        source = λ z. l;
-        terminal = λ z. absurd (omega arith);
-        some = omega arith;
-        arc = ahead (v - 32) l (omega arith) (omega arith) o (omega arith) f;
-      }
-
--- ---- the walk
-
+-- f, but k at w
 abbrev put : (ℕ → ℕ) → ℕ → ℕ → ℕ → ℕ
 put f w k a = either (ℕ-discrete a w) k (f a)
 
-module _ {N : Net} {p : List ℕ} (high : (a : ℕ) → a < 96 → get p a ≤ 800000000) where
-  pub walk-start : 1 < N .m → length p ≡ 96 → Walk N p (set (replicate 96 far) 1 (get p 1)) (replicate 96 0) 1 0
-  walk-start h long = record {
-    place = λ a. 0;
-    long-dist = length-set (replicate 96 far) 1 (get p 1) ∙ length-replicate {A = ℕ} 96 far;
-    long-prev = length-replicate {A = ℕ} 96 0;
-    node = omega arith;
-    here = omega (arith, one, high 1 (omega arith));
-    last = refl;
-    goal = omega (arith, one, high 1 (omega arith));
-    low = λ a l. elim (ℕ-discrete a 1) [ yes z ↦ rw z (omega (arith, one)) | no z ↦ omega (arith, off a l z, high a l) ];
-    visited = λ a l o. elim (ℕ-discrete a 1) [
-      | yes z ↦
-          rw z (record {
-            label = one;
-            most = omega arith;
-            source = λ y. h;
-            terminal = λ y. absurd (omega arith);
-            next = λ y. absurd (y refl);
-          })
-      | no z ↦ absurd (omega (arith, off a l z))
-    ];
-  }
-    where
-      one : get (set (replicate 96 far) 1 (get p 1)) 1 ≡ get p 1
-      one = getD-set-same (replicate 96 far) 1 (get p 1) 0 (omega (arith, length-replicate {A = ℕ} 96 far))
+put-new : (f : ℕ → ℕ) (w k a : ℕ) → a ≡ w → put f w k a ≡ k
+put-new f w k a z = either-yes (ℕ-discrete a w) k (f a) z
 
-      off : (a : ℕ) → a < 96 → a ≢ 1 → get (set (replicate 96 far) 1 (get p 1)) a ≡ far
-      off a l z = getD-set-other (replicate 96 far) 1 a (get p 1) 0 z ∙ getD-replicate {A = ℕ} 96 a far 0 l
+put-old : (f : ℕ → ℕ) (w k a : ℕ) → a ≢ w → put f w k a ≡ f a
+put-old f w k a z = either-no (ℕ-discrete a w) k (f a) z
 
-  -- one arc more, to a node that the walk has not come to
-  module _ {T P : List ℕ} {v steps w : ℕ} (q : Walk N p T P v steps) (t : Tied N p w v) (fresh : far ≤ get T w) where
-    T' : List ℕ
-    T' = set T w (get p w)
+module _ (N : Net) (p P : List ℕ) where
+  -- only one number of arcs leads from plant 0 to a node
+  alone : (h k v : ℕ) → Chain N p P h v → Chain N p P k v → h ≡ k
+  unfolding Chain
+  alone zero zero v a b = refl
+  alone zero (suc k) v a b = absurd (b .0 a)
+  alone (suc h) zero v a b = absurd (a .0 b)
+  alone (suc h) (suc k) v a b = ap suc (alone h k (get P v) (a .2) (b .2))
 
-    P' : List ℕ
-    P' = set P v w
+  -- the last arc to a
+  record Last (h a : ℕ) : Type 0 where
+    arcs : ℕ
+    one : h ≡ suc arcs
+    tied : Tied N p (get P a) a
+    rest : Chain N p P arcs (get P a)
 
-    place' : ℕ → ℕ
-    place' = put (q .place) w (steps + 1)
+  last : (h a : ℕ) → Chain N p P h a → a ≢ 0 → Last h a
+  unfolding Chain
+  last zero a c z = absurd (z c)
+  last (suc h) a c z = record { arcs = h; one = refl; tied = c .1; rest = c .2 }
 
-    new : get T' w ≡ get p w
-    unfolding T'
-    new = getD-set-same T w (get p w) 0 (omega (arith, q .long-dist, t .node))
+  along : {h k a b : ℕ} → h ≡ k → a ≡ b → Chain N p P k b → Chain N p P h a
+  along e z c = rw (e, z) c
 
-    old : (a : ℕ) → a ≢ w → get T' a ≡ get T a
-    unfolding T'
-    old a z = getD-set-other T w a (get p w) 0 z
+  module _ (s : Sound N p) (two : 1 < N .m) (limit : ℕ) (positive : 0 < limit) where
+    record Bounds (h a : ℕ) : Type 0 where
+      source : a < 32 → a < N .m
+      terminal : 32 ≤ a → a < 32 + N .n
+      up : get p a ≤ get p 0 + h * 2000000
+      down : get p 0 ≤ get p a + h * 2000000
+      some : 0 < width N limit P h a
 
-    at-new : place' w ≡ steps + 1
-    unfolding place'
-    at-new = either-yes (ℕ-discrete w w) (steps + 1) (q .place w) refl
+    arc-cost : {w v b t k : ℕ} → Arc N w v b t k → (t ≤ b + 2000000) × (b ≤ t + 2000000)
+    arc-cost {w} {v} (ahead j a c e o f g) = (omega (arith, s .costs w j a c), omega arith)
+    arc-cost {w} {v} (back j a c e o f g) = (omega arith, omega (arith, s .costs v j a c))
 
-    at-old : (a : ℕ) → a ≢ w → place' a ≡ q .place a
-    unfolding place'
-    at-old a z = either-no (ℕ-discrete a w) (steps + 1) (q .place a) z
+    arc-goal : {w v b t k : ℕ} → Arc N w v b t k → (v < 32 → v < N .m) × (32 ≤ v → v < 32 + N .n)
+    arc-goal (ahead j a c e o f g) = (λ z. absurd (omega arith), λ z. omega arith)
+    arc-goal (back j a c e o f g) = (λ z. a, λ z. absurd (omega (arith, s .sources)))
 
-    lower : get p w < far
-    lower = omega (arith, high w (t .node))
-
-    apart : (a : ℕ) → get T a < far → a ≢ w
-    apart a l z = omega (arith, ap (λ y. get T y) z)
-
-    -- the node that the walk was at: the arc from w leads to it
-    link : (a : ℕ) → a < 96 → a ≡ v → (get T' (get P' a) < far) × (place' (get P' a) ≡ place' a + 1) × Tied N p (get P' a) a
-    unfolding P'
-    link a h z =
-        let e : get P' a ≡ w = ap (λ y. get P' y) z ∙ getD-set-same P v w 0 (omega (arith, q .long-prev, q .node)) in
-        let f = at-old a (apart a (rw z (q .here))) in
-        (rw e (omega (arith, new, lower)), rw e (omega (arith, at-new, f, ap (λ y. q .place y) z, q .last)), rw e (rw z t))
-
-    -- the nodes before it
-    chain : (a : ℕ) → a < 96 → get T a < far → a ≢ v → (get T' (get P' a) < far) × (place' (get P' a) ≡ place' a + 1) × Tied N p (get P' a) a
-    unfolding P'
-    chain a h l z =
-        let n = q .visited a h l .next z in
-        let e : get P' a ≡ get P a = getD-set-other P v a w 0 z in
-        let o = apart (get P a) (n .0) in
-        (rw e (omega (arith, old (get P a) o, n .0)), rw e (omega (arith, at-old (get P a) o, at-old a (apart a l), n .1)), rw e (n .2))
-
-    pub walk-next : Walk N p (set T w (get p w)) (set P v w) w (steps + 1)
-    unfolding T' P'
-    walk-next = record {
-      place = place';
-      long-dist = length-set T w (get p w) ∙ q .long-dist;
-      long-prev = length-set P v w ∙ q .long-prev;
-      node = t .node;
-      here = omega (arith, new, lower);
-      last = at-new;
-      goal = elim (ℕ-discrete 1 w) [ yes z ↦ absurd (omega (arith, q .goal, ap (λ y. get T y) z)) | no z ↦ omega (arith, old 1 z, q .goal) ];
-      low = λ a l. elim (ℕ-discrete a w) [ yes z ↦ rw z (omega (arith, new)) | no z ↦ omega (arith, old a z, q .low a l) ];
-      visited = λ a l o. elim (ℕ-discrete a w) [
-        | yes z ↦
-            rw z (record {
-              label = new;
-              most = omega (arith, at-new);
-              source = t .source;
-              terminal = t .terminal;
-              next = λ y. absurd (y refl);
-            })
-        | no z ↦
-            let u : get T a < far = omega (arith, old a z) in
-            let b = q .visited a l u in
-            record {
-              label = old a z ∙ b .label;
-              most = omega (arith, at-old a z, b .most);
-              source = b .source;
-              terminal = b .terminal;
-              next = λ y. elim (ℕ-discrete a v) [ yes k ↦ link a l k | no k ↦ chain a l u k ];
-            }
-      ];
-    }
-
-pub steps-on : {N : Net} {p T P : List ℕ} {v a b : ℕ} → a ≡ b → Walk N p T P v a → Walk N p T P v b
-steps-on {N} {p} {T} {P} {v} e q = subst (λ (z : ℕ). Walk N p T P v z) e q
-
-pub walk-end : {N : Net} {p T P : List ℕ} {v steps : ℕ} → v ≡ 0 → steps ≤ 95 → Walk N p T P v steps → Followed N p T P
-walk-end {N} {p} {T} {P} {v} {steps} e h q = record { steps = steps; few = h; walk = subst (λ (z : ℕ). Walk N p T P z steps) e q }
-
--- ---- the labels
-
--- the smallest ceiling on the way of h arcs that P has to a
-width : Net → List ℕ → ℕ → ℕ → ℕ → ℕ
-width N P limit zero a = limit
-width N P limit (suc h) a = min (width N P limit h (get P a)) (carries N (get P a) a)
-
-module _ {N : Net} {p T P : List ℕ} (s : Sound N p) (q : Followed N p T P) (limit : ℕ) (positive : 0 < limit) where
-  place : ℕ → ℕ
-  place = q .walk .place
-
-  record Bounds (h a : ℕ) : Type 0 where
-    up : get p a ≤ get p 0 + h * 2000000
-    down : get p 0 ≤ get p a + h * 2000000
-    some : 0 < width N P limit h a
-    most : width N P limit h a ≤ limit
-
-  arc-cost : {w v b t k : ℕ} → Arc N w v b t k → (t ≤ b + 2000000) × (b ≤ t + 2000000)
-  arc-cost {w} {v} (ahead j a c e o f g) = (omega (arith, s .costs w j a c), omega arith)
-  arc-cost {w} {v} (back j a c e o f g) = (omega arith, omega (arith, s .costs v j a c))
-
-  -- only plant 0 is as many steps away as the walk has
-  away : (a : ℕ) → a < 96 → get T a < far → a ≢ 0 → place a + 1 ≤ q .steps
-  unfolding place
-  away a h l z =
-      let b = q .walk .visited a h l in
-      omega (arith, b .next z .1, q .walk .visited (get P a) (b .next z .2 .node) (b .next z .0) .most)
-
-  bounds : (h a : ℕ) → a < 96 → get T a < far → place a + h ≡ q .steps → Bounds h a
-  unfolding place width
-  bounds zero a l o e = elim (ℕ-discrete a 0) [
-    | yes z ↦ rw z (record { up = omega arith; down = omega arith; some = positive; most = omega arith })
-    | no z ↦ absurd (omega (arith, away a l o z))
-  ]
-  bounds (suc h) a l o e = elim (ℕ-discrete a 0) [
-    | yes z ↦ absurd (omega (arith, q .walk .last, ap (λ y. q .walk .place y) z))
-    | no z ↦
-        let n = q .walk .visited a l o .next z in
-        let b = bounds h (get P a) (n .2 .node) (n .0) (omega (arith, n .1)) in
-        let c = arc-cost (n .2 .arc) in
+    bounds : (h a : ℕ) → Chain N p P h a → Bounds h a
+    unfolding Chain width
+    bounds zero a z =
+        rw z (record { source = λ l. omega arith; terminal = λ l. absurd (omega arith); up = omega arith; down = omega arith; some = positive })
+    bounds (suc h) a q =
+        let b = bounds h (get P a) (q .2) in
+        let c = arc-cost (q .1 .arc) in
         record {
+          source = arc-goal (q .1 .arc) .0;
+          terminal = arc-goal (q .1 .arc) .1;
           up = omega (arith, b .up, c .0);
           down = omega (arith, b .down, c .1);
-          some = omega (arith, b .some, n .2 .some);
-          most = omega (arith, b .most);
+          some = omega (arith, b .some, q .1 .some);
         }
-  ]
 
-  hop : ℕ → ℕ
-  hop a = q .steps - place a
+    -- ---- the nodes on the way
 
-  wide : ℕ → ℕ
-  wide a = width N P limit (hop a) a
+    -- node a is one of them: hop a arcs lead to it
+    record Mark (T hop : ℕ → ℕ) (h a : ℕ) : Type 0 where
+      label : T a ≡ get p a
+      most : hop a ≤ h
+      chain : Chain N p P (hop a) a
+      next : a ≢ 0 → T (get P a) < far
 
-  B : Book
-  B = book T P (cellsOf 96 hop) (cellsOf 96 wide)
+    -- T has the potentials of some of them, at most h arcs from plant 0, and far elsewhere
+    record Marks (h : ℕ) (T hop : ℕ → ℕ) : Type 0 where
+      low : (a : ℕ) → a < 96 → get p a ≤ T a
+      each : (a : ℕ) → a < 96 → T a < far → Mark T hop h a
 
-  hop-at : (a : ℕ) → a < 96 → get (cellsOf 96 hop) a ≡ q .steps - place a
-  unfolding hop
-  hop-at a h = cellsOf-at 96 hop a h
+    under : (a : ℕ) → a < 96 → get p a < far
+    under a l = omega (arith, s .high a l)
 
-  wide-at : (a : ℕ) → a < 96 → get (cellsOf 96 wide) a ≡ width N P limit (q .steps - place a) a
-  unfolding hop wide
-  wide-at a h = cellsOf-at 96 wide a h
+    blank : Marks 0 (λ a. far) (λ a. 0)
+    blank = record { low = λ a l. omega (arith, under a l); each = λ a l o. absurd (omega arith) }
 
-  near : (a : ℕ) → a < 96 → get T a < far → Near p T 1 a
-  near a h l = (l, omega (arith, q .walk .visited a h l .label, q .walk .visited 1 (omega arith) (q .walk .goal) .label))
+    -- a node more, k arcs from plant 0
+    module _ {h k v : ℕ} {T hop : ℕ → ℕ} (farther : h ≤ k) (node : v < 96) (c : Chain N p P k v) (before : v ≢ 0 → T (get P v) < far) (m : Marks h T hop) where
+      kept : (b : ℕ) → T b < far → put T v (get p v) b < far
+      kept b l = elim (ℕ-discrete b v) [
+        | yes z ↦ omega (arith, put-new T v (get p v) b z, under v node)
+        | no z ↦ omega (arith, put-old T v (get p v) b z)
+      ]
 
-  prev : (a : ℕ) → a < 96 → get T a < far → Dec (a ≡ 0) → Prev N 0 (Near p T 1) B a
-  unfolding B place width
-  prev a h l (yes z) = root z
-  prev a h l (no z) =
-      let b = q .walk .visited a h l in
-      let n = b .next z in
-      let c = q .walk .visited (get P a) (n .2 .node) (n .0) in
-      let d : q .steps - q .walk .place a ≡ suc (q .steps - q .walk .place (get P a)) = omega (arith, n .1, away a h l z) in
-      step (carries N (get P a) a) (n .2 .node) (near (get P a) (n .2 .node) (n .0))
-      (rw (b .label, c .label) (n .2 .arc))
-      (omega (arith, hop-at a h, hop-at (get P a) (n .2 .node)))
-      (wide-at a h ∙ ap (λ y. width N P limit y a) d ∙ ap (λ y. min y (carries N (get P a) a)) (sym (wide-at (get P a) (n .2 .node))))
-
-  label : (a : ℕ) → a < 96 → get T a < far → Label N 0 (Near p T 1) p 96 limit B a
-  unfolding B place
-  label a h l =
-      let b = q .walk .visited a h l in
-      let e = bounds (q .steps - q .walk .place a) a h l (omega (arith, b .most)) in
-      record {
-        source = b .source;
-        terminal = b .terminal;
-        up = omega (arith, e .up, b .label, hop-at a h);
-        down = omega (arith, e .down, b .label, hop-at a h);
-        count = omega (arith, hop-at a h, q .few);
-        some = omega (arith, e .some, wide-at a h);
-        most = omega (arith, e .most, wide-at a h);
-        prev = prev a h l (ℕ-discrete a 0);
+      onward : Marks k (put T v (get p v)) (put hop v k)
+      onward = record {
+        low = λ a l. elim (ℕ-discrete a v) [
+          | yes z ↦ omega (arith, put-new T v (get p v) a z, ap (λ y. get p y) z)
+          | no z ↦ omega (arith, put-old T v (get p v) a z, m .low a l)
+        ];
+        each = λ a l o. elim (ℕ-discrete a v) [
+          | yes z ↦
+              record {
+                label = put-new T v (get p v) a z ∙ ap (λ y. get p y) (sym z);
+                most = omega (arith, put-new hop v k a z);
+                chain = along (put-new hop v k a z) z c;
+                next = λ y. kept (get P a) (omega (arith, ap (λ y. T (get P y)) z, before (λ x. y (z ∙ x))));
+              }
+          | no z ↦
+              let b = m .each a l (omega (arith, put-old T v (get p v) a z)) in
+              record {
+                label = put-old T v (get p v) a z ∙ b .label;
+                most = omega (arith, put-old hop v k a z, b .most);
+                chain = along (put-old hop v k a z) refl (b .chain);
+                next = λ y. kept (get P a) (b .next y);
+              }
+        ];
       }
 
-  -- no node is nearer than plant 1
-  none : (a : ℕ) → a < 96 → get T a + get p 1 < get T 1 + get p a → ⊥
-  none a h l = omega (arith, q .walk .low a h, q .walk .visited 1 (omega arith) (q .walk .goal) .label)
+    -- all nodes of the h arcs to v
+    record Way (h v : ℕ) : Type 0 where
+      T : ℕ → ℕ
+      hop : ℕ → ℕ
+      marks : Marks h T hop
+      here : T v ≡ get p v
+      root : T 0 ≡ get p 0
 
-  pub tree-path : (room : List ℕ) → 0 < get room 1 → Labelled N p room 0 limit T P 1
-  unfolding B place width
-  tree-path room some = record {
-    hops = cellsOf 96 hop;
-    widths = cellsOf 96 wide;
-    searched = record {
-      long = record { dists = q .walk .long-dist; prevs = q .walk .long-prev; hopss = cellsOf-length 96 hop; widths = cellsOf-length 96 wide };
-      low = q .walk .low;
-      root-dist = q .walk .visited 0 (omega arith) (q .walk .here) .label;
-      root-hops = omega (arith, hop-at 0 (omega arith), q .walk .last);
-      root-width = wide-at 0 (omega arith) ∙ ended;
-      bound = omega arith;
-      found = λ h. record {
-        goal = q .walk .goal;
-        has-room = some;
-        label = label;
-        relaxed = λ v w t k a b o c. absurd (none v a o);
-        empty = λ v a o. absurd (none v a o);
-      };
-      stuck = λ e. absurd (omega arith);
-    };
-  }
-    where
-      ended : width N P limit (q .steps - q .walk .place 0) 0 ≡ limit
-      ended = let e : q .steps - q .walk .place 0 ≡ 0 = omega (arith, q .walk .last) in ap (λ y. width N P limit y 0) e
+    way : (h v : ℕ) → v < 96 → Chain N p P h v → Way h v
+    unfolding Chain
+    way zero v l c = record {
+      T = put (λ a. far) v (get p v);
+      hop = put (λ a. 0) v 0;
+      marks = onward (omega arith) l c (λ z. absurd (z c)) blank;
+      here = put-new (λ a. far) v (get p v) v refl;
+      root = put-new (λ a. far) v (get p v) 0 (sym c) ∙ ap (λ y. get p y) c;
+    }
+    way (suc h) v l c =
+        let n = c .1 .node in
+        let w = way h (get P v) n (c .2) in
+        record {
+          T = put (w .T) v (get p v);
+          hop = put (w .hop) v (suc h);
+          marks = onward (omega arith) l c (λ z. omega (arith, w .here, under (get P v) n)) (w .marks);
+          here = put-new (w .T) v (get p v) v refl;
+          root = put-old (w .T) v (get p v) 0 (λ z. c .0 (sym z)) ∙ w .root;
+        }
+
+    -- ---- the labels
+
+    module _ {count : ℕ} (few : count ≤ 95) (m : Way count 1) (long : length P ≡ 96) where
+      abbrev wide : ℕ → ℕ
+      wide a = width N limit P (m .hop a) a
+
+      abbrev dist : List ℕ
+      dist = cellsOf 96 (m .T)
+
+      B : Book
+      B = book (cellsOf 96 (m .T)) P (cellsOf 96 (m .hop)) (cellsOf 96 wide)
+
+      dist-at : (a : ℕ) → a < 96 → get (cellsOf 96 (m .T)) a ≡ m .T a
+      dist-at a h = cellsOf-at 96 (m .T) a h
+
+      hop-at : (a : ℕ) → a < 96 → get (cellsOf 96 (m .hop)) a ≡ m .hop a
+      hop-at a h = cellsOf-at 96 (m .hop) a h
+
+      wide-at : (a : ℕ) → a < 96 → get (cellsOf 96 wide) a ≡ width N limit P (m .hop a) a
+      wide-at a h = cellsOf-at 96 wide a h
+
+      marked : (a : ℕ) → a < 96 → get dist a < far → Mark (m .T) (m .hop) count a
+      marked a h l = m .marks .each a h (omega (arith, dist-at a h))
+
+      labelled : (a : ℕ) → a < 96 → m .T a < far → get dist a < far
+      labelled a h l = omega (arith, dist-at a h)
+
+      label-at : (a : ℕ) → a < 96 → get dist a < far → get dist a ≡ get p a
+      label-at a h l = dist-at a h ∙ marked a h l .label
+
+      goal : get dist 1 ≡ get p 1
+      goal = dist-at 1 (omega arith) ∙ m .here
+
+      near : (a : ℕ) → a < 96 → get dist a < far → Near p dist 1 a
+      near a h l = (l, omega (arith, label-at a h l, goal))
+
+      prev : (a : ℕ) → a < 96 → get dist a < far → Dec (a ≡ 0) → Prev N 0 (Near p dist 1) B a
+      unfolding B width
+      prev a h l (yes z) = root z
+      prev a h l (no z) =
+          let b = marked a h l in
+          let f = last (m .hop a) a (b .chain) z in
+          let n = f .tied .node in
+          let o = labelled (get P a) n (b .next z) in
+          let e : m .hop (get P a) ≡ f .arcs = alone (m .hop (get P a)) (f .arcs) (get P a) (marked (get P a) n o .chain) (f .rest) in
+          step (carries N (get P a) a) n (near (get P a) n o)
+          (rw (label-at a h l, label-at (get P a) n o) (f .tied .arc))
+          (omega (arith, hop-at a h, hop-at (get P a) n, f .one))
+          (wide-at a h ∙ ap (λ y. width N limit P y a) (f .one)
+          ∙ ap (λ y. min y (carries N (get P a) a)) (ap (λ y. width N limit P y (get P a)) (sym e) ∙ sym (wide-at (get P a) n)))
+
+      label : (a : ℕ) → a < 96 → get dist a < far → Label N 0 (Near p dist 1) p 96 limit B a
+      unfolding B
+      label a h l =
+          let b = marked a h l in
+          let e = bounds (m .hop a) a (b .chain) in
+          record {
+            source = e .source;
+            terminal = e .terminal;
+            up = omega (arith, e .up, label-at a h l, hop-at a h);
+            down = omega (arith, e .down, label-at a h l, hop-at a h);
+            count = omega (arith, hop-at a h, b .most);
+            some = omega (arith, e .some, wide-at a h);
+            most = omega (arith, within N limit P (m .hop a) a, wide-at a h);
+            prev = prev a h l (ℕ-discrete a 0);
+          }
+
+      low : (a : ℕ) → a < 96 → get p a ≤ get dist a
+      low a h = omega (arith, dist-at a h, m .marks .low a h)
+
+      -- no node is nearer than plant 1
+      none : (a : ℕ) → a < 96 → get dist a + get p 1 < get dist 1 + get p a → ⊥
+      none a h l = omega (arith, low a h, goal)
+
+      root-hop : m .hop 0 ≡ 0
+      unfolding Chain
+      root-hop = alone (m .hop 0) 0 0 (m .marks .each 0 (omega arith) (omega (arith, m .root, under 0 (omega arith))) .chain) refl
+
+      searched : (room : List ℕ) → 0 < get room 1 → Searched N p room 0 limit B 1
+      unfolding B width
+      searched room some = record {
+        long = record { dists = cellsOf-length 96 (m .T); prevs = long; hopss = cellsOf-length 96 (m .hop); widths = cellsOf-length 96 wide };
+        low = low;
+        root-dist = dist-at 0 (omega arith) ∙ m .root;
+        root-hops = hop-at 0 (omega arith) ∙ root-hop;
+        root-width = wide-at 0 (omega arith) ∙ ap (λ y. width N limit P y 0) root-hop;
+        bound = omega arith;
+        found = λ h. record {
+          goal = omega (arith, goal, under 1 (omega arith));
+          has-room = some;
+          label = label;
+          relaxed = λ v w t k a b o c. absurd (none v a o);
+          empty = λ v a o. absurd (none v a o);
+        };
+        stuck = λ e. absurd (omega arith);
+      }
+
+-- the labels of a path of so many arcs, along which amount drums can go: its reduced cost is 0
+pub record TreeLabels (N : Net) (p room : List ℕ) (limit : ℕ) (P : List ℕ) (count amount : ℕ) : Type 0 where
+  pub dist : List ℕ
+  pub hops : List ℕ
+  pub widths : List ℕ
+  pub searched : Searched N p room 0 limit (book dist P hops widths) 1
+  pub goal : get dist 1 ≡ get p 1
+  pub arcs : count ≡ get hops 1
+  pub drums : amount ≡ get widths 1
+
+pub tree-path : {N : Net} {p P : List ℕ} {limit count amount : ℕ} → Sound N p → 1 < N .m → 0 < limit → Followed N p limit P count amount
+    → (room : List ℕ) → 0 < get room 1 → TreeLabels N p room limit P count amount
+unfolding B
+tree-path {N} {p} {P} {limit} {count} {amount} s two positive q room some =
+    let m = way N p P s two limit positive count 1 (omega arith) (q .chain) in
+    let b = m .marks .each 1 (omega arith) (omega (arith, m .here, under N p P s two limit positive 1 (omega arith))) in
+    let e : m .hop 1 ≡ count = alone N p P (m .hop 1) count 1 (b .chain) (q .chain) in
+    record {
+      dist = cellsOf 96 (m .T);
+      hops = cellsOf 96 (m .hop);
+      widths = cellsOf 96 (λ a. width N limit P (m .hop a) a);
+      searched = searched N p P s two limit positive (q .few) m (q .long) room some;
+      goal = goal N p P s two limit positive (q .few) m (q .long);
+      arcs = sym (hop-at N p P s two limit positive (q .few) m (q .long) 1 (omega arith) ∙ e);
+      drums = q .drums ∙ ap (λ y. width N limit P y 1) (sym e) ∙ sym (wide-at N p P s two limit positive (q .few) m (q .long) 1 (omega arith));
+    }

@@ -102,9 +102,9 @@ pub record Low (part at : ℕ) (low w : List ℕ) (from left key : ℕ) : Type 0
   pub less : key ≤ from
   pub each : (b : ℕ) → has part b ≡ 1 → bit left b ≡ 0 → key ≤ get low b + get w (at + b)
 
-pub record SourcesReady (out : ℕ) (cost w : List ℕ) : Type 0 where
+pub record SourcesReady (out n : ℕ) (cost w : List ℕ) : Type 0 where
   pub few : out < 2 ^ 32
-  pub costs : (i j : ℕ) → has out i ≡ 1 → j < 64 → cells cost i j ≤ 2000000
+  pub costs : (i j : ℕ) → has out i ≡ 1 → j < n → cells cost i j ≤ 2000000
   pub most : (v : ℕ) → v < 96 → get w v ≤ 800000000
 
 pub record TerminalsReady (out : ℕ) (columns w : List ℕ) : Type 0 where

@@ -2,12 +2,11 @@
 use mathlib.Core.Path.{_≡_}
 use mathlib.Core.Logic.{_≢_}
 use mathlib.Core.List.{List}
-use Prim.Native.Nat.{ℕ, _+_, _-_, _≤_, _<_}
+use Prim.Native.Nat.{ℕ, zero, suc, min, _+_, _-_, _≤_, _<_}
 use native.Mathlib.Decide.{decLt}
 use lib.ListN.{length}
 use Rattle.residual.specs.Cells.{cells}
 use Rattle.residual.specs.Network.{Net, get, Arc}
-use Rattle.residual.specs.Labels.{far}
 
 -- unit costs and potentials of the size that the engine admits
 pub record FollowReady (m n : ℕ) (cost p : List ℕ) : Type 0 where
@@ -33,27 +32,24 @@ pub record Tied (N : Net) (p : List ℕ) (w v : ℕ) : Type 0 where
   pub some : 0 < carries N w v
   pub arc : Arc N w v (get p w) (get p v) (carries N w v)
 
--- node a of the walk, the place-th: it is the last one, v, or an arc from the next leads to it
-pub record Visited (N : Net) (p T P : List ℕ) (place : ℕ → ℕ) (v steps a : ℕ) : Type 0 where
-  pub label : get T a ≡ get p a
-  pub most : place a ≤ steps
-  pub source : a < 32 → a < N .m
-  pub terminal : 32 ≤ a → a < 32 + N .n
-  pub next : a ≢ v → (get T (get P a) < far) × (place (get P a) ≡ place a + 1) × Tied N p (get P a) a
+-- it is, and k drums can go over it
+pub record Bears (N : Net) (p : List ℕ) (w v k : ℕ) : Type 0 where
+  pub tied : Tied N p w v
+  pub room : k ≡ carries N w v
 
--- the walk has come to v after some steps; T has the nodes that it came to, P the node before each
-pub record Walk (N : Net) (p T P : List ℕ) (v steps : ℕ) : Type 0 where
-  pub place : ℕ → ℕ
-  pub long-dist : length T ≡ 96
-  pub long-prev : length P ≡ 96
-  pub node : v < 96
-  pub here : get T v < far
-  pub last : place v ≡ steps
-  pub goal : get T 1 < far
-  pub low : (a : ℕ) → a < 96 → get p a ≤ get T a
-  pub visited : (a : ℕ) → a < 96 → get T a < far → Visited N p T P place v steps a
+-- the last h arcs that P has to v lead from plant 0, and are open and tight
+unfoldable pub Chain : Net → List ℕ → List ℕ → ℕ → ℕ → Type 0
+Chain N p P zero v = v ≡ 0
+Chain N p P (suc h) v = (v ≢ 0) × Tied N p (get P v) v × Chain N p P h (get P v)
 
-pub record Followed (N : Net) (p T P : List ℕ) : Type 0 where
-  pub steps : ℕ
-  pub few : steps ≤ 95
-  pub walk : Walk N p T P 0 steps
+-- the smallest ceiling on them, or limit if that is less
+unfoldable pub width : Net → ℕ → List ℕ → ℕ → ℕ → ℕ
+width N limit P zero v = limit
+width N limit P (suc h) v = min (width N limit P h (get P v)) (carries N (get P v) v)
+
+-- P has a path of count arcs to plant 1, and amount drums of limit can go along it
+pub record Followed (N : Net) (p : List ℕ) (limit : ℕ) (P : List ℕ) (count amount : ℕ) : Type 0 where
+  pub long : length P ≡ 96
+  pub few : count ≤ 95
+  pub chain : Chain N p P count 1
+  pub drums : amount ≡ width N limit P count 1

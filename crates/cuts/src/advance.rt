@@ -1,11 +1,14 @@
-// Cuts until the path of the tree has drums on every lane that loses some, or the tree is given up.
-// Nothing is asked of the tree.
+// Cuts until the path of the tree has drums on every lane that loses some, or the tree is given up. After a cut that left the potentials as they
+// were another tight lane is looked for first: it takes no cut. Nothing is asked of the tree.
 ghost use Prim.Native.Nat.{_<_};
-ghost use Rattle.cuts.specs.Cut.{CutReady};
+ghost use Rattle.cuts.specs.Cut.{CutReady, Shifted};
 ghost use Rattle.cuts.specs.Advance.{Forgot, Advanced};
 use super::cut::cut;
 use super::tree::NONE;
 use super::tree::rehang;
+
+// The cell of up, which is no node's, that has 1 where the last cut left the potentials as they were.
+const FLAT: usize = 127;
 
 // Source i is no longer noted to serve terminal j, where their lane is empty.
 fn forget(i: usize, j: usize, x: &[u32; 2048], serves: &mut [u32; 64])
@@ -104,7 +107,87 @@ fn came_in(
     }
 }
 
-// The cut at the lane above source v, which leaves the tree; the part below it hangs from the lane that came in. Whether that was done.
+// A tight lane into the part from one of the first 8 sources outside it; NONE where there is none.
+fn tight_lane(m: usize, rows: u32, cols: u64, columns: &[u32; 2048], pot: &[u32; 96]) -> Lane {
+    let none = Lane {
+        terminal: NONE,
+        source: NONE,
+    };
+    let mut left = rows ^ u32::MAX;
+    let mut more: u32 = 8;
+    while 0 < left {
+        let i = u32::trailing_zeros(left) % 32;
+        if m <= i as usize {
+            return none;
+        }
+        let j = enter(i as usize, cols, columns, pot);
+        if j < 64 {
+            return Lane {
+                terminal: 32 + j,
+                source: i,
+            };
+        }
+        more = more - 1;
+        if more == 0 {
+            return none;
+        }
+        left = left & (left - 1);
+    }
+    none
+}
+
+// The lane that comes in by the cut of the part; NONE where no cut is made.
+fn cut_in(
+    m: usize,
+    n: usize,
+    part: u32,
+    below: u64,
+    cost: &[u32; 2048],
+    columns: &[u32; 2048],
+    serves: &[u32; 64],
+    pot: &mut [u32; 96],
+) -> Lane
+    requires { ⌜ CutReady m n (now cost) (now columns) (now pot) ⌝ }
+    ensures { λ r. ⌜ Shifted m n (now (cost .entry)) (now (serves .entry)) (now (pot .entry)) (now (pot .exit)) ⌝ }
+{
+    let made = cut(m, n, part, below, cost, columns, serves, pot);
+    if !made.done {
+        return Lane {
+            terminal: NONE,
+            source: NONE,
+        };
+    }
+    came_in(m, made.node, part, below, cost, columns, pot)
+}
+
+// The lane by which the part is to hang: a tight one where the last cut changed nothing, else the one that a cut brings in. NONE where there is none.
+fn next_lane(
+    m: usize,
+    n: usize,
+    part: u32,
+    below: u64,
+    cost: &[u32; 2048],
+    columns: &[u32; 2048],
+    serves: &[u32; 64],
+    pot: &mut [u32; 96],
+    up: &mut [u32; 128],
+) -> Lane
+    requires { ⌜ CutReady m n (now cost) (now columns) (now pot) ⌝ }
+    ensures { λ r. ⌜ Shifted m n (now (cost .entry)) (now (serves .entry)) (now (pot .entry)) (now (pot .exit)) ⌝ }
+{
+    if up[FLAT] == 1 {
+        let tight = tight_lane(m, part, below, columns, pot);
+        if tight.source < NONE {
+            return tight;
+        }
+    }
+    let before = pot[1];
+    let lane = cut_in(m, n, part, below, cost, columns, serves, pot);
+    up[FLAT] = if before == pot[1] { 1 } else { 0 };
+    lane
+}
+
+// The lane above source v leaves the tree; the part below it hangs from another. Whether that was done.
 fn step(
     m: usize,
     n: usize,
@@ -126,11 +209,10 @@ fn step(
     forget(k, t, x, serves);
     let part = rows[k];
     let below = cols[k];
-    let made = cut(m, n, part, below, cost, columns, serves, pot);
-    if !made.done {
+    let lane = next_lane(m, n, part, below, cost, columns, serves, pot, up);
+    if NONE <= lane.source {
         return false;
     }
-    let lane = came_in(m, made.node, part, below, cost, columns, pot);
     rehang(v, lane.terminal, lane.source, up, rows, cols);
     true
 }

@@ -13,13 +13,12 @@ fn turn_column(m: usize, j: usize, cost: &[u32; 2048], to: &mut [u32; 2048])
     }
 }
 
-pub fn by_terminal(m: usize, n: usize, cost: &[u32; 2048]) -> [u32; 2048]
-    requires { ⌜ TurnReady m n (now cost) ⌝ }
-    ensures { λ r. ⌜ Transposed m n (now (cost .entry)) r ⌝ }
+// Into an array that is lent cleared.
+pub fn by_terminal(m: usize, n: usize, cost: &[u32; 2048], to: &mut [u32; 2048])
+    requires { ⌜ TurnReady m n (now cost) × Filled m (now cost) 0 0 (now to) ⌝ }
+    ensures { λ _. ⌜ Transposed m n (now (cost .entry)) (now (to .exit)) ⌝ }
 {
-    let mut to = [0u32; 2048];
     for j in 0..n {
-        turn_column(m, j, cost, &mut to);
+        turn_column(m, j, cost, to);
     }
-    to
 }

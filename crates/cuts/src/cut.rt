@@ -3,6 +3,7 @@
 ghost use mathlib.Core.Path.{_≡_};
 ghost use mathlib.Core.Bool.{true};
 ghost use Prim.Native.Nat.{_≤_, _<_};
+ghost use lib.Bits.{bitAnd};
 ghost use lib.ListN.{length};
 ghost use Rattle.residual.specs.Cells.{cells};
 ghost use Rattle.cuts.specs.Columns.{byTerminal};
@@ -126,17 +127,25 @@ fn least(part: u64, at: usize, low: &[u32; 32], weight: &[u32; 96], from: Entry)
     far
 }
 
-// The least into the part, source by source: first to the terminals below 32, then to the others.
-fn by_sources(out: u64, cols: u64, cost: &[u32; 2048], weight: &[u32; 96]) -> Entry
-    requires { ⌜ SourcesReady out (now cost) (now weight) ⌝ }
-    ensures { λ r. ⌜ Nearest out cols (cells (now (cost .entry))) (now (weight .entry)) (r .key) ⌝ }
+// The least into the part, source by source, to its terminals below 32.
+fn by_half(out: u64, cols: u64, cost: &[u32; 2048], weight: &[u32; 96]) -> Entry
+    requires { ⌜ SourcesReady out 32 (now cost) (now weight) ⌝ }
+    ensures { λ r. ⌜ Nearest out (bitAnd cols 4294967295) (cells (now (cost .entry))) (now (weight .entry)) (r .key) ⌝ }
 {
     let none = Entry {
         key: 4_000_000_000,
         node: 0,
     };
     let low = lows(out, 0, 64, 0, cost, weight);
-    let far = least(cols & 4_294_967_295, 32, &low, weight, none);
+    least(cols & 4_294_967_295, 32, &low, weight, none)
+}
+
+// The least into the part, source by source: to the terminals below 32, then to the others.
+fn by_sources(out: u64, cols: u64, cost: &[u32; 2048], weight: &[u32; 96]) -> Entry
+    requires { ⌜ SourcesReady out 64 (now cost) (now weight) ⌝ }
+    ensures { λ r. ⌜ Nearest out cols (cells (now (cost .entry))) (now (weight .entry)) (r .key) ⌝ }
+{
+    let far = by_half(out, cols, cost, weight);
     let more = lows(out, 0, 64, 32, cost, weight);
     least(cols >> 32, 64, &more, weight, far)
 }
@@ -154,7 +163,7 @@ fn by_terminals(out: u64, cols: u64, columns: &[u32; 2048], weight: &[u32; 96]) 
     least(out, 0, &low, weight, none)
 }
 
-// The least into the part, from the side with less to look at; from the sources only where a line of the costs is full.
+// The least into the part, from the side with less to look at; from the sources only where what is read of a line of the costs is full.
 fn nearest(
     m: usize,
     n: usize,
@@ -168,8 +177,16 @@ fn nearest(
     ensures { λ r. ⌜ Near m n rows cols (now (cost .entry)) (now (weight .entry)) (r .key) ⌝ }
 {
     let out = others(m, rows as u64);
+    let lines = u64::count_ones(out);
+    if 32 <= n {
+        if cols <= 4_294_967_295 {
+            if lines < u64::count_ones(cols) {
+                return by_half(out, cols, cost, weight);
+            }
+        }
+    }
     if n == 64 {
-        if 2 * u64::count_ones(out) < u64::count_ones(cols) {
+        if 2 * lines < u64::count_ones(cols) {
             return by_sources(out, cols, cost, weight);
         }
     }

@@ -1,10 +1,10 @@
 // The path of a stretch as a tree has it, from plant 1 back to plant 0: each arc is checked to be open and tight.
 ghost use mathlib.Core.Path.{_≡_};
-ghost use mathlib.Core.Bool.{true, false};
+ghost use mathlib.Core.Bool.{true};
 ghost use Prim.Native.Nat.{_+_, _≤_, _<_};
 ghost use Rattle.residual.specs.Network.{net};
-ghost use Rattle.cuts.specs.Follow.{FollowReady, Tied, Followed};
-use paths::search::FAR;
+ghost use Rattle.cuts.specs.Follow.{FollowReady, Bears, Followed};
+use paths::search::smaller;
 
 // Do the potentials of a lane's ends differ by its unit cost?
 fn even(cost: u32, p: u32, q: u32) -> bool
@@ -17,7 +17,7 @@ fn even(cost: u32, p: u32, q: u32) -> bool
     false
 }
 
-// Is the return arc from terminal w to source v that of a lane in use, and tight?
+// What the return arc from terminal w to source v can carry, if its lane is in use and it is tight; else 0.
 fn tied_back(
     m: usize,
     n: usize,
@@ -27,25 +27,25 @@ fn tied_back(
     cap: &[u32; 2048],
     x: &[u32; 2048],
     pot: &[u32; 96],
-) -> bool
+) -> u32
     requires { ⌜ FollowReady m n (now cost) (now pot) ⌝ }
     requires { ⌜ v < m ⌝ }
-    ensures { λ r. ⌜ (r ≡ true → Tied (net m n (now (cost .entry)) (now (cap .entry)) (now (x .entry))) (now (pot .entry)) w v) ⌝ }
+    ensures { λ r. ⌜ (0 < r → Bears (net m n (now (cost .entry)) (now (cap .entry)) (now (x .entry))) (now (pot .entry)) w v r) ⌝ }
 {
     if w < 32 {
-        return false;
+        return 0;
     }
     if 32 + n <= w {
-        return false;
+        return 0;
     }
     let k = v * 64 + (w - 32);
-    if x[k] == 0 {
-        return false;
+    if even(cost[k], pot[v], pot[w]) {
+        return x[k];
     }
-    even(cost[k], pot[v], pot[w])
+    0
 }
 
-// Is the lane from source w to terminal v one with room, and tight?
+// What the lane from source w to terminal v can still take, if it is tight; else 0.
 fn tied_ahead(
     m: usize,
     n: usize,
@@ -55,22 +55,25 @@ fn tied_ahead(
     cap: &[u32; 2048],
     x: &[u32; 2048],
     pot: &[u32; 96],
-) -> bool
+) -> u32
     requires { ⌜ FollowReady m n (now cost) (now pot) ⌝ }
     requires { ⌜ (32 ≤ v) × (v < 32 + n) ⌝ }
-    ensures { λ r. ⌜ (r ≡ true → Tied (net m n (now (cost .entry)) (now (cap .entry)) (now (x .entry))) (now (pot .entry)) w v) ⌝ }
+    ensures { λ r. ⌜ (0 < r → Bears (net m n (now (cost .entry)) (now (cap .entry)) (now (x .entry))) (now (pot .entry)) w v r) ⌝ }
 {
     if m <= w {
-        return false;
+        return 0;
     }
     let k = w * 64 + (v - 32);
     if cap[k] <= x[k] {
-        return false;
+        return 0;
     }
-    even(cost[k], pot[w], pot[v])
+    if even(cost[k], pot[w], pot[v]) {
+        return cap[k] - x[k];
+    }
+    0
 }
 
-// Is the arc from w to v open and tight?
+// What the arc from w to v can carry, if it is open and tight; else 0.
 fn tied(
     m: usize,
     n: usize,
@@ -80,10 +83,10 @@ fn tied(
     cap: &[u32; 2048],
     x: &[u32; 2048],
     pot: &[u32; 96],
-) -> bool
+) -> u32
     requires { ⌜ FollowReady m n (now cost) (now pot) ⌝ }
     requires { ⌜ (v < 32 → v < m) × (32 ≤ v → v < 32 + n) ⌝ }
-    ensures { λ r. ⌜ (r ≡ true → Tied (net m n (now (cost .entry)) (now (cap .entry)) (now (x .entry))) (now (pot .entry)) w v) ⌝ }
+    ensures { λ r. ⌜ (0 < r → Bears (net m n (now (cost .entry)) (now (cap .entry)) (now (x .entry))) (now (pot .entry)) w v r) ⌝ }
 {
     if v < 32 {
         return tied_back(m, n, v, w, cost, cap, x, pot);
@@ -91,24 +94,14 @@ fn tied(
     tied_ahead(m, n, v, w, cost, cap, x, pot)
 }
 
-// A path: for each node on it its potential and the node before; whole where it leads from plant 0 to plant 1.
-pub struct Trace {
-    pub whole: bool,
-    pub dist: [u32; 96],
-    pub prev: [u32; 96],
+// The arcs of the tree's path (0: it has none), and how many drums can go along it.
+pub struct Traced {
+    pub count: u32,
+    pub amount: u32,
 }
 
-fn broken(dist: [u32; 96], prev: [u32; 96]) -> Trace
-    ensures { λ r. ⌜ r .whole ≡ false ⌝ }
-{
-    Trace {
-        whole: false,
-        dist,
-        prev,
-    }
-}
-
-// The way from plant 1 up the tree. It ends at plant 0, or where an arc is not open or not tight, or where it comes to a node again.
+// The way from plant 1 up the tree, for limit drums at most: does it lead to plant 0? It ends there, or where an arc is not open or not tight, or
+// after as many arcs as no path has. For each node on it but the last, prev then has the node before it.
 pub fn follow(
     m: usize,
     n: usize,
@@ -117,35 +110,36 @@ pub fn follow(
     x: &[u32; 2048],
     pot: &[u32; 96],
     up: &[u32; 128],
-) -> Trace
+    limit: u32,
+    prev: &mut [u32; 96],
+) -> Traced
     requires { ⌜ FollowReady m n (now cost) (now pot) ⌝ }
     requires { ⌜ 1 < m ⌝ }
-    ensures { λ r. ⌜ (r .whole ≡ true → Followed (net m n (now (cost .entry)) (now (cap .entry)) (now (x .entry))) (now (pot .entry)) (r .dist) (r .prev)) ⌝ }
+    ensures { λ r. ⌜ (0 < r .count → Followed (net m n (now (cost .entry)) (now (cap .entry)) (now (x .entry))) (now (pot .entry)) limit (now (prev .exit)) (r .count) (r .amount)) ⌝ }
 {
-    let mut dist = [FAR; 96];
-    let mut prev = [0u32; 96];
-    dist[1] = pot[1];
+    *prev = [0u32; 96];
     let mut v: usize = 1;
-    let mut left: u32 = 95;
-    while 0 < left {
+    let mut count: u32 = 0;
+    let mut amount = limit;
+    while count < 95 {
         let w = (up[v] % 128) as usize;
-        if !tied(m, n, v, w, cost, cap, x, pot) {
-            return broken(dist, prev);
-        }
-        if dist[w] < FAR {
-            return broken(dist, prev);
-        }
-        prev[v] = w as u32;
-        dist[w] = pot[w];
-        if w == 0 {
-            return Trace {
-                whole: true,
-                dist,
-                prev,
+        let room = tied(m, n, v, w, cost, cap, x, pot);
+        if room == 0 {
+            return Traced {
+                count: 0,
+                amount: 0,
             };
         }
+        prev[v] = w as u32;
+        amount = smaller(amount, room);
+        count = count + 1;
+        if w == 0 {
+            return Traced { count, amount };
+        }
         v = w;
-        left = left - 1;
     }
-    broken(dist, prev)
+    Traced {
+        count: 0,
+        amount: 0,
+    }
 }

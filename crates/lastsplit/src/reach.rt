@@ -9,17 +9,25 @@ ghost use Rattle.paths.specs.Search.{Wanted};
 ghost use Rattle.lastsplit.specs.LastSplit.{ReachReady, Reached, LastReady};
 use augment::send::send;
 
-// Is no ceiling of source i below a demand?
+// A number that has the top bit only where the ceiling is not below the demand.
+fn wide_bit(ceiling: u32, demand: u32) -> u32
+    ensures { λ r. ⌜ (2147483648 ≤ r → demand ≤ ceiling) ⌝ }
+{
+    let spare = ceiling % 2_147_483_648 + 2_147_483_648 - demand % 2_147_483_648;
+    spare & (u32::MAX - demand)
+}
+
+// Is no ceiling of source i below a demand? All 64 cells of its row are looked at, without a branch, which plain machines do four at a time.
 fn row_wide(n: usize, i: usize, cap: &[u32; 2048], demand: &[u32; 96]) -> bool
     requires { ⌜ (i < 32) × (n ≤ 64) ⌝ }
     ensures { λ r. ⌜ (r ≡ true → (j : ℕ) → j < n → get (now (demand .entry)) (32 + j) ≤ cells (now (cap .entry)) i j) ⌝ }
 {
-    for j in 0..n {
-        if cap[i * 64 + j] < demand[32 + j] {
-            return false;
-        }
+    let k = i * 64;
+    let mut all = u32::MAX;
+    for j in 0..64 {
+        all = all & wide_bit(cap[k + j], demand[32 + j]);
     }
-    true
+    2_147_483_648 <= all
 }
 
 // Is no ceiling below a demand?

@@ -2,14 +2,13 @@
 use mathlib.Core.Path.{_≡_, refl, sym, ap, ap₂, _∙_, subst, subst₂, fun-ext}
 use mathlib.Core.Bool.{Bool, true, false, not}
 use mathlib.Core.Option.{none, some}
-use mathlib.Core.List.{List, [], _∷_, _++_, map, List·Memᴰ, List·Memᴰ·head, List·Memᴰ·tail}
+use mathlib.Core.List.{List, _++_, map, List·Memᴰ}
 use Prim.Native.Nat.{ℕ, zero, suc, max, min, _+_, _-_, _*_, _≤_, _<_}
 use native.Mathlib.Nat.{mul-le-mul-right}
 use native.Mathlib.Omega.{arith}
 use lib.IntN.{ℤ, subℕ}
-use lib.ListN.{length, getD, take, drop, length-map, length-take, length-drop, take-append-drop}
-use lib.Seq.{ext-getD, getD-take, getD-drop, take-at}
-use Rattle.transport.proofs.Stops.{stops-few, stops-out}
+use lib.ListN.{length, getD, take, drop, length-take, length-drop, take-append-drop}
+use lib.Seq.{ext-getD, getD-take, getD-drop}
 use Rattle.transport.specs.Sum.{sum}
 use Rattle.transport.specs.Plan.{byRow, row, col, freight}
 use Rattle.transport.specs.Listing.{upFrom, select, least, greatest, some as any}
@@ -33,15 +32,9 @@ use Rattle.problem.proofs.TestsPassed.{Formed, formed, Balanced, balanced, has-
 use Rattle.problem.proofs.TestParts.{met, sum-under}
 use Rattle.problem.proofs.Splits.{Fitting, fitting, fits-split, sent-all, in-order, last-split, ends-within, most-made}
 use Rattle.problem.proofs.Promise.{from27, from9, refused-outcome, balance-rule, cheapest}
-use Rattle.problem.specs.Range.{AllInside, lower, Moderate}
+use Rattle.problem.specs.Range.{AllInside, lower}
 use Rattle.problem.proofs.RaisedCurve.{lane-in, raisedCosts, raisedFreight, raisedAt, raisedTotal, added, cost-most, freight-above, plan-for-is, least-above, total-above, best-is, best-in, stops-are, stop-freights-are}
 use Rattle.problem.proofs.TotalBounds.{few-drums, raised-most, total-bounded}
-
--- a list of values up to a limit
-each-most : (limit : ℕ) (g : ℕ → ℕ) (l : List ℕ) → ((y : ℕ) → List·Memᴰ y l → g y ≤ limit) → (i : ℕ) → getD (map g l) i 0 ≤ limit
-each-most limit g [] h i = omega arith
-each-most limit g (y ∷ l) h zero = h y (List·Memᴰ·head refl)
-each-most limit g (y ∷ l) h (suc i) = each-most limit g l (λ z q. h z (List·Memᴰ·tail q)) i
 
 -- the amounts at a split depend on the depots' stock alone
 amounts-same : (d d' : ℕ) (a a' : ℕ → ℕ) (m : ℕ) → d ≡ d' → ((i : ℕ) → 2 ≤ i → i < m → a i ≡ a' i) → (y i : ℕ) → i < m → amountsAt d a y i ≡ amountsAt d' a' y i
@@ -248,17 +241,18 @@ module _ {c : Case} {lo hi all : ℕ} (a : Accepts c lo hi all) {cost cap amount
   cell : (i j : ℕ) → i < c .m → j < c .n → i * c .n + j < c .m * c .n
   cell i j h l = lane-in (c .m) (c .n) i j h l
 
-  pub sweep-ready : (splits freights : List ℕ) → length splits ≡ c .splitCells → length freights ≡ 4001
-      → SweepReady (c .m) (c .n) wants lo hi (c .table) splits freights
-  sweep-ready splits freights es ef =
+  pub sweep-ready : (plus : ℕ) (splits : List ℕ) (freights : List ℤ) → plus ≤ 1000000000000 → length splits ≡ c .splitCells → length freights ≡ c .freightCells
+      → SweepReady (c .m) (c .n) wants lo hi (c .table) plus splits freights
+  sweep-ready plus splits freights h es ef =
       let r = roomy c (a .t11) in
       record {
         few = omega (arith, got (a .on .on) p, few-drums f fit);
         short = omega (arith, most (a .on));
         entries = inside (a .on);
         small = λ y h l. small-entry c (a .t9) y (omega (arith, a .on .low)) (omega (arith, last-split f fit, a .on .high));
+        added-most = h;
         splits-room = omega (arith, gap (a .on), r .split-room);
-        freights-room = omega (arith, most (a .on));
+        freights-room = omega (arith, gap (a .on), r .freight-room);
       }
 
   -- ---- the curves are one
@@ -276,8 +270,8 @@ module _ {c : Case} {lo hi all : ℕ} (a : Accepts c lo hi all) {cost cap amount
 
   -- ---- the answer
 
-  module _ {splits found splits' found' kept : List ℕ} {y t v k : ℕ}
-      (w : Swept (c .m) (c .n) (byRow 64 cost) (byRow 64 cap) all (amountIn amounts) (demandIn wants) lo hi (c .table) splits found splits' found' kept y t v k) where
+  module _ {plus : ℕ} {splits splits' kept : List ℕ} {freights freights' : List ℤ} {y t v k : ℕ}
+      (w : Swept (c .m) (c .n) (byRow 64 cost) (byRow 64 cap) all (amountIn amounts) (demandIn wants) lo hi (c .table) plus splits freights splits' freights' kept y t v k) where
     here : (leastSplit c ≤ bestSplit c) × (bestSplit c ≤ greatestSplit c)
     here = best-in f fit
 
@@ -309,18 +303,7 @@ module _ {c : Case} {lo hi all : ℕ} (a : Accepts c lo hi all) {cost cap amount
     is-stops : stopsOf (leastIn (c .m) (c .n) (byRow 64 cost) (byRow 64 cap) all (amountIn amounts) (demandIn wants)) lo hi ≡ stops c
     is-stops = raised-stops ∙ sym (stops-are f fit)
 
-    -- the freights found, without the cells after them
-    found-are : take k found' ≡ map (raisedAt c) (stopsOf (raisedAt c) (leastSplit c) (greatestSplit c))
-    found-are =
-        let e = ap₂ (λ (g : ℕ → ℕ) (l : List ℕ). map g l) curve raised-stops in
-        ap (take k) (w .freights-written)
-        ∙ take-at (map (leastIn (c .m) (c .n) (byRow 64 cost) (byRow 64 cap) all (amountIn amounts) (demandIn wants)) (stopsOf (leastIn (c .m) (c .n) (byRow 64 cost) (byRow 64 cap) all (amountIn amounts) (demandIn wants)) lo hi)) _ k
-        (length-map (stopsOf (leastIn (c .m) (c .n) (byRow 64 cost) (byRow 64 cap) all (amountIn amounts) (demandIn wants)) lo hi) _ ∙ sym (w .count)) ∙ e
-
     -- what is to be lowered is small enough
-    pub few-stops : (k ≤ 4001) × (k ≤ hi - lo + 1)
-    few-stops = let h = stops-few (leastIn (c .m) (c .n) (byRow 64 cost) (byRow 64 cap) all (amountIn amounts) (demandIn wants)) lo hi in (omega (arith, w .count, most (a .on)), omega (arith, w .count))
-
     pub freight-moderate : v ≤ 1000000000000
     freight-moderate = omega (arith, raised-freight, raised-most f fit (bestSplit c) (here .0) (here .1), few-drums f fit)
 
@@ -328,17 +311,6 @@ module _ {c : Case} {lo hi all : ℕ} (a : Accepts c lo hi all) {cost cap amount
     unfolding raisedTotal
     total-moderate =
         omega (arith, raised-total, raised-most f fit (bestSplit c) (here .0) (here .1), few-drums f fit, small-entry c (a .t9) (bestSplit c) (here .0) (omega (arith, last-split f fit, here .1)))
-
-    pub found-moderate : Moderate k found'
-    found-moderate i h =
-        subst (λ (x : ℕ). x ≤ 1000000000000) (sym (sym (getD-take k found' i 0 h) ∙ ap (λ (l : List ℕ). getD l i 0) found-are))
-        (each-most 1000000000000 (raisedAt c) (stopsOf (raisedAt c) (leastSplit c) (greatestSplit c))
-        (λ z q.
-        omega (
-          arith,
-          let o = stops-out (raisedAt c) (leastSplit c) (greatestSplit c) z (in-order f fit) q in raised-most f fit z (o .0) (o .1),
-          few-drums f fit,
-        )) i)
 
     -- the plan slice after the rows were copied out
     module _ (before after : List ℕ) (cells : RowsMoved (c .m) (c .n) 64 (c .n) kept after) (long : length after ≡ length before)
@@ -401,7 +373,7 @@ module _ {c : Case} {lo hi all : ℕ} (a : Accepts c lo hi all) {cost cap amount
           (ap length (plan-for-is f (bestSplit c)) ∙ canonical-plan (c .m) (c .n) _ _ _ _ is-plan .plan .cells)
           (λ i j h l. lane i j h l ∙ w .first i j h l ∙ ap (λ (q : List ℕ). byRow (c .n) q i j) same-plan)
 
-      module _ {freights freights' : List ℤ} (lows : freights' ≡ written (map (lower (added c)) (take k found')) freights) where
+      module _ (same : plus ≡ added c) where
         pub given : Written c (bestSplit c) (totalAt c (bestSplit c)) (slices before splits freights) (slices after splits' freights')
         given = record {
           cells = subst (λ (l : List ℕ). after ≡ written l before) is-everybody wrote;
@@ -412,7 +384,10 @@ module _ {c : Case} {lo hi all : ℕ} (a : Accepts c lo hi all) {cost cap amount
               (cheapest c (take (c .m * c .n) after) accepted-all is-plan is-worth);
           bounded = total-bounded f fit (a .t9);
           splits = w .stops-written ∙ ap (λ (l : List ℕ). written l splits) is-stops;
-          freights = lows ∙ ap (λ (l : List ℤ). written l freights) (ap (map (lower (added c))) found-are ∙ sym (stop-freights-are f fit));
+          freights =
+              w .freights-written
+              ∙ ap (λ (l : List ℤ). written l freights)
+              (ap₂ (λ (q : ℕ) (l : List ℕ). map (lower q) l) same (ap₂ (λ (g : ℕ → ℕ) (l : List ℕ). map g l) curve raised-stops) ∙ sym (stop-freights-are f fit));
         }
 
         pub answered : Answered c (planned y (subℕ t (added c)) (subℕ v (added c)) k) (slices before splits freights) (slices after splits' freights')

@@ -9,16 +9,15 @@ use casetests::tests::splits_test;
 use casetests::tests::sum_of;
 use range::begin::begin;
 use sweep::curve::sweep;
-use worktables::work::ceiling_rows;
+use sweep::freight::lowered;
+use worktables::work::copy_rows;
 use worktables::work::gather_rows;
-use worktables::work::lower_into;
-use worktables::work::lowered;
-use worktables::work::raised_rows;
+use worktables::work::raise_rows;
 use worktables::work::supplied;
 use worktables::work::wanted;
 
 // Prepares the working arrays with raised costs, has the engine find the first and the last split, tests 27, 9 and 11, has the engine sweep
-// the splits, copies the plan out and lowers freights and total. Whether step 1 tries the simplex does not show in the answer.
+// the splits, copies the plan out and lowers total and freight. Whether step 1 tries the simplex does not show in the answer.
 pub fn solve(
     quick: bool,
     m: usize,
@@ -38,8 +37,10 @@ pub fn solve(
     requires { ⌜ OnBalance (lent m n run1 run2 (now costs) (now supplies) (now demands) (now ceilings) (now table) (length (now plan)) (length (now splits)) (length (now freights))) made ⌝ }
     ensures { λ r. ⌜ Answered (lent m n run1 run2 (now (costs .entry)) (now (supplies .entry)) (now (demands .entry)) (now (ceilings .entry)) (now (table .entry)) (length (now (plan .entry))) (length (now (splits .entry))) (length (now (freights .entry)))) (outcome r) (slices (now (plan .entry)) (now (splits .entry)) (now (freights .entry))) (slices (now (plan .exit)) (now (splits .exit)) (now (freights .exit))) ⌝ }
 {
-    let cost = raised_rows(m, n, costs);
-    let cap = ceiling_rows(m, n, ceilings);
+    let mut cost = [0u32; 2048];
+    raise_rows(m, n, costs, &mut cost);
+    let mut cap = [0u32; 2048];
+    copy_rows(m, n, ceilings, &mut cap);
     let amounts = supplied(supplies);
     let wants = wanted(demands);
     let added = 1_000_000 * sum_of(demands);
@@ -88,7 +89,6 @@ pub fn solve(
         return Answer::Refused { number, place };
     }
     let mut kept = [0u32; 2048];
-    let mut raised = [0u64; 4001];
     let best = sweep(
         m,
         n,
@@ -100,8 +100,9 @@ pub fn solve(
         lo,
         hi,
         table,
+        added,
         splits,
-        &mut raised,
+        freights,
         &mut x,
         &mut serves,
         &mut pot,
@@ -112,7 +113,6 @@ pub fn solve(
     );
     gather_rows(m, n, &kept, plan);
     let stops = best.stops;
-    lower_into(&raised, stops, added, freights);
     let total = lowered(best.total, added);
     let freight = lowered(best.freight, added);
     Answer::Planned {

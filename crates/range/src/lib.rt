@@ -1,4 +1,3 @@
 // Step 1 by network simplex or by cheapest paths, and the first and the last split that have a plan within the ceilings.
 pub mod begin;
-mod crowd;
 mod quick;

@@ -7,7 +7,6 @@ ghost use Rattle.residual.specs.LanesInUse.{Covers};
 ghost use Rattle.firstsplit.specs.FirstPlan.{FirstPlan};
 ghost use Rattle.range.specs.QuickPlan.{Quick};
 ghost use Rattle.range.specs.Range.{BeginReady};
-use super::crowd::give_up;
 use firstsplit::base::First;
 use firstsplit::base::first_plan;
 use simplex::solve::solve;
@@ -95,7 +94,6 @@ fn quick_plan(
     }
     *serves = [0u32; 64];
     all_servers(m, n, x, serves);
-    give_up(m, n, cost, pot, up);
     First { found: true, split }
 }
 

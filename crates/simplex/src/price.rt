@@ -1,4 +1,5 @@
 // The cheapest lane of a source, by keys of the terminals.
+ghost use Prim.Native.Nat.{_≤_, _<_};
 use std::num::wrapping_add_u32;
 
 // Above every key of a terminal that is open.
@@ -18,19 +19,37 @@ fn priced(cost: u32, key: u32) -> u32 {
     wrapping_add_u32(cost << 6, key)
 }
 
-// The least price of source i; a key has its terminal in the low six bits, and so has this.
-pub fn least(i: u32, cost: &[u32; 2048], key: &[u32; 64]) -> u32 {
-    let k = ((i % 32) * 64) as usize;
+// The lesser price of two lanes of the source whose row begins at k: to terminal j and to terminal j + 16.
+fn lesser_of_two(k: usize, j: usize, cost: &[u32; 2048], key: &[u32; 64]) -> u32
+    requires { ⌜ (k ≤ 1984) × (j < 48) ⌝ }
+{
+    lesser(
+        priced(cost[k + j], key[j]),
+        priced(cost[k + j + 16], key[j + 16]),
+    )
+}
+
+// The least price over the terminals below 32 of the source whose row begins at k.
+fn least_narrow(k: usize, cost: &[u32; 2048], key: &[u32; 64]) -> u32
+    requires { ⌜ k ≤ 1984 ⌝ }
+{
     let mut l: u32 = 2_147_483_647;
     for j in 0..16 {
-        let a = lesser(
-            priced(cost[k + j], key[j]),
-            priced(cost[k + j + 16], key[j + 16]),
-        );
-        let b = lesser(
-            priced(cost[k + j + 32], key[j + 32]),
-            priced(cost[k + j + 48], key[j + 48]),
-        );
+        l = lesser(lesser_of_two(k, j, cost, key), l);
+    }
+    l
+}
+
+// The least price of source i, where there are n terminals; a key has its terminal in the low six bits, and so has this.
+pub fn least(i: u32, n: usize, cost: &[u32; 2048], key: &[u32; 64]) -> u32 {
+    let k = ((i % 32) * 64) as usize;
+    if n <= 32 {
+        return least_narrow(k, cost, key);
+    }
+    let mut l: u32 = 2_147_483_647;
+    for j in 0..16 {
+        let a = lesser_of_two(k, j, cost, key);
+        let b = lesser_of_two(k, j + 32, cost, key);
         l = lesser(lesser(a, b), l);
     }
     l

@@ -20,6 +20,7 @@ fn next(row: u32, m: u32) -> u32 {
 // A pivot at the source's cheapest lane, where it is too cheap; else on to the next source.
 fn step(
     m: u32,
+    n: usize,
     now: Turn,
     cost: &[u32; 2048],
     up: &mut [u32; 128],
@@ -30,7 +31,7 @@ fn step(
     key: &mut [u32; 64],
 ) -> Turn {
     let row = now.row;
-    let l = least(row, cost, key);
+    let l = least(row, n, cost, key);
     let s = l / 64 + p[(row % 32) as usize] % 33_554_432;
     if 33_554_432 <= s {
         return Turn {
@@ -55,6 +56,7 @@ fn step(
 // Until no source has a lane that is too cheap, 20,000 turns at most.
 fn simplex(
     m: u32,
+    n: usize,
     cost: &[u32; 2048],
     up: &mut [u32; 128],
     rows: &mut [u32; 128],
@@ -69,7 +71,7 @@ fn simplex(
         if m <= now.clean {
             return;
         }
-        now = step(m, now, cost, up, rows, cols, flow, p, key);
+        now = step(m, n, now, cost, up, rows, cols, flow, p, key);
         left = left - 1;
     }
 }
@@ -141,6 +143,7 @@ pub fn solve(
     );
     simplex(
         (m % 64) as u32,
+        n,
         cost,
         up,
         rows,

@@ -27,6 +27,7 @@ fn without(open: u32, i: u32) -> u32 {
 // Source i sends what it can to its cheapest open terminal. The book has what the sources still have, what the terminals still want, from 32
 // on, and the nodes in the order in which they were hung, from 128 on.
 fn place(
+    n: usize,
     i: u32,
     now: Placed,
     cost: &[u32; 2048],
@@ -37,7 +38,7 @@ fn place(
     cols: &mut [u64; 128],
     flow: &mut [u32; 128],
 ) -> Placed {
-    let j = least(i, cost, key) % 64;
+    let j = least(i, n, cost, key) % 64;
     let s = (i % 32) as usize;
     let t = j as usize;
     let a = book[s];
@@ -63,6 +64,7 @@ fn place(
 
 // Each open source in turn, until none is open.
 fn places(
+    n: usize,
     first: Placed,
     cost: &[u32; 2048],
     book: &mut [u32; 256],
@@ -84,7 +86,7 @@ fn places(
         }
         let i = u32::trailing_zeros(turn) % 32;
         turn = turn & (turn - 1);
-        now = place(i, now, cost, book, key, up, rows, cols, flow);
+        now = place(n, i, now, cost, book, key, up, rows, cols, flow);
         left = left - 1;
     }
     now.count
@@ -207,7 +209,7 @@ pub fn start(
         open: stock(m, amounts, &mut book),
         count: 0,
     };
-    let some = places(first, cost, &mut book, key, up, rows, cols, flow);
+    let some = places(n, first, cost, &mut book, key, up, rows, cols, flow);
     let count = rest(n, some, &mut book, up, rows, cols, flow);
     keys(0, key);
     follow_all(count, &book, cost, up, p, key);

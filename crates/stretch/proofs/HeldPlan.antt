@@ -2,15 +2,13 @@
 use mathlib.Core.Path.{_≡_, refl, sym, ap, _∙_}
 use mathlib.Core.Bool.{cond}
 use mathlib.Core.List.{List}
-use Prim.Native.Nat.{ℕ, zero, suc, min, _+_, _-_, _*_, _≤_, _<_}
+use Prim.Native.Nat.{ℕ, zero, suc, _+_, _-_, _*_, _<_}
 use native.Mathlib.Decide.{decLt}
 use native.Mathlib.Omega.{arith}
-use lib.ListN.{length, set}
+use lib.ListN.{set}
 use lib.Seq.{set-getD}
 use borrow.Author.Tests.{eq-eqb, ne-eqb}
 use Rattle.residual.specs.Network.{get}
-use Rattle.residual.specs.Labels.{Low}
-use Rattle.augment.specs.Potentials.{LowerReady, Lowered}
 use Rattle.augment.specs.PathWalk.{Carried, Walked}
 use Rattle.stretch.specs.Stretch.{heldAt}
 
@@ -33,7 +31,3 @@ pub walked-none : (P : List ℕ) (h v : ℕ) (x x' : List ℕ) → Walked P 0 h 
 unfolding Walked
 walked-none P zero v x x' w = w
 walked-none P (suc h) v x x' w = walked-none P h (get P v) (w .0) x' (w .2) ∙ carried-none (w .1)
-
--- where the path has no reduced cost, the potentials are as low as they are to be
-pub lowered-none : {D : ℕ} {T p : List ℕ} → LowerReady D T p → Low p T → D ≤ 0 → Lowered D T p 96 p
-lowered-none {D} {T} {p} r l h = record { long = r .long; down = λ v o. omega (arith, l v o); rest = λ v o. refl }

@@ -33,16 +33,34 @@ pub along-is : (v gain loss t value : ℕ) → value + loss * t ≡ v + gain * t
 unfolding along
 along-is v gain loss t value e = omega arith
 
-pub scan-start : {table : List ℕ} {y v gain loss : ℕ} {b : Incumbent} → Scanning table y v gain loss b 0 v b
-scan-start {table} {y} {v} {gain} {loss} {b} = record { line = omega arith; best = sym (scanned-none table y v gain loss b) }
+-- t drums on, the freight and what it is reckoned from are in range
+pub record LineRoom (v gain loss t : ℕ) : Type 0 where
+  pub gains : gain * t ≤ 4000000000000
+  pub losses : loss * t ≤ 4000000000000
+  pub value : v + gain * t ≤ 5000000000000
+  pub above : loss * t ≤ v + gain * t
+
+pub line-room : {table : List ℕ} {y k v gain loss t : ℕ} → ScanReady table y k v gain loss → t ≤ k → LineRoom v gain loss t
+line-room {t = t} r h =
+    let few : t ≤ 4000 = omega (arith, r .few) in
+    let gains = mul-le-mul {n₂ = 1000000000} {m₂ = 4000} (r .rise) few in
+    record {
+      gains = omega (arith, gains);
+      losses = omega (arith, mul-le-mul {n₂ = 1000000000} {m₂ = 4000} (r .fall) few);
+      value = omega (arith, r .start, gains);
+      above = r .above t h;
+    }
+
+-- a scan that is taken up t drums on
+pub scan-from : {table : List ℕ} {y v gain loss t : ℕ} {b held : Incumbent} → LineRoom v gain loss t → held ≡ scanned table y v gain loss b t
+    → Scanning table y v gain loss b t (v + gain * t - loss * t) held
+scan-from r e = record { line = omega (arith, r .above); best = e }
 
 module _
     {table : List ℕ} {y k v gain loss : ℕ} {b : Incumbent} {t value : ℕ} {held : Incumbent} (r : ScanReady table y k v gain loss)
     (s : Scanning table y v gain loss b t value held) (h : t < k) where
   pub scan-room : value + gain ≤ 5000000000000
-  scan-room =
-      let few : t + 1 ≤ 4000 = omega (arith, r .few) in
-      omega (arith, s .line, r .start, mul-le-mul {n₂ = 1000000000} {m₂ = 4000} (r .rise) few)
+  scan-room = omega (arith, s .line, line-room {t = t + 1} r (omega arith) .value)
 
   pub scan-fall : loss ≤ value + gain
   scan-fall = omega (arith, s .line, r .above (t + 1) (omega arith))

@@ -1,4 +1,5 @@
 pub mod IncumbentScan
+pub mod FourSplits
 pub mod UndoWalk
 pub mod PathLanes
 pub mod PathArcs

@@ -1,4 +1,4 @@
--- The path of a stretch, from plant 0 to plant 1: it is found, and drums can go along it. Assumes nothing.
+-- The path of a stretch, from plant 0 to plant 1: it is found, drums can go along it, and the potentials are lowered by it. Assumes nothing.
 use mathlib.Core.Path.{_≡_, refl, sym}
 use mathlib.Core.List.{List}
 use Prim.Native.Nat.{ℕ, _-_, _≤_, _<_}
@@ -7,12 +7,13 @@ use native.Mathlib.Omega.{arith}
 use lib.ListN.{set, replicate}
 use Rattle.residual.specs.Cells.{cells}
 use Rattle.residual.specs.Network.{Net, get}
-use Rattle.residual.specs.Labels.{Book, far}
+use Rattle.residual.specs.Labels.{Book, book, far}
 use Rattle.paths.specs.Search.{Sound, Near, Label, Stuck, Searched, Labelled}
+use Rattle.augment.specs.Potentials.{LowerReady, Lowered}
 use Rattle.augment.specs.Send.{SendReady}
 use Rattle.augment.specs.PathWalk.{WalkReady}
 use Rattle.cuts.specs.Follow.{Followed}
-use Rattle.stretch.specs.Stretch.{ShiftReady, Reached, PathDone}
+use Rattle.stretch.specs.Stretch.{ShiftReady, Reached, PathDone, PathFound, LowerDone}
 use Rattle.paths.proofs.SearchCut.{cut-greatest}
 use Rattle.augment.proofs.Delivery.{lower-ready, stroll-ready, push-ready, mark-ready, pushed, delivered, after}
 use Rattle.cuts.proofs.TreePath.{tree-path}
@@ -89,7 +90,39 @@ pub reached-by : {N : Net} {p x T P : List ℕ} {limit g : ℕ} → ShiftReady N
     → Reached N p limit T P
 reached-by {limit = limit} k q = record { hops = q .hops; widths = q .widths; searched = reached k (only limit) (q .searched) }
 
--- the path of a tree
-pub tree-reached : {N : Net} {p x T P : List ℕ} {limit : ℕ} → ShiftReady N p x limit → Followed N p T P → Reached N p limit T P
-tree-reached {limit = limit} k q =
-    tree-path (k .swinging .sound) q limit (k .some) (set (replicate 96 0) 1 limit) (omega (arith, only limit .one, k .some))
+pub search-found : {N : Net} {p x T P H W : List ℕ} {limit D d h : ℕ} → ShiftReady N p x limit
+    → Searched N p (set (replicate 96 0) 1 limit) 0 limit (book T P H W) 1 → N .x ≡ cells x → D ≡ get T 1 - get p 1 → h ≡ get H 1 → d ≡ get W 1
+    → PathFound N p x limit T P h D d
+search-found {T = T} {limit = limit} k q e eD eh ed = record {
+  labels = T;
+  done = path-done k (only limit) q e eD eh ed;
+  low = q .low;
+  lent = λ h. refl;
+}
+
+-- the path of a tree has no reduced cost
+pub tree-found : {N : Net} {p x P : List ℕ} {limit count amount : ℕ} (dist : List ℕ) → ShiftReady N p x limit → N .x ≡ cells x
+    → Followed N p limit P count amount → PathFound N p x limit dist P count 0 amount
+tree-found {limit = limit} dist k e q =
+    let t = tree-path (k .swinging .sound) (k .swinging .plants) (k .some) q (set (replicate 96 0) 1 limit) (omega (arith, only limit .one, k .some)) in
+    record {
+      labels = t .dist;
+      done = path-done k (only limit) (t .searched) e (omega (arith, t .goal)) (t .arcs) (t .drums);
+      low = t .searched .low;
+      lent = λ h. absurd (omega arith);
+    }
+
+-- ---- the potentials after it
+
+module _ {N : Net} {p x : List ℕ} {limit : ℕ} {dist prev : List ℕ} {count gap d : ℕ} (f : PathFound N p x limit dist prev count gap d) where
+  pub found-ready : 0 < gap → LowerReady gap dist p
+  found-ready h = rw (f .lent h) at (f .done .ready)
+
+  -- where the path has no reduced cost, the potentials are as low as they are to be
+  pub found-lowered : {p' : List ℕ} → LowerDone gap dist p p' → Lowered gap (f .labels) p 96 p'
+  found-lowered {p'} w = elim (decLt 0 gap) [
+    | yes h ↦ rw (f .lent h) (w .lowered h)
+    | no h ↦
+        rw (w .same (omega arith))
+        (record { long = f .done .ready .long; down = λ v o. omega (arith, f .low v o); rest = λ v o. refl })
+  ]

@@ -12,6 +12,7 @@ use Rattle.transport.specs.theory.AtSplit.{At, Least}
 use Rattle.transport.specs.theory.PathFlow.{Flow}
 use Rattle.residual.specs.Cells.{cells}
 use Rattle.residual.specs.Network.{Net, get, again}
+use Rattle.residual.specs.Labels.{Low}
 use Rattle.paths.specs.Search.{Labelled}
 use Rattle.augment.specs.LaneMarks.{Trail}
 use Rattle.augment.specs.Potentials.{LowerReady, Lowered}
@@ -56,6 +57,18 @@ pub record PathDone (N : Net) (p x : List ℕ) (limit : ℕ) (dist prev : List �
   pub lanes : Lanes prev d count 1 x
   pub part : (p' : List ℕ) → Lowered gap dist p 96 p' → (t : ℕ) → t ≤ d → (z : List ℕ) → Walked prev t count 1 x z → Part N p' z t
   pub over : (p' : List ℕ) → Lowered gap dist p 96 p' → (x' : List ℕ) → Walked prev d count 1 x x' → Over N (get p 1) limit p' x' d
+
+-- the same of a path by its labels, which dist has where the path has a reduced cost
+pub record PathFound (N : Net) (p x : List ℕ) (limit : ℕ) (dist prev : List ℕ) (count gap d : ℕ) : Type 0 where
+  pub labels : List ℕ
+  pub done : PathDone N p x limit labels prev count gap d
+  pub low : Low p labels
+  pub lent : 0 < gap → labels ≡ dist
+
+-- the potentials p become p': lowered where the path has a reduced cost, else as they are
+pub record LowerDone (gap : ℕ) (dist p p' : List ℕ) : Type 0 where
+  pub lowered : 0 < gap → Lowered gap dist p 96 p'
+  pub same : gap ≤ 0 → p' ≡ p
 
 -- ---- the plan that is kept: that of the next split, with the drums beyond the incumbent's split taken back
 

@@ -1,38 +1,28 @@
 // Step 3 of report 4.1, from one split to the next: substeps 1° to 4° as they stand there. Its sources 1 and 2 are the plants, nodes 0 and 1 here.
+ghost use Prim.Native.Nat.{_<_};
 ghost use Rattle.residual.specs.Network.{net};
-ghost use Rattle.residual.specs.Labels.{Low};
 ghost use Rattle.residual.specs.LanesInUse.{Covers};
 ghost use Rattle.paths.specs.Search.{Wanted};
-ghost use Rattle.augment.specs.Potentials.{LowerReady, Lowered};
-ghost use Rattle.stretch.specs.Stretch.{ShiftReady, Reached, PathDone, KeepReady, KeepDone, HoldDone, heldAt, StretchReady, StretchDone};
+ghost use Rattle.augment.specs.Potentials.{LowerReady};
+ghost use Rattle.stretch.specs.Stretch.{ShiftReady, Reached, PathFound, LowerDone, KeepReady, KeepDone, HoldDone, heldAt, StretchReady, StretchDone};
 use super::scan::scan;
 use super::undo::undo;
 use crate::Incumbent;
 use augment::send::lower;
-use augment::send::mark;
 use augment::send::measure;
 use augment::send::push;
 use cuts::follow::follow;
 use paths::search::search;
 
-// A path from plant 1 to plant 2: δ, how many drums can go along it, its arcs, its reduced cost, and for each node
-// the distance and the node before it.
+// A path from plant 1 to plant 2: δ, how many drums can go along it, its arcs, its reduced cost.
 pub struct Path {
     pub delta: u32,
     pub count: u32,
     pub gap: u32,
-    pub dist: [u32; 96],
-    pub prev: [u32; 96],
 }
 
-// For each node of a path the distance and the node before it.
-pub struct Labels {
-    pub dist: [u32; 96],
-    pub prev: [u32; 96],
-}
-
-// A cheapest path from plant 1 to plant 2 in the residual network: that of the tree, where it leads there over open and tight arcs, else one that is
-// searched for, and the tree has none any more.
+// A cheapest path from plant 1 to plant 2 in the residual network, as a search finds it; the tree has none any more. For each node of it dist has the
+// distance, prev the node before it.
 fn reach(
     m: usize,
     n: usize,
@@ -44,28 +34,26 @@ fn reach(
     serves: &[u32; 64],
     pot: &[u32; 96],
     up: &mut [u32; 128],
-) -> Labels
+    dist: &mut [u32; 96],
+    prev: &mut [u32; 96],
+)
     requires { ⌜ ShiftReady (net m n (now cost) (now cap) (now x)) (now pot) (now x) limit ⌝ }
     requires { ⌜ Wanted (net m n (now cost) (now cap) (now x)) (now demand) ⌝ }
     requires { ⌜ Covers m n (now x) (now serves) ⌝ }
-    ensures { λ r. ⌜ Reached (net m n (now (cost .entry)) (now (cap .entry)) (now (x .entry))) (now (pot .entry)) limit (r .dist) (r .prev) ⌝ }
+    ensures { λ _. ⌜ Reached (net m n (now (cost .entry)) (now (cap .entry)) (now (x .entry))) (now (pot .entry)) limit (now (dist .exit)) (now (prev .exit)) ⌝ }
 {
-    let tree = follow(m, n, cost, cap, x, pot, up);
-    if tree.whole {
-        let dist = tree.dist;
-        let prev = tree.prev;
-        return Labels { dist, prev };
-    }
     up[1] = 96;
     let mut room = [0u32; 96];
     room[1] = limit;
     let found = search(m, n, cost, x, cap, serves, pot, &room, demand, 0);
-    let dist = found.dist;
-    let prev = found.prev;
-    Labels { dist, prev }
+    let labels = found.dist;
+    let nodes = found.prev;
+    *dist = labels;
+    *prev = nodes;
 }
 
-// A cheapest path from plant 1 to plant 2 in the residual network, and δ: its smallest ceiling, or limit if that is less.
+// A cheapest path from plant 1 to plant 2 in the residual network, and δ: its smallest ceiling, or limit if that is less. It is that of the tree, where
+// it leads there over open and tight arcs, else one that is searched for: only then dist has the distances.
 fn find_path(
     m: usize,
     n: usize,
@@ -77,24 +65,42 @@ fn find_path(
     serves: &[u32; 64],
     pot: &[u32; 96],
     up: &mut [u32; 128],
+    dist: &mut [u32; 96],
+    prev: &mut [u32; 96],
 ) -> Path
     requires { ⌜ ShiftReady (net m n (now cost) (now cap) (now x)) (now pot) (now x) limit ⌝ }
     requires { ⌜ Wanted (net m n (now cost) (now cap) (now x)) (now demand) ⌝ }
     requires { ⌜ Covers m n (now x) (now serves) ⌝ }
-    ensures { λ r. ⌜ PathDone (net m n (now (cost .entry)) (now (cap .entry)) (now (x .entry))) (now (pot .entry)) (now (x .entry)) limit (r .dist) (r .prev) (r .count) (r .gap) (r .delta) ⌝ }
-    ensures { λ r. ⌜ Low (now (pot .entry)) (r .dist) ⌝ }
+    ensures { λ r. ⌜ PathFound (net m n (now (cost .entry)) (now (cap .entry)) (now (x .entry))) (now (pot .entry)) (now (x .entry)) limit (now (dist .exit)) (now (prev .exit)) (r .count) (r .gap) (r .delta) ⌝ }
 {
-    let found = reach(m, n, cost, cap, limit, demand, x, serves, pot, up);
-    let dist = found.dist;
-    let prev = found.prev;
-    let way = measure(&prev, 0, 1, limit, x, cap);
+    let traced = follow(m, n, cost, cap, x, pot, up, limit, prev);
+    if 0 < traced.count {
+        return Path {
+            delta: traced.amount,
+            count: traced.count,
+            gap: 0,
+        };
+    }
+    reach(
+        m,
+        n,
+        cost,
+        cap,
+        limit,
+        demand,
+        x,
+        serves,
+        pot,
+        up,
+        dist,
+        prev,
+    );
+    let way = measure(prev, 0, 1, limit, x, cap);
     let gap = dist[1] - pot[1];
     Path {
         delta: way.amount,
         count: way.count,
         gap,
-        dist,
-        prev,
     }
 }
 
@@ -123,9 +129,8 @@ fn keep(
 
 // Lowers the potentials, where the path has a reduced cost: that of the tree has none.
 fn lower_by(gap: u32, dist: &[u32; 96], pot: &mut [u32; 96])
-    requires { ⌜ LowerReady gap (now dist) (now pot) ⌝ }
-    requires { ⌜ Low (now pot) (now dist) ⌝ }
-    ensures { λ _. ⌜ Lowered gap (now (dist .entry)) (now (pot .entry)) 96 (now (pot .exit)) ⌝ }
+    requires { ⌜ (0 < gap → LowerReady gap (now dist) (now pot)) ⌝ }
+    ensures { λ _. ⌜ LowerDone gap (now (dist .entry)) (now (pot .entry)) (now (pot .exit)) ⌝ }
 {
     if 0 < gap {
         lower(gap, dist, pot);
@@ -156,6 +161,7 @@ pub struct Moved {
 
 // One stretch from split y, whose plan x has the given freight, at most limit drums further, which are left to u. The incumbent's plan is x, where
 // its split is that of x; when the climb leaves it, it is kept, with its potentials. The path is that of the tree, where it has one.
+// It is written into prev, and its distances into dist where it was searched for; nothing is asked of what they hold before.
 pub fn stretch(
     m: usize,
     n: usize,
@@ -173,6 +179,8 @@ pub fn stretch(
     kept: &mut [u32; 2048],
     prices: &mut [u32; 96],
     up: &mut [u32; 128],
+    dist: &mut [u32; 96],
+    prev: &mut [u32; 96],
 ) -> Moved
     requires { ⌜ StretchReady (net m n (now cost) (now cap) (now x)) (now pot) (now x) (now table) y freight limit best ⌝ }
     requires { ⌜ Wanted (net m n (now cost) (now cap) (now x)) (now demand) ⌝ }
@@ -182,28 +190,38 @@ pub fn stretch(
 {
     // 1° A cheapest path from plant 1 to plant 2 in the residual network, and δ: the smallest ceiling on it, or what is left to u if that is less.
     // The cost of the path is what the potentials say: gain less loss.
-    let path = find_path(m, n, cost, cap, limit, demand, x, serves, pot, up);
+    let path = find_path(
+        m,
+        n,
+        cost,
+        cap,
+        limit,
+        demand,
+        x,
+        serves,
+        pot,
+        up,
+        dist,
+        prev,
+    );
     let delta = path.delta;
     let count = path.count;
     let gap = path.gap;
-    let dist = path.dist;
-    let prev = path.prev;
     let gain = pot[1] as u64;
     let loss = (pot[0] - gap) as u64;
     // 2° The next split y + δ, the amounts after moving δ along the path, and f there: f + δ · (cost of the path).
     let drums = delta as u64;
     let next = y + drums;
-    push(&prev, count, 1, delta, x);
+    push(prev, count, 1, delta, x, serves);
     let value = freight + gain * drums - loss * drums;
     // 3° The incumbent, revised where a total on the way is smaller: every split of the stretch is looked at. Its plan is that of the next split
     // with the drums beyond its own taken back; it is copied only where the climb leaves it.
     let held = scan(table, y, drums, freight, gain, loss, best);
     let split = held.split;
-    keep(&prev, count, split, y, next, x, kept);
+    keep(prev, count, split, y, next, x, kept);
     // 4° The end, where the split is u, is the test of the loop around this. The residual network and the potentials for the next stretch: the
     // potentials are lowered at the end too, since the plan that is kept needs them.
-    mark(&prev, count, 1, serves);
-    lower_by(gap, &dist, pot);
+    lower_by(gap, dist, pot);
     hold(split, y, next, pot, prices);
     Moved {
         delta: drums,

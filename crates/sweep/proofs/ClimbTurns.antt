@@ -4,6 +4,7 @@ use mathlib.Core.Bool.{Bool}
 use mathlib.Core.List.{List}
 use Prim.Native.Nat.{ℕ, _+_, _-_, _≤_, _<_}
 use native.Mathlib.Omega.{arith}
+use lib.IntN.{ℤ}
 use lib.ListN.{length, getD}
 use Rattle.transport.specs.Plan.{row, col, freight}
 use Rattle.transport.specs.Listing.{leastFreightIn}
@@ -18,33 +19,33 @@ use Rattle.sweep.specs.engine.StopsPassed.{turned, NoteReady, Noted, Mar
 use Rattle.sweep.specs.engine.Climb.{bothIn, curveFrom, ClimbReady, Standing}
 use Rattle.canonical.proofs.CanonicalPlan.{settled-least, settled-cells}
 use Rattle.sweep.proofs.SweptCurve.{climb-start, climb-splits, climb-freights, climb-room, climb-next, climb-end}
-use Rattle.sweep.proofs.ClimbState.{stand-start, here, stretch-line, most, value-next}
+use Rattle.sweep.proofs.ClimbState.{stand-start, here, value-most, stretch-line, most, value-next}
 
-module _ {m n : ℕ} {cost cap x₀ p₀ : List ℕ} {lo hi v : ℕ} {table splits freights : List ℕ} (r : ClimbReady m n cost cap x₀ p₀ lo hi v table splits freights) where
-  pub ascend-start : Climbing (curveFrom m n cost cap x₀) table splits freights lo hi splits freights lo v 0 0 0
+module _ {m n : ℕ} {cost cap x₀ p₀ : List ℕ} {lo hi v : ℕ} {table : List ℕ} {added : ℕ} {splits : List ℕ} {freights : List ℤ} (r : ClimbReady m n cost cap x₀ p₀ lo hi v table added splits freights) where
+  pub ascend-start : Climbing (curveFrom m n cost cap x₀) table added splits freights lo hi splits freights lo v 0 0 0
       (record { split = lo; total = v + getD table lo 0; freight = v })
   ascend-start =
       let h = here r (stand-start r x₀ p₀) (r .order) in
-      climb-start (curveFrom m n cost cap x₀) table splits freights lo hi v (v + getD table lo 0) (r .order) (sym h) (ap (λ z. z + getD table lo 0) (sym h))
+      climb-start (curveFrom m n cost cap x₀) table added splits freights lo hi v (v + getD table lo 0) (r .order) (sym h) (ap (λ z. z + getD table lo 0) (sym h))
 
-  module _ {x p kept held splits' freights' : List ℕ} {y value count rise fall : ℕ} {b : Incumbent} (s : Standing m n cost cap x₀ x p kept held y value b)
-      (c : Climbing (curveFrom m n cost cap x₀) table splits freights lo hi splits' freights' y value count rise fall b) where
-    pub ascend-room : NoteReady count splits' freights'
-    ascend-room = climb-room (curveFrom m n cost cap x₀) table splits freights lo hi c (r .splits-room) (r .freights-room)
+  module _ {x p kept held splits' : List ℕ} {freights' : List ℤ} {y value count rise fall : ℕ} {b : Incumbent} (s : Standing m n cost cap x₀ x p kept held y value b)
+      (c : Climbing (curveFrom m n cost cap x₀) table added splits freights lo hi splits' freights' y value count rise fall b) where
+    pub ascend-room : NoteReady count value added splits' freights'
+    ascend-room = climb-room (curveFrom m n cost cap x₀) table added splits freights lo hi c (r .splits-room) (r .freights-room) (omega (arith, value-most r s)) (r .added-most)
 
     pub ascend-splits : length splits' ≡ length splits
-    ascend-splits = climb-splits (curveFrom m n cost cap x₀) table splits freights lo hi c (r .splits-room) (r .freights-room)
+    ascend-splits = climb-splits (curveFrom m n cost cap x₀) table added splits freights lo hi c (r .splits-room) (r .freights-room)
 
     pub ascend-freights : length freights' ≡ length freights
-    ascend-freights = climb-freights (curveFrom m n cost cap x₀) table splits freights lo hi c (r .splits-room) (r .freights-room)
+    ascend-freights = climb-freights (curveFrom m n cost cap x₀) table added splits freights lo hi c (r .splits-room) (r .freights-room)
 
-    pub ascend-next : {k h k' h' p' x' splits'' freights'' : List ℕ} {d y' v' gain loss count' : ℕ} {b' : Incumbent} {stop : Bool} → y < hi
+    pub ascend-next : {k h k' h' p' x' splits'' : List ℕ} {freights'' : List ℤ} {d y' v' gain loss count' : ℕ} {b' : Incumbent} {stop : Bool} → y < hi
         → StretchDone (net m n cost cap x) p table y value (hi - y) b k h p' x' k' h' d y' v' gain loss b' → stop ≡ turned y lo gain loss rise fall
-        → Marked stop count y value splits' freights' splits'' freights'' count'
-        → Climbing (curveFrom m n cost cap x₀) table splits freights lo hi splits'' freights'' y' v' count' gain loss b'
+        → Marked stop count y value added splits' freights' splits'' freights'' count'
+        → Climbing (curveFrom m n cost cap x₀) table added splits freights lo hi splits'' freights'' y' v' count' gain loss b'
     ascend-next {d = d} {gain = gain} {loss = loss} h q e k =
         rw (q .split)
-        (climb-next (curveFrom m n cost cap x₀) table splits freights lo hi c (r .splits-room) (r .freights-room) d gain loss (q .some) (most r s (c .low) h q)
+        (climb-next (curveFrom m n cost cap x₀) table added splits freights lo hi c (r .splits-room) (r .freights-room) d gain loss (q .some) (most r s (c .low) h q)
         (stretch-line r s (c .low) h q) e k (value-next r s (c .low) h q) (q .look))
 
     -- the plan that is held has the least freight at its split
@@ -52,13 +53,13 @@ module _ {m n : ℕ} {cost cap x₀ p₀ : List ℕ} {lo hi v : ℕ} {table spli
     unfolding leastIn
     kept-least = s .plan .worth ∙ c .best .freight
 
-    pub ascend-end : {splits'' freights'' k kept' : List ℕ} {count' : ℕ} → hi ≤ y → Noted count y value splits' freights' splits'' freights'' count'
+    pub ascend-end : {splits'' k kept' : List ℕ} {freights'' : List ℤ} {count' : ℕ} → hi ≤ y → Noted count y value added splits' freights' splits'' freights'' count'
         → k ≡ heldAt (b .split) y x kept → Canonized (net m n cost cap k) kept'
-        → Swept m n (cells cost) (cells cap) (bothIn n x₀) (row n (cells x₀)) (col m (cells x₀)) lo hi table splits freights splits'' freights'' kept' (b .split) (b .total) (b .freight) count'
+        → Swept m n (cells cost) (cells cap) (bothIn n x₀) (row n (cells x₀)) (col m (cells x₀)) lo hi table added splits freights splits'' freights'' kept' (b .split) (b .total) (b .freight) count'
     ascend-end {kept' = kept'} h k f held =
         let e : y ≡ hi = omega (arith, c .high) in
         let o = subst (λ (l : List ℕ). Canonized (net m n cost cap l) kept') f held in
-        let w = climb-end (curveFrom m n cost cap x₀) table splits freights lo hi c (r .splits-room) (r .freights-room) e k in
+        let w = climb-end (curveFrom m n cost cap x₀) table added splits freights lo hi c (r .splits-room) (r .freights-room) e k in
         record {
           split = c .best .split ∙ ap (λ z. bestFrom (λ z. curveFrom m n cost cap x₀ z + getD table z 0) lo (z - lo)) e;
           least = c .best .freight;

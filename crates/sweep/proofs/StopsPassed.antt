@@ -93,25 +93,21 @@ before-length f lo hi y = omega (arith, select-length (isStop f lo hi) (upFrom l
 
 -- ---- the lent slices
 
-pub written-none : (old : List ℕ) → written [] old ≡ old
+pub written-none : {A : Type 0} (old : List A) → written [] old ≡ old
 written-none old = refl
 
 -- one cell more
-pub written-more : (new old : List ℕ) (y : ℕ) → length new < length old → set (written new old) (length new) y ≡ written (new ++ (y ∷ [])) old
+pub written-more : {A : Type 0} (new old : List A) (y : A) → length new < length old → set (written new old) (length new) y ≡ written (new ++ (y ∷ [])) old
 written-more new old y h =
     let e : length (new ++ (y ∷ [])) ≡ suc (length new) = length-append new (y ∷ []) ∙ omega arith in
-    rw (drop-cons old (length new) 0 h, e, append-assoc new (y ∷ []) (drop (suc (length new)) old), set-append-seam)
+    rw (drop-cons old (length new) y h, e, append-assoc new (y ∷ []) (drop (suc (length new)) old), set-append-seam)
 
-pub written-length : (new old : List ℕ) → length new ≤ length old → length (written new old) ≡ length old
+pub written-length : {A : Type 0} (new old : List A) → length new ≤ length old → length (written new old) ≡ length old
 written-length new old h = simp (length-append, length-drop) (omega arith)
 
-pub map-append : (f : ℕ → ℕ) (l l' : List ℕ) → map f (l ++ l') ≡ map f l ++ map f l'
+pub map-append : {A B : Type 0} (f : A → B) (l l' : List A) → map f (l ++ l') ≡ map f l ++ map f l'
 map-append f [] l' = refl
-map-append f (x ∷ l) l' = ap (λ (r : List ℕ). f x ∷ r) (map-append f l l')
-
-pub map-length : (f : ℕ → ℕ) (l : List ℕ) → length (map f l) ≡ length l
-map-length f [] = refl
-map-length f (x ∷ l) = ap suc (map-length f l)
+map-append f (x ∷ l) l' = ap (λ r. f x ∷ r) (map-append f l l')
 
 -- ---- the sweep of a curve
 

@@ -3,10 +3,12 @@ use mathlib.Core.Path.{_≡_, refl, sym, ap, _∙_, fun-ext}
 use mathlib.Core.List.{List, map}
 use Prim.Native.Nat.{ℕ, zero, suc, _+_, _-_, _≤_, _<_}
 use native.Mathlib.Omega.{arith}
+use lib.IntN.{ℤ}
 use lib.ListN.{length, getD}
 use Rattle.transport.specs.Plan.{Table, byRow, col, freight}
 use Rattle.transport.specs.Curve.{amountsAt, leastIn, bestFrom, stopsOf, written}
 use Rattle.residual.specs.Cells.{cells}
+use Rattle.problem.specs.Range.{lower}
 use Rattle.range.specs.Begun.{Begun}
 use Rattle.range.specs.Range.{amountIn, demandIn}
 use Rattle.sweep.specs.Sweep.{SweepReady, Swept}
@@ -31,16 +33,16 @@ module _ {m n : ℕ} (c u : Table) {d d' : ℕ} {a a' b b' : ℕ → ℕ} (e : d
   same-curve =
       fun-ext (λ y. leastFreightIn-ext m n c c u u (amountsAt d a y) (amountsAt d' a' y) b b' (λ i j p q. refl) (λ i j p q. refl) (sends y) l)
 
-  pub swept-same : {lo hi : ℕ} {table splits freights splits' freights' kept : List ℕ} {y t v stops : ℕ}
-      → Swept m n c u d a b lo hi table splits freights splits' freights' kept y t v stops
-      → Swept m n c u d' a' b' lo hi table splits freights splits' freights' kept y t v stops
-  swept-same {lo} {hi} {table} {splits} {freights} {y = y} s = record {
+  pub swept-same : {lo hi added : ℕ} {table splits splits' kept : List ℕ} {freights freights' : List ℤ} {y t v stops : ℕ}
+      → Swept m n c u d a b lo hi table added splits freights splits' freights' kept y t v stops
+      → Swept m n c u d' a' b' lo hi table added splits freights splits' freights' kept y t v stops
+  swept-same {lo} {hi} {added} {table} {splits} {freights = freights} {y = y} s = record {
     split = s .split ∙ ap (λ f. bestFrom (λ z. f z + getD table z 0) lo (hi - lo)) same-curve;
     least = s .least ∙ ap (λ f. f y) same-curve;
     total = s .total;
     count = s .count ∙ ap (λ f. length (stopsOf f lo hi)) same-curve;
     stops-written = s .stops-written ∙ ap (λ f. written (stopsOf f lo hi) splits) same-curve;
-    freights-written = s .freights-written ∙ ap (λ f. written (map f (stopsOf f lo hi)) freights) same-curve;
+    freights-written = s .freights-written ∙ ap (λ f. written (map (lower added) (map f (stopsOf f lo hi))) freights) same-curve;
     plan = record {
       long = s .plan .long;
       rows = λ i k. s .plan .rows i k ∙ sends y i k;
@@ -55,8 +57,8 @@ module _ {m n : ℕ} (c u : Table) {d d' : ℕ} {a a' b b' : ℕ → ℕ} (e : d
 
 -- ---- the sweep
 
-module _ {m n : ℕ} {cost cap : List ℕ} (supply : List ℕ) {demand x serves p : List ℕ} {d lo hi : ℕ} {table splits freights : List ℕ}
-    (b : Begun m n cost cap (amountIn supply) (demandIn demand) d lo hi x serves p) (r : SweepReady m n demand lo hi table splits freights) where
+module _ {m n : ℕ} {cost cap : List ℕ} (supply : List ℕ) {demand x serves p : List ℕ} {d lo hi : ℕ} {table : List ℕ} {added : ℕ} {splits : List ℕ} {freights : List ℤ}
+    (b : Begun m n cost cap (amountIn supply) (demandIn demand) d lo hi x serves p) (r : SweepReady m n demand lo hi table added splits freights) where
   pub freight-ready : FreightReady m n (cells cost) (cells x)
   freight-ready = record {
     sources = b .swinging .sound .sources;
@@ -71,7 +73,7 @@ module _ {m n : ℕ} {cost cap : List ℕ} (supply : List ℕ) {demand x serves 
   pub cols-met : Below n (col m (cells x)) (demandIn demand)
   cols-met j h = b .at .demands j (omega arith) h
 
-  pub climb-ready : {v : ℕ} → v ≡ freight m n (cells cost) (cells x) → ClimbReady m n cost cap x p lo hi v table splits freights
+  pub climb-ready : {v : ℕ} → v ≡ freight m n (cells cost) (cells x) → ClimbReady m n cost cap x p lo hi v table added splits freights
   climb-ready e = record {
     swinging = b .swinging;
     end = record {
@@ -92,6 +94,7 @@ module _ {m n : ℕ} {cost cap : List ℕ} (supply : List ℕ) {demand x serves 
     short = r .short;
     entries = r .entries;
     small = r .small;
+    added-most = r .added-most;
     splits-room = r .splits-room;
     freights-room = r .freights-room;
   }

@@ -3,18 +3,21 @@
 use mathlib.Core.Path.{_≡_}
 use mathlib.Core.List.{List, map}
 use Prim.Native.Nat.{ℕ, _+_, _-_, _≤_, _<_}
+use lib.IntN.{ℤ}
 use lib.ListN.{length, getD}
 use Rattle.transport.specs.Sum.{sum}
 use Rattle.transport.specs.Plan.{Table, byRow, row, col, freight, Under}
 use Rattle.transport.specs.Curve.{amountsAt, leastIn, bestFrom, stopsOf, written}
 use Rattle.transport.specs.Canonical.{canonicalAt}
+use Rattle.problem.specs.Range.{lower}
 use Rattle.range.specs.Range.{demandIn}
 
-pub record SweepReady (m n : ℕ) (demand : List ℕ) (lo hi : ℕ) (table splits freights : List ℕ) : Type 0 where
+pub record SweepReady (m n : ℕ) (demand : List ℕ) (lo hi : ℕ) (table : List ℕ) (added : ℕ) (splits : List ℕ) (freights : List ℤ) : Type 0 where
   pub few : sum n (demandIn demand) ≤ 256000
   pub short : hi - lo ≤ 4000
   pub entries : hi < length table
   pub small : (y : ℕ) → lo ≤ y → y ≤ hi → getD table y 0 ≤ 1000000000
+  pub added-most : added ≤ 1000000000000
   pub splits-room : hi - lo < length splits
   pub freights-room : hi - lo < length freights
 
@@ -26,13 +29,14 @@ pub record PlanAt (m n : ℕ) (c u : Table) (d : ℕ) (a b : ℕ → ℕ) (y v :
   pub under : Under m n (byRow 64 x) u
   pub worth : freight m n c (byRow 64 x) ≡ v
 
--- y is the split of least total t and of freight v; the stops stand in the slices, the plan for everybody at y in kept
-pub record Swept (m n : ℕ) (c u : Table) (d : ℕ) (a b : ℕ → ℕ) (lo hi : ℕ) (table splits freights splits' freights' kept : List ℕ) (y t v stops : ℕ) : Type 0 where
+-- y is the split of least total t and of freight v; the stops stand in the slices with their freights less what was added, the plan for everybody
+-- at y in kept
+pub record Swept (m n : ℕ) (c u : Table) (d : ℕ) (a b : ℕ → ℕ) (lo hi : ℕ) (table : List ℕ) (added : ℕ) (splits : List ℕ) (freights : List ℤ) (splits' : List ℕ) (freights' : List ℤ) (kept : List ℕ) (y t v stops : ℕ) : Type 0 where
   pub split : y ≡ bestFrom (λ z. leastIn m n c u d a b z + getD table z 0) lo (hi - lo)
   pub least : v ≡ leastIn m n c u d a b y
   pub total : t ≡ v + getD table y 0
   pub count : stops ≡ length (stopsOf (leastIn m n c u d a b) lo hi)
   pub stops-written : splits' ≡ written (stopsOf (leastIn m n c u d a b) lo hi) splits
-  pub freights-written : freights' ≡ written (map (leastIn m n c u d a b) (stopsOf (leastIn m n c u d a b) lo hi)) freights
+  pub freights-written : freights' ≡ written (map (lower added) (map (leastIn m n c u d a b) (stopsOf (leastIn m n c u d a b) lo hi))) freights
   pub plan : PlanAt m n c u d a b y v kept
   pub first : (i j : ℕ) → i < m → j < n → byRow 64 kept i j ≡ byRow n (canonicalAt m n c u d a b y) i j

@@ -14,19 +14,27 @@ ghost use Rattle.sweep.specs.Sweep.{SweepReady, Swept};
 ghost use Rattle.sweep.specs.engine.StopsPassed.{NoteReady, Noted, Marked, turned};
 ghost use Rattle.sweep.specs.engine.Climb.{bothIn, ClimbReady};
 use super::freight::freight_of;
+use super::freight::lowered;
 use canonical::canon::canonize;
 use cuts::advance::advance;
 use cuts::columns::by_terminal;
 use stretch::Incumbent;
 use stretch::stretch::stretch;
 
-// Writes a stop and its freight behind the count stops that stand in the slices; how many stand there then.
-fn note(count: usize, y: u64, freight: u64, splits: &mut [u64], freights: &mut [u64]) -> usize
-    requires { ⌜ NoteReady count (now splits) (now freights) ⌝ }
-    ensures { λ r. ⌜ Noted count y freight (now (splits .entry)) (now (freights .entry)) (now (splits .exit)) (now (freights .exit)) r ⌝ }
+// Writes a stop and its freight, lowered, behind the count stops that stand in the slices; how many stand there then.
+fn note(
+    count: usize,
+    y: u64,
+    freight: u64,
+    added: u64,
+    splits: &mut [u64],
+    freights: &mut [i64],
+) -> usize
+    requires { ⌜ NoteReady count freight added (now splits) (now freights) ⌝ }
+    ensures { λ r. ⌜ Noted count y freight added (now (splits .entry)) (now (freights .entry)) (now (splits .exit)) (now (freights .exit)) r ⌝ }
 {
     splits[count] = y;
-    freights[count] = freight;
+    freights[count] = lowered(freight, added);
     count + 1
 }
 
@@ -36,14 +44,15 @@ fn mark(
     count: usize,
     y: u64,
     freight: u64,
+    added: u64,
     splits: &mut [u64],
-    freights: &mut [u64],
+    freights: &mut [i64],
 ) -> usize
-    requires { ⌜ NoteReady count (now splits) (now freights) ⌝ }
-    ensures { λ r. ⌜ Marked stop count y freight (now (splits .entry)) (now (freights .entry)) (now (splits .exit)) (now (freights .exit)) r ⌝ }
+    requires { ⌜ NoteReady count freight added (now splits) (now freights) ⌝ }
+    ensures { λ r. ⌜ Marked stop count y freight added (now (splits .entry)) (now (freights .entry)) (now (splits .exit)) (now (freights .exit)) r ⌝ }
 {
     if stop {
-        return note(count, y, freight, splits, freights);
+        return note(count, y, freight, added, splits, freights);
     }
     count
 }
@@ -93,8 +102,9 @@ fn climb(
     freight: u64,
     demand: &[u32; 96],
     table: &[u64],
+    added: u64,
     splits: &mut [u64],
-    freights: &mut [u64],
+    freights: &mut [i64],
     x: &mut [u32; 2048],
     serves: &mut [u32; 64],
     pot: &mut [u32; 96],
@@ -104,11 +114,11 @@ fn climb(
     cols: &mut [u64; 128],
     columns: &[u32; 2048],
 ) -> Curve
-    requires { ⌜ ClimbReady m n (now cost) (now cap) (now x) (now pot) lo hi freight (now table) (now splits) (now freights) ⌝ }
+    requires { ⌜ ClimbReady m n (now cost) (now cap) (now x) (now pot) lo hi freight (now table) added (now splits) (now freights) ⌝ }
     requires { ⌜ Wanted (net m n (now cost) (now cap) (now x)) (now demand) ⌝ }
     requires { ⌜ Covers m n (now x) (now serves) ⌝ }
     requires { ⌜ Transposed m n (now cost) (now columns) ⌝ }
-    ensures { λ r. ⌜ Swept m n (cells (now (cost .entry))) (cells (now (cap .entry))) (bothIn n (now (x .entry))) (row n (cells (now (x .entry)))) (col m (cells (now (x .entry)))) lo hi (now (table .entry)) (now (splits .entry)) (now (freights .entry)) (now (splits .exit)) (now (freights .exit)) (now (kept .exit)) (r .split) (r .total) (r .freight) (r .stops) ⌝ }
+    ensures { λ r. ⌜ Swept m n (cells (now (cost .entry))) (cells (now (cap .entry))) (bothIn n (now (x .entry))) (row n (cells (now (x .entry)))) (col m (cells (now (x .entry)))) lo hi (now (table .entry)) added (now (splits .entry)) (now (freights .entry)) (now (splits .exit)) (now (freights .exit)) (now (kept .exit)) (r .split) (r .total) (r .freight) (r .stops) ⌝ }
 {
     // The end of step 1: the incumbent is the plan at lo. Its plan is kept when the climb leaves it.
     let at = lo as usize;
@@ -118,6 +128,9 @@ fn climb(
         freight,
     };
     let mut prices = *pot;
+    // The path of a stretch: each writes its own.
+    let mut dist = [0u32; 96];
+    let mut prev = [0u32; 96];
     let mut y = lo;
     let mut value = freight;
     let mut count: usize = 0;
@@ -144,16 +157,18 @@ fn climb(
             kept,
             &mut prices,
             up,
+            &mut dist,
+            &mut prev,
         );
         let stop = turn(y, lo, moved.gain, moved.loss, rise, fall);
-        count = mark(stop, count, y, value, splits, freights);
+        count = mark(stop, count, y, value, added, splits, freights);
         rise = moved.gain;
         fall = moved.loss;
         value = moved.freight;
         y = moved.split;
         best = moved.best;
     }
-    count = note(count, y, value, splits, freights);
+    count = note(count, y, value, added, splits, freights);
     keep_last(best.split, y, x, pot, kept, &mut prices);
     canonize(m, n, cost, cap, &prices, kept);
     Curve {
@@ -164,8 +179,8 @@ fn climb(
     }
 }
 
-// The sweep from split lo to split hi of a prepared case, of which x holds a cheapest plan at lo: the stops and their freights go into the
-// slices, the plan for everybody at the best split into kept. Nothing is asked of the tree in up, rows and cols.
+// The sweep from split lo to split hi of a prepared case, of which x holds a cheapest plan at lo: the stops and their freights, less what was
+// added, go into the slices, the plan for everybody at the best split into kept. Nothing is asked of the tree in up, rows and cols.
 pub fn sweep(
     m: usize,
     n: usize,
@@ -177,8 +192,9 @@ pub fn sweep(
     lo: u64,
     hi: u64,
     table: &[u64],
+    added: u64,
     splits: &mut [u64],
-    freights: &mut [u64],
+    freights: &mut [i64],
     x: &mut [u32; 2048],
     serves: &mut [u32; 64],
     pot: &mut [u32; 96],
@@ -188,11 +204,12 @@ pub fn sweep(
     cols: &mut [u64; 128],
 ) -> Curve
     requires { ⌜ Begun m n (now cost) (now cap) (amountIn (now supply)) (demandIn (now demand)) made lo hi (now x) (now serves) (now pot) ⌝ }
-    requires { ⌜ SweepReady m n (now demand) lo hi (now table) (now splits) (now freights) ⌝ }
-    ensures { λ r. ⌜ Swept m n (byRow 64 (now (cost .entry))) (byRow 64 (now (cap .entry))) made (amountIn (now (supply .entry))) (demandIn (now (demand .entry))) lo hi (now (table .entry)) (now (splits .entry)) (now (freights .entry)) (now (splits .exit)) (now (freights .exit)) (now (kept .exit)) (r .split) (r .total) (r .freight) (r .stops) ⌝ }
+    requires { ⌜ SweepReady m n (now demand) lo hi (now table) added (now splits) (now freights) ⌝ }
+    ensures { λ r. ⌜ Swept m n (byRow 64 (now (cost .entry))) (byRow 64 (now (cap .entry))) made (amountIn (now (supply .entry))) (demandIn (now (demand .entry))) lo hi (now (table .entry)) added (now (splits .entry)) (now (freights .entry)) (now (splits .exit)) (now (freights .exit)) (now (kept .exit)) (r .split) (r .total) (r .freight) (r .stops) ⌝ }
 {
     let freight = freight_of(m, n, cost, x);
-    let columns = by_terminal(m, n, cost);
+    let mut columns = [0u32; 2048];
+    by_terminal(m, n, cost, &mut columns);
     climb(
         m,
         n,
@@ -203,6 +220,7 @@ pub fn sweep(
         freight,
         demand,
         table,
+        added,
         splits,
         freights,
         x,

@@ -1,6 +1,7 @@
-// The freight of a plan.
+// The freight of a plan, and a freight as the case has it.
 ghost use mathlib.Core.Path.{_≡_};
-ghost use Prim.Native.Nat.{_+_, _*_};
+ghost use Prim.Native.Nat.{_+_, _*_, _≤_};
+ghost use lib.IntN.{subℕ};
 ghost use Rattle.transport.specs.Sum.{sum};
 ghost use Rattle.transport.specs.Plan.{freight};
 ghost use Rattle.residual.specs.Cells.{cells};
@@ -29,4 +30,12 @@ pub fn freight_of(m: usize, n: usize, cost: &[u32; 2048], x: &[u32; 2048]) -> u6
         total = total + row_freight(n, i, cost, x);
     }
     total
+}
+
+// A freight with what was added to it taken off again.
+pub fn lowered(freight: u64, added: u64) -> i64
+    requires { ⌜ (freight ≤ 1000000000000) × (added ≤ 1000000000000) ⌝ }
+    ensures { λ r. ⌜ r ≡ subℕ freight added ⌝ }
+{
+    freight as i64 - added as i64
 }

@@ -1,2 +1,1 @@
-pub mod LoweredCells
 pub mod CellCopies

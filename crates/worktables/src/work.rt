@@ -3,10 +3,8 @@ ghost use mathlib.Core.Path.{_≡_};
 ghost use Prim.Native.Nat.{ℕ, _+_, _*_, _≤_, _<_};
 ghost use mathlib.Core.Bool.{false};
 ghost use mathlib.Core.List.{map};
-ghost use lib.IntN.{subℕ};
-ghost use lib.ListN.{length, getD, take};
-ghost use Rattle.transport.specs.Curve.{written};
-ghost use Rattle.problem.specs.Range.{outside, raisedOf, AllInside, lower, Moderate};
+ghost use lib.ListN.{length, getD};
+ghost use Rattle.problem.specs.Range.{outside, raisedOf, AllInside};
 ghost use Rattle.worktables.specs.Copy.{Narrow, Copied, RowsMoved, Supplied, Wanted};
 
 // Copies a slice whose numbers fit 32 bits into working cells from index `at` on.
@@ -41,14 +39,6 @@ pub fn raised(cost: i64) -> u32
     (cost + 1_000_000) as u32
 }
 
-// A freight with what was added to it taken off again.
-pub fn lowered(freight: u64, added: u64) -> i64
-    requires { ⌜ (freight ≤ 1000000000000) × (added ≤ 1000000000000) ⌝ }
-    ensures { λ r. ⌜ r ≡ subℕ freight added ⌝ }
-{
-    freight as i64 - added as i64
-}
-
 // Writes raised costs into working cells from index `at` on.
 pub fn raise_into(source: &[i64], at: usize, to: &mut [u32])
     requires { ⌜ (at + length (now source) ≤ length (now to)) × AllInside (now source) ⌝ }
@@ -71,26 +61,6 @@ pub fn raise_rows(m: usize, n: usize, costs: &[i64], to: &mut [u32; 2048])
         let end = start + n;
         raise_into(&costs[start..end], i * 64, to);
         start = end;
-    }
-}
-
-// The unit costs, raised, in rows of 64.
-pub fn raised_rows(m: usize, n: usize, costs: &[i64]) -> [u32; 2048]
-    requires { ⌜ (m ≤ 32) × (n ≤ 64) × (length (now costs) ≡ m * n) × AllInside (now costs) ⌝ }
-    ensures { λ r. ⌜ RowsMoved m n n 64 (map raisedOf (now (costs .entry))) r ⌝ }
-{
-    let mut cost = [0u32; 2048];
-    raise_rows(m, n, costs, &mut cost);
-    cost
-}
-
-// Writes the first `count` working freights, lowered, into a slice; later cells are left as they are.
-pub fn lower_into(work: &[u64], count: usize, added: u64, to: &mut [i64])
-    requires { ⌜ (count ≤ length (now work)) × (count ≤ length (now to)) × (added ≤ 1000000000000) × Moderate count (now work) ⌝ }
-    ensures { λ _. ⌜ now (to .exit) ≡ written (map (lower added) (take count (now (work .entry)))) (now (to .entry)) ⌝ }
-{
-    for k in 0..count {
-        to[k] = lowered(work[k], added);
     }
 }
 
@@ -120,16 +90,6 @@ pub fn copy_rows(m: usize, n: usize, ceilings: &[u64], to: &mut [u32; 2048])
         copy_into(&ceilings[start..end], i * 64, to);
         start = end;
     }
-}
-
-// The ceilings in rows of 64.
-pub fn ceiling_rows(m: usize, n: usize, ceilings: &[u64]) -> [u32; 2048]
-    requires { ⌜ (m ≤ 32) × (n ≤ 64) × (length (now ceilings) ≡ m * n) × Narrow (now ceilings) ⌝ }
-    ensures { λ r. ⌜ RowsMoved m n n 64 (now (ceilings .entry)) r ⌝ }
-{
-    let mut cap = [0u32; 2048];
-    copy_rows(m, n, ceilings, &mut cap);
-    cap
 }
 
 // The supplies at the sources' nodes.

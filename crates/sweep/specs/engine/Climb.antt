@@ -2,6 +2,7 @@
 use mathlib.Core.Path.{_≡_}
 use mathlib.Core.List.{List}
 use Prim.Native.Nat.{ℕ, _+_, _-_, _≤_, _<_}
+use lib.IntN.{ℤ}
 use lib.ListN.{length, getD}
 use Rattle.transport.specs.Sum.{sum}
 use Rattle.transport.specs.Plan.{row, col, freight}
@@ -25,7 +26,7 @@ abbrev pub curveFrom : ℕ → ℕ → List ℕ → List ℕ → List ℕ → �
 curveFrom m n cost cap x = leastIn m n (cells cost) (cells cap) (bothIn n x) (row n (cells x)) (col m (cells x))
 
 -- a slack plan x at split lo of freight v, potentials p, a plan at split hi, and a table and slices that are long enough
-pub record ClimbReady (m n : ℕ) (cost cap x p : List ℕ) (lo hi v : ℕ) (table splits freights : List ℕ) : Type 0 where
+pub record ClimbReady (m n : ℕ) (cost cap x p : List ℕ) (lo hi v : ℕ) (table : List ℕ) (added : ℕ) (splits : List ℕ) (freights : List ℤ) : Type 0 where
   pub swinging : Swinging (net m n cost cap x) (get p 1) p x
   pub end : Some m n (cells cap) (row n (cells x)) (col m (cells x)) hi (bothIn n x - hi)
   pub few : sum m (row n (cells x)) ≤ 256000
@@ -36,6 +37,7 @@ pub record ClimbReady (m n : ℕ) (cost cap x p : List ℕ) (lo hi v : ℕ) (tab
   pub short : hi - lo ≤ 4000
   pub entries : hi < length table
   pub small : (y : ℕ) → lo ≤ y → y ≤ hi → getD table y 0 ≤ 1000000000
+  pub added-most : added ≤ 1000000000000
   pub splits-room : hi - lo < length splits
   pub freights-room : hi - lo < length freights
 

@@ -3,31 +3,43 @@ use mathlib.Core.List.{List}
 use Prim.Native.Nat.{ℕ}
 use native.Mathlib.Omega.{arith}
 use Rattle.augment.specs.PathWalk.{Walkable, Walked}
+use Rattle.augment.specs.LaneMarks.{Trail, Marks}
 use Rattle.augment.proofs.PathWalk.{turn-node, turn-prev, turn-able, turn-back, walked-none}
+use Rattle.augment.proofs.LaneMarks.{trail-node, trail-next, marks-back, marks-none}
 use borrow.Author.Needs.{needs}
 use Rattle.augment.proofs.send.push.Statement.{statement}
 use Rattle.augment.proofs.send.push.Tie as tie
 
+-- What is left of the walk can be gone, and what comes of it comes of the whole.
+record Going (prev : List ℕ) (amount count goal : ℕ) (x₀ serves₀ : List ℕ) (x serves : List ℕ) (v left : ℕ) : Type 0 where
+  able : Walkable prev amount left v x
+  rest : (z : List ℕ) → Walked prev amount left v x z → Walked prev amount count goal x₀ z
+  trail : Trail 32 prev left v
+  marked : (z : List ℕ) → Marks prev left v serves z → Marks prev count goal serves₀ z
+
 abbrev Inv-loop : tie.InvT-loop
-Inv-loop prev count goal amount x₀ v₀ left₀ x v left = Walkable prev amount left v x × ((z : List ℕ) → Walked prev amount left v x z → Walked prev amount count goal x₀ z)
+Inv-loop prev count goal amount x₀ serves₀ v₀ left₀ x serves v left = Going prev amount count goal x₀ serves₀ x serves v left
 
 abbrev μ-loop : tie.MeasureT-loop
-μ-loop prev count goal amount x₀ v₀ left₀ x v left = left
+μ-loop prev count goal amount x₀ serves₀ v₀ left₀ x serves v left = left
 
 loop-holds : tie.Need-loop-holds Inv-loop μ-loop
-loop-holds c = (c .pre, λ z w. w)
+loop-holds c = record { able = c .pre .0; rest = λ z w. w; trail = c .pre .1; marked = λ z w. w }
 
 mul-w : tie.Need-mul-w Inv-loop μ-loop
-mul-w c = omega (arith, turn-node (c .before .before .args .prev .now) (c .before .before .args .amount) (c .before .loop .v) (c .before .loop .x) (c .before .loop .left) (c .loop-test .taken) (c .before .loop .inv .0) .0)
+mul-w c = omega (arith, turn-node (c .before .before .args .prev .now) (c .before .before .args .amount) (c .before .loop .v) (c .before .loop .x) (c .before .loop .left) (c .loop-test .taken) (c .before .loop .inv .able) .0)
 
 element-copy-out-w : tie.Need-element-copy-out-w Inv-loop μ-loop
-element-copy-out-w c = turn-node (c .before .before .args .prev .now) (c .before .before .args .amount) (c .before .loop .v) (c .before .loop .x) (c .before .loop .left) (c .loop-test .taken) (c .before .loop .inv .0) .0
+element-copy-out-w c = turn-node (c .before .before .args .prev .now) (c .before .before .args .amount) (c .before .loop .v) (c .before .loop .x) (c .before .loop .left) (c .loop-test .taken) (c .before .loop .inv .able) .0
 
 cast-w : tie.Need-cast-w Inv-loop μ-loop
-cast-w c = omega (arith, turn-prev (c .before .before .before .args .prev .now) (c .before .before .before .args .amount) (c .before .before .loop .v) (c .before .before .loop .x) (c .before .before .loop .left) (c .before .loop-test .taken) (c .before .before .loop .inv .0))
+cast-w c = omega (arith, turn-prev (c .before .before .before .args .prev .now) (c .before .before .before .args .amount) (c .before .before .loop .v) (c .before .before .loop .x) (c .before .before .loop .left) (c .before .loop-test .taken) (c .before .before .loop .inv .able))
 
 carry-requires : tie.Need-carry-requires Inv-loop μ-loop
-carry-requires c κs = turn-node (c .before .before .before .before .args .prev .now) (c .before .before .before .before .args .amount) (c .before .before .before .loop .v) (c .before .before .before .loop .x) (c .before .before .before .loop .left) (c .before .before .loop-test .taken) (c .before .before .before .loop .inv .0) .1
+carry-requires c κs = turn-node (c .before .before .before .before .args .prev .now) (c .before .before .before .before .args .amount) (c .before .before .before .loop .v) (c .before .before .before .loop .x) (c .before .before .before .loop .left) (c .before .before .loop-test .taken) (c .before .before .before .loop .inv .able) .1
+
+serve-requires : tie.Need-serve-requires Inv-loop μ-loop
+serve-requires c κs = let n = trail-node (c .before .before .before .before .before .before .args .prev .now) (c .before .before .before .before .before .loop .v) 32 (c .before .before .before .before .before .loop .left) (c .before .before .before .before .loop-test .taken) (c .before .before .before .before .before .loop .inv .trail) in (n .0, n .2)
 
 sub-left : tie.Need-sub-left Inv-loop μ-loop
 sub-left c = search needs
@@ -37,14 +49,20 @@ loop-less c = search needs
 
 loop-again : tie.Need-loop-again Inv-loop μ-loop
 loop-again c =
-    let l = c .before .before .before .loop-test .taken in
-    let i = c .before .before .before .before .loop .inv in (
-      turn-able (c .before .before .before .before .before .args .prev .now) (c .before .before .before .before .before .args .amount) (c .before .before .before .before .loop .v) (c .before .before .before .before .loop .x) (c .before .before .before .before .loop .left) l (i .0) _ (c .carry .ensures),
-      λ z w. i .1 z (turn-back (c .before .before .before .before .before .args .prev .now) (c .before .before .before .before .before .args .amount) (c .before .before .before .before .loop .v) (c .before .before .before .before .loop .x) (c .before .before .before .before .loop .left) l _ z (c .carry .ensures) w),
-    )
+    let l = c .before .before .before .before .before .loop-test .taken in
+    let i = c .before .before .before .before .before .before .loop .inv in
+    record {
+      able = turn-able (c .before .before .before .before .before .before .before .args .prev .now) (c .before .before .before .before .before .before .before .args .amount) (c .before .before .before .before .before .before .loop .v) (c .before .before .before .before .before .before .loop .x) (c .before .before .before .before .before .before .loop .left) l (i .able) _ (c .before .before .carry .ensures);
+      rest = λ z w. i .rest z (turn-back (c .before .before .before .before .before .before .before .args .prev .now) (c .before .before .before .before .before .before .before .args .amount) (c .before .before .before .before .before .before .loop .v) (c .before .before .before .before .before .before .loop .x) (c .before .before .before .before .before .before .loop .left) l _ z (c .before .before .carry .ensures) w);
+      trail = trail-next (c .before .before .before .before .before .before .before .args .prev .now) (c .before .before .before .before .before .before .loop .v) 32 (c .before .before .before .before .before .before .loop .left) l (i .trail);
+      marked = λ z w. i .marked z (marks-back (c .before .before .before .before .before .before .before .args .prev .now) (c .before .before .before .before .before .before .loop .v) (c .before .before .before .before .before .before .loop .left) l z (c .serve .ensures) w);
+    }
 
 returns : tie.Need-returns Inv-loop μ-loop
-returns c = c .before .loop .inv .1 _ (walked-none (c .before .before .args .prev .now) (c .before .before .args .amount) (c .before .loop .v) (c .before .loop .x) (c .before .loop .left) (c .loop-test .left))
+returns c = (
+  c .before .loop .inv .rest _ (walked-none (c .before .before .args .prev .now) (c .before .before .args .amount) (c .before .loop .v) (c .before .loop .x) (c .before .loop .left) (c .loop-test .left)),
+  c .before .loop .inv .marked (c .before .loop .serves) (marks-none (c .before .before .args .prev .now) (c .before .loop .v) (c .before .loop .left) (c .loop-test .left) (c .before .loop .serves)),
+)
 
 pub push-spec : {M : Type 1} → statement M
 push-spec =
@@ -57,6 +75,7 @@ push-spec =
     element-copy-out-w
     cast-w
     carry-requires
+    serve-requires
     sub-left
     loop-less
     loop-again

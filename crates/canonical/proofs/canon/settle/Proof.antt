@@ -10,17 +10,17 @@ use Rattle.canonical.proofs.canon.settle.Statement.{statement}
 use Rattle.canonical.proofs.canon.settle.Tie as tie
 
 abbrev Inv-loop : tie.InvT-loop
-Inv-loop m n ways₀ aside₀ free₀ x₀ serves₀ supplied₀ i₀ ways aside free x serves supplied i =
-    (i ≤ m) × Onward m n 0 (i * 64) aside₀ free₀ x₀ aside free x × Open m n aside free x serves ways × Supplied m n 32 x supplied
+Inv-loop m n ways₀ aside₀ free₀ x₀ serves₀ doors₀ supplied₀ i₀ ways aside free x serves doors supplied i =
+    (i ≤ m) × Onward m n 0 (i * 64) aside₀ free₀ x₀ aside free x × Open m n aside free x serves ways doors × Supplied m n 32 x supplied
 
 abbrev μ-loop : tie.MeasureT-loop
-μ-loop m n ways₀ aside₀ free₀ x₀ serves₀ supplied₀ i₀ ways aside free x serves supplied i = m - i
+μ-loop m n ways₀ aside₀ free₀ x₀ serves₀ doors₀ supplied₀ i₀ ways aside free x serves doors supplied i = m - i
 
 loop-holds : tie.Need-loop-holds Inv-loop μ-loop
 loop-holds c = (omega arith, onward-skip (λ a b ha hb l. omega arith) (omega arith) onward-none, c .pre, supplied-all (c .pre .terminals))
 
 settle-row-requires : tie.Need-settle-row-requires Inv-loop μ-loop
-settle-row-requires c κs = let q = c .before .before .before .before .before .before .before .loop .inv in (c .before .before .before .before .before .before .loop-test .taken, (q .3, q .2))
+settle-row-requires c κs = let q = c .before .before .before .before .before .before .before .before .loop .inv in (c .before .before .before .before .before .before .before .loop-test .taken, (q .3, q .2))
 
 add-i : tie.Need-add-i Inv-loop μ-loop
 add-i c = search needs
@@ -30,7 +30,7 @@ loop-less c = search needs
 
 loop-again : tie.Need-loop-again Inv-loop μ-loop
 loop-again c =
-    let q = c .before .before .before .before .before .before .before .before .loop .inv in let d = c .settle-row .ensures in
+    let q = c .before .before .before .before .before .before .before .before .before .loop .inv in let d = c .settle-row .ensures in
     (omega arith, onward-skip (λ a b ha hb l. omega arith) (omega arith) (onward-both (q .1) (d .0)), d .1 .0, d .1 .1)
 
 returns : tie.Need-returns Inv-loop μ-loop

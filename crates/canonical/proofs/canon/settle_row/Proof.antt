@@ -7,11 +7,11 @@ use Rattle.canonical.proofs.canon.settle_row.Statement.{statement}
 use Rattle.canonical.proofs.canon.settle_row.Tie as tie
 
 abbrev Inv-loop : tie.InvT-loop
-Inv-loop m n i ways₀ aside₀ free₀ x₀ supplied₀ serves₀ rest₀ ways aside free x supplied serves rest =
-    RowTo m n i aside₀ free₀ x₀ aside free x serves ways supplied rest₀ rest
+Inv-loop m n i ways₀ aside₀ free₀ x₀ supplied₀ serves₀ doors₀ rest₀ ways aside free x supplied serves doors rest =
+    RowTo m n i aside₀ free₀ x₀ aside free x serves ways doors supplied rest₀ rest
 
 abbrev μ-loop : tie.MeasureT-loop
-μ-loop m n i ways₀ aside₀ free₀ x₀ supplied₀ serves₀ rest₀ ways aside free x supplied serves rest = rest
+μ-loop m n i ways₀ aside₀ free₀ x₀ supplied₀ serves₀ doors₀ rest₀ ways aside free x supplied serves doors rest = rest
 
 mul-rest : tie.Need-mul-rest Inv-loop μ-loop
 mul-rest c = omega (arith, c .pre .0, c .pre .1 .1 .sources)
@@ -27,26 +27,26 @@ cast-j c = let s = c .before .before .before .pre in omega (arith, row-terminal 
 
 settle-lane-requires : tie.Need-settle-lane-requires Inv-loop μ-loop
 settle-lane-requires c κs =
-    let h = c .before .before .before .before .before .before in let s = h .before .before .before .pre in let q = h .before .loop .inv in
+    let h = c .before .before .before .before .before .before .before in let s = h .before .before .before .pre in let q = h .before .loop .inv in
     ((s .0, row-terminal (s .0) q (h .loop-test .taken)), (q .supplied, q .state))
 
 sub-rest : tie.Need-sub-rest Inv-loop μ-loop
-sub-rest c = omega (arith, c .before .before .before .before .before .before .before .loop-test .taken)
+sub-rest c = omega (arith, c .before .before .before .before .before .before .before .before .loop-test .taken)
 
 mul-ways : tie.Need-mul-ways Inv-loop μ-loop
-mul-ways c = let s = c .before .before .before .before .before .before .before .before .before .before .pre in omega (arith, s .0, s .1 .1 .sources)
+mul-ways c = let s = c .before .before .before .before .before .before .before .before .before .before .before .pre in omega (arith, s .0, s .1 .1 .sources)
 
 element-write-ways : tie.Need-element-write-ways Inv-loop μ-loop
-element-write-ways c = let s = c .before .before .before .before .before .before .before .before .before .before .pre in omega (arith, s .0, s .1 .1 .sources)
+element-write-ways c = let s = c .before .before .before .before .before .before .before .before .before .before .before .pre in omega (arith, s .0, s .1 .1 .sources)
 
 loop-less : tie.Need-loop-less Inv-loop μ-loop
 loop-less c =
-    let h = c .before .before .before .before .before .before .before in
+    let h = c .before .before .before .before .before .before .before .before in
     omega (arith, and-le-r (h .before .loop .rest) (h .before .loop .rest - 1), h .loop-test .taken)
 
 loop-again : tie.Need-loop-again Inv-loop μ-loop
 loop-again c =
-    let h = c .before .before .before .before .before .before .before in let s = h .before .before .before .pre in let d = c .settle-lane .ensures in
+    let h = c .before .before .before .before .before .before .before .before in let s = h .before .before .before .pre in let d = c .settle-lane .ensures in
     row-next (s .0) (h .before .loop .inv) (h .loop-test .taken) (d .0) (d .1 .0) (d .1 .1)
 
 returns : tie.Need-returns Inv-loop μ-loop

@@ -34,20 +34,17 @@ mul-below c = search needs
 element-copy-out-below : tie.Need-element-copy-out-below
 element-copy-out-below c = search needs
 
-cut-requires : tie.Need-cut-requires
-cut-requires c κs = search needs
+next-lane-requires : tie.Need-next-lane-requires
+next-lane-requires c κs = search needs
 
 returns : tie.Need-returns
-returns c = advance-cut (c .before .before .before .before .before .before .before .forget .ensures) (c .before .before .cut .ensures)
-
-came-in-requires : tie.Need-came-in-requires
-came-in-requires c κs = search needs
+returns c = advance-cut (c .before .before .before .before .before .before .before .before .forget .ensures) (c .before .before .next-lane .ensures)
 
 rehang-requires : tie.Need-rehang-requires
 rehang-requires c κs = search needs
 
 returns-2 : tie.Need-returns-2
-returns-2 c = advance-cut (c .before .before .before .before .before .before .before .before .before .before .before .before .before .forget .ensures) (c .before .before .before .before .before .before .before .before .cut .ensures)
+returns-2 c = advance-cut (c .before .before .before .before .before .before .before .before .before .before .before .before .forget .ensures) (c .before .before .before .before .before .before .next-lane .ensures)
 
 pub step-spec : {M : Type 1} → statement M
 step-spec =
@@ -63,8 +60,7 @@ step-spec =
     element-copy-out-part
     mul-below
     element-copy-out-below
-    cut-requires
+    next-lane-requires
     returns
-    came-in-requires
     rehang-requires
     returns-2)

@@ -1,7 +1,7 @@
 -- `cuts::columns::by_terminal` meets its contract. Assumes nothing.
 use Prim.Native.Nat.{_-_, _≤_}
 use native.Mathlib.Omega.{arith}
-use Rattle.cuts.proofs.ByTerminal.{turn-fewer, fill-start, fill-end}
+use Rattle.cuts.proofs.ByTerminal.{turn-fewer, fill-end}
 use Rattle.cuts.specs.Columns.{Filled}
 use borrow.Author.Needs.{needs}
 use Rattle.cuts.proofs.columns.by_terminal.Statement.{statement}
@@ -14,10 +14,10 @@ abbrev μ-loop : tie.MeasureT-loop
 μ-loop m n cost to₀ j₀ to j = n - j
 
 loop-holds : tie.Need-loop-holds Inv-loop μ-loop
-loop-holds c = (omega arith, fill-start)
+loop-holds c = (omega arith, c .pre .1)
 
 turn-column-requires : tie.Need-turn-column-requires Inv-loop μ-loop
-turn-column-requires c κs = (turn-fewer (c .before .before .before .pre) (omega (arith, c .before .loop-test .taken)), c .before .before .loop .inv .1)
+turn-column-requires c κs = (turn-fewer (c .before .before .before .pre .0) (omega (arith, c .before .loop-test .taken)), c .before .before .loop .inv .1)
 
 add-j : tie.Need-add-j Inv-loop μ-loop
 add-j c = search needs

@@ -1,15 +1,14 @@
 -- `cuts::follow::tied_ahead` meets its contract. Assumes nothing.
 use Prim.Native.Nat.{_-_}
 use native.Mathlib.Omega.{arith}
-use Rattle.cuts.proofs.TreePath.{tied-ahead}
-use mathlib.Core.Bool.{true≢false}
-use mathlib.Core.Path.{sym}
+use mathlib.Core.Path.{refl}
+use Rattle.cuts.proofs.TreeWalk.{tied-ahead}
 use borrow.Author.Needs.{needs}
 use Rattle.cuts.proofs.follow.tied_ahead.Statement.{statement}
 use Rattle.cuts.proofs.follow.tied_ahead.Tie as tie
 
 returns : tie.Need-returns
-returns c = λ e. absurd (true≢false (sym e))
+returns c = λ e. absurd (omega arith)
 
 mul-k : tie.Need-mul-k
 mul-k c = search needs
@@ -18,46 +17,64 @@ sub-k : tie.Need-sub-k
 sub-k c = search needs
 
 add-k : tie.Need-add-k
-add-k c = omega (arith, c .if1 .left, c .before .pre .0 .sources, c .before .pre .0 .terminals, c .before .pre .1)
+add-k c = search needs
 
 mul-if2 : tie.Need-mul-if2
-mul-if2 c = omega (arith, c .if1 .left, c .before .pre .0 .sources, c .before .pre .0 .terminals, c .before .pre .1)
+mul-if2 c = search needs
 
 element-copy-out-if2 : tie.Need-element-copy-out-if2
-element-copy-out-if2 c = omega (arith, c .if1 .left, c .before .pre .0 .sources, c .before .pre .0 .terminals, c .before .pre .1)
+element-copy-out-if2 c = search needs
 
 mul-if2-2 : tie.Need-mul-if2-2
-mul-if2-2 c = omega (arith, c .before .if1 .left, c .before .before .pre .0 .sources, c .before .before .pre .0 .terminals, c .before .before .pre .1)
+mul-if2-2 c = search needs
 
 element-copy-out-if2-2 : tie.Need-element-copy-out-if2-2
-element-copy-out-if2-2 c = omega (arith, c .before .if1 .left, c .before .before .pre .0 .sources, c .before .before .pre .0 .terminals, c .before .before .pre .1)
+element-copy-out-if2-2 c = search needs
 
 returns-2 : tie.Need-returns-2
-returns-2 c = λ e. absurd (true≢false (sym e))
+returns-2 c = λ e. absurd (omega arith)
 
 mul-even : tie.Need-mul-even
-mul-even c = omega (arith, c .before .before .before .if1 .left, c .before .before .before .before .pre .0 .sources, c .before .before .before .before .pre .0 .terminals, c .before .before .before .before .pre .1)
+mul-even c = search needs
 
 element-copy-out-even : tie.Need-element-copy-out-even
-element-copy-out-even c = omega (arith, c .before .before .before .if1 .left, c .before .before .before .before .pre .0 .sources, c .before .before .before .before .pre .0 .terminals, c .before .before .before .before .pre .1)
+element-copy-out-even c = search needs
 
 mul-even-2 : tie.Need-mul-even-2
-mul-even-2 c = omega (arith, c .before .before .before .before .if1 .left, c .before .before .before .before .before .pre .0 .sources)
+mul-even-2 c = search needs
 
 element-copy-out-even-2 : tie.Need-element-copy-out-even-2
-element-copy-out-even-2 c = omega (arith, c .before .before .before .before .if1 .left, c .before .before .before .before .before .pre .0 .sources)
+element-copy-out-even-2 c = search needs
 
 mul-even-3 : tie.Need-mul-even-3
-mul-even-3 c = omega (arith, c .before .before .before .before .before .before .pre .0 .terminals, c .before .before .before .before .before .before .pre .1 .1)
+mul-even-3 c = search needs
 
 element-copy-out-even-3 : tie.Need-element-copy-out-even-3
-element-copy-out-even-3 c = omega (arith, c .before .before .before .before .before .before .pre .0 .terminals, c .before .before .before .before .before .before .pre .1 .1)
+element-copy-out-even-3 c = search needs
 
 even-requires : tie.Need-even-requires
-even-requires c κs = (c .before .before .before .before .before .before .before .pre .0 .costs (c .before .before .before .before .before .before .before .args .w) (c .before .before .before .before .before .before .before .args .v - 32) (c .before .before .before .before .before .before .if1 .left) (omega (arith, c .before .before .before .before .before .before .before .pre .1)), c .before .before .before .before .before .before .before .pre .0 .high (c .before .before .before .before .before .before .before .args .w) (omega (arith, c .before .before .before .before .before .before .before .pre .0 .sources, c .before .before .before .before .before .before .if1 .left)))
+even-requires c κs = let i = c .before .before .before .before .before .before in let s = i .before in let r = s .pre .0 in (r .costs (s .args .w) (s .args .v - 32) (omega (arith, i .if1 .left)) (omega (arith, s .pre .1)), r .high (s .args .w) (omega (arith, r .sources, i .if1 .left)))
+
+mul-result : tie.Need-mul-result
+mul-result c = search needs
+
+element-copy-out-result : tie.Need-element-copy-out-result
+element-copy-out-result c = search needs
+
+mul-result-2 : tie.Need-mul-result-2
+mul-result-2 c = search needs
+
+element-copy-out-result-2 : tie.Need-element-copy-out-result-2
+element-copy-out-result-2 c = search needs
+
+sub-result : tie.Need-sub-result
+sub-result c = search needs
 
 returns-3 : tie.Need-returns-3
-returns-3 c = λ e. tied-ahead (c .before .before .before .before .before .before .before .before .pre .0 .sources) (c .before .before .before .before .before .before .before .before .pre .0 .terminals) (c .before .before .before .before .before .before .before .before .pre .1 .0) (c .before .before .before .before .before .before .before .before .pre .1 .1) (c .before .before .before .before .before .before .before .if1 .left) (c .before .before .before .before .if2 .left) (c .even .ensures e)
+returns-3 c = λ e. let i = c .before .before .before .before .before .before .before .before .before .before in let s = i .before in tied-ahead (s .pre .0 .sources) (s .pre .0 .terminals) e (s .pre .1 .0) (s .pre .1 .1) (omega (arith, i .if1 .left)) refl (c .before .before .before .even .ensures (c .before .before .if3 .taken))
+
+returns-4 : tie.Need-returns-4
+returns-4 c = λ e. absurd (omega arith)
 
 pub tied-ahead-spec : {M : Type 1} → statement M
 tied-ahead-spec =
@@ -79,4 +96,10 @@ tied-ahead-spec =
     mul-even-3
     element-copy-out-even-3
     even-requires
-    returns-3)
+    mul-result
+    element-copy-out-result
+    mul-result-2
+    element-copy-out-result-2
+    sub-result
+    returns-3
+    returns-4)

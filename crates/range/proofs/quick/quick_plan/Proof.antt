@@ -27,11 +27,8 @@ returns c = record { plan = λ e. absurd (true≢false (sym e)); covers = λ e. 
 all-servers-requires : tie.Need-all-servers-requires
 all-servers-requires c κs = search needs
 
-give-up-requires : tie.Need-give-up-requires
-give-up-requires c κs = search needs
-
 returns-2 : tie.Need-returns-2
-returns-2 c = record { plan = λ e. checked-first (c .before .before .before .before .before .before .before .before .before .before .before .before .before .before .before .before .before .before .before .pre) (c .before .before .before .before .before .before .before .before .before .before .before .before .before .before .before .before .before .first-split .ensures) (c .before .before .before .before .before .before .before .before .before .before .before .simplex-at .ensures .0) (c .before .before .before .before .before .before .before .before .before .before .before .simplex-at .ensures .1) (c .before .before .before .before .before .before .before .before .good2 .ensures (not-false _ (c .before .before .before .before .before .before .before .if1 .left))) _; covers = λ e. c .before .before .before .all-servers .ensures }
+returns-2 c = record { plan = λ e. checked-first (c .before .before .before .before .before .before .before .before .before .before .before .before .before .before .before .before .pre) (c .before .before .before .before .before .before .before .before .before .before .before .before .before .before .first-split .ensures) (c .before .before .before .before .before .before .before .before .simplex-at .ensures .0) (c .before .before .before .before .before .before .before .before .simplex-at .ensures .1) (c .before .before .before .before .before .good2 .ensures (not-false _ (c .before .before .before .before .if1 .left))) _; covers = λ e. c .all-servers .ensures }
 
 pub quick-plan-spec : {M : Type 1} → statement M
 quick-plan-spec =
@@ -43,5 +40,4 @@ quick-plan-spec =
     good-requires
     returns
     all-servers-requires
-    give-up-requires
     returns-2)

@@ -5,10 +5,10 @@ use Rattle.simplex.proofs.start.places.Statement.{statement}
 use Rattle.simplex.proofs.start.places.Tie as tie
 
 abbrev Inv-loop : tie.InvT-loop
-Inv-loop cost book₀ key₀ up₀ rows₀ cols₀ flow₀ now₀ turn₀ left₀ book key up rows cols flow now turn left = left ≤ 128
+Inv-loop n cost book₀ key₀ up₀ rows₀ cols₀ flow₀ now₀ turn₀ left₀ book key up rows cols flow now turn left = left ≤ 128
 
 abbrev μ-loop : tie.MeasureT-loop
-μ-loop cost book₀ key₀ up₀ rows₀ cols₀ flow₀ now₀ turn₀ left₀ book key up rows cols flow now turn left = left
+μ-loop n cost book₀ key₀ up₀ rows₀ cols₀ flow₀ now₀ turn₀ left₀ book key up rows cols flow now turn left = left
 
 loop-holds : tie.Need-loop-holds Inv-loop μ-loop
 loop-holds c = search needs

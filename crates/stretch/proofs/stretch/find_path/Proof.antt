@@ -2,32 +2,42 @@
 use Prim.Native.Nat.{_-_, _≤_}
 use native.Mathlib.Omega.{arith}
 use Rattle.lastsplit.proofs.LastSplit.{only}
-use Rattle.stretch.proofs.ShiftPath.{path-low, path-done}
+use Rattle.stretch.proofs.ShiftPath.{path-low, search-found, tree-found}
 use Rattle.augment.proofs.PathMeasure.{route}
 use mathlib.Core.Path.{refl}
 use borrow.Author.Needs.{needs}
 use Rattle.stretch.proofs.stretch.find_path.Statement.{statement}
 use Rattle.stretch.proofs.stretch.find_path.Tie as tie
 
+follow-requires : tie.Need-follow-requires
+follow-requires c κs = let r = c .before .before .pre .0 .swinging in (record { sources = r .sound .sources; terminals = r .sound .terminals; costs = r .sound .costs; high = r .sound .high; long = r .long-p }, r .plants)
+
+returns : tie.Need-returns
+returns c = tree-found _ (c .before .before .before .before .before .pre .0) refl (c .before .before .follow .ensures (c .if1 .taken))
+
 reach-requires : tie.Need-reach-requires
 reach-requires c κs = search needs
 
 measure-requires : tie.Need-measure-requires
-measure-requires c κs = route (c .before .before .before .before .before .args .m) (c .before .before .before .before .before .args .n) (c .before .before .before .before .before .args .cost .now) (c .before .before .before .before .before .pre .0 .swinging .sound .sources) (omega arith) (c .before .before .before .reach .ensures .searched)
-
-array-read-gap : tie.Need-array-read-gap
-array-read-gap c = search needs
+measure-requires c κs = let s = c .before .before .before .before .before .before .before .before .before .before in route (s .args .m) (s .args .n) (s .args .cost .now) (s .pre .0 .swinging .sound .sources) (omega arith) (c .before .reach .ensures .searched)
 
 element-copy-out-gap : tie.Need-element-copy-out-gap
 element-copy-out-gap c = search needs
 
-sub-gap : tie.Need-sub-gap
-sub-gap c = path-low (c .before .before .before .before .before .before .before .pre .0) (only (c .before .before .before .before .before .before .before .args .limit)) (c .before .before .before .before .before .reach .ensures .searched)
+element-copy-out-gap-2 : tie.Need-element-copy-out-gap-2
+element-copy-out-gap-2 c = search needs
 
-returns : tie.Need-returns
-returns c = let r = route (c .before .before .before .before .before .before .before .args .m) (c .before .before .before .before .before .before .before .args .n) (c .before .before .before .before .before .before .before .args .cost .now) (c .before .before .before .before .before .before .before .pre .0 .swinging .sound .sources) (omega arith) (c .before .before .before .before .before .reach .ensures .searched) in (path-done (c .before .before .before .before .before .before .before .pre .0) (only (c .before .before .before .before .before .before .before .args .limit)) (c .before .before .before .before .before .reach .ensures .searched) refl refl (c .before .measure .ensures .arcs r) (c .before .measure .ensures .width r), c .before .before .before .before .before .reach .ensures .searched .low)
+sub-gap : tie.Need-sub-gap
+sub-gap c = let s = c .before .before .before .before .before .before .before .before .before .before .before .before .before in path-low (s .pre .0) (only (s .args .limit)) (c .before .before .before .before .reach .ensures .searched)
+
+returns-2 : tie.Need-returns-2
+returns-2 c =
+    let s = c .before .before .before .before .before .before .before .before .before .before .before .before .before in
+    let q = c .before .before .before .before .reach .ensures .searched in
+    let r = route (s .args .m) (s .args .n) (s .args .cost .now) (s .pre .0 .swinging .sound .sources) (omega arith) q in
+    search-found (s .pre .0) q refl refl (c .before .before .measure .ensures .arcs r) (c .before .before .measure .ensures .width r)
 
 pub find-path-spec : {M : Type 1} → statement M
 find-path-spec =
     tie.close
-    (tie.spec reach-requires measure-requires array-read-gap element-copy-out-gap sub-gap returns)
+    (tie.spec follow-requires returns reach-requires measure-requires element-copy-out-gap element-copy-out-gap-2 sub-gap returns-2)

@@ -12,64 +12,64 @@ use Rattle.sweep.proofs.curve.climb.Statement.{statement}
 use Rattle.sweep.proofs.curve.climb.Tie as tie
 
 abbrev Inv-loop : tie.InvT-loop
-Inv-loop m n cost cap lo hi freight demand table splits₀ freights₀ x₀ serves₀ pot₀ kept₀ up₀ rows₀ cols₀ columns at best₀ prices₀ y₀ value₀ count₀ rise₀ fall₀ splits freights x serves pot kept up rows cols best prices y value count rise fall = Standing m n cost cap x₀ x pot kept prices y value best × Climbing (curveFrom m n cost cap x₀) table splits₀ freights₀ lo hi splits freights y value count rise fall best × (rise ≤ 800000000) × (fall ≤ 800000000) × Covers m n x serves
+Inv-loop m n cost cap lo hi freight demand table added splits₀ freights₀ x₀ serves₀ pot₀ kept₀ up₀ rows₀ cols₀ columns at best₀ prices₀ dist₀ prev₀ y₀ value₀ count₀ rise₀ fall₀ splits freights x serves pot kept up rows cols best prices dist prev y value count rise fall = Standing m n cost cap x₀ x pot kept prices y value best × Climbing (curveFrom m n cost cap x₀) table added splits₀ freights₀ lo hi splits freights y value count rise fall best × (rise ≤ 800000000) × (fall ≤ 800000000) × Covers m n x serves
 
 abbrev μ-loop : tie.MeasureT-loop
-μ-loop m n cost cap lo hi freight demand table splits₀ freights₀ x₀ serves₀ pot₀ kept₀ up₀ rows₀ cols₀ columns at best₀ prices₀ y₀ value₀ count₀ rise₀ fall₀ splits freights x serves pot kept up rows cols best prices y value count rise fall = hi - y
+μ-loop m n cost cap lo hi freight demand table added splits₀ freights₀ x₀ serves₀ pot₀ kept₀ up₀ rows₀ cols₀ columns at best₀ prices₀ dist₀ prev₀ y₀ value₀ count₀ rise₀ fall₀ splits freights x serves pot kept up rows cols best prices dist prev y value count rise fall = hi - y
 
-mul-t31 : tie.Need-mul-t31 Inv-loop μ-loop
-mul-t31 c = omega (arith, c .before .before .before .pre .0 .entries, c .before .before .before .pre .0 .order, c .before .before .before .good)
+mul-t34 : tie.Need-mul-t34 Inv-loop μ-loop
+mul-t34 c = omega (arith, c .before .before .pre .0 .entries, c .before .before .pre .0 .order, c .before .before .good)
 
-shared-slice-read-t33 : tie.Need-shared-slice-read-t33 Inv-loop μ-loop
-shared-slice-read-t33 c = omega (arith, c .before .before .before .before .pre .0 .entries, c .before .before .before .before .pre .0 .order)
+shared-slice-read-t36 : tie.Need-shared-slice-read-t36 Inv-loop μ-loop
+shared-slice-read-t36 c = omega (arith, c .before .before .before .pre .0 .entries, c .before .before .before .pre .0 .order)
 
-add-t34 : tie.Need-add-t34 Inv-loop μ-loop
-add-t34 c = let r = c .before .before .before .before .pre .0 in omega (arith, start-most r, r .small (c .before .before .before .before .args .lo) (omega arith) (r .order))
+add-t37 : tie.Need-add-t37 Inv-loop μ-loop
+add-t37 c = let r = c .before .before .before .pre .0 in omega (arith, start-most r, r .small (c .before .before .before .args .lo) (omega arith) (r .order))
 
 loop-holds : tie.Need-loop-holds Inv-loop μ-loop
-loop-holds c = let r = c .before .before .before .before .before .pre .0 in (stand-start r _ _, ascend-start r, omega arith, omega arith, c .before .before .before .before .before .pre .1 .1 .0)
+loop-holds c = let r = c .before .before .before .before .pre .0 in (stand-start r _ _, ascend-start r, omega arith, omega arith, c .before .before .before .before .pre .1 .1 .0)
 
 advance-requires : tie.Need-advance-requires Inv-loop μ-loop
-advance-requires c κs = let s = c .before .before .before .before .before .before .before .loop .inv .0 .swinging in record { sources = s .sound .sources; terminals = s .sound .terminals; costs = s .sound .costs; turned = c .before .before .before .before .before .before .before .before .before .before .before .before .before .pre .1 .1 .1; high = s .sound .high; long = s .long-p }
+advance-requires c κs = let s = c .before .before .before .before .before .before .before .loop .inv .0 .swinging in record { sources = s .sound .sources; terminals = s .sound .terminals; costs = s .sound .costs; turned = c .before .before .before .before .before .before .before .before .before .before .before .before .pre .1 .1 .1; high = s .sound .high; long = s .long-p }
 
 sub-left : tie.Need-sub-left Inv-loop μ-loop
 sub-left c = omega (arith, c .before .before .before .before .before .before .before .loop-test .taken)
 
 cast-left : tie.Need-cast-left Inv-loop μ-loop
-cast-left c = omega (arith, c .before .before .before .before .before .before .before .before .before .before .before .before .before .before .pre .0 .short, c .before .before .before .before .before .before .before .before .loop .inv .1 .low)
+cast-left c = omega (arith, c .before .before .before .before .before .before .before .before .before .before .before .before .before .pre .0 .short, c .before .before .before .before .before .before .before .before .loop .inv .1 .low)
 
 stretch-requires : tie.Need-stretch-requires Inv-loop μ-loop
-stretch-requires c κs = let i = c .before .before .before .before .before .before .before .before .before .before .before .before .before .before .loop .inv in let r = c .before .before .before .before .before .before .before .before .before .before .before .before .before .before .before .before .before .before .before .before .pre .0 in (stretch-ready r (stand-on r (i .0) (i .4) (c .before .before .before .before .before .before .advance .ensures)) (i .1 .low) (c .before .before .before .before .before .before .before .before .before .before .before .before .before .loop-test .taken), (λ j h. omega (arith, i .0 .at .demands j (omega arith) h, c .before .before .before .before .before .before .before .before .before .before .before .before .before .before .before .before .before .before .before .before .pre .1 .0 j h), c .before .before .before .before .before .before .advance .ensures .covers (i .4)))
+stretch-requires c κs = let i = c .before .before .before .before .before .before .before .before .before .before .before .before .before .before .before .before .loop .inv in let r = c .before .before .before .before .before .before .before .before .before .before .before .before .before .before .before .before .before .before .before .before .before .pre .0 in (stretch-ready r (stand-on r (i .0) (i .4) (c .before .before .before .before .before .before .before .before .advance .ensures)) (i .1 .low) (c .before .before .before .before .before .before .before .before .before .before .before .before .before .before .before .loop-test .taken), (λ j h. omega (arith, i .0 .at .demands j (omega arith) h, c .before .before .before .before .before .before .before .before .before .before .before .before .before .before .before .before .before .before .before .before .before .pre .1 .0 j h), c .before .before .before .before .before .before .before .before .advance .ensures .covers (i .4)))
 
 turn-requires : tie.Need-turn-requires Inv-loop μ-loop
-turn-requires c κs = let i = c .before .before .before .before .before .before .before .before .before .before .before .before .before .before .before .loop .inv in let r = c .before .before .before .before .before .before .before .before .before .before .before .before .before .before .before .before .before .before .before .before .before .pre .0 in let s = stand-on r (i .0) (i .4) (c .before .before .before .before .before .before .before .advance .ensures) in let l = c .before .before .before .before .before .before .before .before .before .before .before .before .before .before .loop-test .taken in (omega (arith, gain-most r s (i .1 .low) l (c .stretch .ensures .0), i .3), omega (arith, loss-most r s (i .1 .low) l (c .stretch .ensures .0), i .2))
+turn-requires c κs = let i = c .before .before .before .before .before .before .before .before .before .before .before .before .before .before .before .before .before .loop .inv in let r = c .before .before .before .before .before .before .before .before .before .before .before .before .before .before .before .before .before .before .before .before .before .before .pre .0 in let s = stand-on r (i .0) (i .4) (c .before .before .before .before .before .before .before .before .before .advance .ensures) in let l = c .before .before .before .before .before .before .before .before .before .before .before .before .before .before .before .before .loop-test .taken in (omega (arith, gain-most r s (i .1 .low) l (c .stretch .ensures .0), i .3), omega (arith, loss-most r s (i .1 .low) l (c .stretch .ensures .0), i .2))
 
 mark-requires : tie.Need-mark-requires Inv-loop μ-loop
-mark-requires c κs = let i = c .before .before .before .before .before .before .before .before .before .before .before .before .before .before .before .before .before .before .loop .inv in let r = c .before .before .before .before .before .before .before .before .before .before .before .before .before .before .before .before .before .before .before .before .before .before .before .before .pre .0 in ascend-room r (i .0) (i .1)
+mark-requires c κs = let i = c .before .before .before .before .before .before .before .before .before .before .before .before .before .before .before .before .before .before .before .before .loop .inv in let r = c .before .before .before .before .before .before .before .before .before .before .before .before .before .before .before .before .before .before .before .before .before .before .before .before .before .pre .0 in ascend-room r (i .0) (i .1)
 
 loop-less : tie.Need-loop-less Inv-loop μ-loop
-loop-less c = let i = c .before .before .before .before .before .before .before .before .before .before .before .before .before .before .before .before .before .before .before .before .before .before .before .before .loop .inv in let r = c .before .before .before .before .before .before .before .before .before .before .before .before .before .before .before .before .before .before .before .before .before .before .before .before .before .before .before .before .before .before .pre .0 in let s = stand-on r (i .0) (i .4) (c .before .before .before .before .before .before .before .before .before .before .before .before .before .before .before .before .advance .ensures) in let q = c .before .before .before .before .before .before .before .before .before .stretch .ensures .0 in omega (arith, most r s (i .1 .low) (c .before .before .before .before .before .before .before .before .before .before .before .before .before .before .before .before .before .before .before .before .before .before .before .loop-test .taken) q, q .some, q .split, c .before .before .before .before .before .before .before .before .before .before .before .before .before .before .before .before .before .before .before .before .before .before .before .loop-test .taken)
+loop-less c = let i = c .before .before .before .before .before .before .before .before .before .before .before .before .before .before .before .before .before .before .before .before .before .before .before .before .before .loop .inv in let r = c .before .before .before .before .before .before .before .before .before .before .before .before .before .before .before .before .before .before .before .before .before .before .before .before .before .before .before .before .before .before .pre .0 in let s = stand-on r (i .0) (i .4) (c .before .before .before .before .before .before .before .before .before .before .before .before .before .before .before .before .before .advance .ensures) in let q = c .before .before .before .before .before .before .before .before .stretch .ensures .0 in omega (arith, most r s (i .1 .low) (c .before .before .before .before .before .before .before .before .before .before .before .before .before .before .before .before .before .before .before .before .before .before .before .before .loop-test .taken) q, q .some, q .split, c .before .before .before .before .before .before .before .before .before .before .before .before .before .before .before .before .before .before .before .before .before .before .before .before .loop-test .taken)
 
 loop-again : tie.Need-loop-again Inv-loop μ-loop
-loop-again c = let i = c .before .before .before .before .before .before .before .before .before .before .before .before .before .before .before .before .before .before .before .before .before .before .before .before .loop .inv in let r = c .before .before .before .before .before .before .before .before .before .before .before .before .before .before .before .before .before .before .before .before .before .before .before .before .before .before .before .before .before .before .pre .0 in let s = stand-on r (i .0) (i .4) (c .before .before .before .before .before .before .before .before .before .before .before .before .before .before .before .before .advance .ensures) in let l = c .before .before .before .before .before .before .before .before .before .before .before .before .before .before .before .before .before .before .before .before .before .before .before .loop-test .taken in let q = c .before .before .before .before .before .before .before .before .before .stretch .ensures .0 in (stand-next r s (i .1 .low) l q refl refl refl refl, ascend-next r s (i .1) l q (c .before .before .before .before .before .before .before .before .turn .ensures) (c .before .before .before .before .before .mark .ensures), gain-most r s (i .1 .low) l q, loss-most r s (i .1 .low) l q, c .before .before .before .before .before .before .before .before .before .stretch .ensures .1)
+loop-again c = let i = c .before .before .before .before .before .before .before .before .before .before .before .before .before .before .before .before .before .before .before .before .before .before .before .before .before .loop .inv in let r = c .before .before .before .before .before .before .before .before .before .before .before .before .before .before .before .before .before .before .before .before .before .before .before .before .before .before .before .before .before .before .pre .0 in let s = stand-on r (i .0) (i .4) (c .before .before .before .before .before .before .before .before .before .before .before .before .before .before .before .before .before .advance .ensures) in let l = c .before .before .before .before .before .before .before .before .before .before .before .before .before .before .before .before .before .before .before .before .before .before .before .before .loop-test .taken in let q = c .before .before .before .before .before .before .before .before .stretch .ensures .0 in (stand-next r s (i .1 .low) l q refl refl refl refl, ascend-next r s (i .1) l q (c .before .before .before .before .before .before .before .turn .ensures) (c .before .before .before .before .mark .ensures), gain-most r s (i .1 .low) l q, loss-most r s (i .1 .low) l q, c .before .before .before .before .before .before .before .before .stretch .ensures .1)
 
 note-requires : tie.Need-note-requires Inv-loop μ-loop
-note-requires c κs = let i = c .before .before .before .loop .inv in ascend-room (c .before .before .before .before .before .before .before .before .before .pre .0) (i .0) (i .1)
+note-requires c κs = let i = c .before .before .before .loop .inv in ascend-room (c .before .before .before .before .before .before .before .before .pre .0) (i .0) (i .1)
 
 keep-last-requires : tie.Need-keep-last-requires Inv-loop μ-loop
 keep-last-requires c κs = search needs
 
 canonize-requires : tie.Need-canonize-requires Inv-loop μ-loop
-canonize-requires c κs = let k = c .before .before .keep-last .ensures in last-ready (c .before .before .before .before .before .before .before .before .before .before .before .before .before .before .before .before .before .before .before .before .before .pre .0) (c .before .before .before .before .before .before .before .before .before .before .before .before .before .before .before .loop .inv .0) (k .0) (k .1)
+canonize-requires c κs = let k = c .before .before .keep-last .ensures in last-ready (c .before .before .before .before .before .before .before .before .before .before .before .before .before .before .before .before .before .before .before .pre .0) (c .before .before .before .before .before .before .before .before .before .before .before .before .before .before .loop .inv .0) (k .0) (k .1)
 
 same-length : tie.Need-same-length Inv-loop μ-loop
-same-length c = let i = c .before .before .before .before .before .before .before .before .before .before .before .before .before .before .before .before .loop .inv in c .before .before .before .before .before .before .before .before .before .before .before .before .note .kept .1 .1 .1 .0 ∙ ascend-splits (c .before .before .before .before .before .before .before .before .before .before .before .before .before .before .before .before .before .before .before .before .before .before .pre .0) (i .0) (i .1)
+same-length c = let i = c .before .before .before .before .before .before .before .before .before .before .before .before .before .before .before .loop .inv in c .before .before .before .before .before .before .before .before .before .before .before .note .kept .1 .1 .1 .1 .0 ∙ ascend-splits (c .before .before .before .before .before .before .before .before .before .before .before .before .before .before .before .before .before .before .before .before .pre .0) (i .0) (i .1)
 
 same-length-2 : tie.Need-same-length-2 Inv-loop μ-loop
-same-length-2 c = let i = c .before .before .before .before .before .before .before .before .before .before .before .before .before .before .before .before .loop .inv in c .before .before .before .before .before .before .before .before .before .before .before .before .note .kept .1 .1 .1 .1 .0 ∙ ascend-freights (c .before .before .before .before .before .before .before .before .before .before .before .before .before .before .before .before .before .before .before .before .before .before .pre .0) (i .0) (i .1)
+same-length-2 c = let i = c .before .before .before .before .before .before .before .before .before .before .before .before .before .before .before .loop .inv in c .before .before .before .before .before .before .before .before .before .before .before .note .kept .1 .1 .1 .1 .1 .0 ∙ ascend-freights (c .before .before .before .before .before .before .before .before .before .before .before .before .before .before .before .before .before .before .before .before .pre .0) (i .0) (i .1)
 
 returns : tie.Need-returns Inv-loop μ-loop
-returns c = let i = c .before .before .before .before .before .before .before .before .before .before .before .before .before .before .before .before .loop .inv in ascend-end (c .before .before .before .before .before .before .before .before .before .before .before .before .before .before .before .before .before .before .before .before .before .before .pre .0) (i .0) (i .1) (c .before .before .before .before .before .before .before .before .before .before .before .before .before .before .before .loop-test .left) (c .before .before .before .before .before .before .before .before .before .before .before .before .note .ensures) (c .before .before .before .keep-last .ensures .0) (c .canonize .ensures)
+returns c = let i = c .before .before .before .before .before .before .before .before .before .before .before .before .before .before .before .loop .inv in ascend-end (c .before .before .before .before .before .before .before .before .before .before .before .before .before .before .before .before .before .before .before .before .pre .0) (i .0) (i .1) (c .before .before .before .before .before .before .before .before .before .before .before .before .before .before .loop-test .left) (c .before .before .before .before .before .before .before .before .before .before .before .note .ensures) (c .before .before .before .keep-last .ensures .0) (c .canonize .ensures)
 
 pub climb-spec : {M : Type 1} → statement M
 climb-spec =
@@ -77,9 +77,9 @@ climb-spec =
     (tie.spec
     Inv-loop
     μ-loop
-    mul-t31
-    shared-slice-read-t33
-    add-t34
+    mul-t34
+    shared-slice-read-t36
+    add-t37
     loop-holds
     advance-requires
     sub-left

@@ -16,7 +16,7 @@ same-length-2 c = search needs
 
 returns : tie.Need-returns
 returns c =
-    let n = c .before .before .before .before in
+    let n = c .before .before .before in
     let t = n .before .before .before .if1 .taken in
     record {
       noted = λ e. n .note .ensures;

@@ -1,4 +1,4 @@
--- `worktables::work::lowered` meets its contract. Assumes nothing.
+-- `sweep::freight::lowered` meets its contract. Assumes nothing.
 use mathlib.Core.Path.{sym, ap, _∙_, subst}
 use lib.IntN.{ℤ}
 use borrow.Author.Needs.{needs}
@@ -6,8 +6,8 @@ use mir.Syntax.{w64}
 use mir.Val.{SFits, toZ, ofZ}
 use mir.ValLaws.{toZ-ofZ}
 use Rattle.problem.proofs.MachineIntegers.{lowered-is, sub-fits}
-use Rattle.worktables.proofs.work.lowered.Statement.{statement}
-use Rattle.worktables.proofs.work.lowered.Tie as tie
+use Rattle.sweep.proofs.freight.lowered.Statement.{statement}
+use Rattle.sweep.proofs.freight.lowered.Tie as tie
 
 cast-result : tie.Need-cast-result
 cast-result c = search needs
