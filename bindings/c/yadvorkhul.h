@@ -70,7 +70,7 @@ enum yadvorkhul_role {
    Answers 0 where the case is planned, or the number of the first test that it fails (1 to 9, 11, 23, 26 and 27, see
    docs/USING.md), or YADVORKHUL_SHORT_REPORT where report or worth is too short for anything to be told. On a refusal plan,
    splits, freights and worth keep their contents. All cells that are not named here keep theirs always. It needs about
-   108 kB of stack, and no heap. */
+   69 kB of stack, and no heap. */
 uint64_t yadvorkhul_plan(size_t m, size_t n, uint64_t run1, uint64_t run2,
                          const int64_t *costs, size_t costs_cells,
                          const uint64_t *supplies, size_t supplies_cells,
@@ -108,7 +108,7 @@ uint64_t yadvorkhul_rates(uint64_t most, uint64_t *to, size_t to_cells);
    where high is not as long as low (place 0), or its entry at split y is below the low one or above 1,000,000,000 (place y);
    then 11 where answers has fewer cells than there are splits; or YADVORKHUL_SHORT_REPORT, before all else. On a refusal answers
    and worth keep their contents. All cells that are not named here keep theirs always. What is said above of pointers holds
-   here too; it needs about 220 kB of stack, and no heap. */
+   here too; it needs about 181 kB of stack, and no heap. */
 uint64_t yadvorkhul_bounds(size_t m, size_t n, uint64_t run1, uint64_t run2,
                            const int64_t *costs, size_t costs_cells,
                            const uint64_t *supplies, size_t supplies_cells,
@@ -172,7 +172,7 @@ uint64_t yadvorkhul_go_back(size_t role, size_t mark, uint64_t *store, size_t st
                             uint64_t *report, size_t report_cells);
 
 /* Plans the working case: plan, splits, freights, report and worth as for yadvorkhul_plan, which the case as it is now would be
-   passed to. It needs about 141 kB of stack, and no heap. */
+   passed to. It needs about 102 kB of stack, and no heap. */
 uint64_t yadvorkhul_plan_case(size_t role, const uint64_t *store, size_t store_cells,
                               uint64_t *plan, size_t plan_cells,
                               uint64_t *splits, size_t splits_cells,
@@ -214,7 +214,7 @@ uint64_t yadvorkhul_see_table(size_t role, const uint64_t *store, size_t store_c
    one node, one of the five slices shorter than the arcs, or an arc from a node to itself (place 0); 27 where no flow exists
    (place 0); or YADVORKHUL_SHORT_REPORT, before all else. On a refusal all cells but the report's first keep their contents. All
    cells that are not named here keep theirs always. What is said above of pointers holds here too, the bytes' aside, which may lie
-   anywhere; it needs about 257 kB of stack, and no heap. */
+   anywhere; it needs about 218 kB of stack, and no heap. */
 uint64_t yadvorkhul_flow(const uint8_t *bytes, size_t bytes_cells, size_t place,
                          const uint64_t *table, size_t table_cells,
                          uint64_t *flow, size_t flow_cells,
