@@ -1,2 +1,2 @@
-// The working arrays of a lent case: costs raised, ceilings, supplies and demands copied in, amounts and lowered freights copied out.
+// The working arrays of a lent case: costs raised, ceilings, supplies and demands copied in, amounts copied out.
 pub mod work;
