@@ -1,6 +1,6 @@
 // Prints the splits that can be the cheapest into a lent slice, as far as there is room.
 ghost use mathlib.Core.List.{[], _∷_};
-ghost use Prim.Native.Nat.{_+_, _*_, _≤_, _<_, _^_};
+ghost use Prim.Native.Nat.{_+_, _*_, _<_, _^_};
 ghost use lib.ListN.{length};
 ghost use Rattle.csvtext.specs.Text.{recordText};
 ghost use Rattle.answertext.specs.Bounds.{marksText, boundsText, MarksFit};

@@ -10,13 +10,13 @@ use native.Mathlib.Omega.{arith}
 use borrow.Author.Tests.{ne-eqb}
 use lib.Dec.{ltb}
 use lib.IntN.{ℤ}
-use lib.ListN.{length, getD, take, drop, replicate, length-map, length-append}
+use lib.ListN.{length, take, drop, replicate, length-map, length-append}
 use lib.Seq.{sets, take-at, take-all, sets-eq, length-sets, length-take-le}
 use Rattle.transport.specs.Listing.{upFrom}
 use Rattle.transport.proofs.ListMembers.{upFrom-length}
 use Rattle.csvtext.specs.Text.{refusalText}
 use Rattle.answertext.specs.Bounds.{boundsText, MarksFit}
-use Rattle.problem.specs.Case.{Case, supply, leastSplit, greatestSplit}
+use Rattle.problem.specs.Case.{Case, supply, leastSplit}
 use Rattle.problem.specs.Outcome.{firstFrom}
 use Rattle.problem.specs.Outcome as planner
 use Rattle.filecase.specs.declared.case.CaseAnswer.{CaseAnswer}

@@ -11,7 +11,6 @@ use lib.Bits.{bitOr, or-lt}
 use Rattle.transport.specs.Plan.{Under}
 use Rattle.residual.specs.Cells.{cells}
 use Rattle.residual.specs.Network.{get}
-use Rattle.residual.specs.Bits.{bit}
 use Rattle.reachability.specs.Reachability.{Opens, Supplied, Known, Through}
 use Rattle.canonical.specs.Canonize.{Followed}
 use Rattle.residual.proofs.Bits.{bit-most, bit-or, bit-own}

@@ -1,7 +1,7 @@
 // One plan for everybody: of the plans as cheap as a slack plan, the one that has the smaller amount at the first lane, in row order, where it
 // differs from another. Such plans differ on tight lanes only. There each lane in turn keeps what cannot go another way, and is closed.
 ghost use mathlib.Core.Path.{_≡_};
-ghost use Prim.Native.Nat.{_+_, _*_, _≤_, _<_};
+ghost use Prim.Native.Nat.{_+_, _*_, _<_};
 ghost use lib.ListN.{getD, length};
 ghost use Rattle.residual.specs.Cells.{cells};
 ghost use Rattle.residual.specs.Network.{net};

@@ -11,32 +11,7 @@ use Rattle.caseform.specs.declared.Kind.{Kind}
 use Rattle.caseform.specs.declared.Kind.the-variants.{Tariff, Production}
 use Rattle.caseform.specs.declared.after.After.{After}
 use Rattle.caseform.specs.declared.after.After.the-variants.{Field, Record, End, Empty, Refused}
-use Rattle.caseform.specs.Form.{
-  Mark,
-  digit,
-  minus,
-  quote,
-  comma,
-  cr,
-  lf,
-  other,
-  mark,
-  field,
-  fieldOrEmpty,
-  recordOrEnd,
-  closed,
-  closedCost,
-  lineEnd,
-  lastLineEnd,
-  done,
-  step,
-  mayEnd,
-  isProduction,
-  afterComma,
-  afterLine,
-  inTariff,
-  leading,
-}
+use Rattle.caseform.specs.Form.{Mark, digit, minus, quote, comma, cr, lf, other, mark, field, fieldOrEmpty, recordOrEnd, closed, done, step, mayEnd, isProduction, afterComma, afterLine, inTariff}
 use Rattle.caseform.specs.Records.{reading, run, signed, isFirst, absorb, recordsAtEnd, rowWith, rowsWith}
 use Rattle.caseform.specs.Reader.{AfterRead, afterEnds, onAfter, atField, atCost, atComma, atDemand, atCr, atLastCr, atLast, Any, Source, Known}
 use Rattle.caseform.proofs.ByteMarks.{Seen, seen, known}

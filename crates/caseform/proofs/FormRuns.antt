@@ -12,39 +12,7 @@ use lib.ListN.{length, getD, drop, drop-of-length-le}
 use lib.Seq.{drop-cons}
 use Rattle.caseform.specs.declared.Kind.{Kind}
 use Rattle.caseform.specs.declared.Kind.the-variants.{Tariff, Production}
-use Rattle.caseform.specs.Form.{
-  Mark,
-  digit,
-  minus,
-  quote,
-  comma,
-  cr,
-  lf,
-  other,
-  mark,
-  State,
-  field,
-  opened,
-  bare,
-  quoted,
-  zeroBare,
-  zeroQuoted,
-  closed,
-  minusBare,
-  minusQuoted,
-  bareCost,
-  quotedCost,
-  closedCost,
-  lineEnd,
-  lastLineEnd,
-  inTariff,
-  leading,
-  step,
-  more,
-  afterZero,
-  placeOf,
-  mayEnd,
-}
+use Rattle.caseform.specs.Form.{Mark, digit, minus, quote, comma, cr, lf, other, mark, State, field, opened, zeroBare, zeroQuoted, closed, minusBare, minusQuoted, closedCost, lineEnd, lastLineEnd, inTariff, leading, step, more, placeOf, mayEnd}
 use Rattle.caseform.specs.Records.{Reading, reading, run, absorb, recordsAtEnd, isSource, Form, whole, broken}
 use Rattle.caseform.specs.Reader.{isMinus, within, closedAs}
 use Rattle.caseform.proofs.ByteMarks.{NotDigit, Seen}

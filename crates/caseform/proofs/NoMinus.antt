@@ -47,7 +47,7 @@ use Rattle.caseform.specs.Form.{
   afterLine,
   inTariff,
 }
-use Rattle.caseform.specs.Records.{Reading, reading, run, signed, number, absorb, recordsAtEnd, rowWith, rowsWith, isFirst, isSource, Form, whole, broken, formOf}
+use Rattle.caseform.specs.Records.{Reading, reading, run, signed, absorb, recordsAtEnd, rowWith, rowsWith, isFirst, isSource, Form, whole, broken, formOf}
 
 -- a number without a minus
 abbrev pub Plain : ℤ → Type 0

@@ -6,34 +6,7 @@ use mathlib.Core.List.{List, [], _∷_, _++_}
 use Prim.Native.Nat.{ℕ, suc, _+_, _*_}
 use Rattle.caseform.specs.declared.Kind.{Kind}
 use Rattle.caseform.specs.declared.Kind.the-variants.{Tariff, Production}
-use Rattle.caseform.specs.Form.{
-  mark,
-  State,
-  field,
-  fieldOrEmpty,
-  recordOrEnd,
-  opened,
-  bare,
-  quoted,
-  zeroBare,
-  zeroQuoted,
-  closed,
-  minusBare,
-  minusQuoted,
-  bareCost,
-  quotedCost,
-  closedCost,
-  lineEnd,
-  lastLineEnd,
-  done,
-  step,
-  mayEnd,
-  isProduction,
-  afterComma,
-  afterLine,
-  inTariff,
-  leading,
-}
+use Rattle.caseform.specs.Form.{mark, State, field, fieldOrEmpty, recordOrEnd, opened, bare, quoted, zeroBare, zeroQuoted, closed, minusBare, minusQuoted, bareCost, quotedCost, closedCost, lineEnd, lastLineEnd, done, step, mayEnd, isProduction, afterComma, afterLine, leading}
 use Rattle.caseform.specs.Records.{Reading, reading, run, absorb, rowWith, isFirst, signed, whole}
 
 -- bytes with which a file of the form goes on from here, and its records then

@@ -1,7 +1,7 @@
 -- What the parts of the reader answer, by what it means for the rest of the run: contracts of private functions. Assumes nothing.
 use mathlib.Core.Path.{_≡_}
 use mathlib.Core.Bool.{Bool, true, false, _||_}
-use mathlib.Core.List.{List, [], _∷_, _++_}
+use mathlib.Core.List.{List, []}
 use Prim.Native.Nat.{ℕ, _+_, _≤_, _<_, _^_}
 use lib.Dec.{eqb, ltb}
 use lib.IntN.{ℤ, pos}

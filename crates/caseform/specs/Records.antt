@@ -1,6 +1,6 @@
 -- The records of a file, each a list of numbers, or the place of refusal 21. Assumes nothing.
 use mathlib.Core.Bool.{Bool, true, false, _||_}
-use mathlib.Core.Option.{Option, none, some}
+use mathlib.Core.Option.{none, some}
 use mathlib.Core.List.{List, [], _∷_, _++_}
 use Prim.Native.Nat.{ℕ, suc, _+_, _*_}
 use lib.IntN.{ℤ, pos, negℤ}

@@ -1,7 +1,7 @@
 // A field, bare or in double quotes: 0, or 1 to 10 digits of which the first is not 0; these may have one minus before them in the tariff.
 use crate::Kind;
 ghost use mathlib.Core.Path.{_≡_};
-ghost use Prim.Native.Nat.{ℕ, _+_, _≤_, _<_, _^_};
+ghost use Prim.Native.Nat.{_+_, _≤_, _<_, _^_};
 ghost use lib.ListN.{length, getD};
 ghost use Rattle.caseform.specs.Form.{mark, field, opened};
 ghost use Rattle.caseform.specs.Records.{signed};

@@ -1,18 +1,17 @@
 -- One store in a slot: what it does to the case there. Assumes nothing.
-use mathlib.Core.Path.{_≡_, refl, sym, ap, ap₂, _∙_}
+use mathlib.Core.Path.{_≡_, sym, ap, ap₂, _∙_}
 use mathlib.Core.Bool.{Bool, false, cond}
 use mathlib.Core.List.{List, _++_, map}
-use Prim.Native.Nat.{ℕ, suc, min, _+_, _-_, _*_, _≤_, _<_}
+use Prim.Native.Nat.{ℕ, min, _+_, _-_, _*_, _≤_, _<_}
 use native.Mathlib.Decide.{decLt}
 use native.Mathlib.Omega.{arith}
-use lib.Dec.{eqb}
 use lib.IntN.{ℤ}
 use lib.ListN.{length, getD, set, take, drop, replicate, length-append, length-replicate, getD-replicate, List·getD-append}
 use lib.Seq.{length-take-le, getD-set-same, getD-set-other, getD-take, getD-append-add, drop-set-lt, ext-getD}
 use borrow.Author.Tests.{ne-eqb}
 use Rattle.problem.specs.Range.{outside, raisedOf}
 use Rattle.casestore.specs.State.{Draft}
-use Rattle.casestore.specs.Calls.{edited, withDemand, withSupply, withCost, withEntry, resized}
+use Rattle.casestore.specs.Calls.{withDemand, withSupply, withCost, withEntry, resized}
 use Rattle.casestore.specs.Store.{suppliesAt, demandsAt, costsAt, ceilingsAt, tableAt, costIn, entriesFor, draftIn}
 use Rattle.casestore.proofs.Parts.{part-length, part-at, store-before, store-after, store-within}
 use Rattle.casestore.proofs.CostLaws.{cost-back, map-set}

@@ -1,7 +1,7 @@
 -- Edits do to the cells what they do to the state. Assumes nothing.
 use mathlib.Core.Path.{_≡_, refl, sym, ap, ap₂, _∙_, subst}
-use mathlib.Core.Bool.{Bool, true, false, cond, not, _||_}
-use mathlib.Core.Option.{Option, none, some}
+use mathlib.Core.Bool.{Bool, true, cond, not, _||_}
+use mathlib.Core.Option.{some}
 use mathlib.Core.List.{List}
 use Prim.Native.Nat.{ℕ, suc, _+_, _-_, _*_, _≤_, _<_}
 use native.Mathlib.Nat.{suc-mul, mul-le-mul, mul-le-mul-right}
@@ -13,10 +13,10 @@ use lib.ListN.{length, getD, set, length-set}
 use lib.Seq.{getD-set-other}
 use borrow.Author.Tests.{ltb-true, ltb-false, eq-eqb, ne-eqb, not-false}
 use Rattle.problem.specs.Range.{outside, raisedOf}
-use Rattle.problem.specs.Outcome.{Outcome, refuseIf, _orElse_}
+use Rattle.problem.specs.Outcome.{refuseIf, _orElse_}
 use Rattle.problem.proofs.TestsPassed.{first-passes, second-passes, refuseIf-none, either-first, either-second}
 use Rattle.casestore.specs.State.{Draft}
-use Rattle.casestore.specs.Calls.{editDemand, editSupply, editCost, editEntry, refuseWhen, absent, leastRun, refusalIn, acted, withCase, withDemand, withSupply, withCost, withEntry}
+use Rattle.casestore.specs.Calls.{editDemand, editSupply, editCost, editEntry, refuseWhen, absent, leastRun, refusalIn, acted, withCase, withEntry}
 use Rattle.casestore.specs.Store.{suppliesAt, demandsAt, costsAt, tableAt, inCase, width, slot, draftIn, stateAt, sources, terminals, opens, heldIn, entriesFor, entriesIn, zeroed, extended, writes}
 use Rattle.casestore.specs.Inner.{Open}
 use Rattle.casestore.proofs.Drafts.{demand-draft, supply-draft, cost-draft, entry-draft}

@@ -1,5 +1,5 @@
 -- The refusals of an edit, as the inner functions come to them. Assumes nothing.
-use mathlib.Core.Path.{_≡_, refl, sym, ap, _∙_}
+use mathlib.Core.Path.{_≡_, ap, _∙_}
 use mathlib.Core.Bool.{Bool, true, false, not, _||_}
 use mathlib.Core.Option.{Option, none, some}
 use mathlib.Core.List.{List}
@@ -11,7 +11,7 @@ use lib.ListN.{length}
 use borrow.Author.Tests.{lt-ltb, le-ltb}
 use Rattle.problem.specs.Range.{outside}
 use Rattle.problem.specs.Outcome.{Outcome, refused, refuseIf, _orElse_}
-use Rattle.casestore.specs.State.{Draft, State}
+use Rattle.casestore.specs.State.{Draft}
 use Rattle.casestore.specs.Calls.{editDemand, editSupply, editCost, editEntry, refuseWhen, absent, leastRun, refusalIn}
 use Rattle.casestore.specs.Store.{stateAt, draftIn, entriesIn}
 use Rattle.casestore.specs.Inner.{Open, runIn}

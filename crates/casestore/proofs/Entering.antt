@@ -1,25 +1,23 @@
 -- Entering: what is written is what is held. Assumes nothing.
 use mathlib.Core.Path.{_≡_, refl, sym, ap, ap₂, _∙_}
 use mathlib.Core.Bool.{Bool, true, false, cond}
-use mathlib.Core.Option.{Option, none, some}
+use mathlib.Core.Option.{none, some}
 use mathlib.Core.List.{List, [], _∷_, _++_, map, append-assoc}
 use Prim.Native.Nat.{ℕ, suc, min, _+_, _-_, _*_, _≤_, _<_}
-use native.Mathlib.Nat.{mul-le-mul}
 use native.Mathlib.Omega.{arith}
-use lib.Dec.{eqb, ltb, leb}
-use lib.IntN.{ℤ}
+use lib.Dec.{eqb, ltb}
 use lib.ListN.{length, getD, take, drop, replicate, length-append, length-drop, length-map, getD-replicate, List·getD-append}
 use lib.Seq.{paste, take-at, drop-at, drop-append-add, drop-drop, take-length}
 use borrow.Author.Tests.{le-leb, lt-ltb, le-ltb}
 use Rattle.transport.specs.Curve.{written}
 use Rattle.problem.specs.Range.{raisedOf}
-use Rattle.problem.specs.Outcome.{Outcome, refused, refuseIf, _orElse_, formRefusal}
+use Rattle.problem.specs.Outcome.{Outcome, refused, refuseIf, formRefusal}
 use Rattle.problem.proofs.TestsPassed.{formed, first-decides, second-decides}
-use Rattle.casestore.specs.State.{Draft, State, lentWith, entered}
+use Rattle.casestore.specs.State.{Draft, lentWith, entered}
 use Rattle.casestore.specs.Calls.{absent}
 use Rattle.casestore.specs.Store.{cellsFor, suppliesAt, demandsAt, costsAt, ceilingsAt, tableAt, inCase, width, slot, costIn, entriesFor, draftIn, markIn, stateAt, opens, inLimits, heldIn, header, cellsOf}
 use Rattle.casestore.specs.Promise.{entryRefusal, Entered}
-use Rattle.casestore.specs.Inner.{Open, Sized}
+use Rattle.casestore.specs.Inner.{Sized}
 use Rattle.casestore.proofs.Parts.{part-at}
 use Rattle.casestore.proofs.Slots.{case-part, case-cell}
 use Rattle.casestore.proofs.CostLaws.{costs-back}

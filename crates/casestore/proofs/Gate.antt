@@ -7,7 +7,7 @@ use Prim.Native.Nat.{ℕ, _+_}
 use native.Mathlib.Omega.{arith}
 use lib.IntN.{ℤ}
 use lib.ListN.{set}
-use Rattle.problem.specs.Outcome.{Outcome, refused, refuseIf, _orElse_}
+use Rattle.problem.specs.Outcome.{Outcome, refused, refuseIf}
 use Rattle.problem.proofs.TestsPassed.{first-passes, second-passes, refuseIf-none}
 use Rattle.casestore.specs.declared.opened.Opened.the-variants.{Held, Closed}
 use Rattle.casestore.specs.State.{State}

@@ -1,14 +1,12 @@
 -- Whether a store holds a working case. Assumes nothing.
-use mathlib.Core.Path.{_≡_, refl, sym, ap, _∙_}
+use mathlib.Core.Path.{_≡_, refl}
 use mathlib.Core.Bool.{Bool, true, false, cond, _&&_}
 use mathlib.Core.List.{List}
-use Prim.Native.Nat.{ℕ, _+_, _*_, _≤_, _<_}
+use Prim.Native.Nat.{ℕ, _*_, _≤_, _<_}
 use native.Mathlib.Nat.{mul-le-mul}
 use native.Mathlib.Omega.{arith}
-use lib.Dec.{leb}
-use lib.ListN.{length, getD}
+use lib.ListN.{length}
 use borrow.Author.Tests.{le-leb, lt-leb}
-use Rattle.casestore.specs.declared.opened.Opened.{Opened}
 use Rattle.casestore.specs.declared.opened.Opened.the-variants.{Held, Closed}
 use Rattle.casestore.specs.Store.{cellsFor, sources, terminals, opens, inLimits, cellsToLend}
 use Rattle.casestore.specs.Inner.{openedOf, Open}

@@ -14,7 +14,7 @@ use Rattle.transport.specs.Curve.{written}
 use Rattle.problem.specs.Outcome.{Outcome, refused, refuseIf}
 use Rattle.casestore.specs.declared.opened.Opened.the-variants.{Held, Closed}
 use Rattle.casestore.specs.State.{Draft, State}
-use Rattle.casestore.specs.Store.{suppliesAt, demandsAt, costsAt, ceilingsAt, tableAt, inCase, costIn, entriesIn, stateAt, sources, terminals, heldIn}
+use Rattle.casestore.specs.Store.{suppliesAt, demandsAt, costsAt, ceilingsAt, tableAt, inCase, costIn, entriesIn, stateAt, heldIn}
 use Rattle.casestore.specs.Seeing.{tariffRefusal, tableRefusal, tariffAnswer, tableAnswer, costsIn, suppliesIn, demandsIn, tableIn, shownUnless, TariffShown, TableShown}
 use Rattle.casestore.specs.Inner.{Open, openedOf}
 use Rattle.casestore.proofs.Parts.{part-length}

@@ -5,9 +5,9 @@ use Prim.Native.Nat.{ℕ, _+_, _-_, _*_, _≤_, _<_}
 use native.Mathlib.Omega.{arith}
 use lib.ListN.{length, getD, set, take, drop, replicate, length-replicate, getD-replicate}
 use lib.Seq.{length-paste}
-use Rattle.casestore.specs.State.{Draft, State}
+use Rattle.casestore.specs.State.{State}
 use Rattle.casestore.specs.Calls.{editSupply, acted, withCase, withSupply}
-use Rattle.casestore.specs.Store.{cellsFor, suppliesAt, demandsAt, costsAt, ceilingsAt, tableAt, inCase, width, start, slot, costIn, entriesFor, entriesIn, draftIn, stateAt, zeroed, extended}
+use Rattle.casestore.specs.Store.{suppliesAt, demandsAt, costsAt, ceilingsAt, tableAt, inCase, width, start, slot, costIn, entriesFor, entriesIn, draftIn, stateAt, zeroed, extended}
 use Rattle.casestore.specs.Inner.{Open}
 use Rattle.casestore.proofs.Parts.{part-ext, copy-below, copy-in, copy-above}
 use Rattle.casestore.proofs.Slots.{start-0, slot-room, slots-apart, case-cell, slot-length}

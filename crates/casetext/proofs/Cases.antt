@@ -1,20 +1,17 @@
 -- The case that the records of the two texts are. Assumes nothing.
-use mathlib.Core.Path.{_≡_, refl, ap, ap₂, sym, _∙_, subst}
-use mathlib.Core.Bool.{true, false}
+use mathlib.Core.Path.{_≡_, refl, ap, _∙_}
 use mathlib.Core.List.{List, [], _∷_, _++_, map}
-use Prim.Native.Nat.{ℕ, zero, suc, _+_, _-_, _*_, _≤_, _<_}
+use Prim.Native.Nat.{ℕ, zero, suc, _+_, _*_, _≤_}
 use native.Mathlib.Omega.{arith}
-use native.Mathlib.Nat.{zero-add}
 use borrow.Author.Tests.{eq-eqb, le-ltb}
-use lib.Dec.{eqb, ltb}
 use lib.IntN.{ℤ, pos, natAbs}
 use lib.ListN.{length, getD, take, replicate, length-append}
 use lib.Seq.{take-at, getD-at}
 use Rattle.caseform.specs.declared.Kind.{Kind}
-use Rattle.caseform.specs.declared.Kind.the-variants.{Tariff, Production}
+use Rattle.caseform.specs.declared.Kind.the-variants.{Tariff}
 use Rattle.filetable.specs.declared.table.Table.the-variants.{Whole}
-use Rattle.caseform.specs.Records.{Form, whole, formOf}
-use Rattle.filetable.specs.Files.{pick, wanted, oddFrom, judged, judge, pickTable, tableOf, inOrder}
+use Rattle.caseform.specs.Records.{whole, formOf}
+use Rattle.filetable.specs.Files.{wanted, oddFrom, judge, tableOf, inOrder}
 use Rattle.filecase.specs.CaseFiles.{sourcesIn, terminalsIn, sourceRecords, costsIn, suppliesIn, demandsIn, entriesIn}
 use Rattle.casefile.specs.Printed.{filedCase, caseOf}
 use Rattle.filecase.proofs.TariffCase.{Even}

@@ -1,13 +1,12 @@
 -- Two cases' files. Assumes nothing.
 use mathlib.Core.Path.{_≡_, refl}
-use mathlib.Core.List.{List, [], _∷_}
-use Prim.Native.Nat.{ℕ}
-use lib.IntN.{ℤ, pos, negsuc}
+use mathlib.Core.List.{[], _∷_}
+use lib.IntN.{pos, negsuc}
 use Rattle.csvtext.specs.Text.{digitsOf, decimal, signedText, fieldText, recordText, each}
 use Rattle.csvtext.specs.Column.{columnText}
 use Rattle.problem.specs.Case.{Case}
 use Rattle.planner.specs.Judge.{freeCase}
-use Rattle.tarifftext.specs.Texts.{costsText, listText, lineText, sourceText, sourcesText, demandsText, tariffOf, productionOf, tariffText, productionText}
+use Rattle.tarifftext.specs.Texts.{costsText, listText, sourceText, sourcesText, demandsText, tariffOf, tariffText, productionText}
 
 -- case A
 abbrev case-A : Case

@@ -1,21 +1,21 @@
 -- Any accepted pair of files read and written comes out in one form, and what was written is read again. Assumes nothing.
-use mathlib.Core.Path.{_≡_, refl, ap, sym, _∙_, subst}
+use mathlib.Core.Path.{_≡_, refl, ap, sym, _∙_}
 use mathlib.Core.Option.{Option, none, some}
-use mathlib.Core.List.{List, [], _∷_, _++_}
+use mathlib.Core.List.{List, _++_}
 use Prim.Native.Nat.{ℕ, _+_, _≤_, _<_}
 use native.Mathlib.Omega.{arith}
 use borrow.Author.Tests.{le-ltb, ltb-false}
 use lib.Dec.{ltb}
 use lib.ListN.{length, getD, take, drop}
 use lib.Seq.{sets, sets-eq, take-at, drop-at}
-use Rattle.problem.specs.Case.{Case, entry}
-use Rattle.problem.specs.Outcome.{Outcome, refused, refuseIf, refuseAt, firstFrom, _orElse_, formRefusal, refusalOf, outcomeOf, test7, test8, test27, test9, test11}
+use Rattle.problem.specs.Case.{Case}
+use Rattle.problem.specs.Outcome.{Outcome, _orElse_, formRefusal, refusalOf, outcomeOf, test7, test8, test27, test9, test11}
 use Rattle.planner.specs.Judge.{caseRefusal}
 use Rattle.problem.proofs.FirstFailing.{first-none}
 use Rattle.problem.proofs.TestsPassed.{some≢none, first-passes, second-passes, first-decides, second-decides, refuseIf-none, either-first, either-second, accepted}
 use Rattle.problem.proofs.TestParts.{no-place}
 use Rattle.problem.proofs.Promise.{refused-outcome}
-use Rattle.caseform.specs.declared.Kind.the-variants.{Tariff, Production}
+use Rattle.caseform.specs.declared.Kind.the-variants.{Production}
 use Rattle.caseform.specs.Records.{Form, whole, broken, formOf}
 use Rattle.filetable.specs.Files.{inOrder}
 use Rattle.filecase.specs.declared.case.CaseAnswer.{CaseAnswer}
@@ -24,7 +24,7 @@ use Rattle.filecase.specs.CaseFiles.{entriesIn, caseAnswer, recordsOf}
 use Rattle.casefile.specs.Printed.{caseOf, fileCase, outcomeFor, fileOutcome}
 use Rattle.casetext.specs.declared.Texts.the-variants as answers
 use Rattle.tarifftext.specs.Texts.{tariffText, productionText}
-use Rattle.casetext.specs.Writing.{test32, test33, entriesRefusal, writeRefusal, fileRefusal, unlessRefused, TextsTold, CaseWritten}
+use Rattle.casetext.specs.Writing.{test32, test33, entriesRefusal, writeRefusal, fileRefusal, unlessRefused, CaseWritten}
 use Rattle.tarifftext.proofs.FileNumbers.{sizes-at, all-in-order, form-small}
 use Rattle.casetext.proofs.RoundTrip.{caseAlone, tariff-short, production-short, round-trip}
 use Rattle.casetext.proofs.Writes.{entries-form, write-tested, write-room}

@@ -1,7 +1,7 @@
 -- Two files read and written again: the case that is stored on the way is answered as the case of the files. Assumes nothing.
 use mathlib.Core.Path.{_≡_, refl, ap, sym, _∙_, subst}
 use mathlib.Core.Logic.{_⊎_, inl, inr}
-use mathlib.Core.Option.{Option, none, some}
+use mathlib.Core.Option.{some}
 use mathlib.Core.List.{List}
 use Prim.Native.Nat.{ℕ, min, _*_}
 use native.Mathlib.Nat.{min-eq-left}
@@ -13,7 +13,7 @@ use Rattle.problem.specs.Outcome.{Outcome, refused, formRefusal}
 use Rattle.casetests.specs.Size.{checkedOf}
 use Rattle.casetests.specs.declared.limits.Checked.{Checked}
 use Rattle.casetests.specs.declared.limits.Checked.the-variants as checks
-use Rattle.planner.specs.Judge.{caseRefusal, freeCase}
+use Rattle.planner.specs.Judge.{freeCase}
 use Rattle.casetests.proofs.FormTests.{Limits, in-limits, by-size}
 use Rattle.planner.proofs.Judging.{case-form}
 use Rattle.filecase.specs.declared.case.CaseAnswer.{CaseAnswer}
@@ -25,8 +25,7 @@ use Rattle.casefile.proofs.FileRefusals.{Alike}
 use Rattle.casefile.proofs.StoredCase.{cut-alike}
 use Rattle.casetext.specs.declared.Texts.{Texts}
 use Rattle.casetext.specs.declared.Texts.the-variants as texts
-use Rattle.tarifftext.specs.Texts.{tariffText, productionText}
-use Rattle.casetext.specs.Writing.{writeRefusal, fileRefusal, TextsTold, CaseWritten, FilesRewritten}
+use Rattle.casetext.specs.Writing.{writeRefusal, CaseWritten, FilesRewritten}
 use Rattle.casetext.proofs.Writes.{entries-form, write-tested, told-refused}
 
 -- what is told of a case is told of one that the tests before the balance refuse alike

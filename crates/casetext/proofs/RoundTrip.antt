@@ -1,14 +1,13 @@
 -- A case that can be written, read again: its two texts are accepted and are that case. Assumes nothing.
-use mathlib.Core.Path.{_≡_, refl, ap, ap₂, sym, _∙_, subst}
+use mathlib.Core.Path.{_≡_, refl, ap}
 use mathlib.Core.Option.{Option, none, some}
-use mathlib.Core.List.{List}
 use Prim.Native.Nat.{ℕ, _+_, _-_, _*_, _≤_, _<_}
 use native.Mathlib.Omega.{arith}
 use borrow.Author.Tests.{ltb-false}
 use lib.Dec.{ltb}
-use lib.ListN.{length, getD, replicate}
+use lib.ListN.{length, replicate}
 use Rattle.problem.specs.Case.{Case, entry}
-use Rattle.problem.specs.Outcome.{Outcome, refused, refuseAt, firstFrom, formRefusal, _orElse_}
+use Rattle.problem.specs.Outcome.{refused, refuseAt}
 use Rattle.planner.specs.Judge.{caseRefusal}
 use Rattle.problem.proofs.FirstFailing.{none-passes}
 use Rattle.problem.proofs.TestsPassed.{first-passes, second-passes, some≢none, Formed, formed}
@@ -19,8 +18,8 @@ use Rattle.filetable.specs.declared.table.Table.the-variants.{Whole}
 use Rattle.filecase.specs.declared.case.CaseAnswer.the-variants as answers
 use Rattle.caseform.specs.Records.{whole, formOf}
 use Rattle.filetable.specs.Files.{wanted, tableOf}
-use Rattle.filecase.specs.CaseFiles.{caseAnswer, answerOf, recordsOf}
-use Rattle.casefile.specs.Printed.{filedCase, caseOf, fileCase}
+use Rattle.filecase.specs.CaseFiles.{caseAnswer}
+use Rattle.casefile.specs.Printed.{filedCase, fileCase}
 use Rattle.tarifftext.specs.Texts.{tariffText, productionText, tariffRecords, productionRecords}
 use Rattle.casetext.specs.Writing.{test32, entriesRefusal}
 use Rattle.tarifftext.proofs.Forms.{Small, tariff-form, production-form}

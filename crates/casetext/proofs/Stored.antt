@@ -1,8 +1,8 @@
 -- The reader of a case over the two texts: what it answers and stores, and the case's outcome. Assumes nothing.
-use mathlib.Core.Path.{_≡_, refl, ap, sym, _∙_}
+use mathlib.Core.Path.{_≡_, ap, _∙_}
 use mathlib.Core.Option.{none}
 use mathlib.Core.List.{List}
-use Prim.Native.Nat.{ℕ, _≤_}
+use Prim.Native.Nat.{ℕ}
 use lib.IntN.{ℤ}
 use lib.ListN.{length, take}
 use native.Mathlib.Omega.{arith}
@@ -11,8 +11,8 @@ use Rattle.problem.specs.Case.{Case}
 use Rattle.problem.specs.Outcome.{outcomeOf}
 use Rattle.filecase.specs.declared.case.CaseAnswer.{CaseAnswer}
 use Rattle.filecase.specs.declared.case.CaseAnswer.the-variants as answers
-use Rattle.filecase.specs.CaseFiles.{entriesIn, CaseStored, caseAnswer}
-use Rattle.casefile.specs.Printed.{fileCase, fileOutcome, outcomeFor}
+use Rattle.filecase.specs.CaseFiles.{CaseStored}
+use Rattle.casefile.specs.Printed.{fileOutcome}
 use Rattle.tarifftext.specs.Texts.{tariffText, productionText, tariffRecords, productionRecords}
 use Rattle.casetext.specs.Writing.{entriesRefusal}
 use Rattle.casetext.proofs.Cases.{entries-are, costs-are, supplies-are, demands-are}

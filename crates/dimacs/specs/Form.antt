@@ -1,14 +1,14 @@
 -- The form of a DIMACS file: its lines, what a line may be, and which line may follow which, as an automaton over the lines. Limits are not judged
 -- here. Assumes nothing.
-use mathlib.Core.Bool.{Bool, true, false, _&&_}
+use mathlib.Core.Bool.{Bool, true, false}
 use mathlib.Core.Option.{Option, none, some}
 use mathlib.Core.List.{List, [], _∷_, _++_}
-use Prim.Native.Nat.{ℕ, zero, suc}
+use Prim.Native.Nat.{ℕ, suc}
 use lib.Dec.{eqb, ltb}
 use lib.IntN.{ℤ}
 use lib.ListN.{length}
 use Rattle.dimacs.specs.Arc.{Arc, arc}
-use Rattle.dimacs.specs.Bytes.{Got, _>>=_, gap, word, field, signedField}
+use Rattle.dimacs.specs.Bytes.{_>>=_, gap, word, field, signedField}
 
 -- a byte before the first of the pieces
 abbrev pub before : ℕ → List (List ℕ) → List (List ℕ)

@@ -1,10 +1,10 @@
 -- What the reader of a file's form answers: contracts. Assumes nothing.
 use mathlib.Core.Path.{_≡_}
-use mathlib.Core.Bool.{Bool, true, false, cond}
+use mathlib.Core.Bool.{Bool, true, cond}
 use mathlib.Core.List.{List, [], _∷_}
 use Prim.Native.Nat.{ℕ, _+_, _-_, _≤_, _<_}
 use lib.Dec.{ltb}
-use lib.ListN.{length, getD, take, drop}
+use lib.ListN.{length, take, drop}
 use Rattle.dimacs.specs.declared.form.Form as form-answer
 use Rattle.dimacs.specs.declared.form.Form.the-variants as forms
 use Rattle.dimacs.specs.declared.form.Tally.{Tally}

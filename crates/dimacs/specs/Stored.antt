@@ -13,7 +13,7 @@ use Rattle.dimacs.specs.declared.form.Form.the-variants as forms
 use Rattle.dimacs.specs.declared.store.Reading as reading-answer
 use Rattle.dimacs.specs.declared.store.Reading.the-variants as readings
 use Rattle.dimacs.specs.Arc.{Arc, arc}
-use Rattle.dimacs.specs.Form.{ArcLine, NodeLine, File, Stage, opening, reading, Form, whole, broken, formOf}
+use Rattle.dimacs.specs.Form.{ArcLine, NodeLine, File, Form, whole, broken, formOf}
 use Rattle.dimacs.specs.Lines.{supplyIn, anyOf, noNode, twice, badArc}
 use Rattle.caseform.specs.Records.{signed as withSign}
 

@@ -1,8 +1,8 @@
 // What stands in a line: spaces and numbers, each read at an offset of the line's bytes.
 ghost use mathlib.Core.Path.{_≡_};
-ghost use Prim.Native.Nat.{ℕ, _+_, _≤_, _<_};
-ghost use lib.ListN.{length, getD, drop};
-ghost use Rattle.dimacs.specs.Bytes.{counting, number, signed, spaces, field, signedField};
+ghost use Prim.Native.Nat.{_+_, _≤_, _<_};
+ghost use lib.ListN.{length, getD};
+ghost use Rattle.dimacs.specs.Bytes.{counting, number, signed, field, signedField};
 ghost use Rattle.dimacs.specs.Reader.{signedAnswer, DigitsRead, SpacesRead, NumberRead, SignedRead};
 
 // A number with the offset after it, or none.

@@ -1,8 +1,8 @@
 // The form of a file: its lines one after the other, counted.
 use crate::line::Line;
 ghost use mathlib.Core.Path.{_≡_};
-ghost use Prim.Native.Nat.{ℕ, _+_, _≤_, _<_};
-ghost use lib.ListN.{length, getD};
+ghost use Prim.Native.Nat.{_+_, _≤_, _<_};
+ghost use lib.ListN.{length};
 ghost use Rattle.dimacs.specs.FormReader.{onProblem, onNode, onArc, nextOf, endOf, LineEnd};
 
 // A file's counts of nodes and of arcs as its p line says them, or the line that is not of the form.

@@ -5,10 +5,9 @@ use crate::bytes::byte_at;
 use crate::bytes::read_field;
 use crate::bytes::read_signed_field;
 use crate::bytes::skip_spaces;
-ghost use mathlib.Core.Path.{_≡_};
-ghost use Prim.Native.Nat.{ℕ, _+_, _≤_, _<_};
-ghost use lib.ListN.{length, drop};
-ghost use Rattle.dimacs.specs.Form.{problemLine, nodeLine, arcOf, lineOf};
+ghost use Prim.Native.Nat.{_+_, _≤_, _<_};
+ghost use lib.ListN.{length};
+ghost use Rattle.dimacs.specs.Form.{problemLine, nodeLine, arcOf};
 ghost use Rattle.dimacs.specs.LineReader.{MinRead, LineRead, WholeLine};
 
 pub enum Line {

@@ -1,6 +1,4 @@
 // A working case planned and shown, by roles, for callers outside Rattle: the store is lent to be read alone.
-ghost use mathlib.Core.Path.{_≡_};
-ghost use lib.ListN.{length};
 ghost use Rattle.planner.specs.Answer.{slices};
 ghost use Rattle.casestore.specs.Store.{heldIn};
 ghost use Rattle.ffi.specs.Work.{PlanExported, TariffExported, TableExported};

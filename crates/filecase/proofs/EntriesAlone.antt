@@ -1,5 +1,5 @@
 -- A production file read alone. Assumes nothing.
-use mathlib.Core.Path.{_≡_, refl, sym, ap, _∙_, subst}
+use mathlib.Core.Path.{_≡_, refl, sym, ap, _∙_}
 use mathlib.Core.List.{List, map}
 use Prim.Native.Nat.{ℕ, min, _*_}
 use native.Mathlib.Omega.{arith}
@@ -10,11 +10,10 @@ use Rattle.caseform.specs.declared.Kind.the-variants.{Production}
 use Rattle.filetable.specs.declared.table.Table.{Table}
 use Rattle.filetable.specs.declared.table.Table.the-variants as tables
 use Rattle.filecase.specs.declared.case.Entries.the-variants.{Read, Refused}
-use Rattle.caseform.specs.Records.{whole, formOf}
 use Rattle.filetable.specs.Files.{wanted, tableOf, inOrder}
 use Rattle.filetable.specs.Tallies.{TableRead}
-use Rattle.filecase.specs.CaseFiles.{entriesIn, recordsOf}
-use Rattle.filecase.specs.Entries.{entriesOf, entriesFor, EntriesStored}
+use Rattle.filecase.specs.CaseFiles.{entriesIn}
+use Rattle.filecase.specs.Entries.{entriesOf, EntriesStored}
 use Rattle.filecase.proofs.TariffCase.{Accepted, accepted, even-length, stored-entries}
 
 -- one field in each record: as many fields as records

@@ -19,23 +19,7 @@ use Rattle.caseform.specs.Records.{Form, whole, broken, formOf}
 use Rattle.filetable.specs.Files.{pick, wanted, oddFrom, judge, tableOf, pickTable, inOrder}
 use Rattle.filecase.specs.declared.case.CaseAnswer.the-variants as answers
 use Rattle.filetable.specs.Tallies.{TableRead}
-use Rattle.filecase.specs.CaseFiles.{
-  sourcesIn,
-  terminalsIn,
-  sourceRecords,
-  costsIn,
-  suppliesIn,
-  demandsIn,
-  entriesIn,
-  costRows,
-  supplyRows,
-  onRefused,
-  answerOf,
-  caseAnswer,
-  Shared,
-  TariffStored,
-  CaseStored,
-}
+use Rattle.filecase.specs.CaseFiles.{sourcesIn, terminalsIn, sourceRecords, costsIn, suppliesIn, demandsIn, entriesIn, costRows, supplyRows, onRefused, caseAnswer, Shared, CaseStored}
 use Rattle.filetable.proofs.FieldCounts.{judged-whole}
 use Rattle.csvtext.proofs.Stores.{stored-part}
 

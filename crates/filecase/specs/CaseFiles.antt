@@ -1,6 +1,5 @@
 -- The case that the records of two files are, and what the reader of a case stores. Assumes nothing.
 use mathlib.Core.Path.{_≡_}
-use mathlib.Core.Bool.{Bool, true, false}
 use mathlib.Core.List.{List, [], _∷_, _++_, map}
 use Prim.Native.Nat.{ℕ, zero, suc, _+_, _-_, _*_, _≤_}
 use lib.IntN.{ℤ, pos, natAbs}

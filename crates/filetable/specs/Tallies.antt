@@ -1,6 +1,6 @@
 -- What is counted on the way through a file: contracts of private functions. Assumes nothing.
 use mathlib.Core.Path.{_≡_}
-use mathlib.Core.Bool.{Bool, true, false, _||_}
+use mathlib.Core.Bool.{Bool, false, _||_}
 use mathlib.Core.List.{List, []}
 use Prim.Native.Nat.{ℕ, _+_, _≤_, _<_, _^_}
 use lib.Dec.{eqb}
@@ -8,14 +8,13 @@ use lib.IntN.{ℤ}
 use lib.ListN.{length}
 use lib.Seq.{sets}
 use Rattle.caseform.specs.declared.Kind.{Kind}
-use Rattle.caseform.specs.declared.Kind.the-variants.{Tariff, Production}
 use Rattle.caseform.specs.declared.field.Field.{Field}
 use Rattle.caseform.specs.declared.field.Field.the-variants as answers
 use Rattle.filetable.specs.declared.table.Table.{Table}
 use Rattle.filetable.specs.declared.table.Table.the-variants.{Whole, Refused}
 use Rattle.filetable.specs.declared.table.Tally.{Tally}
-use Rattle.caseform.specs.Records.{Form, whole, formOf}
-use Rattle.filetable.specs.Files.{pick, wanted, oddFrom, tableOf, inOrder}
+use Rattle.caseform.specs.Records.{whole, formOf}
+use Rattle.filetable.specs.Files.{pick, wanted, tableOf, inOrder}
 
 abbrev pub startTally : Kind → Tally
 startTally kind = record { records = 0; fields = 0; width = wanted kind []; odd = 0; values = 0; rebate = false }

@@ -1,6 +1,6 @@
 // The case of a network, part by part, from the arcs as separate slices of numbers (node numbers from 1, as the file has them).
 ghost use mathlib.Core.Path.{_≡_};
-ghost use Prim.Native.Nat.{ℕ, _+_, _-_, _≤_, _<_};
+ghost use Prim.Native.Nat.{_+_, _-_, _≤_, _<_};
 ghost use lib.ListN.{length, getD};
 ghost use Rattle.flowproblem.specs.Reduce.{swap, nodeOf, sourceOf};
 ghost use Rattle.flowcase.specs.Build.{into, wantIn, laneIn, entryIn, Filled, Moderate};

@@ -1,8 +1,7 @@
 // Tests of a network whose numbers lie in slices.
 ghost use mathlib.Core.Path.{_≡_};
-ghost use Prim.Native.Nat.{ℕ, _+_, _-_, _≤_, _<_};
+ghost use Prim.Native.Nat.{_+_, _-_, _≤_, _<_};
 ghost use lib.ListN.{length, getD};
-ghost use lib.Dec.{ltb};
 ghost use Rattle.transport.specs.Sum.{sum};
 ghost use Rattle.flowcase.specs.Build.{AtMostAll, overAt, underAt, dearAt};
 ghost use Rattle.flowproblem.specs.Answer.{anyBelow};

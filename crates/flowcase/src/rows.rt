@@ -6,7 +6,7 @@ ghost use mathlib.Core.Path.{_≡_};
 ghost use mathlib.Core.Bool.{cond};
 ghost use Prim.Native.Nat.{ℕ, _+_, _-_, _*_, _≤_, _<_};
 ghost use lib.Dec.{eqb};
-ghost use lib.IntN.{ℤ, pos};
+ghost use lib.IntN.{pos};
 ghost use lib.ListN.{length, getD};
 ghost use Rattle.flowproblem.specs.Reduce.{nodeOf, sourceOf};
 ghost use Rattle.flowcase.specs.Build.{Moderate, Put, RowsAre, laneIn, costIn, haveIn, stockIn, flowIn, AtMostAll, cellOf};

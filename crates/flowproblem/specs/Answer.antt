@@ -1,10 +1,10 @@
 -- The network that a file is, refusals 29, 30 and 27 in this order, and what a file with a named arc and a table is answered. Assumes nothing.
 use mathlib.Core.Path.{_≡_}
-use mathlib.Core.Bool.{Bool, true, false, not, cond, _||_}
-use mathlib.Core.List.{List, [], _∷_, _++_, map, flatMap}
+use mathlib.Core.Bool.{Bool, true, false, not, _||_}
+use mathlib.Core.List.{List, [], _∷_, map, flatMap}
 use Prim.Native.Nat.{ℕ, zero, suc, _+_, _-_, _<_}
 use lib.Dec.{eqb, ltb}
-use lib.IntN.{ℤ, pos, negℤ, subℕ}
+use lib.IntN.{ℤ, pos, subℕ}
 use lib.Signed.{ltZ, _≤ℤ_, _<ℤ_}
 use lib.ListN.{length}
 use Rattle.transport.specs.Listing.{upFrom, select, least}

@@ -1,11 +1,11 @@
 -- A network in which one arc is named: its nodes, supplies and arcs, a flow and its total. The file numbers nodes from 1; here nodes and arcs are
 -- counted from 0. Assumes nothing.
 use mathlib.Core.Path.{_≡_}
-use mathlib.Core.Bool.{Bool, cond}
+use mathlib.Core.Bool.{cond}
 use mathlib.Core.List.{List}
-use Prim.Native.Nat.{ℕ, _+_, _-_, _≤_, _<_}
+use Prim.Native.Nat.{ℕ, _-_, _≤_, _<_}
 use lib.Dec.{eqb}
-use lib.IntN.{ℤ, pos, subℕ, natAbs, _+ℤ_, _*ℤ_}
+use lib.IntN.{ℤ, pos, subℕ, _+ℤ_, _*ℤ_}
 use lib.ListN.{length, getD}
 use Rattle.transport.specs.Sum.{sum}
 use Rattle.dimacs.specs.Arc.{Arc, arc}

@@ -1,7 +1,7 @@
 -- Section 5 of the report: the case that a network with a named arc becomes, and the way between its plans and the flows. Nodes are sources (plant 1
 -- the node where the named arc ends, plant 2 the one where it starts), arcs are terminals; the named arc's terminal has demand 0, so that a network of
 -- the named arc alone is a case too. Assumes nothing.
-use mathlib.Core.Bool.{Bool, cond, _||_}
+use mathlib.Core.Bool.{cond, _||_}
 use mathlib.Core.List.{List, [], _∷_, _++_}
 use Prim.Native.Nat.{ℕ, zero, suc, _+_, _-_}
 use lib.Dec.{eqb, ltb}

@@ -1,10 +1,8 @@
 -- A network that passed refusal 30 and the two checks of refusal 27 that are made before the planner is asked. Assumes nothing.
 use mathlib.Core.Path.{_≡_}
 use mathlib.Core.Logic.{_≢_}
-use mathlib.Core.List.{List}
-use Prim.Native.Nat.{ℕ, suc, _+_, _≤_, _<_}
-use lib.IntN.{ℤ, pos}
-use lib.ListN.{length}
+use Prim.Native.Nat.{ℕ, _≤_, _<_}
+use lib.IntN.{pos}
 use Rattle.problem.specs.Integer.{sumℤ}
 use Rattle.flowproblem.specs.Network.{Network, arcCount, start, end, ceiling, supply, amount}
 use Rattle.flowproblem.specs.Reduce.{stock}

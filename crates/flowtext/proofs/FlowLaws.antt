@@ -1,16 +1,16 @@
 -- From what `cheapest_flow` answers to what is printed, and from a table cut to 4,002 entries to the whole one. Assumes nothing.
 use mathlib.Core.Path.{_≡_, refl, sym, ap, _∙_, subst}
-use mathlib.Core.Bool.{Bool, true, false, not, cond, _||_, true≢false}
+use mathlib.Core.Bool.{Bool, true, false, not, _||_, true≢false}
 use mathlib.Core.List.{List, _++_, map}
-use Prim.Native.Nat.{ℕ, suc, min, _+_, _-_, _≤_, _<_, _^_}
+use Prim.Native.Nat.{ℕ, min, _+_, _-_, _≤_, _<_, _^_}
 use native.Mathlib.Decide.{decLt}
 use native.Mathlib.Omega.{arith}
-use borrow.Author.Tests.{ltb-false, ltb-true, lt-ltb, le-ltb, eqb-true, ne-eqb}
+use borrow.Author.Tests.{ltb-false, lt-ltb, le-ltb, eqb-true, ne-eqb}
 use lib.Dec.{eqb, ltb}
 use lib.IntN.{ℤ, pos, negsuc, negℤ, natAbs}
 use lib.Signed.{ltZ}
-use lib.ListN.{length, getD, take, drop, length-map, List·getD-map, List·getD-append, length-append, length-drop}
-use lib.Seq.{sets, length-sets, sets-eq, take-at, take-all, length-take-le}
+use lib.ListN.{length, getD, take, drop, length-map, List·getD-map, List·getD-append, length-append}
+use lib.Seq.{length-sets, sets-eq, take-at, take-all, length-take-le}
 use Rattle.csvtext.specs.Text.{refusalText}
 use Rattle.answertext.specs.Flow.{FlowFits}
 use Rattle.caseform.specs.declared.Kind.the-variants.{Production}
@@ -28,11 +28,11 @@ use Rattle.flowproblem.specs.Answer.{arcsOf, networkOf, Room, Outcome, carried,
 use Rattle.flowproblem.specs.Promise.{Slices, roomOf, Given, Answered}
 use Rattle.flowproblem.proofs.Listed.{none-of}
 use Rattle.flowproblem.proofs.Answers.{answer-29, answer-30}
-use Rattle.flowproblem.proofs.Limits.{Proper, proper, four, count-is, few-arcs}
+use Rattle.flowproblem.proofs.Limits.{proper, four, count-is, few-arcs}
 use Rattle.flowtext.specs.declared.Counted.{Counted}
 use Rattle.flowtext.specs.declared.Counted.the-variants as counts
 use Rattle.flowtext.specs.Printing.{placeOf, room, networkOutcome, tableThen, tableOutcome, formThen, filesOutcome, flowBytes, FlowPrinted, OutcomePrinted, NetworkPrinted, TablePrinted, FilesPrinted}
-use Rattle.flowtext.specs.Cuts.{CountIs, CountedIs, chargeIn, ArcsCut, cutText}
+use Rattle.flowtext.specs.Cuts.{CountIs, CountedIs, ArcsCut, cutText}
 use Rattle.problem.proofs.TestsPassed.{either-first, either-second}
 
 -- ---- an outcome

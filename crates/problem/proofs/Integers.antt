@@ -1,6 +1,5 @@
 -- Integers tested for equality, and integers above -k, by naturals. Assumes nothing.
 use mathlib.Core.Path.{_≡_, sym, ap, ap₂, _∙_, subst, subst₂}
-use mathlib.Core.Bool.{Bool, true, false}
 use Prim.Native.Nat.{ℕ, suc, _+_, _*_, _-_, _≤_, _<_}
 use native.Mathlib.Omega.{arith}
 use native.Mathlib.Nat.{le-antisymm}
@@ -9,7 +8,7 @@ use lib.Dec.{ltb, leb, eqb}
 use lib.IntN.{ℤ, pos, negsuc, subℕ, _+ℤ_, _*ℤ_}
 use lib.Signed.{ltZ, leZ, _≤ℤ_, _<ℤ_, ≤ℤ-refl}
 use borrow.Author.Tests.{lt-ltb, le-ltb, le-leb, lt-leb, eq-eqb, ne-eqb}
-use Rattle.transport.proofs.Differences.{by-sign, sub-same, pos-sub, sub-add, sub-scale, sub-lt, sub-le, sub-at-most, sub-below, at-most-sub}
+use Rattle.transport.proofs.Differences.{by-sign, pos-sub, sub-add, sub-scale, sub-lt, sub-le, sub-at-most, sub-below, at-most-sub}
 use Rattle.problem.specs.Integer.{eqZ, Above}
 
 pub sub-eq : (a b c d : ℕ) → eqZ (subℕ a b) (subℕ c d) ≡ eqb (a + d) (c + b)

@@ -15,7 +15,7 @@ use Rattle.problem.specs.Case.{Case, steps}
 use Rattle.problem.specs.Outcome.{Outcome, refused, firstFrom, firstOver, refuseIf, refuseAt, test11}
 use Rattle.problem.specs.LentTests.{firstAbove, firstOutside, amountsRefusal, runsRefusal, ceilingsRefusal, entriesRefusal, splitsRefusal, AtMost}
 use Rattle.transport.specs.Sum.{sum}
-use Rattle.transport.proofs.Sums.{sum-zero, sum-suc, sum-ext}
+use Rattle.transport.proofs.Sums.{sum-zero, sum-suc}
 use Rattle.problem.proofs.TestsPassed.{Formed, first-decides, second-decides}
 use Rattle.problem.proofs.Splits.{greatest-most}
 use Rattle.problem.proofs.FirstFailing.{moved, first-moved, first-then, first-within, none-passes, some-first}

@@ -1,14 +1,13 @@
 -- A plan that passes the check at the first split within the supplies and the least runs is what step 1 finds. Assumes nothing.
 use mathlib.Core.Path.{_≡_, sym, _∙_}
-use mathlib.Core.Bool.{true, false, true≢false}
+use mathlib.Core.Bool.{true, true≢false}
 use mathlib.Core.List.{List}
 use Prim.Native.Nat.{ℕ, _+_, _-_, _≤_, _<_, max}
 use native.Mathlib.Omega.{arith}
 use lib.ListN.{length, replicate, length-replicate, getD-replicate}
 use Rattle.transport.specs.Plan.{Table}
-use Rattle.transport.specs.Curve.{amountsAt}
 use Rattle.residual.specs.Cells.{cells}
-use Rattle.residual.specs.Network.{Net, get, again}
+use Rattle.residual.specs.Network.{get, again}
 use Rattle.slackcheck.specs.Checked.{CheckReady, Checked}
 use Rattle.slackcheck.proofs.Checking.{amount-first, amount-second, amount-depot}
 use Rattle.firstsplit.specs.Shipment.{Stocked}

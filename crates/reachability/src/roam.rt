@@ -1,6 +1,6 @@
 // The way of drums over free lanes, which cost nothing: breadth first, with a bit for each node.
 ghost use mathlib.Core.Path.{_≡_};
-ghost use Prim.Native.Nat.{_+_, _*_, _^_, _≤_, _<_};
+ghost use Prim.Native.Nat.{_+_, _*_, _^_, _<_};
 ghost use lib.ListN.{length, getD};
 ghost use Rattle.residual.specs.Bits.{bit};
 ghost use Rattle.residual.specs.LanesInUse.{Covers};

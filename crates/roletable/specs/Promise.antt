@@ -13,7 +13,7 @@ use Rattle.casestore.specs.Store.{heldIn, sources, terminals, writes}
 use Rattle.casestore.specs.Promise.{answerTo, steps, cellsUnless}
 use Rattle.caseplans.specs.Planning.{outcomeIn}
 use Rattle.casestore.specs.Seeing.{tariffAnswer, tableAnswer, shownUnless, costsIn, suppliesIn, demandsIn, tableIn}
-use Rattle.roletable.specs.Deeds.{Deed, work, seeTariff, seeTable, plan, test31}
+use Rattle.roletable.specs.Deeds.{work, seeTariff, seeTable, plan, test31}
 
 -- the answer to a call: 31 first of all
 unfoldable pub answerBy : ℕ → Call → Option State → Option Outcome

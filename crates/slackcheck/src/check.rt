@@ -1,12 +1,10 @@
 // The check of a plan and its potentials.
 ghost use mathlib.Core.Path.{_≡_};
 ghost use mathlib.Core.Bool.{true};
-ghost use Prim.Native.Nat.{ℕ, _+_, _≤_, _<_};
-ghost use Rattle.transport.specs.Plan.{row, col};
+ghost use Prim.Native.Nat.{_+_, _≤_, _<_};
 ghost use Rattle.transport.specs.Curve.{amountsAt};
 ghost use Rattle.residual.specs.Cells.{cells};
 ghost use Rattle.residual.specs.Network.{get};
-ghost use lib.ListN.{length};
 ghost use Rattle.slackcheck.specs.Checked.{Good, Levels, CheckReady, RowReady, RowChecked, RowsChecked, Few, Got, ColumnsChecked, Checked};
 
 // Is a lane within its ceiling and slack: no terminal's potential is above its source's and the unit cost, and it is equal where drums go? And does

@@ -2,7 +2,6 @@
 ghost use Prim.Native.Nat.{ℕ, _+_, _≤_, _<_};
 ghost use mathlib.Core.Path.{_≡_};
 ghost use lib.ListN.{length};
-ghost use Rattle.residual.specs.Cells.{cells};
 ghost use Rattle.residual.specs.LanesInUse.{Covers};
 ghost use Rattle.slackcheck.specs.Serving.{Served, ServersTo};
 

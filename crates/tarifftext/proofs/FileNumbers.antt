@@ -1,5 +1,5 @@
 -- Every number of a file of the form has at most ten digits. Assumes nothing.
-use mathlib.Core.Path.{_≡_, refl, ap, sym, _∙_, subst}
+use mathlib.Core.Path.{_≡_, refl, sym, subst}
 use mathlib.Core.Bool.{Bool, true, false}
 use mathlib.Core.Option.{Option, none, some}
 use mathlib.Core.List.{List, [], _∷_, _++_, map}
@@ -7,49 +7,11 @@ use Prim.Native.Nat.{ℕ, zero, suc, _+_, _*_, _-_, _≤_, _<_, _^_}
 use native.Mathlib.Omega.{arith}
 use native.Mathlib.Decide.{decLe}
 use native.Mathlib.Nat.{pow-suc, pow-le-pow-right}
-use lib.IntN.{ℤ, pos, natAbs}
+use lib.IntN.{ℤ, natAbs}
 use lib.ListN.{length, getD}
 use Rattle.caseform.specs.declared.Kind.{Kind}
 use Rattle.caseform.specs.declared.Kind.the-variants.{Tariff, Production}
-use Rattle.caseform.specs.Form.{
-  Mark,
-  digit,
-  minus,
-  quote,
-  comma,
-  cr,
-  lf,
-  other,
-  mark,
-  State,
-  field,
-  fieldOrEmpty,
-  recordOrEnd,
-  opened,
-  bare,
-  quoted,
-  zeroBare,
-  zeroQuoted,
-  closed,
-  minusBare,
-  minusQuoted,
-  bareCost,
-  quotedCost,
-  closedCost,
-  lineEnd,
-  lastLineEnd,
-  done,
-  row,
-  step,
-  placeOf,
-  leading,
-  more,
-  noDigit,
-  inTariff,
-  mayEnd,
-  afterComma,
-  afterLine,
-}
+use Rattle.caseform.specs.Form.{Mark, digit, minus, quote, comma, cr, lf, other, mark, State, field, fieldOrEmpty, recordOrEnd, opened, bare, quoted, zeroBare, zeroQuoted, closed, minusBare, minusQuoted, bareCost, quotedCost, closedCost, lineEnd, lastLineEnd, done, row, step, placeOf, leading, more, inTariff, mayEnd, afterComma, afterLine}
 use Rattle.caseform.specs.Records.{Reading, reading, run, absorb, signed, number, recordsAtEnd, isSource, rowWith, rowsWith, Form, whole, broken, formOf}
 use Rattle.filetable.specs.Files.{inOrder}
 use Rattle.caseform.proofs.ByteMarks.{NotDigit, mark-digit, below-digit, above-digit}

@@ -1,6 +1,6 @@
 -- The two texts read again: their records. Assumes nothing.
 use mathlib.Core.Path.{_≡_, refl, ap, sym, _∙_, subst}
-use mathlib.Core.Bool.{Bool, true, false, _||_}
+use mathlib.Core.Bool.{Bool, false}
 use mathlib.Core.List.{List, [], _∷_, _++_, append-nil}
 use Prim.Native.Nat.{ℕ, zero, suc, _+_, _*_, _≤_, _<_}
 use native.Mathlib.Omega.{arith}
@@ -11,8 +11,8 @@ use Rattle.csvtext.specs.Text.{fieldText, each}
 use Rattle.csvtext.specs.Column.{columnText}
 use Rattle.caseform.specs.declared.Kind.{Kind}
 use Rattle.caseform.specs.declared.Kind.the-variants.{Tariff, Production}
-use Rattle.caseform.specs.Form.{mark, State, field, fieldOrEmpty, recordOrEnd, lineEnd, lastLineEnd, done, step, mayEnd, afterComma, afterLine}
-use Rattle.caseform.specs.Records.{Reading, reading, run, absorb, recordsAtEnd, isFirst, rowWith, rowsWith, Form, whole, formOf}
+use Rattle.caseform.specs.Form.{mark, State, field, fieldOrEmpty, recordOrEnd, lastLineEnd, done, step, mayEnd, afterComma, afterLine}
+use Rattle.caseform.specs.Records.{reading, run, absorb, recordsAtEnd, isFirst, rowWith, whole, formOf}
 use Rattle.tarifftext.specs.Texts.{
   costsText,
   listText,
@@ -27,7 +27,7 @@ use Rattle.tarifftext.specs.Texts.{
   tariffRecords,
   productionRecords,
 }
-use Rattle.tarifftext.proofs.Going.{Goes, goes-none, goes-then, goes-byte, Starts, starts-field, starts-empty, starts-record, field-goes, line-goes, StartsCost, cost-field, CostRead, cost-goes}
+use Rattle.tarifftext.proofs.Going.{Goes, goes-none, goes-then, goes-byte, Starts, starts-field, starts-empty, starts-record, field-goes, line-goes, StartsCost, cost-field, cost-goes}
 use Rattle.tarifftext.proofs.Tabs.{tab-length}
 
 -- numbers that a field can hold

@@ -1,19 +1,19 @@
 -- How the reader goes over what is written: digits, fields and records. Assumes nothing.
 use mathlib.Core.Path.{_≡_, refl, ap, sym, _∙_, subst}
 use mathlib.Core.Bool.{Bool, true, false, _||_}
-use mathlib.Core.Option.{Option, none, some}
-use mathlib.Core.List.{List, [], _∷_, _++_, append-assoc, append-nil}
+use mathlib.Core.Option.{some}
+use mathlib.Core.List.{List, [], _∷_, _++_, append-assoc}
 use Prim.Native.Nat.{ℕ, zero, suc, _+_, _*_, _/_, _%_, _-_, _≤_, _<_, _^_}
 use native.Mathlib.Omega.{arith}
 use native.Mathlib.Decide.{decLt}
 use native.Mathlib.Nat.{pow-suc, add-zero}
 use native.Mathlib.Numerals.{add-one}
-use lib.IntN.{ℤ, pos, negsuc, negℤ, natAbs}
+use lib.IntN.{ℤ, pos, negsuc, natAbs}
 use lib.ListN.{length, length-append}
 use Rattle.csvtext.specs.Text.{decimal, signedText, fieldText, recordText}
 use Rattle.csvtext.proofs.DecimalTexts.{decimal-small, decimal-large}
 use Rattle.caseform.specs.declared.Kind.{Kind}
-use Rattle.caseform.specs.declared.Kind.the-variants.{Tariff, Production}
+use Rattle.caseform.specs.declared.Kind.the-variants.{Tariff}
 use Rattle.caseform.specs.Form.{
   Mark,
   digit,
@@ -37,7 +37,7 @@ use Rattle.caseform.specs.Form.{
   afterComma,
   afterLine,
 }
-use Rattle.caseform.specs.Records.{Reading, reading, run, absorb, isFirst, isSource, rowWith, rowsWith, signed}
+use Rattle.caseform.specs.Records.{Reading, reading, run, absorb, isFirst, isSource, rowWith, rowsWith}
 use Rattle.caseform.proofs.ByteMarks.{mark-digit}
 use Rattle.tarifftext.specs.Texts.{lineText}
 

@@ -1,7 +1,7 @@
 -- `casetext::test_case` meets its contract. Assumes nothing.
 use mathlib.Core.Path.{_≡_, sym, ap, _∙_}
 use mathlib.Core.Option.{none}
-use Prim.Native.Nat.{ℕ, _+_, _-_, _≤_, _<_}
+use Prim.Native.Nat.{ℕ, _-_, _≤_, _<_}
 use native.Mathlib.Omega.{arith}
 use borrow.Author.Count.{below-more}
 use denote.Ref.{now}
@@ -12,9 +12,6 @@ use Rattle.casetext.proofs.Writes.{entries-form, entries-high, entries-
 use borrow.Author.Needs.{needs}
 use Rattle.casetext.proofs.test_case.Statement.{statement}
 use Rattle.casetext.proofs.test_case.Tie as tie
-use Rattle.casetext.proofs.test_case.Reads as reads
-use Rattle.casetext.proofs.test_case.Lts as lts
-use Rattle.planner.proofs.judge.judge.Reads as judge-reads
 
 abbrev Inv-loop : tie.InvT-loop
 Inv-loop m n costs supplies demands table y₀ y-end y = (y ≤ length table) × ((k : ℕ) → k < y → getD table k 0 ≤ 9999999999)

@@ -12,11 +12,6 @@ use Rattle.casetext.proofs.Writes.{write-tested, write-tariff, write-pr
 use borrow.Author.Needs.{needs}
 use Rattle.casetext.proofs.write_case.Statement.{statement}
 use Rattle.casetext.proofs.write_case.Tie as tie
-use Rattle.casetext.proofs.write_case.Reads as reads
-use Rattle.casetext.proofs.write_case.Lts as lts
-use Rattle.tarifftext.proofs.put_production.Reads as put-production-reads
-use Rattle.tarifftext.proofs.put_tariff.Reads as put-tariff-reads
-use Rattle.casetext.proofs.test_case.Reads as test-case-reads
 
 -- the case
 abbrev the : tie.Start → ℕ → ℕ → ℕ → Case

@@ -1,6 +1,5 @@
 -- `fallback_trials::run_cases` is safe and ends. Assumes nothing.
 use Prim.Native.Nat.{_-_, _≤_}
-use native.Mathlib.Omega.{arith}
 use borrow.Author.Needs.{needs}
 use Rattle.fallback_trials.proofs.run_cases.Statement.{statement}
 use Rattle.fallback_trials.proofs.run_cases.Tie as tie

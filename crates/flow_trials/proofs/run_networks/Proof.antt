@@ -3,11 +3,6 @@ use Prim.Native.Nat.{_-_}
 use borrow.Author.Needs.{needs}
 use Rattle.flow_trials.proofs.run_networks.Statement.{statement}
 use Rattle.flow_trials.proofs.run_networks.Tie as tie
-use Rattle.flow_trials.proofs.run_networks.Reads as reads
-use Rattle.flow_trials.proofs.run_networks.Lts as lts
-use Rattle.flow_trials.proofs.counted.Reads as counted-reads
-use Rattle.trial_draws.proofs.after.Reads as after-reads
-use Rattle.flow_trials.proofs.run_network.Reads as run-network-reads
 
 abbrev Inv-loop : tie.InvT-loop
 Inv-loop t₀ x₀ k₀ t x k = Unit {0}

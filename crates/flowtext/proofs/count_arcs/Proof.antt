@@ -3,9 +3,6 @@ use Rattle.network.proofs.FileLaws.{read-refused, read-whole, zero-arcs, zero-n
 use borrow.Author.Needs.{needs}
 use Rattle.flowtext.proofs.count_arcs.Statement.{statement}
 use Rattle.flowtext.proofs.count_arcs.Tie as tie
-use Rattle.flowtext.proofs.count_arcs.Reads as reads
-use Rattle.flowtext.proofs.count_arcs.Lts as lts
-use Rattle.dimacs.proofs.store.read_file.Reads as read-file-reads
 
 read-file-requires : tie.Need-read-file-requires
 read-file-requires c κs = (zero-arcs, zero-nodes)

@@ -4,11 +4,6 @@ use Rattle.flowtext.proofs.FlowLaws.{too-long, not-formed, formed, coun
 use borrow.Author.Needs.{needs}
 use Rattle.flowtext.proofs.flow_files.Statement.{statement}
 use Rattle.flowtext.proofs.flow_files.Tie as tie
-use Rattle.flowtext.proofs.flow_files.Reads as reads
-use Rattle.flowtext.proofs.flow_files.Lts as lts
-use Rattle.casefile.proofs.planned.print_refusal.Reads as print-refusal-reads
-use Rattle.flowtext.proofs.count_arcs.Reads as count-arcs-reads
-use Rattle.flowtext.proofs.print_with_table.Reads as print-with-table-reads
 
 print-refusal-requires : tie.Need-print-refusal-requires
 print-refusal-requires c κs = search needs

@@ -7,9 +7,6 @@ use mir.ValLaws.{toZ-ofZ}
 use borrow.Author.Needs.{needs}
 use Rattle.flowtext.proofs.print_flow.Statement.{statement}
 use Rattle.flowtext.proofs.print_flow.Tie as tie
-use Rattle.flowtext.proofs.print_flow.Reads as reads
-use Rattle.flowtext.proofs.print_flow.Lts as lts
-use Rattle.answertext.proofs.flow.put_flow.Reads as put-flow-reads
 
 sub-named : tie.Need-sub-named
 sub-named c = search needs

@@ -6,11 +6,6 @@ use Rattle.flowtext.proofs.FlowLaws.{network-refused, network-cut, netw
 use borrow.Author.Needs.{needs}
 use Rattle.flowtext.proofs.print_network.Statement.{statement}
 use Rattle.flowtext.proofs.print_network.Tie as tie
-use Rattle.flowtext.proofs.print_network.Reads as reads
-use Rattle.flowtext.proofs.print_network.Lts as lts
-use Rattle.casefile.proofs.planned.print_refusal.Reads as print-refusal-reads
-use Rattle.flowtext.proofs.print_flow.Reads as print-flow-reads
-use Rattle.network.proofs.cheapest_flow.Reads as cheapest-flow-reads
 
 slice-aggregate-cheapest-flow : tie.Need-slice-aggregate-cheapest-flow
 slice-aggregate-cheapest-flow c = search needs

@@ -6,14 +6,6 @@ use Rattle.flowtext.proofs.FlowLaws.{entries-kept, table-refused, table
 use borrow.Author.Needs.{needs}
 use Rattle.flowtext.proofs.print_with_table.Statement.{statement}
 use Rattle.flowtext.proofs.print_with_table.Tie as tie
-use Rattle.flowtext.proofs.print_with_table.Reads as reads
-use Rattle.flowtext.proofs.print_with_table.Lts as lts
-use Rattle.filecase.proofs.case.read_entries.Reads as read-entries-reads
-use Rattle.filecase.proofs.cells.entry_cells.Reads as entry-cells-reads
-use Rattle.casefile.proofs.planned.print_refusal.Reads as print-refusal-reads
-use Rattle.flowtext.proofs.print_network.Reads as print-network-reads
-use Rattle.flowtext.proofs.read_place.Reads as read-place-reads
-use Rattle.filetable.proofs.store.smaller.Reads as smaller-reads
 
 -- how many cells are lent
 room : (c : tie.After-entry-cells) → length (c .entry-cells .result) ≡ 4002

@@ -4,9 +4,6 @@ use Rattle.flowtext.specs.Printing.{placeFor, placeOf}
 use borrow.Author.Needs.{needs}
 use Rattle.flowtext.proofs.read_place.Statement.{statement}
 use Rattle.flowtext.proofs.read_place.Tie as tie
-use Rattle.flowtext.proofs.read_place.Reads as reads
-use Rattle.flowtext.proofs.read_place.Lts as lts
-use Rattle.ratesfile.proofs.read_output.Reads as read-output-reads
 
 read-output-requires : tie.Need-read-output-requires
 read-output-requires c κs = search needs

@@ -1,5 +1,5 @@
 -- `network::cheapest_flow` meets its contract. Assumes nothing.
-use mathlib.Core.Path.{_≡_, sym, _∙_}
+use mathlib.Core.Path.{sym, _∙_}
 use native.Mathlib.Omega.{arith}
 use borrow.Author.Needs.{needs}
 use denote.Ref.{now}
@@ -7,8 +7,6 @@ use Rattle.network.specs.Judged.{slicesOf}
 use Rattle.network.proofs.FileLaws.{read-refused, read-whole, zero-arcs, zero-nodes, answered-29, answered-30, few-nodes, few-arcs, arcs-good, given-good, answered}
 use Rattle.network.proofs.cheapest_flow.Statement.{statement}
 use Rattle.network.proofs.cheapest_flow.Tie as tie
-use Rattle.network.proofs.cheapest_flow.Reads as reads
-use Rattle.network.proofs.cheapest_flow.Lts as lts
 
 read-file-requires : tie.Need-read-file-requires
 read-file-requires c κs = (zero-arcs, zero-nodes)

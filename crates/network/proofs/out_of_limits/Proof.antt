@@ -2,8 +2,6 @@
 use Rattle.network.proofs.FileLaws.{limits-1, limits-2, limits-3, limits-4}
 use Rattle.network.proofs.out_of_limits.Statement.{statement}
 use Rattle.network.proofs.out_of_limits.Tie as tie
-use Rattle.network.proofs.out_of_limits.Reads as reads
-use Rattle.network.proofs.out_of_limits.Lts as lts
 
 returns : tie.Need-returns
 returns c = let a = c .before .args in limits-1 (a .nodes) (a .arcs) (a .odd) (a .bad) (c .if1 .taken)

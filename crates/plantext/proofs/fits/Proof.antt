@@ -6,10 +6,6 @@ use native.Mathlib.Nat.{mul-le-mul}
 use borrow.Author.Needs.{needs}
 use Rattle.plantext.proofs.fits.Statement.{statement}
 use Rattle.plantext.proofs.fits.Tie as tie
-use Rattle.plantext.proofs.fits.Reads as reads
-use Rattle.plantext.proofs.fits.Lts as lts
-use Rattle.csvtext.proofs.narrow.Reads as narrow-reads
-use Rattle.csvtext.proofs.narrow_costs.Reads as narrow-costs-reads
 
 returns : tie.Need-returns
 returns c = record { yes = λ e. absurd (false≢true e); no = λ e p. omega (arith, p .sources, c .if1 .taken) }

@@ -4,11 +4,6 @@ use Rattle.csvtext.proofs.DecimalTexts.{then}
 use borrow.Author.Needs.{needs}
 use Rattle.plantext.proofs.put_fitting.Statement.{statement}
 use Rattle.plantext.proofs.put_fitting.Tie as tie
-use Rattle.plantext.proofs.put_fitting.Reads as reads
-use Rattle.plantext.proofs.put_fitting.Lts as lts
-use Rattle.csvtext.proofs.put_bytes.Reads as put-bytes-reads
-use Rattle.plantext.proofs.put_lanes.Reads as put-lanes-reads
-use Rattle.csvtext.proofs.put_record.Reads as put-record-reads
 
 put-bytes-requires : tie.Need-put-bytes-requires
 put-bytes-requires c κs = search needs

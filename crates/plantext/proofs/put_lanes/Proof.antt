@@ -1,20 +1,15 @@
 -- `plantext::put_lanes` meets its contract. Assumes nothing.
-use mathlib.Core.Path.{_≡_, refl, sym, subst}
+use mathlib.Core.Path.{_≡_, sym, subst}
 use Prim.Native.Nat.{ℕ, _+_, _*_, _-_, _≤_}
 use native.Mathlib.Omega.{arith}
 use native.Mathlib.Nat.{zero-mul}
 use borrow.Author.Needs.{needs}
 use denote.Ref.{now}
-use lib.ListN.{length}
 use Rattle.csvtext.specs.Text.{each, rowText, lanesText}
 use Rattle.csvtext.specs.Writing.{Written}
 use Rattle.csvtext.proofs.DecimalTexts.{each-start, each-next, each-end, widen, written-length, row-within, printable-row, next-start}
-use borrow.Author.Needs.{needs}
 use Rattle.plantext.proofs.put_lanes.Statement.{statement}
 use Rattle.plantext.proofs.put_lanes.Tie as tie
-use Rattle.plantext.proofs.put_lanes.Reads as reads
-use Rattle.plantext.proofs.put_lanes.Lts as lts
-use Rattle.plantext.proofs.put_row.Reads as put-row-reads
 
 abbrev Inv-loop : tie.InvT-loop
 Inv-loop out₀ at m n costs plan next₀ start₀ i₀ out next start i =

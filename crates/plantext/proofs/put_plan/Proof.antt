@@ -4,10 +4,6 @@ use Rattle.csvtext.proofs.DecimalTexts.{fits-printable}
 use borrow.Author.Needs.{needs}
 use Rattle.plantext.proofs.put_plan.Statement.{statement}
 use Rattle.plantext.proofs.put_plan.Tie as tie
-use Rattle.plantext.proofs.put_plan.Reads as reads
-use Rattle.plantext.proofs.put_plan.Lts as lts
-use Rattle.plantext.proofs.fits.Reads as fits-reads
-use Rattle.plantext.proofs.put_fitting.Reads as put-fitting-reads
 
 fits-requires : tie.Need-fits-requires
 fits-requires c κs = search needs

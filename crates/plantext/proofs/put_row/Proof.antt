@@ -1,8 +1,8 @@
 -- `plantext::put_row` meets its contract. Assumes nothing.
-use mathlib.Core.Path.{_≡_, refl, subst}
+use mathlib.Core.Path.{subst}
 use mathlib.Core.List.{[], _∷_}
 use lib.IntN.{ℤ, pos}
-use Prim.Native.Nat.{ℕ, _+_, _*_, _-_, _≤_, _<_, _^_}
+use Prim.Native.Nat.{_+_, _*_, _-_, _≤_, _<_}
 use native.Mathlib.Omega.{arith}
 use Rattle.csvtext.proofs.PrintedSigns.{product-fits, product-stored}
 use borrow.Author.Needs.{needs}
@@ -11,12 +11,8 @@ use lib.ListN.{length, getD}
 use Rattle.csvtext.specs.Text.{each, recordText, laneText, rowText}
 use Rattle.csvtext.specs.Writing.{Written}
 use Rattle.csvtext.proofs.DecimalTexts.{each-start, each-next, each-end, written-length}
-use borrow.Author.Needs.{needs}
 use Rattle.plantext.proofs.put_row.Statement.{statement}
 use Rattle.plantext.proofs.put_row.Tie as tie
-use Rattle.plantext.proofs.put_row.Reads as reads
-use Rattle.plantext.proofs.put_row.Lts as lts
-use Rattle.csvtext.proofs.put_lane.Reads as put-lane-reads
 
 abbrev Inv-loop : tie.InvT-loop
 Inv-loop out₀ at i start n costs plan next₀ j₀ out next j =

@@ -6,13 +6,6 @@ use Rattle.csvtext.proofs.DecimalTexts.{written-length}
 use borrow.Author.Needs.{needs}
 use Rattle.rates.proofs.print.Statement.{statement}
 use Rattle.rates.proofs.print.Tie as tie
-use Rattle.rates.proofs.print.Reads as reads
-use Rattle.rates.proofs.print.Lts as lts
-use Rattle.io.proofs.write_all.Reads as write-all-reads
-use Rattle.rates.proofs.say.Reads as say-reads
-use Rattle.rates.proofs.text_room.Reads as text-room-reads
-use Rattle.rates.proofs.usage.Reads as usage-reads
-use Rattle.ratesfile.proofs.put_file.Reads as put-file-reads
 
 text-room-requires : tie.Need-text-room-requires
 text-room-requires c κs = search needs

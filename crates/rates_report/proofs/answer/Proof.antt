@@ -10,10 +10,6 @@ use Rattle.rates_report.proofs.Given.{given}
 use borrow.Author.Needs.{needs}
 use Rattle.rates_report.proofs.answer.Statement.{statement}
 use Rattle.rates_report.proofs.answer.Tie as tie
-use Rattle.rates_report.proofs.answer.Reads as reads
-use Rattle.rates_report.proofs.answer.Lts as lts
-use Rattle.planner.proofs.plan.Reads as plan-reads
-use Rattle.ratetable.proofs.fill.Reads as fill-reads
 
 slice-aggregate-fill : tie.Need-slice-aggregate-fill
 slice-aggregate-fill c = search needs

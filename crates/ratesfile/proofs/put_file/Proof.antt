@@ -5,10 +5,6 @@ use Rattle.ratesfile.proofs.Records.{file-for, no-file}
 use borrow.Author.Needs.{needs}
 use Rattle.ratesfile.proofs.put_file.Statement.{statement}
 use Rattle.ratesfile.proofs.put_file.Tie as tie
-use Rattle.ratesfile.proofs.put_file.Reads as reads
-use Rattle.ratesfile.proofs.put_file.Lts as lts
-use Rattle.ratesfile.proofs.put_rates.Reads as put-rates-reads
-use Rattle.ratesfile.proofs.read_output.Reads as read-output-reads
 
 read-output-requires : tie.Need-read-output-requires
 read-output-requires c κs = search needs

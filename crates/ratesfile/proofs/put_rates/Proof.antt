@@ -6,10 +6,6 @@ use Rattle.ratesfile.proofs.Records.{none-above, column-of-rates}
 use borrow.Author.Needs.{needs}
 use Rattle.ratesfile.proofs.put_rates.Statement.{statement}
 use Rattle.ratesfile.proofs.put_rates.Tie as tie
-use Rattle.ratesfile.proofs.put_rates.Reads as reads
-use Rattle.ratesfile.proofs.put_rates.Lts as lts
-use Rattle.csvtext.proofs.column.put_column.Reads as put-column-reads
-use Rattle.ratetable.proofs.rates.Reads as rates-reads
 
 returns : tie.Need-returns
 returns c = none-above _ (c .if1 .taken)

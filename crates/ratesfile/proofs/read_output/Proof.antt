@@ -5,8 +5,6 @@ use borrow.Author.Needs.{needs}
 use Rattle.ratesfile.proofs.Numbers.{Reading, reading-start, reading-next, reading-low, reading-high, reading-end, below-1000, empty, too-long, as-read}
 use Rattle.ratesfile.proofs.read_output.Statement.{statement}
 use Rattle.ratesfile.proofs.read_output.Tie as tie
-use Rattle.ratesfile.proofs.read_output.Reads as reads
-use Rattle.ratesfile.proofs.read_output.Lts as lts
 
 abbrev Inv-loop : tie.InvT-loop
 Inv-loop text size value₀ k₀ value k = Reading text value k

@@ -7,9 +7,6 @@ use Rattle.ratetable.proofs.Filling.{Filling, filling-start, filling-le
 use borrow.Author.Needs.{needs}
 use Rattle.ratetable.proofs.fill.Statement.{statement}
 use Rattle.ratetable.proofs.fill.Tie as tie
-use Rattle.ratetable.proofs.fill.Reads as reads
-use Rattle.ratetable.proofs.fill.Lts as lts
-use Rattle.ratetable.proofs.rates.Reads as rates-reads
 
 abbrev Inv-loop : tie.InvT-loop
 Inv-loop most to₀ count all y₀ to y = Filling count y to₀ to

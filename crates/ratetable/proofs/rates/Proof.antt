@@ -2,8 +2,6 @@
 use Rattle.ratetable.proofs.Table.{rate-table}
 use Rattle.ratetable.proofs.rates.Statement.{statement}
 use Rattle.ratetable.proofs.rates.Tie as tie
-use Rattle.ratetable.proofs.rates.Reads as reads
-use Rattle.ratetable.proofs.rates.Lts as lts
 
 returns : tie.Need-returns
 returns c = rate-table tt

@@ -1,10 +1,10 @@
 -- `tarifftext::put_costs` meets its contract. Assumes nothing.
 use mathlib.Core.Path.{subst}
-use Prim.Native.Nat.{ℕ, _+_, _*_, _-_, _≤_, _<_, _^_}
+use Prim.Native.Nat.{_+_, _*_, _-_, _≤_}
 use native.Mathlib.Omega.{arith}
 use denote.Ref.{now}
 use lib.IntN.{ℤ, pos}
-use lib.ListN.{length, getD}
+use lib.ListN.{getD}
 use Rattle.csvtext.specs.Text.{each, fieldText}
 use Rattle.csvtext.specs.Writing.{Written}
 use Rattle.csvtext.proofs.PrintedSigns.{read-back}
@@ -13,9 +13,6 @@ use Rattle.tarifftext.specs.Texts.{costsText}
 use borrow.Author.Needs.{needs}
 use Rattle.tarifftext.proofs.put_costs.Statement.{statement}
 use Rattle.tarifftext.proofs.put_costs.Tie as tie
-use Rattle.tarifftext.proofs.put_costs.Reads as reads
-use Rattle.tarifftext.proofs.put_costs.Lts as lts
-use Rattle.csvtext.proofs.put_signed_field.Reads as put-signed-field-reads
 
 abbrev Inv-loop : tie.InvT-loop
 Inv-loop out₀ at costs start n next₀ j₀ out next j =

@@ -1,8 +1,8 @@
 -- `tarifftext::put_list` meets its contract. Assumes nothing.
-use Prim.Native.Nat.{ℕ, _+_, _*_, _-_, _≤_, _<_, _^_}
+use Prim.Native.Nat.{_*_, _-_, _≤_}
 use native.Mathlib.Omega.{arith}
 use lib.IntN.{pos}
-use lib.ListN.{length, getD}
+use lib.ListN.{getD}
 use Rattle.csvtext.specs.Text.{each, fieldText}
 use Rattle.csvtext.specs.Writing.{Written}
 use Rattle.csvtext.proofs.DecimalTexts.{each-start, each-next, each-end, written-length}
@@ -10,9 +10,6 @@ use Rattle.tarifftext.specs.Texts.{listText}
 use borrow.Author.Needs.{needs}
 use Rattle.tarifftext.proofs.put_list.Statement.{statement}
 use Rattle.tarifftext.proofs.put_list.Tie as tie
-use Rattle.tarifftext.proofs.put_list.Reads as reads
-use Rattle.tarifftext.proofs.put_list.Lts as lts
-use Rattle.csvtext.proofs.put_field.Reads as put-field-reads
 
 abbrev Inv-loop : tie.InvT-loop
 Inv-loop out₀ at demands n next₀ j₀ out next j =

@@ -1,21 +1,15 @@
 -- `tarifftext::put_sources` meets its contract. Assumes nothing.
 use mathlib.Core.Path.{_≡_}
-use Prim.Native.Nat.{ℕ, _+_, _*_, _-_, _≤_, _<_, _^_}
+use Prim.Native.Nat.{_*_, _-_, _≤_}
 use native.Mathlib.Omega.{arith}
 use native.Mathlib.Nat.{zero-mul}
-use lib.ListN.{length, getD}
 use Rattle.csvtext.specs.Text.{each}
 use Rattle.csvtext.specs.Writing.{Written}
 use Rattle.csvtext.proofs.DecimalTexts.{each-start, each-next, each-end, written-length, row-within, next-start}
 use Rattle.tarifftext.specs.Texts.{sourceText, sourcesText}
 use Rattle.tarifftext.proofs.Sources.{source-written}
-use borrow.Author.Needs.{needs}
 use Rattle.tarifftext.proofs.put_sources.Statement.{statement}
 use Rattle.tarifftext.proofs.put_sources.Tie as tie
-use Rattle.tarifftext.proofs.put_sources.Reads as reads
-use Rattle.tarifftext.proofs.put_sources.Lts as lts
-use Rattle.csvtext.proofs.column.put_line.Reads as put-line-reads
-use Rattle.tarifftext.proofs.put_costs.Reads as put-costs-reads
 
 abbrev Inv-loop : tie.InvT-loop
 Inv-loop out₀ m n costs supplies next₀ start₀ i₀ out next start i =

@@ -5,11 +5,6 @@ use Rattle.tarifftext.specs.Texts.{demandsText, tariffOf}
 use borrow.Author.Needs.{needs}
 use Rattle.tarifftext.proofs.put_tariff.Statement.{statement}
 use Rattle.tarifftext.proofs.put_tariff.Tie as tie
-use Rattle.tarifftext.proofs.put_tariff.Reads as reads
-use Rattle.tarifftext.proofs.put_tariff.Lts as lts
-use Rattle.tarifftext.proofs.put_list.Reads as put-list-reads
-use Rattle.tarifftext.proofs.put_sources.Reads as put-sources-reads
-use Rattle.csvtext.proofs.put_byte.Reads as put-byte-reads
 
 put-sources-requires : tie.Need-put-sources-requires
 put-sources-requires c κs = search needs

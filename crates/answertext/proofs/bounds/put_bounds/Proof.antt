@@ -6,9 +6,6 @@ use mir.ValLaws.{toZ-ofZ}
 use borrow.Author.Needs.{needs}
 use Rattle.answertext.proofs.bounds.put_bounds.Statement.{statement}
 use Rattle.answertext.proofs.bounds.put_bounds.Tie as tie
-use Rattle.answertext.proofs.bounds.put_bounds.Reads as reads
-use Rattle.answertext.proofs.bounds.put_bounds.Lts as lts
-use Rattle.answertext.proofs.bounds.put_fitting_marks.Reads as put-fitting-marks-reads
 
 returns : tie.Need-returns
 returns c = record { text-written = λ f. absurd (omega (arith, f .start, c .if1 .taken)); nothing = λ d. (refl, refl) }

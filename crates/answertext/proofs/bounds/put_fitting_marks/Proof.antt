@@ -6,11 +6,6 @@ use mir.ValLaws.{toZ-ofZ}
 use borrow.Author.Needs.{needs}
 use Rattle.answertext.proofs.bounds.put_fitting_marks.Statement.{statement}
 use Rattle.answertext.proofs.bounds.put_fitting_marks.Tie as tie
-use Rattle.answertext.proofs.bounds.put_fitting_marks.Reads as reads
-use Rattle.answertext.proofs.bounds.put_fitting_marks.Lts as lts
-use Rattle.csvtext.proofs.put_bytes.Reads as put-bytes-reads
-use Rattle.answertext.proofs.bounds.put_marks.Reads as put-marks-reads
-use Rattle.answertext.proofs.bounds.put_totals.Reads as put-totals-reads
 
 put-bytes-requires : tie.Need-put-bytes-requires
 put-bytes-requires c κs = search needs

@@ -2,10 +2,9 @@
 use mathlib.Core.Path.{_≡_, refl}
 use mathlib.Core.List.{[], _∷_}
 use lib.IntN.{pos}
-use Prim.Native.Nat.{ℕ, _+_, _*_, _-_, _≤_, _<_, _^_}
+use Prim.Native.Nat.{_+_, _*_, _-_, _≤_}
 use native.Mathlib.Omega.{arith}
 use borrow.Author.Needs.{needs}
-use denote.Ref.{now}
 use lib.ListN.{length, getD}
 use Rattle.csvtext.specs.Text.{each, recordText}
 use Rattle.answertext.specs.Bounds.{marksText}
@@ -13,9 +12,6 @@ use Rattle.csvtext.specs.Writing.{Written}
 use Rattle.csvtext.proofs.DecimalTexts.{each-start, each-next, each-end, written-length}
 use Rattle.answertext.proofs.bounds.put_marks.Statement.{statement}
 use Rattle.answertext.proofs.bounds.put_marks.Tie as tie
-use Rattle.answertext.proofs.bounds.put_marks.Reads as reads
-use Rattle.answertext.proofs.bounds.put_marks.Lts as lts
-use Rattle.csvtext.proofs.put_pair.Reads as put-pair-reads
 
 abbrev Inv-loop : tie.InvT-loop
 Inv-loop out₀ at first marks next₀ j₀ j-end out next j =

@@ -6,10 +6,6 @@ use mir.ValLaws.{toZ-ofZ}
 use borrow.Author.Needs.{needs}
 use Rattle.answertext.proofs.bounds.put_totals.Statement.{statement}
 use Rattle.answertext.proofs.bounds.put_totals.Tie as tie
-use Rattle.answertext.proofs.bounds.put_totals.Reads as reads
-use Rattle.answertext.proofs.bounds.put_totals.Lts as lts
-use Rattle.csvtext.proofs.put_byte.Reads as put-byte-reads
-use Rattle.csvtext.proofs.put_signed_field.Reads as put-signed-field-reads
 
 put-signed-field-requires : tie.Need-put-signed-field-requires
 put-signed-field-requires c κs = search needs

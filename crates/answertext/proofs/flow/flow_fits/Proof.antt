@@ -4,10 +4,6 @@ use native.Mathlib.Omega.{arith}
 use borrow.Author.Needs.{needs}
 use Rattle.answertext.proofs.flow.flow_fits.Statement.{statement}
 use Rattle.answertext.proofs.flow.flow_fits.Tie as tie
-use Rattle.answertext.proofs.flow.flow_fits.Reads as reads
-use Rattle.answertext.proofs.flow.flow_fits.Lts as lts
-use Rattle.csvtext.proofs.narrow.Reads as narrow-reads
-use Rattle.csvtext.proofs.narrow_costs.Reads as narrow-costs-reads
 
 returns : tie.Need-returns
 returns c = record { yes = λ e. absurd (false≢true e); no = λ e p. omega (arith, p .few, c .if1 .taken) }

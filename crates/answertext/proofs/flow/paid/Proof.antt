@@ -1,20 +1,14 @@
 -- `answertext::flow::paid` meets its contract. Assumes nothing.
-use mathlib.Core.Path.{_≡_, refl, sym, ap, _∙_}
-use mathlib.Core.Bool.{Bool, true, false, cond}
-use Prim.Native.Nat.{ℕ, _<_, _^_}
-use native.Mathlib.Omega.{arith}
-use lib.Dec.{eqb}
-use lib.IntN.{ℤ, pos, _*ℤ_}
+use mathlib.Core.Path.{sym, ap, _∙_}
+use mathlib.Core.Bool.{Bool, cond}
+use lib.IntN.{pos, _*ℤ_}
 use mir.Syntax.{w64}
-use mir.Val.{toZ, ofZ}
 use mir.ValLaws.{toZ-pos}
 use Rattle.csvtext.proofs.PrintedSigns.{product-fits, product-stored}
 use borrow.Author.Tests.{eq-eqb, ne-eqb}
 use borrow.Author.Needs.{needs}
 use Rattle.answertext.proofs.flow.paid.Statement.{statement}
 use Rattle.answertext.proofs.flow.paid.Tie as tie
-use Rattle.answertext.proofs.flow.paid.Reads as reads
-use Rattle.answertext.proofs.flow.paid.Lts as lts
 
 cast-result : tie.Need-cast-result
 cast-result c = search needs

@@ -4,14 +4,13 @@ use mathlib.Core.List.{List, [], _∷_}
 use lib.IntN.{ℤ, pos, negsuc, natAbs}
 use lib.Signed.{mag}
 use mir.Val.{toZ, ofZ}
-use Prim.Native.Nat.{ℕ, _+_, _*_, _-_, _≤_, _<_, _^_}
+use Prim.Native.Nat.{ℕ, _*_, _-_, _≤_, _<_, _^_}
 use native.Mathlib.Omega.{arith}
 use native.Mathlib.Nat.{mul-le-mul}
 use borrow.Author.Needs.{needs}
 use denote.Ref.{now}
 use lib.ListN.{length, getD}
 use mir.Syntax.{w64}
-use mir.ValLaws.{toZ-ofZ}
 use Rattle.csvtext.specs.Text.{each, recordText}
 use Rattle.answertext.specs.Flow.{paidOn, arcText, arcsText, FlowFits}
 use Rattle.csvtext.specs.Writing.{Written}
@@ -19,10 +18,6 @@ use Rattle.csvtext.proofs.PrintedSigns.{read-back}
 use Rattle.csvtext.proofs.DecimalTexts.{each-start, each-next, each-end, written-length}
 use Rattle.answertext.proofs.flow.put_arcs.Statement.{statement}
 use Rattle.answertext.proofs.flow.put_arcs.Tie as tie
-use Rattle.answertext.proofs.flow.put_arcs.Reads as reads
-use Rattle.answertext.proofs.flow.put_arcs.Lts as lts
-use Rattle.answertext.proofs.flow.paid.Reads as paid-reads
-use Rattle.csvtext.proofs.put_lane.Reads as put-lane-reads
 
 abbrev Inv-loop : tie.InvT-loop
 Inv-loop out₀ at named charge starts ends amounts costs next₀ k₀ k-end out next k =

@@ -6,11 +6,6 @@ use Rattle.csvtext.proofs.DecimalTexts.{then}
 use borrow.Author.Needs.{needs}
 use Rattle.answertext.proofs.flow.put_fitting_flow.Statement.{statement}
 use Rattle.answertext.proofs.flow.put_fitting_flow.Tie as tie
-use Rattle.answertext.proofs.flow.put_fitting_flow.Reads as reads
-use Rattle.answertext.proofs.flow.put_fitting_flow.Lts as lts
-use Rattle.answertext.proofs.flow.put_arcs.Reads as put-arcs-reads
-use Rattle.answertext.proofs.flow.put_total.Reads as put-total-reads
-use Rattle.csvtext.proofs.put_bytes.Reads as put-bytes-reads
 
 put-bytes-requires : tie.Need-put-bytes-requires
 put-bytes-requires c κs = search needs

@@ -5,10 +5,6 @@ use mir.ValLaws.{toZ-ofZ}
 use borrow.Author.Needs.{needs}
 use Rattle.answertext.proofs.flow.put_flow.Statement.{statement}
 use Rattle.answertext.proofs.flow.put_flow.Tie as tie
-use Rattle.answertext.proofs.flow.put_flow.Reads as reads
-use Rattle.answertext.proofs.flow.put_flow.Lts as lts
-use Rattle.answertext.proofs.flow.flow_fits.Reads as flow-fits-reads
-use Rattle.answertext.proofs.flow.put_fitting_flow.Reads as put-fitting-flow-reads
 
 flow-fits-requires : tie.Need-flow-fits-requires
 flow-fits-requires c κs = search needs

@@ -6,10 +6,6 @@ use mir.ValLaws.{toZ-ofZ}
 use borrow.Author.Needs.{needs}
 use Rattle.answertext.proofs.flow.put_total.Statement.{statement}
 use Rattle.answertext.proofs.flow.put_total.Tie as tie
-use Rattle.answertext.proofs.flow.put_total.Reads as reads
-use Rattle.answertext.proofs.flow.put_total.Lts as lts
-use Rattle.csvtext.proofs.put_byte.Reads as put-byte-reads
-use Rattle.csvtext.proofs.put_signed_field.Reads as put-signed-field-reads
 
 put-signed-field-requires : tie.Need-put-signed-field-requires
 put-signed-field-requires c κs = search needs

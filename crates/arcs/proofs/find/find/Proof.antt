@@ -1,5 +1,5 @@
 -- `arcs::find::find` meets its contract, by that of the function on separate slices. Assumes nothing.
-use mathlib.Core.Path.{_≡_, _∙_}
+use mathlib.Core.Path.{_∙_}
 use native.Mathlib.Omega.{arith}
 use Prim.Native.Nat.{ℕ}
 use lib.IntN.{pos}

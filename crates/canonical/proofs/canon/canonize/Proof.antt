@@ -1,5 +1,4 @@
 -- `canonical::canon::canonize` meets its contract. Assumes nothing.
-use Prim.Native.Nat.{_-_}
 use borrow.Author.Needs.{needs}
 use Rattle.canonical.proofs.LaneStores.{part-ready, part-begin, kept-all, open-start, canonized}
 use Rattle.canonical.proofs.canon.canonize.Statement.{statement}

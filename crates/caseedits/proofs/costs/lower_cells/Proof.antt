@@ -1,5 +1,5 @@
 -- `caseedits::costs::lower_cells` meets its contract. The invariant: the first k cells are written. Assumes nothing.
-use mathlib.Core.Path.{ap, _∙_}
+use mathlib.Core.Path.{_∙_}
 use mathlib.Core.List.{map}
 use Prim.Native.Nat.{_≤_, _-_}
 use native.Mathlib.Omega.{arith}

@@ -1,5 +1,4 @@
 -- `caseedits::edits::least_run` meets its contract. Assumes nothing.
-use mathlib.Core.Path.{refl}
 use borrow.Author.Tests.{eq-eqb, ne-eqb}
 use Rattle.casestore.specs.Inner.{runIn}
 use borrow.Author.Needs.{needs}

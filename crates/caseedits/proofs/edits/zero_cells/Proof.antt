@@ -7,8 +7,6 @@ use Rattle.casestore.specs.Store.{zeroed}
 use Rattle.casestore.proofs.Copies.{Filling, filling-start, filling-length, zero-fits, zero-next, zero-end}
 use Rattle.caseedits.proofs.edits.zero_cells.Statement.{statement}
 use Rattle.caseedits.proofs.edits.zero_cells.Tie as tie
-use Rattle.caseedits.proofs.edits.zero_cells.Reads as reads
-use Rattle.caseedits.proofs.edits.zero_cells.Lts as lts
 
 abbrev Inv-loop : tie.InvT-loop
 Inv-loop from count store₀ i₀ store i = Filling (replicate count 0) from i store₀ store

@@ -5,8 +5,6 @@ use lib.ListN.{length}
 use Rattle.casestore.proofs.Copies.{Filling, filling-start, filling-length, filling-next, filling-end}
 use Rattle.caseedits.proofs.entry.put_cells.Statement.{statement}
 use Rattle.caseedits.proofs.entry.put_cells.Tie as tie
-use Rattle.caseedits.proofs.entry.put_cells.Reads as reads
-use Rattle.caseedits.proofs.entry.put_cells.Lts as lts
 
 abbrev Inv-loop : tie.InvT-loop
 Inv-loop source at store₀ i₀ store i = Filling source at i store₀ store

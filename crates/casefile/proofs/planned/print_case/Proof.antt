@@ -7,14 +7,6 @@ use Rattle.casefile.proofs.Printing.{small-split, within, ready, by-pla
 use borrow.Author.Needs.{needs}
 use Rattle.casefile.proofs.planned.print_case.Statement.{statement}
 use Rattle.casefile.proofs.planned.print_case.Tie as tie
-use Rattle.casefile.proofs.planned.print_case.Reads as reads
-use Rattle.casefile.proofs.planned.print_case.Lts as lts
-use Rattle.filecase.proofs.cells.freight_cells.Reads as freight-cells-reads
-use Rattle.filecase.proofs.cells.lane_cells.Reads as lane-cells-reads
-use Rattle.casefile.proofs.planned.print_plan.Reads as print-plan-reads
-use Rattle.casefile.proofs.planned.print_refusal.Reads as print-refusal-reads
-use Rattle.filecase.proofs.cells.stop_cells.Reads as stop-cells-reads
-use Rattle.planner.proofs.plan.Reads as plan-reads
 
 -- how many cells are lent
 lanes : (c : tie.After-freight-cells) → length (c .before .before .lane-cells .result) ≡ 2048

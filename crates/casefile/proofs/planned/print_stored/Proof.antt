@@ -7,11 +7,6 @@ use Rattle.casefile.proofs.StoredCase.{few-lanes, ceilings-long, cut-pr
 use borrow.Author.Needs.{needs}
 use Rattle.casefile.proofs.planned.print_stored.Statement.{statement}
 use Rattle.casefile.proofs.planned.print_stored.Tie as tie
-use Rattle.casefile.proofs.planned.print_stored.Reads as reads
-use Rattle.casefile.proofs.planned.print_stored.Lts as lts
-use Rattle.filecase.proofs.cells.lane_ceilings.Reads as lane-ceilings-reads
-use Rattle.casefile.proofs.planned.print_case.Reads as print-case-reads
-use Rattle.filetable.proofs.store.smaller.Reads as smaller-reads
 
 -- the lanes that are kept
 product : (c : tie.After-smaller3) → c .before .before .smaller .result * c .before .smaller2 .result ≡ min (c .before .before .before .before .before .before .before .args .m) 32 * min (c .before .before .before .before .before .before .before .args .n) 64

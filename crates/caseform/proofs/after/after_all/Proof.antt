@@ -1,11 +1,7 @@
 -- `caseform::after::after_all` meets its contract. Assumes nothing.
-use mathlib.Core.Path.{_≡_, sym, ap}
-use Rattle.caseform.specs.Reader.{atLast}
 use borrow.Author.Needs.{needs}
 use Rattle.caseform.proofs.after.after_all.Statement.{statement}
 use Rattle.caseform.proofs.after.after_all.Tie as tie
-use Rattle.caseform.proofs.after.after_all.Reads as reads
-use Rattle.caseform.proofs.after.after_all.Lts as lts
 
 enum-told : tie.Need-enum-told
 enum-told c = search needs

@@ -4,9 +4,6 @@ use Rattle.caseform.proofs.AfterField.{comma-production, comma-source, 
 use borrow.Author.Needs.{needs}
 use Rattle.caseform.proofs.after.after_comma.Statement.{statement}
 use Rattle.caseform.proofs.after.after_comma.Tie as tie
-use Rattle.caseform.proofs.after.after_comma.Reads as reads
-use Rattle.caseform.proofs.after.after_comma.Lts as lts
-use Rattle.caseform.proofs.after.after_demand.Reads as after-demand-reads
 
 enum-told : tie.Need-enum-told
 enum-told c = search needs

@@ -5,8 +5,6 @@ use Rattle.caseform.proofs.ByteMarks.{past}
 use borrow.Author.Needs.{needs}
 use Rattle.caseform.proofs.after.after_cost.Statement.{statement}
 use Rattle.caseform.proofs.after.after_cost.Tie as tie
-use Rattle.caseform.proofs.after.after_cost.Reads as reads
-use Rattle.caseform.proofs.after.after_cost.Lts as lts
 
 returns : tie.Need-returns
 returns c kind = let a = c .before .args in cost-none (now (a .s)) (a .at) kind (past (now (a .s)) (a .at) 43 (c .if1 .taken))

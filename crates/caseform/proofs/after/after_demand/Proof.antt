@@ -1,13 +1,9 @@
 -- `caseform::after::after_demand` meets its contract. Assumes nothing.
-use native.Mathlib.Omega.{arith}
 use denote.Ref.{now}
 use Rattle.caseform.proofs.AfterField.{demand-end, demand-cr, demand-field}
 use borrow.Author.Needs.{needs}
 use Rattle.caseform.proofs.after.after_demand.Statement.{statement}
 use Rattle.caseform.proofs.after.after_demand.Tie as tie
-use Rattle.caseform.proofs.after.after_demand.Reads as reads
-use Rattle.caseform.proofs.after.after_demand.Lts as lts
-use Rattle.caseform.proofs.after.after_demands.Reads as after-demands-reads
 
 returns : tie.Need-returns
 returns c = let a = c .before .before .args in demand-end (now (a .s)) (a .at) (c .if1 .taken)

@@ -1,13 +1,10 @@
 -- `caseform::after::after_demands` meets its contract. Assumes nothing.
-use native.Mathlib.Omega.{arith}
 use denote.Ref.{now}
 use Rattle.caseform.proofs.AfterField.{demands-none, demands-more, demands-end}
 use Rattle.caseform.proofs.ByteMarks.{past}
 use borrow.Author.Needs.{needs}
 use Rattle.caseform.proofs.after.after_demands.Statement.{statement}
 use Rattle.caseform.proofs.after.after_demands.Tie as tie
-use Rattle.caseform.proofs.after.after_demands.Reads as reads
-use Rattle.caseform.proofs.after.after_demands.Lts as lts
 
 returns : tie.Need-returns
 returns c = let a = c .before .args in demands-none (now (a .s)) (a .at) (past (now (a .s)) (a .at) 9 (c .if1 .taken))

@@ -1,13 +1,10 @@
 -- `caseform::after::after_record` meets its contract. Assumes nothing.
-use native.Mathlib.Omega.{arith}
 use denote.Ref.{now}
 use Rattle.caseform.proofs.AfterField.{record-none, record-tariff, record-end, record-more}
 use Rattle.caseform.proofs.ByteMarks.{past}
 use borrow.Author.Needs.{needs}
 use Rattle.caseform.proofs.after.after_record.Statement.{statement}
 use Rattle.caseform.proofs.after.after_record.Tie as tie
-use Rattle.caseform.proofs.after.after_record.Reads as reads
-use Rattle.caseform.proofs.after.after_record.Lts as lts
 
 returns : tie.Need-returns
 returns c = let a = c .before .args in record-none (now (a .s)) (a .at) (a .kind) (past (now (a .s)) (a .at) 9 (c .if1 .taken))

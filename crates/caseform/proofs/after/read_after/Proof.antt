@@ -4,12 +4,6 @@ use Rattle.caseform.proofs.AfterField.{after-minus, after-end, after-co
 use borrow.Author.Needs.{needs}
 use Rattle.caseform.proofs.after.read_after.Statement.{statement}
 use Rattle.caseform.proofs.after.read_after.Tie as tie
-use Rattle.caseform.proofs.after.read_after.Reads as reads
-use Rattle.caseform.proofs.after.read_after.Lts as lts
-use Rattle.caseform.proofs.after.after_all.Reads as after-all-reads
-use Rattle.caseform.proofs.after.after_comma.Reads as after-comma-reads
-use Rattle.caseform.proofs.after.after_cost.Reads as after-cost-reads
-use Rattle.caseform.proofs.after.after_record.Reads as after-record-reads
 
 after-cost-requires : tie.Need-after-cost-requires
 after-cost-requires c κs = search needs

@@ -7,8 +7,6 @@ use Rattle.caseform.proofs.ByteMarks.{past}
 use borrow.Author.Needs.{needs}
 use Rattle.caseform.proofs.field.close_quote.Statement.{statement}
 use Rattle.caseform.proofs.field.close_quote.Tie as tie
-use Rattle.caseform.proofs.field.close_quote.Reads as reads
-use Rattle.caseform.proofs.field.close_quote.Lts as lts
 
 enum-known-f : tie.Need-enum-known-f
 enum-known-f c = search needs

@@ -6,8 +6,6 @@ use Rattle.caseform.specs.Reader.{digitOr10}
 use Rattle.caseform.proofs.ByteMarks.{mark-digit, below-ten, above-ten, nothing-ten}
 use Rattle.caseform.proofs.field.digit_at.Statement.{statement}
 use Rattle.caseform.proofs.field.digit_at.Tie as tie
-use Rattle.caseform.proofs.field.digit_at.Reads as reads
-use Rattle.caseform.proofs.field.digit_at.Lts as lts
 
 returns : tie.Need-returns
 returns c = nothing-ten (now (c .before .args .s)) (c .before .args .at) (c .if1 .taken)

@@ -5,8 +5,6 @@ use Rattle.caseform.specs.declared.Kind.the-variants.{Tariff}
 use borrow.Author.Needs.{needs}
 use Rattle.caseform.proofs.field.minus_at.Statement.{statement}
 use Rattle.caseform.proofs.field.minus_at.Tie as tie
-use Rattle.caseform.proofs.field.minus_at.Reads as reads
-use Rattle.caseform.proofs.field.minus_at.Lts as lts
 
 enum-told : tie.Need-enum-told
 enum-told c = search needs

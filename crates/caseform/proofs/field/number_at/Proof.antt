@@ -12,9 +12,6 @@ use Rattle.caseform.proofs.Fields.{number-none, number-plain, number-mi
 use borrow.Author.Needs.{needs}
 use Rattle.caseform.proofs.field.number_at.Statement.{statement}
 use Rattle.caseform.proofs.field.number_at.Tie as tie
-use Rattle.caseform.proofs.field.number_at.Reads as reads
-use Rattle.caseform.proofs.field.number_at.Lts as lts
-use Rattle.caseform.proofs.field.digit_at.Reads as digit-at-reads
 
 digit-at-requires : tie.Need-digit-at-requires
 digit-at-requires c κs = search needs

@@ -1,21 +1,15 @@
 -- `caseform::field::read_digits` meets its contract. Assumes nothing.
-use mathlib.Core.Path.{_≡_, refl, sym, ap, _∙_}
-use mathlib.Core.Bool.{Bool}
-use mathlib.Core.List.{List}
-use Prim.Native.Nat.{ℕ, suc, _+_, _*_, _-_, _≤_, _<_, _^_}
+use Prim.Native.Nat.{_+_, _*_, _≤_, _<_, _^_}
 use native.Mathlib.Omega.{arith}
 use borrow.Author.Needs.{needs}
 use denote.Ref.{now}
-use lib.ListN.{length, drop, getD}
+use lib.ListN.{length, getD}
 use Rattle.caseform.specs.Form.{mark}
 use Rattle.caseform.specs.Reader.{digitOr10}
 use Rattle.caseform.proofs.Digits.{DigitsSoFar, none-yet, one-more, no-more, all-ten, fits}
 use Rattle.caseform.proofs.ByteMarks.{inside}
 use Rattle.caseform.proofs.field.read_digits.Statement.{statement}
 use Rattle.caseform.proofs.field.read_digits.Tie as tie
-use Rattle.caseform.proofs.field.read_digits.Reads as reads
-use Rattle.caseform.proofs.field.read_digits.Lts as lts
-use Rattle.caseform.proofs.field.digit_at.Reads as digit-at-reads
 
 abbrev Inv-loop : tie.InvT-loop
 Inv-loop s at value₀ next₀ left₀ value next left = DigitsSoFar s at value next left

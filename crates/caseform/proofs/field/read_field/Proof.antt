@@ -5,11 +5,6 @@ use Rattle.caseform.proofs.Fields.{field-end, field-quoted, field-minus
 use borrow.Author.Needs.{needs}
 use Rattle.caseform.proofs.field.read_field.Statement.{statement}
 use Rattle.caseform.proofs.field.read_field.Tie as tie
-use Rattle.caseform.proofs.field.read_field.Reads as reads
-use Rattle.caseform.proofs.field.read_field.Lts as lts
-use Rattle.caseform.proofs.field.minus_at.Reads as minus-at-reads
-use Rattle.caseform.proofs.field.read_number.Reads as read-number-reads
-use Rattle.caseform.proofs.field.read_quoted.Reads as read-quoted-reads
 
 returns : tie.Need-returns
 returns c = let a = c .before .before .args in field-end (a .kind) (now (a .s)) (a .at) (c .if1 .taken)

@@ -3,10 +3,6 @@ use mathlib.Core.Path.{refl, sym, _∙_}
 use borrow.Author.Needs.{needs}
 use Rattle.caseform.proofs.field.read_number.Statement.{statement}
 use Rattle.caseform.proofs.field.read_number.Tie as tie
-use Rattle.caseform.proofs.field.read_number.Reads as reads
-use Rattle.caseform.proofs.field.read_number.Lts as lts
-use Rattle.caseform.proofs.field.number_at.Reads as number-at-reads
-use Rattle.caseform.proofs.field.read_digits.Reads as read-digits-reads
 
 number-at-requires : tie.Need-number-at-requires
 number-at-requires c κs = search needs

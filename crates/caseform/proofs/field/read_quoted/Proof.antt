@@ -7,11 +7,6 @@ use Rattle.caseform.proofs.ByteMarks.{minus-inside}
 use borrow.Author.Needs.{needs}
 use Rattle.caseform.proofs.field.read_quoted.Statement.{statement}
 use Rattle.caseform.proofs.field.read_quoted.Tie as tie
-use Rattle.caseform.proofs.field.read_quoted.Reads as reads
-use Rattle.caseform.proofs.field.read_quoted.Lts as lts
-use Rattle.caseform.proofs.field.close_quote.Reads as close-quote-reads
-use Rattle.caseform.proofs.field.minus_at.Reads as minus-at-reads
-use Rattle.caseform.proofs.field.read_number.Reads as read-number-reads
 
 minus-at-requires : tie.Need-minus-at-requires
 minus-at-requires c κs = search needs

@@ -3,8 +3,6 @@ use Rattle.caseform.proofs.SignedNumbers.{minus-fits, minus-made, plain
 use borrow.Author.Needs.{needs}
 use Rattle.caseform.proofs.field.with_sign.Statement.{statement}
 use Rattle.caseform.proofs.field.with_sign.Tie as tie
-use Rattle.caseform.proofs.field.with_sign.Reads as reads
-use Rattle.caseform.proofs.field.with_sign.Lts as lts
 
 cast-result : tie.Need-cast-result
 cast-result c = search needs

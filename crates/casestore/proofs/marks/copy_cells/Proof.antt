@@ -1,13 +1,9 @@
 -- `casestore::marks::copy_cells` meets its contract. The invariant: the first i cells are copied. Assumes nothing.
 use Prim.Native.Nat.{_-_}
 use native.Mathlib.Omega.{arith}
-use borrow.Author.Needs.{needs}
-use lib.ListN.{length, length-set}
 use Rattle.casestore.proofs.Copies.{Copying, copying-start, copying-length, copying-next, copying-end}
 use Rattle.casestore.proofs.marks.copy_cells.Statement.{statement}
 use Rattle.casestore.proofs.marks.copy_cells.Tie as tie
-use Rattle.casestore.proofs.marks.copy_cells.Reads as reads
-use Rattle.casestore.proofs.marks.copy_cells.Lts as lts
 
 abbrev Inv-loop : tie.InvT-loop
 Inv-loop from to count store₀ i₀ store i = Copying from to count i store₀ store

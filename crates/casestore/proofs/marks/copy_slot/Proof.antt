@@ -3,11 +3,6 @@ use Rattle.casestore.proofs.Slots.{slots-pair, slot-copied}
 use borrow.Author.Needs.{needs}
 use Rattle.casestore.proofs.marks.copy_slot.Statement.{statement}
 use Rattle.casestore.proofs.marks.copy_slot.Tie as tie
-use Rattle.casestore.proofs.marks.copy_slot.Reads as reads
-use Rattle.casestore.proofs.marks.copy_slot.Lts as lts
-use Rattle.casestore.proofs.marks.copy_cells.Reads as copy-cells-reads
-use Rattle.casestore.proofs.layout.slot_start.Reads as slot-start-reads
-use Rattle.casestore.proofs.layout.slot_width.Reads as slot-width-reads
 
 -- src/marks.rt:45:9
 slot-start-requires : tie.Need-slot-start-requires

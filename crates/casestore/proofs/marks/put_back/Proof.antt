@@ -7,9 +7,6 @@ use Rattle.casestore.proofs.Refusals.{refuses, works, out-low, out-high
 use borrow.Author.Needs.{needs}
 use Rattle.casestore.proofs.marks.put_back.Statement.{statement}
 use Rattle.casestore.proofs.marks.put_back.Tie as tie
-use Rattle.casestore.proofs.marks.put_back.Reads as reads
-use Rattle.casestore.proofs.marks.put_back.Lts as lts
-use Rattle.casestore.proofs.marks.copy_slot.Reads as copy-slot-reads
 
 -- src/marks.rt:71:9
 returns : tie.Need-returns

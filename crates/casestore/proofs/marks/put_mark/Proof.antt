@@ -11,9 +11,6 @@ use Rattle.casestore.proofs.Refusals.{refuses, works, out-low, out-high
 use borrow.Author.Needs.{needs}
 use Rattle.casestore.proofs.marks.put_mark.Statement.{statement}
 use Rattle.casestore.proofs.marks.put_mark.Tie as tie
-use Rattle.casestore.proofs.marks.put_mark.Reads as reads
-use Rattle.casestore.proofs.marks.put_mark.Lts as lts
-use Rattle.casestore.proofs.marks.copy_slot.Reads as copy-slot-reads
 
 -- src/marks.rt:56:9
 returns : tie.Need-returns

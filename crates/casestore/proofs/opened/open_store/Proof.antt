@@ -1,6 +1,4 @@
 -- `casestore::opened::open_store` meets its contract. Assumes nothing.
-use mathlib.Core.Path.{_≡_, refl}
-use Prim.Native.Nat.{_<_, _≤_}
 use native.Mathlib.Omega.{arith}
 use Rattle.casestore.proofs.Opening.{shut-small, shut-two, shut-few, shut-one, shut-many, shut-room, found}
 use borrow.Author.Needs.{needs}

@@ -8,9 +8,6 @@ use Rattle.csvtext.proofs.Columns.{line, column-none, column-end}
 use borrow.Author.Needs.{needs}
 use Rattle.csvtext.proofs.column.put_column.Statement.{statement}
 use Rattle.csvtext.proofs.column.put_column.Tie as tie
-use Rattle.csvtext.proofs.column.put_column.Reads as reads
-use Rattle.csvtext.proofs.column.put_column.Lts as lts
-use Rattle.csvtext.proofs.column.put_line.Reads as put-line-reads
 
 abbrev Inv-loop : tie.InvT-loop
 Inv-loop out₀ values count next₀ k₀ out next k = (k ≤ count) × Written out₀ out 0 next (each k (line values)) (22 * k)

@@ -4,10 +4,6 @@ use Rattle.csvtext.proofs.DecimalTexts.{then}
 use borrow.Author.Needs.{needs}
 use Rattle.csvtext.proofs.column.put_line.Statement.{statement}
 use Rattle.csvtext.proofs.column.put_line.Tie as tie
-use Rattle.csvtext.proofs.column.put_line.Reads as reads
-use Rattle.csvtext.proofs.column.put_line.Lts as lts
-use Rattle.csvtext.proofs.put_byte.Reads as put-byte-reads
-use Rattle.csvtext.proofs.put_field.Reads as put-field-reads
 
 put-field-requires : tie.Need-put-field-requires
 put-field-requires c κs = search needs

@@ -1,5 +1,5 @@
 -- `cuts::follow::follow` meets its contract. Assumes nothing.
-use Prim.Native.Nat.{_-_, _≤_, _%_}
+use Prim.Native.Nat.{_-_, _%_}
 use native.Mathlib.Omega.{arith}
 use Rattle.residual.specs.Network.{net, get}
 use Rattle.cuts.proofs.TreeWalk.{Walk, walk-start, walk-next, walk-end}

@@ -1,6 +1,5 @@
 -- `cuts::tree::turn_round` is safe and ends. Assumes nothing.
-use Prim.Native.Nat.{_-_, _≤_}
-use native.Mathlib.Omega.{arith}
+use Prim.Native.Nat.{_≤_}
 use borrow.Author.Needs.{needs}
 use Rattle.cuts.proofs.tree.turn_round.Statement.{statement}
 use Rattle.cuts.proofs.tree.turn_round.Tie as tie

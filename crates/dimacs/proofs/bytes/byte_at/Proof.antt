@@ -7,8 +7,6 @@ use Rattle.dimacs.proofs.Fronts.{at-any}
 use borrow.Author.Needs.{needs}
 use Rattle.dimacs.proofs.bytes.byte_at.Statement.{statement}
 use Rattle.dimacs.proofs.bytes.byte_at.Tie as tie
-use Rattle.dimacs.proofs.bytes.byte_at.Reads as reads
-use Rattle.dimacs.proofs.bytes.byte_at.Lts as lts
 
 shared-slice-read-result : tie.Need-shared-slice-read-result
 shared-slice-read-result c = search needs

@@ -5,11 +5,6 @@ use Rattle.dimacs.proofs.Fronts.{there, counting-low, counting-high, co
 use borrow.Author.Needs.{needs}
 use Rattle.dimacs.proofs.bytes.read_counting.Statement.{statement}
 use Rattle.dimacs.proofs.bytes.read_counting.Tie as tie
-use Rattle.dimacs.proofs.bytes.read_counting.Reads as reads
-use Rattle.dimacs.proofs.bytes.read_counting.Lts as lts
-use Rattle.dimacs.proofs.bytes.byte_at.Reads as byte-at-reads
-use Rattle.dimacs.proofs.bytes.read_digits.Reads as read-digits-reads
-use Rattle.dimacs.proofs.bytes.wide.Reads as wide-reads
 
 byte-at-requires : tie.Need-byte-at-requires
 byte-at-requires c κs = search needs

@@ -6,10 +6,6 @@ use borrow.Author.Needs.{needs}
 use Rattle.dimacs.proofs.Fronts.{SoFar, so-far-start, fits, one-more, no-more-low, no-more-high, all-read}
 use Rattle.dimacs.proofs.bytes.read_digits.Statement.{statement}
 use Rattle.dimacs.proofs.bytes.read_digits.Tie as tie
-use Rattle.dimacs.proofs.bytes.read_digits.Reads as reads
-use Rattle.dimacs.proofs.bytes.read_digits.Lts as lts
-use Rattle.dimacs.proofs.bytes.byte_at.Reads as byte-at-reads
-use Rattle.dimacs.proofs.bytes.wide.Reads as wide-reads
 
 abbrev Inv-loop : tie.InvT-loop
 Inv-loop s at first value₀ next₀ left₀ value next left = SoFar s at first value next left

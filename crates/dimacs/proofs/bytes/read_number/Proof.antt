@@ -1,14 +1,8 @@
 -- `dimacs::bytes::read_number` meets its contract. Assumes nothing.
-use native.Mathlib.Omega.{arith}
-use denote.Ref.{now}
 use Rattle.dimacs.proofs.Fronts.{number-zero, number-other}
 use borrow.Author.Needs.{needs}
 use Rattle.dimacs.proofs.bytes.read_number.Statement.{statement}
 use Rattle.dimacs.proofs.bytes.read_number.Tie as tie
-use Rattle.dimacs.proofs.bytes.read_number.Reads as reads
-use Rattle.dimacs.proofs.bytes.read_number.Lts as lts
-use Rattle.dimacs.proofs.bytes.byte_at.Reads as byte-at-reads
-use Rattle.dimacs.proofs.bytes.read_counting.Reads as read-counting-reads
 
 byte-at-requires : tie.Need-byte-at-requires
 byte-at-requires c κs = search needs

@@ -5,12 +5,6 @@ use Rattle.dimacs.proofs.Fronts.{there, signed-minus, signed-plain}
 use borrow.Author.Needs.{needs}
 use Rattle.dimacs.proofs.bytes.read_signed.Statement.{statement}
 use Rattle.dimacs.proofs.bytes.read_signed.Tie as tie
-use Rattle.dimacs.proofs.bytes.read_signed.Reads as reads
-use Rattle.dimacs.proofs.bytes.read_signed.Lts as lts
-use Rattle.dimacs.proofs.bytes.byte_at.Reads as byte-at-reads
-use Rattle.dimacs.proofs.bytes.read_counting.Reads as read-counting-reads
-use Rattle.dimacs.proofs.bytes.read_number.Reads as read-number-reads
-use Rattle.dimacs.proofs.bytes.with_sign.Reads as with-sign-reads
 
 byte-at-requires : tie.Need-byte-at-requires
 byte-at-requires c κs = search needs

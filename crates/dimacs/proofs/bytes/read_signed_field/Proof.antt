@@ -5,11 +5,6 @@ use Rattle.dimacs.proofs.Fronts.{there, signed-field-none, signed-field
 use borrow.Author.Needs.{needs}
 use Rattle.dimacs.proofs.bytes.read_signed_field.Statement.{statement}
 use Rattle.dimacs.proofs.bytes.read_signed_field.Tie as tie
-use Rattle.dimacs.proofs.bytes.read_signed_field.Reads as reads
-use Rattle.dimacs.proofs.bytes.read_signed_field.Lts as lts
-use Rattle.dimacs.proofs.bytes.byte_at.Reads as byte-at-reads
-use Rattle.dimacs.proofs.bytes.read_signed.Reads as read-signed-reads
-use Rattle.dimacs.proofs.bytes.skip_spaces.Reads as skip-spaces-reads
 
 byte-at-requires : tie.Need-byte-at-requires
 byte-at-requires c κs = search needs

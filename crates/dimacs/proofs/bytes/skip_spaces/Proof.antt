@@ -1,6 +1,6 @@
 -- `dimacs::bytes::skip_spaces` meets its contract. Assumes nothing.
-use mathlib.Core.Path.{_≡_, refl, sym, _∙_}
-use Prim.Native.Nat.{_-_, _≤_, _+_}
+use mathlib.Core.Path.{_≡_, refl, _∙_}
+use Prim.Native.Nat.{_-_, _≤_}
 use native.Mathlib.Omega.{arith}
 use denote.Ref.{now}
 use borrow.Author.Needs.{needs}
@@ -9,9 +9,6 @@ use Rattle.dimacs.specs.Bytes.{spaces}
 use Rattle.dimacs.proofs.Fronts.{there, spaces-more, spaces-stop}
 use Rattle.dimacs.proofs.bytes.skip_spaces.Statement.{statement}
 use Rattle.dimacs.proofs.bytes.skip_spaces.Tie as tie
-use Rattle.dimacs.proofs.bytes.skip_spaces.Reads as reads
-use Rattle.dimacs.proofs.bytes.skip_spaces.Lts as lts
-use Rattle.dimacs.proofs.bytes.byte_at.Reads as byte-at-reads
 
 abbrev Inv-loop : tie.InvT-loop
 Inv-loop s at next₀ next = (next ≤ length s) × (spaces (drop at s) ≡ spaces (drop next s))

@@ -4,8 +4,6 @@ use Rattle.dimacs.specs.Reader.{signedAnswer}
 use borrow.Author.Needs.{needs}
 use Rattle.dimacs.proofs.bytes.with_sign.Statement.{statement}
 use Rattle.dimacs.proofs.bytes.with_sign.Tie as tie
-use Rattle.dimacs.proofs.bytes.with_sign.Reads as reads
-use Rattle.dimacs.proofs.bytes.with_sign.Lts as lts
 
 enum-known-n : tie.Need-enum-known-n
 enum-known-n c = search needs

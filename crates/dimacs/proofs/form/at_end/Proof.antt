@@ -3,8 +3,6 @@ use borrow.Author.Tests.{not-true, not-false}
 use Rattle.dimacs.proofs.FormLaws.{end-closed, end-short, end-whole}
 use Rattle.dimacs.proofs.form.at_end.Statement.{statement}
 use Rattle.dimacs.proofs.form.at_end.Tie as tie
-use Rattle.dimacs.proofs.form.at_end.Reads as reads
-use Rattle.dimacs.proofs.form.at_end.Lts as lts
 
 returns : tie.Need-returns
 returns c = let a = c .before .before .args in end-closed (a .t) (a .line) (not-true (a .t .opened) (c .if1 .taken))

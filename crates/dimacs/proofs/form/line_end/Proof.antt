@@ -1,14 +1,10 @@
 -- `dimacs::form::line_end` meets its contract. Assumes nothing.
-use native.Mathlib.Omega.{arith}
-use denote.Ref.{now}
 use borrow.Author.Needs.{needs}
 use Prim.Native.Nat.{_-_}
 use lib.ListN.{length}
 use Rattle.dimacs.proofs.FormLaws.{Along, along-start, along-next, along-lf, along-end}
 use Rattle.dimacs.proofs.form.line_end.Statement.{statement}
 use Rattle.dimacs.proofs.form.line_end.Tie as tie
-use Rattle.dimacs.proofs.form.line_end.Reads as reads
-use Rattle.dimacs.proofs.form.line_end.Lts as lts
 
 abbrev Inv-loop : tie.InvT-loop
 Inv-loop s at i₀ i = Along s at i

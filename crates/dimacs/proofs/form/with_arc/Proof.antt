@@ -4,8 +4,6 @@ use Rattle.dimacs.proofs.FormLaws.{arc-closed, arc-good, arc-late}
 use borrow.Author.Needs.{needs}
 use Rattle.dimacs.proofs.form.with_arc.Statement.{statement}
 use Rattle.dimacs.proofs.form.with_arc.Tie as tie
-use Rattle.dimacs.proofs.form.with_arc.Reads as reads
-use Rattle.dimacs.proofs.form.with_arc.Lts as lts
 
 returns : tie.Need-returns
 returns c = let a = c .before .before .args in arc-closed (a .t) (not-true (a .t .opened) (c .if1 .taken))

@@ -1,14 +1,9 @@
 -- `dimacs::form::with_line` meets its contract. Assumes nothing.
-use mathlib.Core.Path.{_≡_, sym, ap, _∙_}
+use mathlib.Core.Path.{sym, ap, _∙_}
 use Rattle.dimacs.specs.FormReader.{nextOf}
 use borrow.Author.Needs.{needs}
 use Rattle.dimacs.proofs.form.with_line.Statement.{statement}
 use Rattle.dimacs.proofs.form.with_line.Tie as tie
-use Rattle.dimacs.proofs.form.with_line.Reads as reads
-use Rattle.dimacs.proofs.form.with_line.Lts as lts
-use Rattle.dimacs.proofs.form.with_arc.Reads as with-arc-reads
-use Rattle.dimacs.proofs.form.with_node.Reads as with-node-reads
-use Rattle.dimacs.proofs.form.with_problem.Reads as with-problem-reads
 
 enum-told : tie.Need-enum-told
 enum-told c = search needs

@@ -3,8 +3,6 @@ use borrow.Author.Tests.{not-true, not-false}
 use Rattle.dimacs.proofs.FormLaws.{node-closed, node-late, node-good}
 use Rattle.dimacs.proofs.form.with_node.Statement.{statement}
 use Rattle.dimacs.proofs.form.with_node.Tie as tie
-use Rattle.dimacs.proofs.form.with_node.Reads as reads
-use Rattle.dimacs.proofs.form.with_node.Lts as lts
 
 returns : tie.Need-returns
 returns c = let a = c .before .before .args in node-closed (a .t) (not-true (a .t .opened) (c .if1 .taken))

@@ -3,8 +3,6 @@ use Rattle.dimacs.proofs.FormLaws.{problem-first}
 use borrow.Author.Needs.{needs}
 use Rattle.dimacs.proofs.form.with_problem.Statement.{statement}
 use Rattle.dimacs.proofs.form.with_problem.Tie as tie
-use Rattle.dimacs.proofs.form.with_problem.Reads as reads
-use Rattle.dimacs.proofs.form.with_problem.Lts as lts
 
 returns : tie.Need-returns
 returns c = search needs

@@ -6,10 +6,6 @@ use Rattle.dimacs.proofs.Fronts.{there}
 use borrow.Author.Needs.{needs}
 use Rattle.dimacs.proofs.line.after_min.Statement.{statement}
 use Rattle.dimacs.proofs.line.after_min.Tie as tie
-use Rattle.dimacs.proofs.line.after_min.Reads as reads
-use Rattle.dimacs.proofs.line.after_min.Lts as lts
-use Rattle.dimacs.proofs.bytes.byte_at.Reads as byte-at-reads
-use Rattle.dimacs.proofs.bytes.skip_spaces.Reads as skip-spaces-reads
 
 byte-at-requires : tie.Need-byte-at-requires
 byte-at-requires c κs = search needs

@@ -3,10 +3,6 @@ use Rattle.dimacs.proofs.LineLaws.{field-in, arc-1, arc-2, arc-3, arc-4
 use borrow.Author.Needs.{needs}
 use Rattle.dimacs.proofs.line.read_arc.Statement.{statement}
 use Rattle.dimacs.proofs.line.read_arc.Tie as tie
-use Rattle.dimacs.proofs.line.read_arc.Reads as reads
-use Rattle.dimacs.proofs.line.read_arc.Lts as lts
-use Rattle.dimacs.proofs.bytes.read_field.Reads as read-field-reads
-use Rattle.dimacs.proofs.bytes.read_signed_field.Reads as read-signed-field-reads
 
 read-field-requires : tie.Need-read-field-requires
 read-field-requires c κs = search needs

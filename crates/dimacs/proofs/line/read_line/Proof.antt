@@ -5,12 +5,6 @@ use Rattle.dimacs.proofs.LineLaws.{room, line-comment, line-problem, li
 use borrow.Author.Needs.{needs}
 use Rattle.dimacs.proofs.line.read_line.Statement.{statement}
 use Rattle.dimacs.proofs.line.read_line.Tie as tie
-use Rattle.dimacs.proofs.line.read_line.Reads as reads
-use Rattle.dimacs.proofs.line.read_line.Lts as lts
-use Rattle.dimacs.proofs.bytes.byte_at.Reads as byte-at-reads
-use Rattle.dimacs.proofs.line.read_arc.Reads as read-arc-reads
-use Rattle.dimacs.proofs.line.read_node.Reads as read-node-reads
-use Rattle.dimacs.proofs.line.read_problem.Reads as read-problem-reads
 
 byte-at-requires : tie.Need-byte-at-requires
 byte-at-requires c κs = search needs

@@ -3,10 +3,6 @@ use Rattle.dimacs.proofs.LineLaws.{field-in, min-in, problem-no-min, pr
 use borrow.Author.Needs.{needs}
 use Rattle.dimacs.proofs.line.read_problem.Statement.{statement}
 use Rattle.dimacs.proofs.line.read_problem.Tie as tie
-use Rattle.dimacs.proofs.line.read_problem.Reads as reads
-use Rattle.dimacs.proofs.line.read_problem.Lts as lts
-use Rattle.dimacs.proofs.bytes.read_field.Reads as read-field-reads
-use Rattle.dimacs.proofs.line.after_min.Reads as after-min-reads
 
 after-min-requires : tie.Need-after-min-requires
 after-min-requires c κs = search needs

@@ -2,8 +2,6 @@
 use Rattle.dimacs.proofs.LinesLaws.{bad-1, bad-2, bad-3, bad-4, bad-5, bad-6, bad-7, bad-8}
 use Rattle.dimacs.proofs.store.bad_arc.Statement.{statement}
 use Rattle.dimacs.proofs.store.bad_arc.Tie as tie
-use Rattle.dimacs.proofs.store.bad_arc.Reads as reads
-use Rattle.dimacs.proofs.store.bad_arc.Lts as lts
 
 returns : tie.Need-returns
 returns c minus = let a = c .before .args in bad-1 (a .nodes) (a .start) (a .end) (a .low) (a .ceiling) minus (a .cost) (c .if1 .taken)

@@ -8,11 +8,6 @@ use Rattle.dimacs.proofs.StoreLaws.{arc-past, arc-next}
 use borrow.Author.Needs.{needs}
 use Rattle.dimacs.proofs.store.put_arc.Statement.{statement}
 use Rattle.dimacs.proofs.store.put_arc.Tie as tie
-use Rattle.dimacs.proofs.store.put_arc.Reads as reads
-use Rattle.dimacs.proofs.store.put_arc.Lts as lts
-use Rattle.dimacs.proofs.store.bad_arc.Reads as bad-arc-reads
-use Rattle.dimacs.proofs.store.either.Reads as either-reads
-use Rattle.caseform.proofs.field.with_sign.Reads as with-sign-reads
 
 bad-arc-requires : tie.Need-bad-arc-requires
 bad-arc-requires c κs = search needs

@@ -9,11 +9,6 @@ use Rattle.dimacs.proofs.StoreLaws.{node-none, node-again, node-next}
 use borrow.Author.Needs.{needs}
 use Rattle.dimacs.proofs.store.put_node.Statement.{statement}
 use Rattle.dimacs.proofs.store.put_node.Tie as tie
-use Rattle.dimacs.proofs.store.put_node.Reads as reads
-use Rattle.dimacs.proofs.store.put_node.Lts as lts
-use Rattle.dimacs.proofs.store.either.Reads as either-reads
-use Rattle.dimacs.proofs.store.given.Reads as given-reads
-use Rattle.dimacs.proofs.store.taken.Reads as taken-reads
 
 returns : tie.Need-returns
 returns c = λ sup r. let a = c .before .args in node-none (a .nodes) sup _ (a .odd) _ _ _ r (inl (c .if1 .taken))

@@ -12,15 +12,6 @@ use Rattle.dimacs.proofs.FormLaws.{no-lf, form-ends, form-wrong, form-o
 use Rattle.dimacs.proofs.StoreLaws.{Kept, kept-start, kept-ends, kept-on}
 use Rattle.dimacs.proofs.store.read_file.Statement.{statement}
 use Rattle.dimacs.proofs.store.read_file.Tie as tie
-use Rattle.dimacs.proofs.store.read_file.Reads as reads
-use Rattle.dimacs.proofs.store.read_file.Lts as lts
-use Rattle.dimacs.proofs.form.at_end.Reads as at-end-reads
-use Rattle.dimacs.proofs.form.line_end.Reads as line-end-reads
-use Rattle.dimacs.proofs.form.with_line.Reads as with-line-reads
-use Rattle.dimacs.proofs.line.read_line.Reads as read-line-reads
-use Rattle.dimacs.proofs.store.store_arc.Reads as store-arc-reads
-use Rattle.dimacs.proofs.store.store_node.Reads as store-node-reads
-use Rattle.dimacs.proofs.store.with_flags.Reads as with-flags-reads
 
 abbrev Inv-loop : tie.InvT-loop
 Inv-loop s starts₀ ends₀ ceilings₀ costs₀ gives₀ takes₀ marks₀ t₀ at₀ line₀ odd₀ bad₀ starts ends ceilings costs gives takes marks t at line odd bad =

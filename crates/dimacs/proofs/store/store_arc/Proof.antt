@@ -1,19 +1,16 @@
 -- `dimacs::store::store_arc` meets its contract. Assumes nothing.
-use mathlib.Core.Path.{_≡_, sym, ap, subst}
-use mathlib.Core.List.{List, _++_}
+use mathlib.Core.Path.{sym, ap, subst}
+use mathlib.Core.List.{List}
 use Prim.Native.Nat.{_<_}
 use native.Mathlib.Omega.{arith}
 use lib.ListN.{length}
 use Rattle.dimacs.specs.Form.{ArcLine}
 use Rattle.dimacs.specs.LineReader.{Small}
-use Rattle.dimacs.specs.Stored.{arcIn, ArcsRead}
+use Rattle.dimacs.specs.Stored.{arcIn}
 use Rattle.dimacs.proofs.StoreLaws.{arc-none, arc-some}
 use borrow.Author.Needs.{needs}
 use Rattle.dimacs.proofs.store.store_arc.Statement.{statement}
 use Rattle.dimacs.proofs.store.store_arc.Tie as tie
-use Rattle.dimacs.proofs.store.store_arc.Reads as reads
-use Rattle.dimacs.proofs.store.store_arc.Lts as lts
-use Rattle.dimacs.proofs.store.put_arc.Reads as put-arc-reads
 
 enum-told : tie.Need-enum-told
 enum-told c = search needs

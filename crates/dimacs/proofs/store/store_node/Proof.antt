@@ -1,16 +1,11 @@
 -- `dimacs::store::store_node` meets its contract. Assumes nothing.
-use mathlib.Core.Path.{_≡_, sym, ap, subst}
-use mathlib.Core.List.{List, _++_}
-use Rattle.dimacs.specs.Form.{NodeLine}
+use mathlib.Core.Path.{ap, subst}
 use Rattle.dimacs.specs.LineReader.{Small}
-use Rattle.dimacs.specs.Stored.{nodeIn, NodesRead}
+use Rattle.dimacs.specs.Stored.{nodeIn}
 use Rattle.dimacs.proofs.StoreLaws.{node-nothing, node-some}
 use borrow.Author.Needs.{needs}
 use Rattle.dimacs.proofs.store.store_node.Statement.{statement}
 use Rattle.dimacs.proofs.store.store_node.Tie as tie
-use Rattle.dimacs.proofs.store.store_node.Reads as reads
-use Rattle.dimacs.proofs.store.store_node.Lts as lts
-use Rattle.dimacs.proofs.store.put_node.Reads as put-node-reads
 
 enum-told : tie.Need-enum-told
 enum-told c = search needs

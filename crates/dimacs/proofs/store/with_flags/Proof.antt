@@ -5,8 +5,6 @@ use Rattle.dimacs.specs.Stored.{flagged}
 use borrow.Author.Needs.{needs}
 use Rattle.dimacs.proofs.store.with_flags.Statement.{statement}
 use Rattle.dimacs.proofs.store.with_flags.Tie as tie
-use Rattle.dimacs.proofs.store.with_flags.Reads as reads
-use Rattle.dimacs.proofs.store.with_flags.Lts as lts
 
 enum-known-f : tie.Need-enum-known-f
 enum-known-f c = search needs

@@ -1,6 +1,5 @@
 -- `fallback_trials::number::same` is safe and ends. Assumes nothing.
 use Prim.Native.Nat.{_-_, _≤_}
-use native.Mathlib.Omega.{arith}
 use borrow.Author.Needs.{needs}
 use lib.ListN.{length}
 use Rattle.fallback_trials.proofs.number.same.Statement.{statement}

@@ -4,9 +4,6 @@ use Rattle.ffi.specs.Rated.{rateNumber}
 use borrow.Author.Needs.{needs}
 use Rattle.ffi.proofs.rates.yadvorkhul_rates.Statement.{statement}
 use Rattle.ffi.proofs.rates.yadvorkhul_rates.Tie as tie
-use Rattle.ffi.proofs.rates.yadvorkhul_rates.Reads as reads
-use Rattle.ffi.proofs.rates.yadvorkhul_rates.Lts as lts
-use Rattle.ratetable.proofs.fill.Reads as fill-reads
 
 fill-requires : tie.Need-fill-requires
 fill-requires c κs = search needs

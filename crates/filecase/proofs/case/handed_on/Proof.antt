@@ -4,8 +4,6 @@ use Rattle.filecase.specs.CaseFiles.{onRefused}
 use borrow.Author.Needs.{needs}
 use Rattle.filecase.proofs.case.handed_on.Statement.{statement}
 use Rattle.filecase.proofs.case.handed_on.Tie as tie
-use Rattle.filecase.proofs.case.handed_on.Reads as reads
-use Rattle.filecase.proofs.case.handed_on.Lts as lts
 
 enum-told : tie.Need-enum-told
 enum-told c = search needs

@@ -1,20 +1,10 @@
 -- `filecase::case::read_case` meets its contract. Assumes nothing.
 use mathlib.Core.Path.{_≡_, sym, _∙_}
-use native.Mathlib.Omega.{arith}
-use denote.Ref.{now}
 use Rattle.filecase.proofs.TariffCase.{tariff-refused, production-refused, both-accepted}
 use lib.ListN.{length}
 use borrow.Author.Needs.{needs}
 use Rattle.filecase.proofs.case.read_case.Statement.{statement}
 use Rattle.filecase.proofs.case.read_case.Tie as tie
-use Rattle.filecase.proofs.case.read_case.Reads as reads
-use Rattle.filecase.proofs.case.read_case.Lts as lts
-use Rattle.filecase.proofs.case.blank.Reads as blank-reads
-use Rattle.filecase.proofs.case.entry_blank.Reads as entry-blank-reads
-use Rattle.filecase.proofs.case.handed_on.Reads as handed-on-reads
-use Rattle.filecase.proofs.case.share.Reads as share-reads
-use Rattle.filecase.proofs.case.share_entries.Reads as share-entries-reads
-use Rattle.filetable.proofs.table.read_table.Reads as read-table-reads
 
 -- how many cells are lent
 long-cells : (c : tie.After-blank) → length (c .blank .result) ≡ 2145

@@ -5,11 +5,6 @@ use Rattle.filecase.proofs.EntriesAlone.{entries-read, entries-refused}
 use borrow.Author.Needs.{needs}
 use Rattle.filecase.proofs.case.read_entries.Statement.{statement}
 use Rattle.filecase.proofs.case.read_entries.Tie as tie
-use Rattle.filecase.proofs.case.read_entries.Reads as reads
-use Rattle.filecase.proofs.case.read_entries.Lts as lts
-use Rattle.filecase.proofs.case.entry_blank.Reads as entry-blank-reads
-use Rattle.filecase.proofs.case.share_entries.Reads as share-entries-reads
-use Rattle.filetable.proofs.table.read_table.Reads as read-table-reads
 
 -- how many cells are lent
 long-held : (c : tie.After-entry-blank) → length (c .entry-blank .result) ≡ 4002

@@ -1,14 +1,9 @@
 -- `filecase::case::share` meets its contract. Assumes nothing.
-use Prim.Native.Nat.{_≤_}
 use native.Mathlib.Omega.{arith}
 use Rattle.filecase.proofs.TariffCase.{share-room, too-large}
 use borrow.Author.Needs.{needs}
 use Rattle.filecase.proofs.case.share.Statement.{statement}
 use Rattle.filecase.proofs.case.share.Tie as tie
-use Rattle.filecase.proofs.case.share.Reads as reads
-use Rattle.filecase.proofs.case.share.Lts as lts
-use Rattle.filecase.proofs.case.share_sources.Reads as share-sources-reads
-use Rattle.filetable.proofs.store.copy_sizes.Reads as copy-sizes-reads
 
 returns : tie.Need-returns
 returns c = too-large _ _ _ _ _ _ _ _ _ (λ few narrow. omega (arith, c .if1 .taken))

@@ -3,10 +3,6 @@ use mathlib.Core.Path.{sym}
 use borrow.Author.Needs.{needs}
 use Rattle.filecase.proofs.case.share_entries.Statement.{statement}
 use Rattle.filecase.proofs.case.share_entries.Tie as tie
-use Rattle.filecase.proofs.case.share_entries.Reads as reads
-use Rattle.filecase.proofs.case.share_entries.Lts as lts
-use Rattle.filetable.proofs.store.copy_sizes.Reads as copy-sizes-reads
-use Rattle.filetable.proofs.store.smaller.Reads as smaller-reads
 
 smaller-requires : tie.Need-smaller-requires
 smaller-requires c κs = search needs

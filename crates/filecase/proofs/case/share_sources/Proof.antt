@@ -1,6 +1,6 @@
 -- `filecase::case::share_sources` meets its contract. Assumes nothing.
-use mathlib.Core.Path.{_≡_, ap, _∙_}
-use Prim.Native.Nat.{_+_, _-_, _<_, _≤_}
+use mathlib.Core.Path.{ap, _∙_}
+use Prim.Native.Nat.{_+_, _-_, _≤_}
 use native.Mathlib.Omega.{arith}
 use borrow.Author.Needs.{needs}
 use denote.Ref.{now}
@@ -10,11 +10,6 @@ use Rattle.filecase.proofs.RecordShares.{Sharing, sharing-start, source
 use Rattle.csvtext.proofs.PrintedSigns.{read-back}
 use Rattle.filecase.proofs.case.share_sources.Statement.{statement}
 use Rattle.filecase.proofs.case.share_sources.Tie as tie
-use Rattle.filecase.proofs.case.share_sources.Reads as reads
-use Rattle.filecase.proofs.case.share_sources.Lts as lts
-use Rattle.filetable.proofs.store.copy_signed.Reads as copy-signed-reads
-use Rattle.filetable.proofs.store.put.Reads as put-reads
-use Rattle.csvtext.proofs.magnitude.Reads as magnitude-reads
 
 abbrev Inv-loop : tie.InvT-loop
 Inv-loop cells m n costs₀ supplies₀ start₀ at₀ i₀ costs supplies start at i = Sharing cells m n costs₀ supplies₀ costs supplies start at i

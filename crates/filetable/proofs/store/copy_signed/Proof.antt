@@ -1,18 +1,15 @@
 -- `filetable::store::copy_signed` meets its contract. Assumes nothing.
 use mathlib.Core.Path.{sym, _∙_}
-use Prim.Native.Nat.{_+_, _-_, _<_, _≤_}
+use Prim.Native.Nat.{_+_, _-_}
 use native.Mathlib.Omega.{arith}
 use borrow.Author.Needs.{needs}
 use denote.Ref.{now}
 use lib.IntN.{pos}
-use lib.ListN.{length, take, drop, getD}
+use lib.ListN.{take, drop, getD}
 use Rattle.csvtext.proofs.Stores.{Storing, storing-start, storing-next, storing-end, part-at, part-length}
 use Rattle.csvtext.proofs.PrintedSigns.{read-back}
 use Rattle.filetable.proofs.store.copy_signed.Statement.{statement}
 use Rattle.filetable.proofs.store.copy_signed.Tie as tie
-use Rattle.filetable.proofs.store.copy_signed.Reads as reads
-use Rattle.filetable.proofs.store.copy_signed.Lts as lts
-use Rattle.filetable.proofs.store.put_signed.Reads as put-signed-reads
 
 abbrev Inv-loop : tie.InvT-loop
 Inv-loop values start count cells₀ at j₀ cells j = Storing (take count (drop start values)) cells₀ cells at j

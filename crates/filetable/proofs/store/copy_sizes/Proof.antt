@@ -1,21 +1,17 @@
 -- `filetable::store::copy_sizes` meets its contract. Assumes nothing.
-use mathlib.Core.Path.{ap, sym, _∙_}
+use mathlib.Core.Path.{ap, _∙_}
 use mathlib.Core.List.{map}
-use Prim.Native.Nat.{_+_, _-_, _<_, _≤_}
+use Prim.Native.Nat.{_+_, _-_}
 use native.Mathlib.Omega.{arith}
 use borrow.Author.Needs.{needs}
 use denote.Ref.{now}
 use lib.IntN.{pos, natAbs}
-use lib.ListN.{length, take, drop, getD}
+use lib.ListN.{take, drop, getD}
 use Rattle.csvtext.proofs.Stores.{Storing, storing-start, storing-next, storing-end}
 use Rattle.filetable.proofs.FieldSizes.{sizes-at, sizes-length}
 use Rattle.csvtext.proofs.PrintedSigns.{read-back}
 use Rattle.filetable.proofs.store.copy_sizes.Statement.{statement}
 use Rattle.filetable.proofs.store.copy_sizes.Tie as tie
-use Rattle.filetable.proofs.store.copy_sizes.Reads as reads
-use Rattle.filetable.proofs.store.copy_sizes.Lts as lts
-use Rattle.filetable.proofs.store.put.Reads as put-reads
-use Rattle.csvtext.proofs.magnitude.Reads as magnitude-reads
 
 abbrev Inv-loop : tie.InvT-loop
 Inv-loop values start count cells₀ at j₀ cells j = Storing (map natAbs (take count (drop start values))) cells₀ cells at j

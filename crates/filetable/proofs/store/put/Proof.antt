@@ -5,8 +5,6 @@ use lib.Seq.{set-out}
 use borrow.Author.Needs.{needs}
 use Rattle.filetable.proofs.store.put.Statement.{statement}
 use Rattle.filetable.proofs.store.put.Tie as tie
-use Rattle.filetable.proofs.store.put.Reads as reads
-use Rattle.filetable.proofs.store.put.Lts as lts
 
 mul-cells : tie.Need-mul-cells
 mul-cells c = search needs

@@ -5,8 +5,6 @@ use lib.Seq.{set-out}
 use borrow.Author.Needs.{needs}
 use Rattle.filetable.proofs.store.put_signed.Statement.{statement}
 use Rattle.filetable.proofs.store.put_signed.Tie as tie
-use Rattle.filetable.proofs.store.put_signed.Reads as reads
-use Rattle.filetable.proofs.store.put_signed.Lts as lts
 
 returns : tie.Need-returns
 returns c = sym (set-out (now (c .before .args .cells)) _ _ (c .if1 .taken))

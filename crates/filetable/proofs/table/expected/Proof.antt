@@ -1,10 +1,8 @@
 -- `filetable::table::expected` meets its contract. Assumes nothing.
-use mathlib.Core.Path.{refl, sym}
+use mathlib.Core.Path.{refl}
 use borrow.Author.Tests.{eq-eqb, ne-eqb}
 use Rattle.filetable.proofs.table.expected.Statement.{statement}
 use Rattle.filetable.proofs.table.expected.Tie as tie
-use Rattle.filetable.proofs.table.expected.Reads as reads
-use Rattle.filetable.proofs.table.expected.Lts as lts
 
 returns : tie.Need-returns
 returns c = rw (eq-eqb _ _ (c .if1 .taken)) refl

@@ -1,10 +1,8 @@
 -- `filetable::table::first_odd` meets its contract. Assumes nothing.
-use mathlib.Core.Path.{refl, sym}
+use mathlib.Core.Path.{refl}
 use borrow.Author.Tests.{eq-eqb, ne-eqb}
 use Rattle.filetable.proofs.table.first_odd.Statement.{statement}
 use Rattle.filetable.proofs.table.first_odd.Tie as tie
-use Rattle.filetable.proofs.table.first_odd.Reads as reads
-use Rattle.filetable.proofs.table.first_odd.Lts as lts
 
 returns : tie.Need-returns
 returns c = rw (ne-eqb _ _ (c .if1 .taken)) refl

@@ -4,8 +4,6 @@ use Rattle.filetable.specs.Tallies.{handedOn}
 use borrow.Author.Needs.{needs}
 use Rattle.filetable.proofs.table.handed_on.Statement.{statement}
 use Rattle.filetable.proofs.table.handed_on.Tie as tie
-use Rattle.filetable.proofs.table.handed_on.Reads as reads
-use Rattle.filetable.proofs.table.handed_on.Lts as lts
 
 enum-known-f : tie.Need-enum-known-f
 enum-known-f c = search needs

@@ -1,5 +1,5 @@
 -- `filetable::table::read_table` meets its contract. Assumes nothing.
-use mathlib.Core.Path.{_≡_, refl, sym, ap, _∙_, subst}
+use mathlib.Core.Path.{sym, ap, _∙_, subst}
 use mathlib.Core.Bool.{false}
 use Prim.Native.Nat.{_-_, _≤_, _<_}
 use native.Mathlib.Omega.{arith}
@@ -14,18 +14,6 @@ use Rattle.filetable.proofs.FieldLoop.{few-field, field-ahead, field-sm
 use Rattle.csvtext.proofs.PrintedSigns.{read-back}
 use Rattle.filetable.proofs.table.read_table.Statement.{statement}
 use Rattle.filetable.proofs.table.read_table.Tie as tie
-use Rattle.filetable.proofs.table.read_table.Reads as reads
-use Rattle.filetable.proofs.table.read_table.Lts as lts
-use Rattle.caseform.proofs.after.read_after.Reads as read-after-reads
-use Rattle.caseform.proofs.field.read_field.Reads as read-field-reads
-use Rattle.filetable.proofs.store.put_signed.Reads as put-signed-reads
-use Rattle.filetable.proofs.table.Tally.source.Reads as source-reads
-use Rattle.filetable.proofs.table.Tally.start.Reads as start-reads
-use Rattle.filetable.proofs.table.Tally.table.Reads as table-reads
-use Rattle.filetable.proofs.table.Tally.with_field.Reads as with-field-reads
-use Rattle.filetable.proofs.table.Tally.with_record.Reads as with-record-reads
-use Rattle.filetable.proofs.table.handed_on.Reads as handed-on-reads
-use Rattle.caseform.proofs.field.with_sign.Reads as with-sign-reads
 
 abbrev Inv-loop : tie.InvT-loop
 Inv-loop kind s cells₀ t₀ at₀ cells t at = Along kind s cells₀ cells t at

@@ -4,12 +4,6 @@ use borrow.Author.Needs.{needs}
 use lib.ListN.{length}
 use Rattle.flow_trials.proofs.brute.freight.Statement.{statement}
 use Rattle.flow_trials.proofs.brute.freight.Tie as tie
-use Rattle.flow_trials.proofs.brute.freight.Reads as reads
-use Rattle.flow_trials.proofs.brute.freight.Lts as lts
-use Rattle.flow_trials.proofs.brute.less_or.Reads as less-or-reads
-use Rattle.trial_draws.proofs.at.Reads as at-reads
-use Rattle.trial_draws.proofs.plus.Reads as plus-reads
-use Rattle.flow_trials.proofs.number.times.Reads as times-reads
 
 abbrev Inv-loop : tie.InvT-loop
 Inv-loop costs named amounts less sum₀ k₀ sum k = Unit {0}

@@ -4,10 +4,6 @@ use borrow.Author.Needs.{needs}
 use lib.ListN.{length}
 use Rattle.flow_trials.proofs.brute.kept.Statement.{statement}
 use Rattle.flow_trials.proofs.brute.kept.Tie as tie
-use Rattle.flow_trials.proofs.brute.kept.Reads as reads
-use Rattle.flow_trials.proofs.brute.kept.Lts as lts
-use Rattle.flow_trials.proofs.brute.at_node.Reads as at-node-reads
-use Rattle.trial_draws.proofs.plus.Reads as plus-reads
 
 abbrev Inv-loop : tie.InvT-loop
 Inv-loop starts ends supplies amounts i₀ i = Unit {0}

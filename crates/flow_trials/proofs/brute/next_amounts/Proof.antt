@@ -5,10 +5,6 @@ use borrow.Author.Needs.{needs}
 use lib.ListN.{length}
 use Rattle.flow_trials.proofs.brute.next_amounts.Statement.{statement}
 use Rattle.flow_trials.proofs.brute.next_amounts.Tie as tie
-use Rattle.flow_trials.proofs.brute.next_amounts.Reads as reads
-use Rattle.flow_trials.proofs.brute.next_amounts.Lts as lts
-use Rattle.trial_draws.proofs.at.Reads as at-reads
-use Rattle.trial_draws.proofs.plus.Reads as plus-reads
 
 abbrev Inv-loop : tie.InvT-loop
 Inv-loop ceilings amounts₀ k₀ amounts k = length amounts ≡ length amounts₀

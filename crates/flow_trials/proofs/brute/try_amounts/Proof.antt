@@ -5,13 +5,6 @@ use borrow.Author.Needs.{needs}
 use lib.ListN.{length}
 use Rattle.flow_trials.proofs.brute.try_amounts.Statement.{statement}
 use Rattle.flow_trials.proofs.brute.try_amounts.Tie as tie
-use Rattle.flow_trials.proofs.brute.try_amounts.Reads as reads
-use Rattle.flow_trials.proofs.brute.try_amounts.Lts as lts
-use Rattle.flow_trials.proofs.brute.better.Reads as better-reads
-use Rattle.flow_trials.proofs.brute.kept.Reads as kept-reads
-use Rattle.flow_trials.proofs.brute.level_of.Reads as level-of-reads
-use Rattle.flow_trials.proofs.brute.next_amounts.Reads as next-amounts-reads
-use Rattle.trial_draws.proofs.at.Reads as at-reads
 
 abbrev Inv-loop : tie.InvT-loop
 Inv-loop starts ends ceilings costs supplies named table amounts₀ best₀ turns₀ amounts best turns = length amounts ≡ 5

@@ -5,12 +5,6 @@ use borrow.Author.Needs.{needs}
 use lib.ListN.{length}
 use Rattle.flow_trials.proofs.draw.draw_amounts.Statement.{statement}
 use Rattle.flow_trials.proofs.draw.draw_amounts.Tie as tie
-use Rattle.flow_trials.proofs.draw.draw_amounts.Reads as reads
-use Rattle.flow_trials.proofs.draw.draw_amounts.Lts as lts
-use Rattle.trial_draws.proofs.after.Reads as after-reads
-use Rattle.trial_draws.proofs.at.Reads as at-reads
-use Rattle.trial_draws.proofs.below.Reads as below-reads
-use Rattle.trial_draws.proofs.plus.Reads as plus-reads
 
 abbrev Inv-loop : tie.InvT-loop
 Inv-loop seed ceilings to₀ x₀ k₀ to x k = length to ≡ length to₀

@@ -5,14 +5,6 @@ use borrow.Author.Needs.{needs}
 use lib.ListN.{length}
 use Rattle.flow_trials.proofs.draw.draw_ends.Statement.{statement}
 use Rattle.flow_trials.proofs.draw.draw_ends.Tie as tie
-use Rattle.flow_trials.proofs.draw.draw_ends.Reads as reads
-use Rattle.flow_trials.proofs.draw.draw_ends.Lts as lts
-use Rattle.flow_trials.proofs.draw.times_eight.Reads as times-eight-reads
-use Rattle.trial_draws.proofs.after.Reads as after-reads
-use Rattle.trial_draws.proofs.at.Reads as at-reads
-use Rattle.trial_draws.proofs.below.Reads as below-reads
-use Rattle.trial_draws.proofs.minus.Reads as minus-reads
-use Rattle.trial_draws.proofs.plus.Reads as plus-reads
 
 abbrev Inv-loop : tie.InvT-loop
 Inv-loop seed nodes starts ends₀ x₀ k₀ ends x k = length ends ≡ length ends₀

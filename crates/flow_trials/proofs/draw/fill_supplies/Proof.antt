@@ -5,11 +5,6 @@ use borrow.Author.Needs.{needs}
 use lib.ListN.{length}
 use Rattle.flow_trials.proofs.draw.fill_supplies.Statement.{statement}
 use Rattle.flow_trials.proofs.draw.fill_supplies.Tie as tie
-use Rattle.flow_trials.proofs.draw.fill_supplies.Reads as reads
-use Rattle.flow_trials.proofs.draw.fill_supplies.Lts as lts
-use Rattle.flow_trials.proofs.brute.at_node.Reads as at-node-reads
-use Rattle.trial_draws.proofs.minus.Reads as minus-reads
-use Rattle.trial_draws.proofs.plus.Reads as plus-reads
 
 abbrev Inv-loop : tie.InvT-loop
 Inv-loop starts ends amounts to₀ i₀ to i = length to ≡ length to₀

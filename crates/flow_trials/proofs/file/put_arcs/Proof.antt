@@ -5,10 +5,6 @@ use borrow.Author.Needs.{needs}
 use lib.ListN.{length}
 use Rattle.flow_trials.proofs.file.put_arcs.Statement.{statement}
 use Rattle.flow_trials.proofs.file.put_arcs.Tie as tie
-use Rattle.flow_trials.proofs.file.put_arcs.Reads as reads
-use Rattle.flow_trials.proofs.file.put_arcs.Lts as lts
-use Rattle.flow_trials.proofs.file.put_arc.Reads as put-arc-reads
-use Rattle.trial_draws.proofs.at.Reads as at-reads
 
 abbrev Inv-loop : tie.InvT-loop
 Inv-loop out₀ from starts ends ceilings costs next₀ k₀ out next k = length out ≡ length out₀

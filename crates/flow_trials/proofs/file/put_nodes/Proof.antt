@@ -5,10 +5,6 @@ use borrow.Author.Needs.{needs}
 use lib.ListN.{length}
 use Rattle.flow_trials.proofs.file.put_nodes.Statement.{statement}
 use Rattle.flow_trials.proofs.file.put_nodes.Tie as tie
-use Rattle.flow_trials.proofs.file.put_nodes.Reads as reads
-use Rattle.flow_trials.proofs.file.put_nodes.Lts as lts
-use Rattle.flow_trials.proofs.file.put_node.Reads as put-node-reads
-use Rattle.trial_draws.proofs.plus.Reads as plus-reads
 
 abbrev Inv-loop : tie.InvT-loop
 Inv-loop out₀ start supplies next₀ i₀ out next i = length out ≡ length out₀

@@ -4,10 +4,6 @@ use borrow.Author.Needs.{needs}
 use lib.ListN.{length}
 use Rattle.flow_trials.proofs.trial.holds.Statement.{statement}
 use Rattle.flow_trials.proofs.trial.holds.Tie as tie
-use Rattle.flow_trials.proofs.trial.holds.Reads as reads
-use Rattle.flow_trials.proofs.trial.holds.Lts as lts
-use Rattle.trial_draws.proofs.at.Reads as at-reads
-use Rattle.flow_trials.proofs.trial.later.Reads as later-reads
 
 abbrev Inv-loop : tie.InvT-loop
 Inv-loop numbers cells k₀ k = Unit {0}

@@ -4,8 +4,6 @@ use borrow.Author.Needs.{needs}
 use lib.ListN.{length}
 use Rattle.flow_trials.proofs.trial.later.Statement.{statement}
 use Rattle.flow_trials.proofs.trial.later.Tie as tie
-use Rattle.flow_trials.proofs.trial.later.Reads as reads
-use Rattle.flow_trials.proofs.trial.later.Lts as lts
 
 abbrev Inv-loop : tie.InvT-loop
 Inv-loop s n k₀ k = Unit {0}

@@ -4,9 +4,6 @@ use borrow.Author.Needs.{needs}
 use lib.ListN.{length}
 use Rattle.flow_trials.proofs.trial.within.Statement.{statement}
 use Rattle.flow_trials.proofs.trial.within.Tie as tie
-use Rattle.flow_trials.proofs.trial.within.Reads as reads
-use Rattle.flow_trials.proofs.trial.within.Lts as lts
-use Rattle.trial_draws.proofs.at.Reads as at-reads
 
 abbrev Inv-loop : tie.InvT-loop
 Inv-loop ceilings amounts k₀ k = Unit {0}

@@ -1,17 +1,14 @@
 -- `flowcase::build::ceilings_into` meets its contract. Assumes nothing.
-use mathlib.Core.Path.{_≡_, refl, sym, ap, _∙_}
-use Prim.Native.Nat.{_-_, _*_, _+_, _≤_}
+use mathlib.Core.Path.{_≡_, ap, _∙_}
+use Prim.Native.Nat.{_-_, _*_, _≤_}
 use native.Mathlib.Omega.{arith}
 use borrow.Author.Needs.{needs}
 use denote.Ref.{now}
 use lib.ListN.{length, getD}
-use Rattle.flowcase.specs.Build.{into, wantIn, laneIn, Filled}
-use Rattle.flowcase.proofs.Fills.{filled-none, filled-next, filled-all, into-none, into-next, at-most-value}
+use Rattle.flowcase.specs.Build.{into}
+use Rattle.flowcase.proofs.Fills.{into-none, into-next, at-most-value}
 use Rattle.flowcase.proofs.build.ceilings_into.Statement.{statement}
 use Rattle.flowcase.proofs.build.ceilings_into.Tie as tie
-use Rattle.flowcase.proofs.build.ceilings_into.Reads as reads
-use Rattle.flowcase.proofs.build.ceilings_into.Lts as lts
-use Rattle.flowcase.proofs.build.counted.Reads as counted-reads
 
 abbrev Inv-loop : tie.InvT-loop
 Inv-loop ends ceilings id sum₀ j₀ sum j = (sum ≡ into ends ceilings id j) × (sum ≤ 4000 * j) × (j ≤ length ends)

@@ -2,8 +2,6 @@
 use Rattle.flowcase.proofs.Fills.{at-yes, at-no}
 use Rattle.flowcase.proofs.build.counted.Statement.{statement}
 use Rattle.flowcase.proofs.build.counted.Tie as tie
-use Rattle.flowcase.proofs.build.counted.Reads as reads
-use Rattle.flowcase.proofs.build.counted.Lts as lts
 
 returns : tie.Need-returns
 returns c = at-yes _ _ _ (c .if1 .taken)

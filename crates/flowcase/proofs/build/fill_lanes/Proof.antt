@@ -1,17 +1,14 @@
 -- `flowcase::build::fill_lanes` meets its contract. Assumes nothing.
-use mathlib.Core.Path.{_≡_, refl, sym, ap, _∙_}
-use Prim.Native.Nat.{_-_, _*_, _+_, _≤_}
+use mathlib.Core.Path.{_≡_}
+use Prim.Native.Nat.{_-_, _≤_}
 use native.Mathlib.Omega.{arith}
 use borrow.Author.Needs.{needs}
 use denote.Ref.{now}
-use lib.ListN.{length, getD}
-use Rattle.flowcase.specs.Build.{into, wantIn, laneIn, Filled}
-use Rattle.flowcase.proofs.Fills.{filled-none, filled-next, filled-all, into-none, into-next, at-most-value}
+use lib.ListN.{length}
+use Rattle.flowcase.specs.Build.{laneIn, Filled}
+use Rattle.flowcase.proofs.Fills.{filled-none, filled-next, filled-all}
 use Rattle.flowcase.proofs.build.fill_lanes.Statement.{statement}
 use Rattle.flowcase.proofs.build.fill_lanes.Tie as tie
-use Rattle.flowcase.proofs.build.fill_lanes.Reads as reads
-use Rattle.flowcase.proofs.build.fill_lanes.Lts as lts
-use Rattle.flowcase.proofs.build.lane.Reads as lane-reads
 
 abbrev Inv-loop : tie.InvT-loop
 Inv-loop starts ends id row₀ j₀ row j = Filled (laneIn starts ends id) j row₀ row × (j ≤ length starts)

@@ -8,9 +8,6 @@ use Rattle.flowcase.specs.Build.{entryIn, Filled}
 use Rattle.flowcase.proofs.Fills.{filled-none, filled-next, filled-all}
 use Rattle.flowcase.proofs.build.fill_table.Statement.{statement}
 use Rattle.flowcase.proofs.build.fill_table.Tie as tie
-use Rattle.flowcase.proofs.build.fill_table.Reads as reads
-use Rattle.flowcase.proofs.build.fill_table.Lts as lts
-use Rattle.flowcase.proofs.build.moved_entry.Reads as moved-entry-reads
 
 abbrev Inv-loop : tie.InvT-loop
 Inv-loop table ceiling most entries₀ y₀ entries y = Filled (entryIn table ceiling most) y entries₀ entries × (y ≤ most + 1)

@@ -2,8 +2,6 @@
 use Rattle.flowcase.proofs.Fills.{lane-start, lane-end, lane-closed}
 use Rattle.flowcase.proofs.build.lane.Statement.{statement}
 use Rattle.flowcase.proofs.build.lane.Tie as tie
-use Rattle.flowcase.proofs.build.lane.Reads as reads
-use Rattle.flowcase.proofs.build.lane.Lts as lts
 
 returns : tie.Need-returns
 returns c = lane-start _ _ _ (c .if1 .taken)

@@ -1,12 +1,9 @@
 -- `flowcase::build::moved_entry` meets its contract. Assumes nothing.
-use native.Mathlib.Omega.{arith}
 use denote.Ref.{now}
 use Rattle.flowcase.proofs.Fills.{entry-below, entry-here, entry-past}
 use borrow.Author.Needs.{needs}
 use Rattle.flowcase.proofs.build.moved_entry.Statement.{statement}
 use Rattle.flowcase.proofs.build.moved_entry.Tie as tie
-use Rattle.flowcase.proofs.build.moved_entry.Reads as reads
-use Rattle.flowcase.proofs.build.moved_entry.Lts as lts
 
 returns : tie.Need-returns
 returns c = let a = c .before .args in entry-below (now (a .table)) (a .at) (a .less) (c .if1 .taken)

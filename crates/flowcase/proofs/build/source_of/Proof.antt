@@ -3,9 +3,6 @@ use Rattle.flowcase.proofs.Fills.{source-is}
 use borrow.Author.Needs.{needs}
 use Rattle.flowcase.proofs.build.source_of.Statement.{statement}
 use Rattle.flowcase.proofs.build.source_of.Tie as tie
-use Rattle.flowcase.proofs.build.source_of.Reads as reads
-use Rattle.flowcase.proofs.build.source_of.Lts as lts
-use Rattle.flowcase.proofs.build.swapped.Reads as swapped-reads
 
 swapped-requires : tie.Need-swapped-requires
 swapped-requires c κs = search needs

@@ -2,8 +2,6 @@
 use Rattle.flowcase.proofs.Fills.{swap-a, swap-b, swap-neither}
 use Rattle.flowcase.proofs.build.swapped.Statement.{statement}
 use Rattle.flowcase.proofs.build.swapped.Tie as tie
-use Rattle.flowcase.proofs.build.swapped.Reads as reads
-use Rattle.flowcase.proofs.build.swapped.Lts as lts
 
 returns : tie.Need-returns
 returns c = swap-a _ _ _ (c .if1 .taken)

@@ -3,8 +3,6 @@ use mathlib.Core.Path.{sym}
 use Rattle.flowproblem.proofs.Regroup.{cond-same, cond-other}
 use Rattle.flowcase.proofs.build.want.Statement.{statement}
 use Rattle.flowcase.proofs.build.want.Tie as tie
-use Rattle.flowcase.proofs.build.want.Reads as reads
-use Rattle.flowcase.proofs.build.want.Lts as lts
 
 returns : tie.Need-returns
 returns c = sym (cond-same _ _ 0 _ (c .if1 .taken))

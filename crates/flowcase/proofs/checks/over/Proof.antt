@@ -1,19 +1,17 @@
 -- `flowcase::checks::over` meets its contract. Assumes nothing.
 use mathlib.Core.Path.{_≡_, sym, ap, _∙_}
-use Prim.Native.Nat.{ℕ, _+_, _-_, _*_, _≤_, _<_}
+use Prim.Native.Nat.{ℕ, _-_, _≤_}
 use native.Mathlib.Omega.{arith}
 use borrow.Author.Needs.{needs}
 use borrow.Author.Tests.{lt-ltb, le-ltb}
 use denote.Ref.{now}
-use lib.ListN.{length, getD}
+use lib.ListN.{length}
 use mathlib.Core.Bool.{false}
 use Rattle.flowproblem.specs.Answer.{anyBelow}
-use Rattle.flowcase.specs.Build.{overAt, underAt, dearAt}
+use Rattle.flowcase.specs.Build.{overAt}
 use Rattle.flowcase.proofs.RowLaws.{none-yet, none-next, one-there}
 use Rattle.flowcase.proofs.checks.over.Statement.{statement}
 use Rattle.flowcase.proofs.checks.over.Tie as tie
-use Rattle.flowcase.proofs.checks.over.Reads as reads
-use Rattle.flowcase.proofs.checks.over.Lts as lts
 
 abbrev Inv-loop : tie.InvT-loop
 Inv-loop haves takes i₀ i = (i ≤ length haves) × (anyBelow i (overAt haves takes) ≡ false)

@@ -1,17 +1,14 @@
 -- `flowcase::checks::sum_of` meets its contract. Assumes nothing.
 use mathlib.Core.Path.{_≡_, sym, ap, _∙_}
-use Prim.Native.Nat.{ℕ, _+_, _-_, _*_, _≤_, _<_}
+use Prim.Native.Nat.{ℕ, _-_, _*_, _≤_}
 use native.Mathlib.Omega.{arith}
 use borrow.Author.Needs.{needs}
-use borrow.Author.Tests.{lt-ltb, le-ltb}
 use denote.Ref.{now}
 use lib.ListN.{length, getD}
 use Rattle.transport.specs.Sum.{sum}
 use Rattle.transport.proofs.Sums.{sum-zero, sum-more}
 use Rattle.flowcase.proofs.checks.sum_of.Statement.{statement}
 use Rattle.flowcase.proofs.checks.sum_of.Tie as tie
-use Rattle.flowcase.proofs.checks.sum_of.Reads as reads
-use Rattle.flowcase.proofs.checks.sum_of.Lts as lts
 
 abbrev Inv-loop : tie.InvT-loop
 Inv-loop l total₀ i₀ total i = (total ≡ sum i (λ k. getD l k 0)) × (total ≤ 10000000000 * i) × (i ≤ length l)

@@ -1,23 +1,16 @@
 -- `flowcase::rows::copy_costs` meets its contract. Assumes nothing.
-use mathlib.Core.Path.{_≡_, sym, ap, _∙_}
-use Prim.Native.Nat.{ℕ, _+_, _-_, _*_, _≤_, _<_}
+use mathlib.Core.Path.{_≡_}
+use Prim.Native.Nat.{_-_, _≤_}
 use native.Mathlib.Omega.{arith}
 use borrow.Author.Needs.{needs}
-use borrow.Author.Tests.{lt-ltb, le-ltb}
 use denote.Ref.{now}
-use lib.ListN.{length, getD}
-use mathlib.Core.Bool.{cond}
-use lib.Dec.{eqb}
-use lib.IntN.{ℤ, pos}
-use Rattle.flowproblem.specs.Reduce.{nodeOf, sourceOf}
-use Rattle.flowcase.specs.Build.{Put, laneIn, costIn, haveIn, stockIn, flowIn, cellOf}
-use Rattle.flowproblem.proofs.Regroup.{cond-same, cond-other}
+use lib.ListN.{length}
+use lib.IntN.{pos}
+use Rattle.flowcase.specs.Build.{Put, cellOf}
 use Rattle.flowcase.proofs.RowLaws.{put-none, put-next, put-all}
 use Rattle.problem.proofs.MachineIntegers.{read-back}
 use Rattle.flowcase.proofs.rows.copy_costs.Statement.{statement}
 use Rattle.flowcase.proofs.rows.copy_costs.Tie as tie
-use Rattle.flowcase.proofs.rows.copy_costs.Reads as reads
-use Rattle.flowcase.proofs.rows.copy_costs.Lts as lts
 
 abbrev Inv-loop : tie.InvT-loop
 Inv-loop from to₀ k₀ to k = Put (pos 0) (cellOf (pos 0) from) 0 k to₀ to × (k ≤ length from)

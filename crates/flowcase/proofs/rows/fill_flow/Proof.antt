@@ -1,26 +1,17 @@
 -- `flowcase::rows::fill_flow` meets its contract. Assumes nothing.
-use mathlib.Core.Path.{_≡_, sym, ap, _∙_}
-use Prim.Native.Nat.{ℕ, _+_, _-_, _*_, _≤_, _<_}
+use mathlib.Core.Path.{_≡_, ap, _∙_}
+use Prim.Native.Nat.{ℕ, _+_, _-_, _*_, _≤_}
 use native.Mathlib.Omega.{arith}
 use borrow.Author.Needs.{needs}
-use borrow.Author.Tests.{lt-ltb, le-ltb}
 use denote.Ref.{now}
 use lib.ListN.{length, getD}
 use mathlib.Core.Bool.{cond}
 use lib.Dec.{eqb}
-use lib.IntN.{ℤ, pos}
-use Rattle.flowproblem.specs.Reduce.{nodeOf, sourceOf}
-use Rattle.flowcase.specs.Build.{Put, laneIn, costIn, haveIn, stockIn, flowIn, cellOf}
-use Rattle.flowproblem.proofs.Regroup.{cond-same, cond-other}
+use Rattle.flowcase.specs.Build.{Put, flowIn}
 use Rattle.flowcase.proofs.RowLaws.{put-none, put-next, put-all}
-use Rattle.problem.proofs.MachineIntegers.{read-back}
 use Rattle.flowcase.proofs.RowLaws.{at-cell, at-mul}
 use Rattle.flowcase.proofs.rows.fill_flow.Statement.{statement}
 use Rattle.flowcase.proofs.rows.fill_flow.Tie as tie
-use Rattle.flowcase.proofs.rows.fill_flow.Reads as reads
-use Rattle.flowcase.proofs.rows.fill_flow.Lts as lts
-use Rattle.flowcase.proofs.build.source_of.Reads as source-of-reads
-use Rattle.flowcase.proofs.rows.flow_at.Reads as flow-at-reads
 
 abbrev Inv-loop : tie.InvT-loop
 Inv-loop plan starts w v named carried flow₀ j₀ flow j = Put 0 (flowIn plan starts w v named carried) 0 j flow₀ flow × (j ≤ length starts)

@@ -1,26 +1,14 @@
 -- `flowcase::rows::fill_haves` meets its contract. Assumes nothing.
-use mathlib.Core.Path.{_≡_, sym, ap, _∙_}
-use Prim.Native.Nat.{ℕ, _+_, _-_, _*_, _≤_, _<_}
+use mathlib.Core.Path.{_≡_, ap}
+use Prim.Native.Nat.{ℕ, _+_, _-_, _≤_}
 use native.Mathlib.Omega.{arith}
-use borrow.Author.Needs.{needs}
-use borrow.Author.Tests.{lt-ltb, le-ltb}
 use denote.Ref.{now}
 use lib.ListN.{length, getD}
-use mathlib.Core.Bool.{cond}
-use lib.Dec.{eqb}
-use lib.IntN.{ℤ, pos}
-use Rattle.flowproblem.specs.Reduce.{nodeOf, sourceOf}
-use Rattle.flowcase.specs.Build.{Put, laneIn, costIn, haveIn, stockIn, flowIn, cellOf}
-use Rattle.flowproblem.proofs.Regroup.{cond-same, cond-other}
+use Rattle.flowcase.specs.Build.{Put, haveIn}
 use Rattle.flowcase.proofs.RowLaws.{put-none, put-next, put-all}
-use Rattle.problem.proofs.MachineIntegers.{read-back}
-use Rattle.flowcase.specs.Build.{into}
 use Rattle.flowcase.proofs.Fills.{into-most}
 use Rattle.flowcase.proofs.rows.fill_haves.Statement.{statement}
 use Rattle.flowcase.proofs.rows.fill_haves.Tie as tie
-use Rattle.flowcase.proofs.rows.fill_haves.Reads as reads
-use Rattle.flowcase.proofs.rows.fill_haves.Lts as lts
-use Rattle.flowcase.proofs.build.ceilings_into.Reads as ceilings-into-reads
 
 abbrev Inv-loop : tie.InvT-loop
 Inv-loop ends ceilings gives haves₀ i₀ haves i = Put 0 (haveIn ends ceilings gives) 0 i haves₀ haves × (i ≤ length gives)

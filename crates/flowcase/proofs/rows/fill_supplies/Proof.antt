@@ -1,25 +1,15 @@
 -- `flowcase::rows::fill_supplies` meets its contract. Assumes nothing.
-use mathlib.Core.Path.{_≡_, sym, ap, _∙_}
-use Prim.Native.Nat.{ℕ, _+_, _-_, _*_, _≤_, _<_}
+use mathlib.Core.Path.{_≡_, sym, ap}
+use Prim.Native.Nat.{ℕ, _-_, _≤_}
 use native.Mathlib.Omega.{arith}
 use borrow.Author.Needs.{needs}
-use borrow.Author.Tests.{lt-ltb, le-ltb}
 use denote.Ref.{now}
 use lib.ListN.{length, getD}
-use mathlib.Core.Bool.{cond}
-use lib.Dec.{eqb}
-use lib.IntN.{ℤ, pos}
-use Rattle.flowproblem.specs.Reduce.{nodeOf, sourceOf}
-use Rattle.flowcase.specs.Build.{Put, laneIn, costIn, haveIn, stockIn, flowIn, cellOf}
-use Rattle.flowproblem.proofs.Regroup.{cond-same, cond-other}
+use Rattle.flowcase.specs.Build.{Put, stockIn}
 use Rattle.flowcase.proofs.RowLaws.{put-none, put-next, put-all}
-use Rattle.problem.proofs.MachineIntegers.{read-back}
 use mathlib.Core.Path.{subst}
 use Rattle.flowcase.proofs.rows.fill_supplies.Statement.{statement}
 use Rattle.flowcase.proofs.rows.fill_supplies.Tie as tie
-use Rattle.flowcase.proofs.rows.fill_supplies.Reads as reads
-use Rattle.flowcase.proofs.rows.fill_supplies.Lts as lts
-use Rattle.flowcase.proofs.build.node_of.Reads as node-of-reads
 
 abbrev Inv-loop : tie.InvT-loop
 Inv-loop haves takes w v supplies₀ s₀ supplies s = Put 0 (stockIn haves takes w v) 0 s supplies₀ supplies × (s ≤ length haves)

@@ -1,20 +1,17 @@
 -- `flowcase::rows::lane_rows` meets its contract. Assumes nothing.
 use mathlib.Core.Path.{_≡_, refl, sym, ap, _∙_}
-use Prim.Native.Nat.{ℕ, suc, _+_, _-_, _*_, _≤_, _<_}
+use Prim.Native.Nat.{ℕ, _+_, _-_, _*_, _≤_}
 use native.Mathlib.Nat.{zero-mul, suc-mul}
 use native.Mathlib.Numerals.{add-one}
 use native.Mathlib.Omega.{arith}
 use borrow.Author.Needs.{needs}
 use denote.Ref.{now}
-use lib.IntN.{ℤ, pos}
-use lib.ListN.{length, getD}
+use lib.ListN.{length}
 use Rattle.flowproblem.specs.Reduce.{nodeOf}
-use Rattle.flowcase.specs.Build.{RowsAre, laneIn, costIn}
+use Rattle.flowcase.specs.Build.{RowsAre, laneIn}
 use Rattle.flowcase.proofs.RowLaws.{rows-none, rows-next, put-ext, at-mul}
 use Rattle.flowcase.proofs.rows.lane_rows.Statement.{statement}
 use Rattle.flowcase.proofs.rows.lane_rows.Tie as tie
-use Rattle.flowcase.proofs.rows.lane_rows.Reads as reads
-use Rattle.flowcase.proofs.rows.lane_rows.Lts as lts
 
 abbrev Inv-loop : tie.InvT-loop
 Inv-loop m w v starts ends to₀ at₀ s₀ to at s = RowsAre 0 (λ s j. laneIn starts ends (nodeOf w v s + 1) j) s (length starts) to × (length to ≡ 2048) × (s ≤ m) × (at ≡ s * length starts)

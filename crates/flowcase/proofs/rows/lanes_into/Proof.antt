@@ -1,24 +1,14 @@
 -- `flowcase::rows::lanes_into` meets its contract. Assumes nothing.
-use mathlib.Core.Path.{_≡_, refl, sym, ap, _∙_}
-use Prim.Native.Nat.{ℕ, _+_, _-_, _*_, _≤_, _<_}
+use mathlib.Core.Path.{_≡_, refl}
+use Prim.Native.Nat.{_-_, _≤_}
 use native.Mathlib.Omega.{arith}
 use borrow.Author.Needs.{needs}
-use borrow.Author.Tests.{lt-ltb, le-ltb}
 use denote.Ref.{now}
-use lib.ListN.{length, getD}
-use mathlib.Core.Bool.{cond}
-use lib.Dec.{eqb}
-use lib.IntN.{ℤ, pos}
-use Rattle.flowproblem.specs.Reduce.{nodeOf, sourceOf}
-use Rattle.flowcase.specs.Build.{Put, laneIn, costIn, haveIn, stockIn, flowIn, cellOf}
-use Rattle.flowproblem.proofs.Regroup.{cond-same, cond-other}
+use lib.ListN.{length}
+use Rattle.flowcase.specs.Build.{Put, laneIn}
 use Rattle.flowcase.proofs.RowLaws.{put-none, put-next, put-all}
-use Rattle.problem.proofs.MachineIntegers.{read-back}
 use Rattle.flowcase.proofs.rows.lanes_into.Statement.{statement}
 use Rattle.flowcase.proofs.rows.lanes_into.Tie as tie
-use Rattle.flowcase.proofs.rows.lanes_into.Reads as reads
-use Rattle.flowcase.proofs.rows.lanes_into.Lts as lts
-use Rattle.flowcase.proofs.build.lane.Reads as lane-reads
 
 abbrev Inv-loop : tie.InvT-loop
 Inv-loop starts ends id at to₀ j₀ to j = Put 0 (laneIn starts ends id) at j to₀ to × (j ≤ length starts)

@@ -1,25 +1,11 @@
 -- `flowcase::rows::rate` meets its contract. Assumes nothing.
-use mathlib.Core.Path.{_≡_, sym, ap, _∙_}
-use Prim.Native.Nat.{ℕ, _+_, _-_, _*_, _≤_, _<_}
-use native.Mathlib.Omega.{arith}
-use borrow.Author.Needs.{needs}
-use borrow.Author.Tests.{lt-ltb, le-ltb}
-use denote.Ref.{now}
-use lib.ListN.{length, getD}
-use mathlib.Core.Bool.{cond}
-use lib.Dec.{eqb}
-use lib.IntN.{ℤ, pos}
-use Rattle.flowproblem.specs.Reduce.{nodeOf, sourceOf}
-use Rattle.flowcase.specs.Build.{Put, laneIn, costIn, haveIn, stockIn, flowIn, cellOf}
+use mathlib.Core.Path.{sym, _∙_}
+use lib.IntN.{pos}
 use Rattle.flowproblem.proofs.Regroup.{cond-same, cond-other}
-use Rattle.flowcase.proofs.RowLaws.{put-none, put-next, put-all}
 use mir.Syntax.{w64}
 use mir.ValLaws.{toZ-ofZ}
-use Rattle.problem.proofs.MachineIntegers.{read-back}
 use Rattle.flowcase.proofs.rows.rate.Statement.{statement}
 use Rattle.flowcase.proofs.rows.rate.Tie as tie
-use Rattle.flowcase.proofs.rows.rate.Reads as reads
-use Rattle.flowcase.proofs.rows.rate.Lts as lts
 
 returns : tie.Need-returns
 returns c = let a = c .before .args in toZ-ofZ w64 (a .cost) (c .before .fits .cost) ∙ sym (cond-same (a .start) (a .id) (a .cost) (pos 0) (c .if1 .taken))

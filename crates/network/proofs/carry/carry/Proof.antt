@@ -1,17 +1,15 @@
 -- `network::carry::carry` meets its contract. Assumes nothing.
-use mathlib.Core.Path.{_≡_, refl, sym, _∙_}
-use Prim.Native.Nat.{ℕ, _*_}
+use mathlib.Core.Path.{refl, sym, _∙_}
+use Prim.Native.Nat.{ℕ}
 use native.Mathlib.Nat.{mul-le-mul}
 use native.Mathlib.Omega.{arith}
 use borrow.Author.Needs.{needs}
 use denote.Ref.{now}
 use lib.IntN.{ℤ, pos}
-use lib.ListN.{length, length-replicate}
+use lib.ListN.{length-replicate}
 use Rattle.network.proofs.CarryCase.{w-in, nodes-in, sources-in, case-is, found-split, found-nothing, split-fits, flow-total, flow-told, nothing-told}
 use Rattle.network.proofs.carry.carry.Statement.{statement}
 use Rattle.network.proofs.carry.carry.Tie as tie
-use Rattle.network.proofs.carry.carry.Reads as reads
-use Rattle.network.proofs.carry.carry.Lts as lts
 
 mul-w : tie.Need-mul-w
 mul-w c = search needs

@@ -6,8 +6,6 @@ use lib.ListN.{length-replicate}
 use Rattle.network.proofs.CarryLaws.{found-some, found-none}
 use Rattle.network.proofs.carry.plan_case.Statement.{statement}
 use Rattle.network.proofs.carry.plan_case.Tie as tie
-use Rattle.network.proofs.carry.plan_case.Reads as reads
-use Rattle.network.proofs.carry.plan_case.Lts as lts
 
 slice-aggregate-plan : tie.Need-slice-aggregate-plan
 slice-aggregate-plan c = search needs

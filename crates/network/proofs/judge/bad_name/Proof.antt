@@ -6,8 +6,6 @@ use denote.Ref.{now}
 use Rattle.network.proofs.JudgeLaws.{name-1, name-2, name-3, name-4}
 use Rattle.network.proofs.judge.bad_name.Statement.{statement}
 use Rattle.network.proofs.judge.bad_name.Tie as tie
-use Rattle.network.proofs.judge.bad_name.Reads as reads
-use Rattle.network.proofs.judge.bad_name.Lts as lts
 
 returns : tie.Need-returns
 returns c = let a = c .before .before .before .args in name-1 (now (a .ceilings)) (a .place) (now (a .table)) (c .if1 .taken)

@@ -1,15 +1,13 @@
 -- `network::judge::judge` meets its contract. Assumes nothing.
-use mathlib.Core.Path.{_≡_, sym, _∙_}
+use mathlib.Core.Path.{sym, _∙_}
 use Prim.Native.Nat.{ℕ}
 use native.Mathlib.Omega.{arith}
 use borrow.Author.Needs.{needs}
 use denote.Ref.{now}
-use lib.ListN.{length, length-replicate}
+use lib.ListN.{length-replicate}
 use Rattle.network.proofs.JudgeLaws.{holding-of}
 use Rattle.network.proofs.judge.judge.Statement.{statement}
 use Rattle.network.proofs.judge.judge.Tie as tie
-use Rattle.network.proofs.judge.judge.Reads as reads
-use Rattle.network.proofs.judge.judge.Lts as lts
 
 slice-aggregate-fill-haves : tie.Need-slice-aggregate-fill-haves
 slice-aggregate-fill-haves c = search needs

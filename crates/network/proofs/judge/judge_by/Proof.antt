@@ -1,5 +1,5 @@
 -- `network::judge::judge_by` meets its contract. Assumes nothing.
-use mathlib.Core.Path.{_≡_, sym, ap, _∙_}
+use mathlib.Core.Path.{sym, ap, _∙_}
 use mathlib.Core.List.{List}
 use Prim.Native.Nat.{ℕ}
 use native.Mathlib.Omega.{arith}
@@ -10,8 +10,6 @@ use Rattle.network.proofs.CarryCase.{carried-flow, carried-nothing}
 use Rattle.network.proofs.JudgeLaws.{by-over, by-name, by-room, by-uneven, by-nothing, by-flow, place-low, named-there, amounts-there, told-there, flow-room, starts-room, ends-room, ceilings-room, costs-room}
 use Rattle.network.proofs.judge.judge_by.Statement.{statement}
 use Rattle.network.proofs.judge.judge_by.Tie as tie
-use Rattle.network.proofs.judge.judge_by.Reads as reads
-use Rattle.network.proofs.judge.judge_by.Lts as lts
 
 over-requires : tie.Need-over-requires
 over-requires c κs = (c .before .before .before .before .before .before .before .before .before .before .before .pre .1 .1 .long ∙ sym (c .before .before .before .before .before .before .before .before .before .before .before .pre .1 .0 .takes-long), c .before .before .before .before .before .before .before .before .before .before .before .pre .1 .0 .takes-small)

@@ -2,8 +2,6 @@
 use Rattle.network.proofs.JudgeLaws.{short-1, short-2, short-3, short-4, short-5}
 use Rattle.network.proofs.judge.too_short.Statement.{statement}
 use Rattle.network.proofs.judge.too_short.Tie as tie
-use Rattle.network.proofs.judge.too_short.Reads as reads
-use Rattle.network.proofs.judge.too_short.Lts as lts
 
 returns : tie.Need-returns
 returns c = let a = c .before .args in short-1 (a .n) (a .flow) (a .starts) (a .ends) (a .ceilings) (a .costs) (c .if1 .taken)

@@ -5,8 +5,6 @@ use denote.Ref.{now}
 use Rattle.network.proofs.JudgeLaws.{uneven-1, uneven-2}
 use Rattle.network.proofs.judge.uneven.Statement.{statement}
 use Rattle.network.proofs.judge.uneven.Tie as tie
-use Rattle.network.proofs.judge.uneven.Reads as reads
-use Rattle.network.proofs.judge.uneven.Lts as lts
 
 sum-of-requires : tie.Need-sum-of-requires
 sum-of-requires c κs = search needs

@@ -1,5 +1,5 @@
 -- `planner::judge::told` meets its contract. Assumes nothing.
-use mathlib.Core.Path.{_≡_, sym, ap}
+use mathlib.Core.Path.{sym, ap}
 use Rattle.casetests.specs.Verdict.{verdict}
 use borrow.Author.Needs.{needs}
 use Rattle.planner.proofs.judge.told.Statement.{statement}

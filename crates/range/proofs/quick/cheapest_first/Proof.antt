@@ -1,5 +1,4 @@
 -- `range::quick::cheapest_first` meets its contract. Assumes nothing.
-use Prim.Native.Nat.{_-_, _≤_}
 use native.Mathlib.Omega.{arith}
 use Prim.Native.Nat.{ℕ, _+_, _*_}
 use lib.ListN.{length-replicate, getD-replicate}

@@ -1,10 +1,8 @@
 -- `range::quick::quick_plan` meets its contract. Assumes nothing.
-use Prim.Native.Nat.{_-_, _≤_}
-use native.Mathlib.Omega.{arith}
 use mathlib.Core.Path.{sym}
 use mathlib.Core.Bool.{true≢false}
 use Rattle.slackcheck.proofs.Checking.{not-false}
-use Rattle.range.proofs.CheckedPlan.{check-ready, checked-first}
+use Rattle.range.proofs.CheckedPlan.{checked-first}
 use borrow.Author.Needs.{needs}
 use Rattle.range.proofs.quick.quick_plan.Statement.{statement}
 use Rattle.range.proofs.quick.quick_plan.Tie as tie

@@ -1,9 +1,8 @@
 -- `reachability::roam::look_ahead` meets its contract. Assumes nothing.
-use mathlib.Core.Path.{_≡_, sym, _∙_}
+use mathlib.Core.Path.{sym, _∙_}
 use mathlib.Core.Bool.{true≢false, false≢true}
-use Prim.Native.Nat.{_+_, _-_, _*_, _<_}
+use Prim.Native.Nat.{_<_}
 use native.Mathlib.Omega.{arith}
-use Rattle.residual.specs.Bits.{bit}
 use Rattle.reachability.proofs.Reachability.{LookingAhead, ahead-start, ahead-terminal, ahead-fresh, ahead-supplied, ahead-fewer, ahead-drop, ahead-visit, ahead-aim, ahead-take, ahead-skip, ahead-end}
 use Rattle.reachability.proofs.MaskBits.{take-fits, power-fits-long}
 use Rattle.reachability.proofs.roam.look_ahead.Statement.{statement}

@@ -1,6 +1,5 @@
 -- `residual::relax::relax` meets its contract. Assumes nothing.
 use Rattle.residual.proofs.Keys.{next-start}
-use borrow.Author.Needs.{needs}
 use Rattle.residual.proofs.relax.relax.Statement.{statement}
 use Rattle.residual.proofs.relax.relax.Tie as tie
 

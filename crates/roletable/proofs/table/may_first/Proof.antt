@@ -3,8 +3,6 @@ use Rattle.roletable.proofs.RoleLaws.{none-low, none-high, some-role, n
 use borrow.Author.Needs.{needs}
 use Rattle.roletable.proofs.table.may_first.Statement.{statement}
 use Rattle.roletable.proofs.table.may_first.Tie as tie
-use Rattle.roletable.proofs.table.may_first.Reads as reads
-use Rattle.roletable.proofs.table.may_first.Lts as lts
 
 -- src/roles.rt:38:9
 returns : tie.Need-returns

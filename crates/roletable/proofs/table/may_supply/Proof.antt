@@ -3,10 +3,6 @@ use Rattle.roletable.proofs.RoleLaws.{supply-first, supply-other, suppl
 use borrow.Author.Needs.{needs}
 use Rattle.roletable.proofs.table.may_supply.Statement.{statement}
 use Rattle.roletable.proofs.table.may_supply.Tie as tie
-use Rattle.roletable.proofs.table.may_supply.Reads as reads
-use Rattle.roletable.proofs.table.may_supply.Lts as lts
-use Rattle.roletable.proofs.table.may.Reads as may-reads
-use Rattle.roletable.proofs.table.may_first.Reads as may-first-reads
 
 -- src/roles.rt:52:8
 may-requires : tie.Need-may-requires

@@ -1,5 +1,5 @@
 -- `simplex::flow::from_terminal` is safe and ends. Assumes nothing.
-use Prim.Native.Nat.{_-_, _≤_}
+use Prim.Native.Nat.{_≤_}
 use borrow.Author.Needs.{needs}
 use Rattle.simplex.proofs.flow.from_terminal.Statement.{statement}
 use Rattle.simplex.proofs.flow.from_terminal.Tie as tie

@@ -1,6 +1,5 @@
 -- `simplex::solve::simplex` is safe and ends. Assumes nothing.
-use Prim.Native.Nat.{_-_, _≤_}
-use native.Mathlib.Omega.{arith}
+use Prim.Native.Nat.{_≤_}
 use borrow.Author.Needs.{needs}
 use Rattle.simplex.proofs.solve.simplex.Statement.{statement}
 use Rattle.simplex.proofs.solve.simplex.Tie as tie

@@ -1,5 +1,5 @@
 -- `simplex::start::follow_all` is safe and ends. Assumes nothing.
-use Prim.Native.Nat.{_-_, _≤_}
+use Prim.Native.Nat.{_≤_}
 use borrow.Author.Needs.{needs}
 use Rattle.simplex.proofs.start.follow_all.Statement.{statement}
 use Rattle.simplex.proofs.start.follow_all.Tie as tie

@@ -1,5 +1,5 @@
 -- `simplex::start::places` is safe and ends. Assumes nothing.
-use Prim.Native.Nat.{_-_, _≤_}
+use Prim.Native.Nat.{_≤_}
 use borrow.Author.Needs.{needs}
 use Rattle.simplex.proofs.start.places.Statement.{statement}
 use Rattle.simplex.proofs.start.places.Tie as tie

@@ -1,5 +1,5 @@
 -- `simplex::tree::put_on` is safe and ends. Assumes nothing.
-use Prim.Native.Nat.{_-_, _≤_}
+use Prim.Native.Nat.{_≤_}
 use borrow.Author.Needs.{needs}
 use Rattle.simplex.proofs.tree.put_on.Statement.{statement}
 use Rattle.simplex.proofs.tree.put_on.Tie as tie

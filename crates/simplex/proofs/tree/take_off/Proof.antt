@@ -1,5 +1,5 @@
 -- `simplex::tree::take_off` is safe and ends. Assumes nothing.
-use Prim.Native.Nat.{_-_, _≤_}
+use Prim.Native.Nat.{_≤_}
 use borrow.Author.Needs.{needs}
 use Rattle.simplex.proofs.tree.take_off.Statement.{statement}
 use Rattle.simplex.proofs.tree.take_off.Tie as tie

@@ -1,5 +1,5 @@
 -- `simplex::tree::turn_round` is safe and ends. Assumes nothing.
-use Prim.Native.Nat.{_-_, _≤_}
+use Prim.Native.Nat.{_≤_}
 use borrow.Author.Needs.{needs}
 use Rattle.simplex.proofs.tree.turn_round.Statement.{statement}
 use Rattle.simplex.proofs.tree.turn_round.Tie as tie

@@ -1,5 +1,4 @@
 -- `slackcheck::check::amount_at` meets its contract. Assumes nothing.
-use Prim.Native.Nat.{_-_}
 use native.Mathlib.Omega.{arith}
 use Rattle.slackcheck.proofs.Checking.{amount-first, amount-second, amount-depot}
 use borrow.Author.Needs.{needs}

@@ -1,5 +1,4 @@
 -- `slackcheck::check::good` meets its contract. Assumes nothing.
-use Prim.Native.Nat.{_-_}
 use mathlib.Core.Path.{sym}
 use mathlib.Core.Bool.{true≢false}
 use Rattle.slackcheck.proofs.Checking.{not-false}

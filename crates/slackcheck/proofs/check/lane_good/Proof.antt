@@ -1,8 +1,6 @@
 -- `slackcheck::check::lane_good` meets its contract. Assumes nothing.
-use Prim.Native.Nat.{_-_}
 use borrow.Author.Needs.{needs}
 use Rattle.slackcheck.proofs.Checking.{lane-good}
-use borrow.Author.Needs.{needs}
 use Rattle.slackcheck.proofs.check.lane_good.Statement.{statement}
 use Rattle.slackcheck.proofs.check.lane_good.Tie as tie
 

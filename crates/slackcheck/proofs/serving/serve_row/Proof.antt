@@ -1,6 +1,5 @@
 -- `slackcheck::serving::serve_row` meets its contract. Assumes nothing.
 use Prim.Native.Nat.{ℕ, _-_, _<_}
-use native.Mathlib.Omega.{arith}
 use borrow.Author.Needs.{needs}
 use Rattle.residual.proofs.Bits.{power-fits}
 use Rattle.slackcheck.specs.Serving.{ServersTo}

@@ -1,5 +1,4 @@
 -- `stretch::stretch::find_path` meets its contract. Assumes nothing.
-use Prim.Native.Nat.{_-_, _≤_}
 use native.Mathlib.Omega.{arith}
 use Rattle.lastsplit.proofs.LastSplit.{only}
 use Rattle.stretch.proofs.ShiftPath.{path-low, search-found, tree-found}

@@ -1,7 +1,6 @@
 -- `stretch::stretch::lower_by` meets its contract. Assumes nothing.
 use native.Mathlib.Omega.{arith}
 use mathlib.Core.Path.{refl}
-use borrow.Author.Needs.{needs}
 use Rattle.stretch.proofs.stretch.lower_by.Statement.{statement}
 use Rattle.stretch.proofs.stretch.lower_by.Tie as tie
 

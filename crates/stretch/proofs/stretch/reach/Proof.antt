@@ -1,5 +1,4 @@
 -- `stretch::stretch::reach` meets its contract. Assumes nothing.
-use Prim.Native.Nat.{_-_, _≤_}
 use native.Mathlib.Omega.{arith}
 use Rattle.stretch.proofs.ShiftPath.{reached-by}
 use borrow.Author.Needs.{needs}

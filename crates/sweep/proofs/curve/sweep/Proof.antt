@@ -1,5 +1,4 @@
 -- `sweep::curve::sweep` meets its contract. Assumes nothing.
-use Prim.Native.Nat.{_-_, _≤_}
 use native.Mathlib.Omega.{arith}
 use Rattle.cuts.proofs.ByTerminal.{fill-start}
 use Rattle.sweep.proofs.SweepEnds.{freight-ready, climb-ready, both-made, cols-met, swept-same}

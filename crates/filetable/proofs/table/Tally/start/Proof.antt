@@ -4,8 +4,6 @@ use Rattle.filetable.specs.Files.{wanted}
 use borrow.Author.Needs.{needs}
 use Rattle.filetable.proofs.table.Tally.start.Statement.{statement}
 use Rattle.filetable.proofs.table.Tally.start.Tie as tie
-use Rattle.filetable.proofs.table.Tally.start.Reads as reads
-use Rattle.filetable.proofs.table.Tally.start.Lts as lts
 
 enum-told : tie.Need-enum-told
 enum-told c = search needs

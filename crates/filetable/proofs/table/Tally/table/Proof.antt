@@ -1,10 +1,8 @@
 -- `filetable::table::Tally::table` meets its contract. Assumes nothing.
-use mathlib.Core.Path.{refl, sym}
+use mathlib.Core.Path.{refl}
 use Rattle.filetable.proofs.FieldCounts.{judged-odd}
 use Rattle.filetable.proofs.table.Tally.table.Statement.{statement}
 use Rattle.filetable.proofs.table.Tally.table.Tie as tie
-use Rattle.filetable.proofs.table.Tally.table.Reads as reads
-use Rattle.filetable.proofs.table.Tally.table.Lts as lts
 
 returns : tie.Need-returns
 returns c = rw (c .if1 .taken) refl

@@ -3,9 +3,6 @@ use mathlib.Core.Path.{refl}
 use borrow.Author.Needs.{needs}
 use Rattle.filetable.proofs.table.Tally.with_field.Statement.{statement}
 use Rattle.filetable.proofs.table.Tally.with_field.Tie as tie
-use Rattle.filetable.proofs.table.Tally.with_field.Reads as reads
-use Rattle.filetable.proofs.table.Tally.with_field.Lts as lts
-use Rattle.filetable.proofs.table.either.Reads as either-reads
 
 either-requires : tie.Need-either-requires
 either-requires c κs = search needs

@@ -1,12 +1,8 @@
 -- `filetable::table::Tally::with_record` meets its contract. Assumes nothing.
-use mathlib.Core.Path.{refl, sym}
+use mathlib.Core.Path.{refl}
 use borrow.Author.Needs.{needs}
 use Rattle.filetable.proofs.table.Tally.with_record.Statement.{statement}
 use Rattle.filetable.proofs.table.Tally.with_record.Tie as tie
-use Rattle.filetable.proofs.table.Tally.with_record.Reads as reads
-use Rattle.filetable.proofs.table.Tally.with_record.Lts as lts
-use Rattle.filetable.proofs.table.expected.Reads as expected-reads
-use Rattle.filetable.proofs.table.first_odd.Reads as first-odd-reads
 
 add-records : tie.Need-add-records
 add-records c = search needs
