@@ -10,9 +10,9 @@ use lib.Bits.{bitOr, bitAnd}
 use lib.Count.{trailingZeros}
 use Rattle.residual.specs.Network.{get}
 use Rattle.residual.specs.Bits.{bit}
-use Rattle.residual.proofs.Bits.{bit-or, bit-most, bit-none, bit-place, low-set, rest-same, rest-other}
+use Rattle.residual.proofs.Bits.{bit-or, or-above, bit-most, bit-none, bit-place, low-set, rest-same, rest-other}
 use Rattle.cuts.specs.Cut.{has, share, Others, RaiseReady, Raised, Shut, Gathered, Folded, Weighed, Lows, Low, Top, Rose}
-use Rattle.cuts.proofs.PartBits.{apart, rest-done, own-low, own-next, or-above}
+use Rattle.cuts.proofs.PartBits.{apart, rest-done, own-low, own-next}
 use Rattle.cuts.proofs.CutSlack.{share-in, share-out, share-most}
 
 -- ---- the rise

@@ -5,7 +5,7 @@ use Prim.Native.Nat.{ℕ, zero, suc, min, _+_, _-_, _*_, _/_, _%_, _^_, _≤_, _
 use native.Mathlib.Nat.{pow-suc, pow-succ', div-one, div-div-eq-div-mul}
 use native.Mathlib.Decide.{ℕ-discrete}
 use native.Mathlib.Omega.{arith}
-use lib.Bits.{bitAnd, bitXor, differ, and-step, xor-step, and-le-l, and-le-r, xor-shifted, xor-comm, or-add-and, bitOr}
+use lib.Bits.{bitAnd, bitXor, differ, and-step, xor-step, and-le-l, and-le-r, xor-shifted, xor-comm}
 use lib.Count.{trailingZeros}
 use lib.Pow.{ones-lt, pow-pos, pow-mono, shl-exact, shr-shr}
 use Rattle.residual.specs.Bits.{bit}
@@ -22,12 +22,6 @@ bit-shift r (suc k) =
 
 pub bit-in : (r k : ℕ) → (r / 2 ^ k) % 2 ≡ 1 → bit r k ≡ 1
 bit-in r k e = bit-shift r k ∙ e
-
-pub bit-other : (r k : ℕ) → (r / 2 ^ k) % 2 ≢ 1 → bit r k ≡ 0
-bit-other r k e = elim (ℕ-discrete (bit r k) 1) [ yes z ↦ absurd (e (sym (bit-shift r k) ∙ z)) | no z ↦ omega (arith, bit-most r k) ]
-
-pub bit-out : (r k : ℕ) → (r / 2 ^ k) % 2 ≡ 0 → bit r k ≡ 0
-bit-out r k e = bit-shift r k ∙ e
 
 -- two words without a bit in common
 pub apart : (a b i : ℕ) → bitAnd a b ≡ 0 → bit a i ≡ 1 → bit b i ≡ 0
@@ -100,9 +94,6 @@ word-fits h l = omega (arith, pow-mono h)
 -- numbers below 2 ^ 31, as signed numbers are compared
 pub sign-up : (a : ℕ) → a < 2147483648 → bitXor a 2147483648 ≡ 2147483648 + a
 sign-up a h = xor-comm a 2147483648 ∙ xor-shifted 1 31 a h
-
-pub or-above : (a b : ℕ) → (a ≤ bitOr a b) × (b ≤ bitOr a b)
-or-above a b = (omega (arith, or-add-and a b, and-le-r a b), omega (arith, or-add-and a b, and-le-l a b))
 
 -- ---- a loop over the bits of a word, of which r are left
 

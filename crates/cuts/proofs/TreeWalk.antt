@@ -10,9 +10,19 @@ use lib.ListN.{length, set, length-set, replicate, length-replicate}
 use lib.Seq.{getD-set-same, getD-set-other}
 use Rattle.residual.specs.Network.{Net, get}
 use Rattle.residual.specs.Network.Arc.{ahead, back}
-use Rattle.cuts.specs.Follow.{either, carries, Tied, Bears, Chain, width, Followed}
+use Rattle.cuts.specs.Follow.{FollowReady, either, carries, Tied, Bears, Chain, width, Followed}
 
 -- ---- one arc
+
+-- what is asked, of some of the sources and terminals
+pub fewer : {m n k l : ℕ} {cost p : List ℕ} → k ≤ m → l ≤ n → FollowReady m n cost p → FollowReady k l cost p
+fewer a b r = record {
+  sources = omega (arith, r .sources);
+  terminals = omega (arith, r .terminals);
+  costs = λ i j h q. r .costs i j (omega arith) (omega arith);
+  high = r .high;
+  long = r .long;
+}
 
 pub either-yes : {P : Type 0} (d : Dec P) (a b : ℕ) → P → either d a b ≡ a
 unfolding either

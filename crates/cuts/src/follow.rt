@@ -1,7 +1,8 @@
 // The path of a stretch as a tree has it, from plant 1 back to plant 0: each arc is checked to be open and tight.
 ghost use mathlib.Core.Path.{_≡_};
 ghost use mathlib.Core.Bool.{true};
-ghost use Prim.Native.Nat.{_+_, _≤_, _<_};
+ghost use mathlib.Core.List.{List};
+ghost use Prim.Native.Nat.{ℕ, _+_, _-_, _≤_, _<_};
 ghost use Rattle.residual.specs.Network.{net};
 ghost use Rattle.cuts.specs.Follow.{FollowReady, Bears, Followed};
 use paths::search::smaller;
@@ -19,18 +20,15 @@ fn even(cost: u32, p: u32, q: u32) -> bool
 
 // What the return arc from terminal w to source v can carry, if its lane is in use and it is tight; else 0.
 fn tied_back(
-    m: usize,
     n: usize,
     v: usize,
     w: usize,
     cost: &[u32; 2048],
-    cap: &[u32; 2048],
     x: &[u32; 2048],
     pot: &[u32; 96],
 ) -> u32
-    requires { ⌜ FollowReady m n (now cost) (now pot) ⌝ }
-    requires { ⌜ v < m ⌝ }
-    ensures { λ r. ⌜ (0 < r → Bears (net m n (now (cost .entry)) (now (cap .entry)) (now (x .entry))) (now (pot .entry)) w v r) ⌝ }
+    requires { ⌜ FollowReady (v + 1) n (now cost) (now pot) ⌝ }
+    ensures { λ r. ⌜ (0 < r → (m : ℕ) (cap : List ℕ) → v < m → m ≤ 32 → Bears (net m n (now (cost .entry)) cap (now (x .entry))) (now (pot .entry)) w v r) ⌝ }
 {
     if w < 32 {
         return 0;
@@ -48,7 +46,6 @@ fn tied_back(
 // What the lane from source w to terminal v can still take, if it is tight; else 0.
 fn tied_ahead(
     m: usize,
-    n: usize,
     v: usize,
     w: usize,
     cost: &[u32; 2048],
@@ -56,9 +53,9 @@ fn tied_ahead(
     x: &[u32; 2048],
     pot: &[u32; 96],
 ) -> u32
-    requires { ⌜ FollowReady m n (now cost) (now pot) ⌝ }
-    requires { ⌜ (32 ≤ v) × (v < 32 + n) ⌝ }
-    ensures { λ r. ⌜ (0 < r → Bears (net m n (now (cost .entry)) (now (cap .entry)) (now (x .entry))) (now (pot .entry)) w v r) ⌝ }
+    requires { ⌜ FollowReady m (v - 31) (now cost) (now pot) ⌝ }
+    requires { ⌜ 32 ≤ v ⌝ }
+    ensures { λ r. ⌜ (0 < r → (n : ℕ) → v < 32 + n → n ≤ 64 → Bears (net m n (now (cost .entry)) (now (cap .entry)) (now (x .entry))) (now (pot .entry)) w v r) ⌝ }
 {
     if m <= w {
         return 0;
@@ -89,9 +86,9 @@ fn tied(
     ensures { λ r. ⌜ (0 < r → Bears (net m n (now (cost .entry)) (now (cap .entry)) (now (x .entry))) (now (pot .entry)) w v r) ⌝ }
 {
     if v < 32 {
-        return tied_back(m, n, v, w, cost, cap, x, pot);
+        return tied_back(n, v, w, cost, x, pot);
     }
-    tied_ahead(m, n, v, w, cost, cap, x, pot)
+    tied_ahead(m, v, w, cost, cap, x, pot)
 }
 
 // The arcs of the tree's path (0: it has none), and how many drums can go along it.

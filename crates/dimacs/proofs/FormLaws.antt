@@ -239,10 +239,6 @@ pub record SoFar (s : List ℕ) (t : Tally) (at line : ℕ) : Type 0 where
   pub stands : Stands t stage
   pub meaning : formOf s ≡ run line stage (pieces (drop at s))
 
-pub start-form : (s : List ℕ) → SoFar s (tallyOf false 0 0 0) 0 1
-unfolding formOf
-start-form s = record { upto = omega arith; numbered = omega arith; stage = opening; stands = refl; meaning = refl }
-
 module _ (s : List ℕ) (t : Tally) (at line e : ℕ) (r : SoFar s t at line) (d : LineEnd s at e) where
   pub no-lf : length s ≤ e → at < e → formOf s ≡ broken line
   unfolding run last

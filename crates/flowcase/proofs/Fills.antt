@@ -1,22 +1,21 @@
 -- Loops that fill a lent slice cell by cell, and what the parts of the case are. Assumes nothing.
 use mathlib.Core.Path.{_≡_, refl, sym, ap, ap₂, _∙_, subst}
 use mathlib.Core.Bool.{Bool, cond, _||_}
-use mathlib.Core.List.{List, _++_}
+use mathlib.Core.List.{List}
 use Prim.Native.Nat.{ℕ, _+_, _-_, _≤_, _<_}
 use native.Mathlib.Numerals.{add-one}
-use native.Mathlib.Decide.{ℕ-discrete, decLt}
+use native.Mathlib.Decide.{ℕ-discrete}
 use native.Mathlib.Omega.{arith}
 use lib.Dec.{eqb, ltb}
-use lib.ListN.{length, getD, set, drop, length-set, length-append, length-drop, List·getD-append, List·getD-eq-default}
-use lib.Seq.{getD-set-same, getD-set-other, getD-append-add, getD-drop, ext-getD}
+use lib.ListN.{length, getD, set, length-set, List·getD-eq-default}
+use lib.Seq.{getD-set-same, getD-set-other}
 use borrow.Author.Tests.{eq-eqb, ne-eqb, lt-ltb, le-ltb}
 use Rattle.transport.specs.Sum.{sum}
 use Rattle.transport.proofs.Sums.{sum-most}
 use Rattle.flowproblem.specs.Network.{at}
-use Rattle.flowproblem.specs.Reduce.{cells, swap, nodeOf, sourceOf}
+use Rattle.flowproblem.specs.Reduce.{swap, nodeOf, sourceOf}
 use Rattle.flowcase.specs.Build.{into, Filled, Moderate}
 use Rattle.flowproblem.proofs.Regroup.{cond-same, cond-other, at-same, at-other}
-use Rattle.flowproblem.proofs.Cells.{cells-length, cells-at}
 
 -- ---- a swap
 
@@ -86,21 +85,6 @@ lane-closed s e id d h = sym (ap₂ {C = ℕ} (λ (t q : Bool). cond (t || q) 40
 
 pub filled-all : {f : ℕ → ℕ} {before after : List ℕ} (n m : ℕ) → n ≡ m → Filled f n before after → Filled f m before after
 filled-all {f} {before} {after} n m e r = subst (λ (k : ℕ). Filled f k before after) e r
-
--- a slice filled cell by cell, as a list
-pub filled-written : (f : ℕ → ℕ) (n : ℕ) (before after : List ℕ) → n ≤ length before → Filled f n before after → after ≡ cells n f ++ drop n before
-filled-written f n before after h r =
-    ext-getD 0 after (cells n f ++ drop n before)
-    (r .long ∙ sym (length-append (cells n f) (drop n before) ∙ omega (arith, cells-length n f, length-drop n before)))
-    (λ k l. elim (decLt k n) [
-      | yes q ↦ r .here k q ∙ sym (List·getD-append (cells n f) (drop n before) 0 k (omega (arith, cells-length n f)) ∙ cells-at n f 0 k q)
-      | no q ↦
-          r .above k (omega arith)
-          ∙ sym (ap (λ (i : ℕ). getD (cells n f ++ drop n before) i 0) (let z : k ≡ length (cells n f) + (k - n) = omega (arith, cells-length n f) in z)
-          ∙ getD-append-add (cells n f) (drop n before) (k - n) 0
-          ∙ getD-drop n before (k - n) 0
-          ∙ ap (λ (i : ℕ). getD before i 0) (let z : n + (k - n) ≡ k = omega arith in z))
-    ])
 
 -- ---- entries
 

@@ -9,7 +9,7 @@ use lib.Dec.{eqb}
 use lib.IntN.{ℤ, pos, _+ℤ_, +ℤ-assoc, +ℤ-comm, +ℤ-idl, +ℤ-idr}
 use borrow.Author.Tests.{eq-eqb, ne-eqb}
 use Rattle.transport.specs.Sum.{sum}
-use Rattle.transport.proofs.Sums.{sum-ext, sum-none, sum-swap, sum-change}
+use Rattle.transport.proofs.Sums.{sum-ext, sum-swap, sum-change}
 use Rattle.problem.specs.Integer.{sumℤ}
 use Rattle.flowproblem.specs.Network.{at}
 use Rattle.transport.proofs.TightLanes.{sum-only}
@@ -31,9 +31,6 @@ unfolding at
 at-other i j v d = cond-other i j v 0 d
 
 -- ---- sums with few members that are not 0
-
-pub sum-zeros : (k : ℕ) (f : ℕ → ℕ) → ((i : ℕ) → i < k → f i ≡ 0) → sum k f ≡ 0
-sum-zeros k f h = sum-ext k f (λ i. 0) h ∙ sum-none k
 
 -- two members
 pub sum-two-at : (k a b : ℕ) (f : ℕ → ℕ) → a < k → b < k → a ≢ b → ((i : ℕ) → i < k → i ≢ a → i ≢ b → f i ≡ 0) → sum k f ≡ f a + f b

@@ -18,9 +18,9 @@ fn wide_bit(ceiling: u32, demand: u32) -> u32
 }
 
 // Is no ceiling of source i below a demand? All 64 cells of its row are looked at, without a branch, which plain machines do four at a time.
-fn row_wide(n: usize, i: usize, cap: &[u32; 2048], demand: &[u32; 96]) -> bool
-    requires { ⌜ (i < 32) × (n ≤ 64) ⌝ }
-    ensures { λ r. ⌜ (r ≡ true → (j : ℕ) → j < n → get (now (demand .entry)) (32 + j) ≤ cells (now (cap .entry)) i j) ⌝ }
+fn row_wide(i: usize, cap: &[u32; 2048], demand: &[u32; 96]) -> bool
+    requires { ⌜ i < 32 ⌝ }
+    ensures { λ r. ⌜ (r ≡ true → (j : ℕ) → j < 64 → get (now (demand .entry)) (32 + j) ≤ cells (now (cap .entry)) i j) ⌝ }
 {
     let k = i * 64;
     let mut all = u32::MAX;
@@ -31,12 +31,12 @@ fn row_wide(n: usize, i: usize, cap: &[u32; 2048], demand: &[u32; 96]) -> bool
 }
 
 // Is no ceiling below a demand?
-fn all_wide(m: usize, n: usize, cap: &[u32; 2048], demand: &[u32; 96]) -> bool
-    requires { ⌜ (m ≤ 32) × (n ≤ 64) ⌝ }
-    ensures { λ r. ⌜ (r ≡ true → (i j : ℕ) → i < m → j < n → get (now (demand .entry)) (32 + j) ≤ cells (now (cap .entry)) i j) ⌝ }
+fn all_wide(m: usize, cap: &[u32; 2048], demand: &[u32; 96]) -> bool
+    requires { ⌜ m ≤ 32 ⌝ }
+    ensures { λ r. ⌜ (r ≡ true → (i j : ℕ) → i < m → j < 64 → get (now (demand .entry)) (32 + j) ≤ cells (now (cap .entry)) i j) ⌝ }
 {
     for i in 0..m {
-        if !row_wide(n, i, cap, demand) {
+        if !row_wide(i, cap, demand) {
             return false;
         }
     }
@@ -101,7 +101,7 @@ pub fn last(
     requires { ⌜ Covers m n (now x) (now serves) ⌝ }
     ensures { λ r. ⌜ Reached m n (cells (now (cap .entry))) (cells (now (x .entry))) limit r ⌝ }
 {
-    if all_wide(m, n, cap, demand) {
+    if all_wide(m, cap, demand) {
         return limit;
     }
     let free = [0u32; 2048];

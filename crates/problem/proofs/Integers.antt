@@ -76,7 +76,3 @@ above-scale {k} {z} {n} m e = record { is = ap (λ (a : ℤ). a *ℤ pos m) (e .
 pub above-one : {k : ℕ} {z w : ℤ} {n m : ℕ} → Above k z n → Above k w m → z ≡ w → n ≡ m
 above-one {z = z} e d q =
     le-antisymm (at-most-above e d (subst (λ (w : ℤ). z ≤ℤ w) q (≤ℤ-refl z))) (at-most-above d e (subst (λ (w : ℤ). w ≤ℤ z) q (≤ℤ-refl z)))
-
--- as far above -k, so the same
-pub above-same : {k : ℕ} {z w : ℤ} {n : ℕ} → Above k z n → Above k w n → z ≡ w
-above-same e d = e .is ∙ sym (d .is)

@@ -45,11 +45,6 @@ unfolding _orElse_
 under-first none b b' h = h refl
 under-first (some r) b b' h = refl
 
-pub second-never : (a b : Option Outcome) → b ≡ none → (a orElse b) ≡ a
-unfolding _orElse_
-second-never none b e = e
-second-never (some r) b e = refl
-
 -- ---- one test
 
 pub refuseIf-none : (k : ℕ) (t : Bool) → refuseIf k t ≡ none → t ≡ false

@@ -2,27 +2,21 @@
 use mathlib.Core.Path.{_≡_, sym, _∙_}
 use mathlib.Core.Bool.{true, true≢false}
 use mathlib.Core.List.{List}
-use Prim.Native.Nat.{ℕ, _+_, _-_, _≤_, _<_, max}
+use Prim.Native.Nat.{ℕ, _+_, _-_, _<_, max}
 use native.Mathlib.Omega.{arith}
 use lib.ListN.{length, replicate, length-replicate, getD-replicate}
 use Rattle.transport.specs.Plan.{Table}
 use Rattle.residual.specs.Cells.{cells}
 use Rattle.residual.specs.Network.{get, again}
-use Rattle.slackcheck.specs.Checked.{CheckReady, Checked}
+use Rattle.slackcheck.specs.Checked.{Checked}
 use Rattle.slackcheck.proofs.Checking.{amount-first, amount-second, amount-depot}
 use Rattle.firstsplit.specs.Shipment.{Stocked}
 use Rattle.firstsplit.specs.FirstPlan.{Sending, Admitted, FirstPlan}
 use Rattle.range.specs.Range.{amountIn, BeginReady}
 
 module _ {m n : ℕ} {cost cap supply demand : List ℕ} {run0 run1 d : ℕ} (r : BeginReady m n cost cap supply demand run0 run1 d) where
-  pub check-ready : CheckReady m n (cells cost)
-  check-ready = record { sources = r .sources; terminals = r .terminals; costs = r .costs }
-
   -- the first split within the supplies and the least runs
   module _ {y : ℕ} (e : y ≡ max run0 (d - amountIn supply 1)) where
-    pub split-most : y ≤ d
-    split-most = omega (arith, r .low)
-
     admitted : Admitted (λ i. get supply i) run0 run1 d y (d - y)
     admitted = record {
       low0 = omega arith;

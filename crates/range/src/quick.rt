@@ -2,8 +2,10 @@
 ghost use mathlib.Core.Path.{_≡_};
 ghost use Prim.Native.Nat.{_-_, _≤_, max};
 ghost use lib.ListN.{length};
+ghost use Rattle.residual.specs.Cells.{cells};
 ghost use Rattle.residual.specs.Network.{net, get};
 ghost use Rattle.residual.specs.LanesInUse.{Covers};
+ghost use Rattle.slackcheck.specs.Checked.{CheckReady};
 ghost use Rattle.firstsplit.specs.FirstPlan.{FirstPlan};
 ghost use Rattle.range.specs.QuickPlan.{Quick};
 ghost use Rattle.range.specs.Range.{BeginReady};
@@ -59,7 +61,6 @@ fn quick_plan(
     supply: &[u32; 32],
     demand: &[u32; 96],
     run0: u32,
-    run1: u32,
     made: u32,
     x: &mut [u32; 2048],
     serves: &mut [u32; 64],
@@ -68,8 +69,9 @@ fn quick_plan(
     rows: &mut [u32; 128],
     cols: &mut [u64; 128],
 ) -> First
-    requires { ⌜ BeginReady m n (now cost) (now cap) (now supply) (now demand) run0 run1 made ⌝ }
-    ensures { λ r. ⌜ Quick (net m n (now (cost .entry)) (now (cap .entry)) (now (x .entry))) (λ i. get (now (supply .entry)) i) (now (demand .entry)) run0 run1 made (now (pot .exit)) (now (x .exit)) (now (serves .exit)) (r .found) (r .split) ⌝ }
+    requires { ⌜ CheckReady m n (cells (now cost)) ⌝ }
+    requires { ⌜ run0 ≤ made ⌝ }
+    ensures { λ r. ⌜ Quick m n (now (cost .entry)) (now (cap .entry)) (now (x .entry)) (now (supply .entry)) (now (demand .entry)) run0 made (now (pot .exit)) (now (x .exit)) (now (serves .exit)) (r .found) (r .split) ⌝ }
 {
     let split = first_split(run0, supply[1], made);
     simplex_at(
@@ -130,7 +132,6 @@ pub fn cheapest_first(
             supply,
             demand,
             run0,
-            run1,
             made,
             x,
             serves,

@@ -6,7 +6,7 @@ use native.Mathlib.Nat.{pow-suc}
 use native.Mathlib.Decide.{ℕ-discrete, decLt}
 use native.Mathlib.Omega.{arith}
 use lib.Pow.{shl-exact}
-use lib.Bits.{bitAnd, bitOr, and-step, or-step, and-self}
+use lib.Bits.{bitAnd, bitOr, and-step, or-step, and-self, or-add-and, and-le-l, and-le-r}
 use lib.Count.{trailingZeros, under}
 use Rattle.residual.specs.Bits.{bit, Left}
 
@@ -26,6 +26,10 @@ pub bit-or : (a b i : ℕ) → bit (bitOr a b) i ≡ max (bit a i) (bit b i)
 unfolding bit
 bit-or a b zero = omega (arith, or-step a b)
 bit-or a b (suc i) = let e : bitOr a b / 2 ≡ bitOr (a / 2) (b / 2) = omega (arith, or-step a b) in rw e (bit-or (a / 2) (b / 2) i)
+
+-- a number with the bits of two is not below either
+pub or-above : (a b : ℕ) → (a ≤ bitOr a b) × (b ≤ bitOr a b)
+or-above a b = (omega (arith, or-add-and a b, and-le-r a b), omega (arith, or-add-and a b, and-le-l a b))
 
 half-lt : (k : ℕ) {r : ℕ} → r < 2 ^ suc k → r / 2 < 2 ^ k
 half-lt k h = omega (arith, pow-suc 2 k)

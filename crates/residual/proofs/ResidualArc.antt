@@ -14,12 +14,6 @@ arc-same N s v w b t k t' k' (back j a e f g h i) (ahead j' a' e' f' g' h' i') =
 arc-same N s v w b t k t' k' (back j a e f g h i) (back j' a' e' f' g' h' i') =
     let z : j ≡ j' = omega arith in omega (arith, ap (λ j. N .c w j) z)
 
--- a lane at its ceiling gives no arc
-pub shut-ahead : {N : Net} {v w b : ℕ} (j : ℕ) → N .m ≤ 32 → v < N .m → w ≡ 32 + j → N .u v j ≤ N .x v j → (t k : ℕ) → Arc N v w b t k → ⊥
-shut-ahead {N} {v} j s hv e l t k (ahead j' a a' f g h i) =
-    let z : j ≡ j' = omega arith in omega (arith, ap (λ j. N .u v j) z, ap (λ j. N .x v j) z)
-shut-ahead j s hv e l t k (back j' a a' f g h i) = omega arith
-
 -- a lane with nothing on it gives no return arc
 pub shut-back : {N : Net} {v w b : ℕ} (j : ℕ) → N .m ≤ 32 → w < N .m → v ≡ 32 + j → N .x w j ≤ 0 → (t k : ℕ) → Arc N v w b t k → ⊥
 shut-back j s hw e l t k (ahead j' a a' f g h i) = omega arith

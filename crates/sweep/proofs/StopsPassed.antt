@@ -93,9 +93,6 @@ before-length f lo hi y = omega (arith, select-length (isStop f lo hi) (upFrom l
 
 -- ---- the lent slices
 
-pub written-none : {A : Type 0} (old : List A) → written [] old ≡ old
-written-none old = refl
-
 -- one cell more
 pub written-more : {A : Type 0} (new old : List A) (y : A) → length new < length old → set (written new old) (length new) y ≡ written (new ++ (y ∷ [])) old
 written-more new old y h =

@@ -107,9 +107,6 @@ sub-below a b c d h = ltZ-yes (subst T (sym (sub-lt a b c d)) (lt→ltb (a + d) 
 pub at-most-sub : (a b c d : ℕ) → subℕ a b ≤ℤ subℕ c d → a + d ≤ c + b
 at-most-sub a b c d h = leb→le (a + d) (c + b) (subst T (sub-le a b c d) (h .le))
 
-pub below-sub : (a b c d : ℕ) → subℕ a b <ℤ subℕ c d → a + d < c + b
-below-sub a b c d h = ltb→lt (a + d) (c + b) (subst T (sub-lt a b c d) (h .lt))
-
 -- ---- the same of two naturals and `-ℤ`
 
 pub diff-sub : (a b : ℕ) → pos a -ℤ pos b ≡ subℕ a b

@@ -30,19 +30,6 @@ pub update : (m n : ℕ) (c u x : Table) (p q dp dq : ℕ → ℕ) (D : ℕ) →
     → Slack m n c u x (λ i. p i + min (dp i) D) (λ j. q j + min (dq j) D)
 update m n c u x p q dp dq D s r i j a b = lane-update (s i j a b) (r i j a b)
 
--- where each arc that is open was relaxed from a settled node (dn is the mark of the node: 1 where it is settled), and the
--- others are no nearer than the goal
-pub relaxed-of-done : (c u x p q dp dq D sp sq : ℕ) → (sp ≡ 1 → x < u → dq + q ≤ dp + (c + p)) → (sq ≡ 1 → 0 < x → dp + (c + p) ≤ dq + q)
-    → (sp ≢ 1 → D ≤ dp) → (sq ≢ 1 → D ≤ dq) → Relaxed c u x p q dp dq D
-relaxed-of-done c u x p q dp dq D sp sq f g hp hq = record {
-  ahead = λ l o. elim (ℕ-discrete sp 1) [ yes e ↦ f e l | no d ↦ absurd (omega (arith, hp d)) ];
-  back = λ l o. elim (ℕ-discrete sq 1) [ yes e ↦ g e l | no d ↦ absurd (omega (arith, hq d)) ];
-}
-
--- a lane of the path is tight under the new potentials
-pub path-tight : (c p q dp dq D : ℕ) → dp ≤ D → dq ≤ D → dq + q ≡ dp + (c + p) → c + (p + min dp D) ≡ q + min dq D
-path-tight c p q dp dq D hp hq e = omega arith
-
 -- on a tight lane any amount is slack
 pub tight-lane : {c u x p q : ℕ} → c + p ≡ q → Lane c u x p q
 tight-lane e = record { ahead = λ l. omega arith; back = λ l. omega arith }
@@ -54,8 +41,3 @@ change-tight m n c u x x' p q s t i j a b = elim (ℕ-discrete (x' i j) (x i j))
   | yes e ↦ rw e (s i j a b)
   | no d ↦ tight-lane (t i j a b d)
 ]
-
--- potentials that are equal where they are read
-pub slack-pots : (m n : ℕ) (c u x : Table) (p q p' q' : ℕ → ℕ) → Slack m n c u x p q → ((i : ℕ) → i < m → p' i ≡ p i) → ((j : ℕ) → j < n → q' j ≡ q j)
-    → Slack m n c u x p' q'
-slack-pots m n c u x p q p' q' s ep eq i j a b = rw (ep i a, eq j b) (s i j a b)

@@ -71,7 +71,7 @@ sub-result : tie.Need-sub-result
 sub-result c = search needs
 
 returns-3 : tie.Need-returns-3
-returns-3 c = λ e. let i = c .before .before .before .before .before .before .before .before .before .before in let s = i .before in tied-ahead (s .pre .0 .sources) (s .pre .0 .terminals) e (s .pre .1 .0) (s .pre .1 .1) (omega (arith, i .if1 .left)) refl (c .before .before .before .even .ensures (c .before .before .if3 .taken))
+returns-3 c = λ e n h l. let i = c .before .before .before .before .before .before .before .before .before .before in let s = i .before in tied-ahead (s .pre .0 .sources) l e (s .pre .1) h (omega (arith, i .if1 .left)) refl (c .before .before .before .even .ensures (c .before .before .if3 .taken))
 
 returns-4 : tie.Need-returns-4
 returns-4 c = λ e. absurd (omega arith)

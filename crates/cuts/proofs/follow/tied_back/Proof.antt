@@ -41,7 +41,7 @@ element-copy-out-even-3 : tie.Need-element-copy-out-even-3
 element-copy-out-even-3 c = search needs
 
 even-requires : tie.Need-even-requires
-even-requires c κs = let s = c .before .before .before .before .before in let r = s .pre .0 in (r .costs (s .args .v) (s .args .w - 32) (s .pre .1) (omega (arith, c .before .before .before .if2 .left, c .before .before .before .before .if1 .left)), r .high (s .args .v) (omega (arith, r .sources, s .pre .1)))
+even-requires c κs = let s = c .before .before .before .before .before in let r = s .pre in (r .costs (s .args .v) (s .args .w - 32) (omega arith) (omega (arith, c .before .before .before .if2 .left, c .before .before .before .before .if1 .left)), r .high (s .args .v) (omega (arith, r .sources)))
 
 mul-result : tie.Need-mul-result
 mul-result c = search needs
@@ -50,7 +50,7 @@ element-copy-out-result : tie.Need-element-copy-out-result
 element-copy-out-result c = search needs
 
 returns-3 : tie.Need-returns-3
-returns-3 c = λ e. let s = c .before .before .before .before .before .before .before .before in tied-back (s .pre .0 .sources) (s .pre .0 .terminals) e (s .pre .1) (c .before .before .before .before .before .before .before .if1 .left) (c .before .before .before .before .before .before .if2 .left) refl (c .before .before .even .ensures (c .before .if3 .taken))
+returns-3 c = λ e m cap h l. tied-back l (c .before .before .before .before .before .before .before .before .pre .terminals) e h (c .before .before .before .before .before .before .before .if1 .left) (c .before .before .before .before .before .before .if2 .left) refl (c .before .before .even .ensures (c .before .if3 .taken))
 
 returns-4 : tie.Need-returns-4
 returns-4 c = λ e. absurd (omega arith)

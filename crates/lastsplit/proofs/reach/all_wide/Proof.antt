@@ -14,16 +14,16 @@ not-false true e = refl
 not-false false e = absurd (true≢false e)
 
 abbrev Inv-loop : tie.InvT-loop
-Inv-loop m n cap demand i₀ i = (i ≤ m) × ((k : ℕ) → k < i → (j : ℕ) → j < n → get demand (32 + j) ≤ cells cap k j)
+Inv-loop m cap demand i₀ i = (i ≤ m) × ((k : ℕ) → k < i → (j : ℕ) → j < 64 → get demand (32 + j) ≤ cells cap k j)
 
 abbrev μ-loop : tie.MeasureT-loop
-μ-loop m n cap demand i₀ i = m - i
+μ-loop m cap demand i₀ i = m - i
 
 loop-holds : tie.Need-loop-holds Inv-loop μ-loop
 loop-holds c = (omega arith, λ k h. absurd (omega arith))
 
 row-wide-requires : tie.Need-row-wide-requires Inv-loop μ-loop
-row-wide-requires c κs = (omega (arith, c .before .before .pre, c .loop-test .taken), c .before .before .pre .1)
+row-wide-requires c κs = omega (arith, c .before .before .pre, c .loop-test .taken)
 
 returns : tie.Need-returns Inv-loop μ-loop
 returns c = λ e. absurd (true≢false (sym e))

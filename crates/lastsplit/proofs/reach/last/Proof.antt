@@ -14,7 +14,7 @@ returns : tie.Need-returns
 returns c =
     let r = c .before .before .pre .0 in
     wide-reached _ _ _ _ _ (r .plants) (r .left)
-    (λ i j h l. omega (arith, c .before .before .pre .1 .0 j l, c .before .all-wide .ensures (c .if1 .taken) i j h l))
+    (λ i j h l. omega (arith, c .before .before .pre .1 .0 j l, c .before .all-wide .ensures (c .if1 .taken) i j h (omega (arith, r .terminals))))
 
 reach-requires : tie.Need-reach-requires
 reach-requires c κs =

@@ -11,11 +11,11 @@ use Rattle.lastsplit.proofs.reach.row_wide.Statement.{statement}
 use Rattle.lastsplit.proofs.reach.row_wide.Tie as tie
 
 abbrev Inv-loop : tie.InvT-loop
-Inv-loop n i cap demand k all₀ j₀ all j =
+Inv-loop i cap demand k all₀ j₀ all j =
     (j ≤ 64) × (k ≡ i * 64) × ((l : ℕ) → l < j → 2147483648 ≤ all → get demand (32 + l) ≤ get cap (k + l))
 
 abbrev μ-loop : tie.MeasureT-loop
-μ-loop n i cap demand k all₀ j₀ all j = 64 - j
+μ-loop i cap demand k all₀ j₀ all j = 64 - j
 
 mul-k : tie.Need-mul-k Inv-loop μ-loop
 mul-k c = search needs
@@ -63,7 +63,7 @@ loop-again c =
 returns : tie.Need-returns Inv-loop μ-loop
 returns c = λ e j h.
     let w : 2147483648 ≤ c .before .loop .all = leb-true _ _ e in
-    rw (← c .before .loop .inv .1) (c .before .loop .inv .2 j (omega (arith, c .before .before .pre, c .loop-test .left)) w)
+    rw (← c .before .loop .inv .1) (c .before .loop .inv .2 j (omega (arith, c .loop-test .left)) w)
 
 pub row-wide-spec : {M : Type 1} → statement M
 row-wide-spec =

@@ -13,7 +13,7 @@ quick-plan-requires : tie.Need-quick-plan-requires
 quick-plan-requires c κs = search needs
 
 returns : tie.Need-returns
-returns c = let q = c .before .quick-plan .ensures in (rw (c .if2 .taken) (q .plan (c .if2 .taken)), q .covers (c .if2 .taken))
+returns c = let q = c .before .quick-plan .ensures in (rw (c .if2 .taken) (q .plan (c .if2 .taken) _ (c .before .before .before .before .before .before .before .before .before .pre)), q .covers (c .if2 .taken))
 
 element-write-up : tie.Need-element-write-up
 element-write-up c = search needs

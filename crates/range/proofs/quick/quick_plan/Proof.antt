@@ -26,7 +26,7 @@ all-servers-requires : tie.Need-all-servers-requires
 all-servers-requires c κs = search needs
 
 returns-2 : tie.Need-returns-2
-returns-2 c = record { plan = λ e. checked-first (c .before .before .before .before .before .before .before .before .before .before .before .before .before .before .before .before .pre) (c .before .before .before .before .before .before .before .before .before .before .before .before .before .before .first-split .ensures) (c .before .before .before .before .before .before .before .before .simplex-at .ensures .0) (c .before .before .before .before .before .before .before .before .simplex-at .ensures .1) (c .before .before .before .before .before .good2 .ensures (not-false _ (c .before .before .before .before .if1 .left))) _; covers = λ e. c .all-servers .ensures }
+returns-2 c = record { plan = λ e run1 r. checked-first r (c .before .before .before .before .before .before .before .before .before .before .before .before .before .before .first-split .ensures) (c .before .before .before .before .before .before .before .before .simplex-at .ensures .0) (c .before .before .before .before .before .before .before .before .simplex-at .ensures .1) (c .before .before .before .before .before .good2 .ensures (not-false _ (c .before .before .before .before .if1 .left))) _; covers = λ e. c .all-servers .ensures }
 
 pub quick-plan-spec : {M : Type 1} → statement M
 quick-plan-spec =
