@@ -59,7 +59,19 @@ pub fn serve(v: usize, w: usize, serves: &mut [u32; 64])
     }
 }
 
-// Carries amount over the last count arcs of the path to goal, and notes the lanes that they bring drums on.
+// v, where it is a source whose lane to terminal w - 32 is empty; else what was found before.
+fn drained(v: usize, w: usize, x: &[u32; 2048], before: u32) -> u32 {
+    if 32 <= v {
+        return before;
+    }
+    if x[v * 64 + (w % 64 + 32) % 64] == 0 {
+        return v as u32;
+    }
+    before
+}
+
+// Carries amount over the last count arcs of the path to goal, and notes the lanes that they bring drums on. The last source on the way back from goal
+// whose lane lost its last drums, 96 where there is none: a hint, of which nothing is promised.
 pub fn push(
     prev: &[u32; 96],
     count: u32,
@@ -67,7 +79,7 @@ pub fn push(
     amount: u32,
     x: &mut [u32; 2048],
     serves: &mut [u32; 64],
-)
+) -> u32
     requires { ⌜ Walkable (now prev) amount count goal (now x) ⌝ }
     requires { ⌜ Trail 32 (now prev) count goal ⌝ }
     ensures { λ _. ⌜ Walked (now (prev .entry)) amount count goal (now (x .entry)) (now (x .exit)) ⌝ }
@@ -75,13 +87,16 @@ pub fn push(
 {
     let mut v = goal;
     let mut left = count;
+    let mut last: u32 = 96;
     while 0 < left {
         let w = prev[v] as usize;
         carry(v, w, amount, x);
         serve(v, w, serves);
+        last = drained(v, w, x, last);
         v = w;
         left = left - 1;
     }
+    last
 }
 
 // What the arc from w to v can carry: the drums of a lane in use backwards, or what a lane can still take.

@@ -48,19 +48,19 @@ forgot {x} {s} i {j} hj o e = record {
 pub advance-cut : {m n : ℕ} {cost x s p s' p' : List ℕ} → Forgot x s s' → Shifted m n cost s' p p' → Advanced m n cost x s p s' p'
 advance-cut {m} {n} {x = x} f q = record {
   long = q .long;
-  up = q .up;
+  floor = q .floor;
   high = q .high;
   covers = f .covers m n;
   sound = λ cap c o. q .sound cap x (f .covers m n c) o;
 }
 
 pub advance-start : {m n : ℕ} {cost columns x s p : List ℕ} → CutReady m n cost columns p → Advanced m n cost x s p s p
-advance-start r = record { long = r .long; up = λ v h. omega arith; high = r .high; covers = λ c. c; sound = λ cap c o. o }
+advance-start r = record { long = r .long; floor = λ v h. omega arith; high = r .high; covers = λ c. c; sound = λ cap c o. o }
 
 pub advance-next : {m n : ℕ} {cost x s p s₁ p₁ s' p' : List ℕ} → Advanced m n cost x s p s₁ p₁ → Advanced m n cost x s₁ p₁ s' p' → Advanced m n cost x s p s' p'
 advance-next a b = record {
   long = b .long;
-  up = λ v h. omega (arith, a .up v h, b .up v h);
+  floor = λ v h. omega (arith, a .floor v h, b .floor v h);
   high = b .high;
   covers = λ c. b .covers (a .covers c);
   sound = λ cap c o. b .sound cap (a .covers c) (a .sound cap c o);

@@ -54,46 +54,51 @@ lane-cut c u x p q d r s hr hs l shut low = go (ℕ-discrete r 0) (ℕ-discrete 
       back = λ o. omega (arith, l .back o, share-in d s (omega arith), share-most d r);
     }
 
+-- both ends lower by as much
+lane-lower : {c u x p q : ℕ} (e : ℕ) → Lane c u x (p + e) (q + e) → Lane c u x p q
+lane-lower e l = record { ahead = λ o. omega (arith, l .ahead o); back = λ o. omega (arith, l .back o) }
+
 -- the cut lemma
-pub cut-slack : (m n : ℕ) (c u x : Table) (p q p' q' : ℕ → ℕ) (d : ℕ) (r s : ℕ → ℕ) → ((i : ℕ) → r i ≤ 1) → ((j : ℕ) → s j ≤ 1) → Slack m n c u x p q
+pub cut-slack : (m n : ℕ) (c u x : Table) (p q p' q' : ℕ → ℕ) (d e : ℕ) (r s : ℕ → ℕ) → ((i : ℕ) → r i ≤ 1) → ((j : ℕ) → s j ≤ 1) → Slack m n c u x p q
     → ((i j : ℕ) → i < m → j < n → 0 < x i j → s j ≡ 0 → r i ≡ 0)
     → ((i j : ℕ) → i < m → j < n → r i ≡ 0 → s j ≡ 1 → x i j < u i j → q j + d ≤ c i j + p i)
-    → ((i : ℕ) → i < m → p' i ≡ p i + share d (r i)) → ((j : ℕ) → j < n → q' j ≡ q j + share d (s j)) → Slack m n c u x p' q'
-cut-slack m n c u x p q p' q' d r s hr hs k shut low e f i j a b =
-    rw (e i a, f j b)
-    (lane-cut (c i j) (u i j) (x i j) (p i) (q j) d (r i) (s j) (hr i) (hs j) (k i j a b) (shut i j a b) (low i j a b))
+    → ((i : ℕ) → i < m → p' i + e ≡ p i + share d (r i)) → ((j : ℕ) → j < n → q' j + e ≡ q j + share d (s j)) → Slack m n c u x p' q'
+cut-slack m n c u x p q p' q' d e r s hr hs k shut low f g i j a b =
+    lane-lower e
+    (rw (f i a, g j b)
+    (lane-cut (c i j) (u i j) (x i j) (p i) (q j) d (r i) (s j) (hr i) (hs j) (k i j a b) (shut i j a b) (low i j a b)))
 
 pub shift-none : {m n : ℕ} {cost columns serves p : List ℕ} → CutReady m n cost columns p → Shifted m n cost serves p p
-shift-none r = record { long = r .long; up = λ v h. omega arith; high = r .high; sound = λ cap x c s. s }
+shift-none r = record { long = r .long; floor = λ v h. omega arith; high = r .high; sound = λ cap x c s. s }
 
 -- the whole cut, from what its parts found
-pub shift-cut : {m n rows cols : ℕ} {cost columns serves p p' w : List ℕ} {key : ℕ} → CutReady m n cost columns p → Shut n rows cols serves → Weighed p 96 w
-    → Near m n rows cols cost w key → 800000000 ≤ key → Rose rows cols (key - 800000000) p p' → Shifted m n cost serves p p'
-shift-cut {m} {n} {rows} {cols} {cost} {columns} {serves} {p} {p'} {w} {key} r shut weight far h q = record {
+pub shift-cut : {m n rows cols : ℕ} {cost columns serves p p' w : List ℕ} {key e : ℕ} → CutReady m n cost columns p → Shut n rows cols serves → Weighed p 96 w
+    → Near m n rows cols cost w key → 800000000 ≤ key → Rose m n rows cols (key - 800000000) e p p' → Shifted m n cost serves p p'
+shift-cut {m} {n} {rows} {cols} {cost} {columns} {serves} {p} {p'} {w} {key} {e} r shut weight far h q = record {
   long = q .long;
-  up = q .up;
+  floor = q .floor;
   high = q .high;
   sound = λ cap x c s. record {
     sources = s .sources;
     terminals = s .terminals;
     costs = s .costs;
     slack =
-        cut-slack m n (cells cost) (cells cap) (cells x) (λ i. get p i) (λ j. get p (32 + j)) (λ i. get p' i) (λ j. get p' (32 + j)) (key - 800000000)
+        cut-slack m n (cells cost) (cells cap) (cells x) (λ i. get p i) (λ j. get p (32 + j)) (λ i. get p' i) (λ j. get p' (32 + j)) (key - 800000000) e
         (λ i. has rows i) (λ j. has cols j) (λ i. bit-most rows i) (λ j. bit-most cols j) (s .slack)
-        (λ i j a b o e. shut .each i j b e (c .serving i j a b o))
-        (λ i j a b e f o.
+        (λ i j a b o z. shut .each i j b z (c .serving i j a b o))
+        (λ i j a b z f o.
         omega (
           arith,
-          far .each i j a b e f,
+          far .each i j a b z f,
           weight .source i (omega (arith, r .sources)),
           weight .terminal (32 + j) (omega arith) (omega (arith, r .terminals)),
         ))
-        (λ i a. q .source i (omega (arith, r .sources))) (λ j b. q .terminal j (omega (arith, r .terminals)));
+        (q .source) (q .terminal);
     high = q .high;
   };
 }
 
 pub shift-lift : {m n rows cols : ℕ} {cost columns serves p p' w : List ℕ} {key : ℕ} (made : Bool) → CutReady m n cost columns p → Shut n rows cols serves
-    → Weighed p 96 w → Near m n rows cols cost w key → 800000000 ≤ key → Lifted rows cols (key - 800000000) p p' made → Shifted m n cost serves p p'
-shift-lift true r shut weight far h q = shift-cut r shut weight far h (q .rose refl)
+    → Weighed p 96 w → Near m n rows cols cost w key → 800000000 ≤ key → Lifted m n rows cols (key - 800000000) p p' made → Shifted m n cost serves p p'
+shift-lift true r shut weight far h q = shift-cut r shut weight far h (q .rose refl .1)
 shift-lift false r shut weight far h q = rw (q .same refl) (shift-none r)

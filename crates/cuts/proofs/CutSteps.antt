@@ -1,115 +1,204 @@
 -- The cut's loops, turn by turn. Assumes nothing.
-use mathlib.Core.Path.{_≡_, refl, sym, ap, subst, _∙_}
+use mathlib.Core.Path.{_≡_, refl, ap, subst, _∙_}
+use mathlib.Core.Bool.{Bool, false}
 use mathlib.Core.List.{List}
 use Prim.Native.Nat.{ℕ, _+_, _-_, _*_, _^_, _≤_, _<_}
 use native.Mathlib.Decide.{ℕ-discrete, decLt}
 use native.Mathlib.Omega.{arith}
 use lib.ListN.{length, set, length-set, replicate, length-replicate, getD-replicate, List·getD-eq-default}
 use lib.Seq.{getD-set-same, getD-set-other}
-use lib.Bits.{bitOr, bitAnd}
+use lib.Bits.{bitOr, bitAnd, and-le-l, and-le-r}
+use lib.Pow.{pow-mono}
 use lib.Count.{trailingZeros}
 use Rattle.residual.specs.Network.{get}
 use Rattle.residual.specs.Bits.{bit}
 use Rattle.residual.proofs.Bits.{bit-or, or-above, bit-most, bit-none, bit-place, low-set, rest-same, rest-other}
-use Rattle.cuts.specs.Cut.{has, share, Others, RaiseReady, Raised, Shut, Gathered, Folded, Weighed, Lows, Low, Top, Rose}
+use Rattle.cuts.specs.Cut.{has, share, Others, ChangeReady, Changed, Shut, Gathered, Folded, Weighed, Lows, Low, Top, Bottom, LiftReady, Rose, Lifted}
 use Rattle.cuts.proofs.PartBits.{apart, rest-done, own-low, own-next}
 use Rattle.cuts.proofs.CutSlack.{share-in, share-out, share-most}
 
--- ---- the rise
+-- ---- the rise and the fall
 
-pub raise-start : {part first d : ℕ} {p : List ℕ} → length p ≡ 96 → Raised part first d p part p
-raise-start {part} {first} {d} {p} e = record {
+pub change-start : {part first up down : ℕ} {p : List ℕ} → length p ≡ 96 → Changed part first up down p part p
+change-start {part} {first} {up} {down} {p} e = record {
   long = e;
   own = λ k. omega arith;
-  each = λ k. omega (arith, share-out d (has part k - bit part k) (omega arith));
+  each = λ k. omega (arith, share-out up (has part k - bit part k) (omega arith), share-out down (has part k - bit part k) (omega arith));
   below = λ v h. refl;
 }
 
-module _ {part first d : ℕ} {p p' : List ℕ} {r : ℕ} (q : Raised part first d p r p') (o : 0 < r) (h : r < 2 ^ 64) where
+module _ {part first up down : ℕ} {p p' : List ℕ} {r : ℕ} (q : Changed part first up down p r p') (o : 0 < r) (h : r < 2 ^ 64) where
   -- the node that the lowest bit stands for
   v : ℕ
   v = first + trailingZeros 64 r
 
-  pub raise-in : has part (trailingZeros 64 r) ≡ 1
-  raise-in = own-low 64 part (q .own) o h
+  pub change-in : has part (trailingZeros 64 r) ≡ 1
+  change-in = own-low 64 part (q .own) o h
 
-  pub raise-old : get p' (first + trailingZeros 64 r) ≡ get p (first + trailingZeros 64 r)
-  raise-old =
-      let z : has part (trailingZeros 64 r) - bit r (trailingZeros 64 r) ≡ 0 = omega (arith, raise-in, low-set 64 r o h) in
-      omega (arith, q .each (trailingZeros 64 r), share-out d _ z)
+  pub change-old : get p' (first + trailingZeros 64 r) ≡ get p (first + trailingZeros 64 r)
+  change-old =
+      let z : has part (trailingZeros 64 r) - bit r (trailingZeros 64 r) ≡ 0 = omega (arith, change-in, low-set 64 r o h) in
+      omega (arith, q .each (trailingZeros 64 r), share-out up _ z, share-out down _ z)
 
-  pub raise-next : {a : ℕ} → first + trailingZeros 64 r < 96 → a ≡ get p' (first + trailingZeros 64 r) + d
-      → Raised part first d p (bitAnd r (r - 1)) (set p' (first + trailingZeros 64 r) a)
+  pub change-next : (a : ℕ) → first + trailingZeros 64 r < 96 → a + down ≡ get p' (first + trailingZeros 64 r) + up
+      → Changed part first up down p (bitAnd r (r - 1)) (set p' (first + trailingZeros 64 r) a)
   unfolding v
-  raise-next {a} l e = record {
+  change-next a l e = record {
     long = length-set p' v a ∙ q .long;
     own = own-next 64 part (q .own) o h;
     each = λ k. elim (ℕ-discrete k (trailingZeros 64 r)) [
       | yes z ↦
-          let y : has part (trailingZeros 64 r) - bit (bitAnd r (r - 1)) (trailingZeros 64 r) ≡ 1 = omega (arith, raise-in, rest-same 64 r o h) in
-          rw z (omega (arith, getD-set-same p' v a 0 (omega (arith, q .long)), raise-old, share-in d _ y))
+          let y : has part (trailingZeros 64 r) - bit (bitAnd r (r - 1)) (trailingZeros 64 r) ≡ 1 = omega (arith, change-in, rest-same 64 r o h) in
+          rw z (omega (arith, getD-set-same p' v a 0 (omega (arith, q .long)), change-old, share-in up _ y, share-in down _ y))
       | no z ↦
-          getD-set-other p' v (first + k) a 0 (omega arith)
-          ∙ q .each k
-          ∙ ap (λ (y : ℕ). get p (first + k) + share d (has part k - y)) (sym (rest-other 64 r k o h z))
+          omega (
+            arith,
+            getD-set-other p' v (first + k) a 0 (omega arith),
+            q .each k,
+            ap (λ (y : ℕ). share up (has part k - y)) (rest-other 64 r k o h z),
+            ap (λ (y : ℕ). share down (has part k - y)) (rest-other 64 r k o h z),
+          )
     ];
     below = λ u b. getD-set-other p' v u a 0 (omega arith) ∙ q .below u b;
   }
 
-pub raise-end : {part first d : ℕ} {p p' : List ℕ} {r : ℕ} → Raised part first d p r p' → r ≤ 0 → Raised part first d p 0 p'
-raise-end {part} {first} {d} {p} {p'} {r} q h = let z : r ≡ 0 = omega arith in subst (λ (y : ℕ). Raised part first d p y p') z q
+pub change-end : {part first up down : ℕ} {p p' : List ℕ} {r : ℕ} → Changed part first up down p r p' → r ≤ 0 → Changed part first up down p 0 p'
+change-end {part} {first} {up} {down} {p} {p'} {r} q h = let z : r ≡ 0 = omega arith in subst (λ (y : ℕ). Changed part first up down p y p') z q
 
--- what has risen where nothing is left
-risen : {part first d : ℕ} {p p' : List ℕ} → Raised part first d p 0 p' → (k : ℕ) → get p' (first + k) ≡ get p (first + k) + share d (has part k)
-risen {part} {first} {d} {p} q k =
+-- what has changed where nothing is left
+changed : {part first up down : ℕ} {p p' : List ℕ} → Changed part first up down p 0 p' → (k : ℕ)
+    → get p' (first + k) + share down (has part k) ≡ get p (first + k) + share up (has part k)
+changed {part} {first} {up} {down} {p} {p'} q k =
     let z : has part k - bit 0 k ≡ has part k = omega (arith, bit-none k) in
-    q .each k ∙ ap (λ (y : ℕ). get p (first + k) + share d y) z
+    omega (arith, q .each k, ap (λ (y : ℕ). share up y) z, ap (λ (y : ℕ). share down y) z)
 
 none-above : (n r k : ℕ) → r < 2 ^ n → n ≤ k → bit r k ≡ 0
 none-above n r k h l = elim (ℕ-discrete (bit r k) 1) [ yes z ↦ absurd (omega (arith, bit-place n r k h z)) | no z ↦ omega (arith, bit-most r k) ]
 
-pub lift-room : {rows d most : ℕ} {p : List ℕ} → rows < 2 ^ 32 → length p ≡ 96 → Top p 96 most → most + d ≤ 800000000 → RaiseReady rows 0 d p
-lift-room {rows} fit long t h = record {
+share-none : (b : ℕ) → share 0 b ≡ 0
+share-none b = omega (arith, share-most 0 b)
+
+-- the sources changed, then the terminals
+module _ {rows up down : ℕ} {p p₁ : List ℕ} (fit : rows < 2 ^ 32) (a : Changed rows 0 up down p 0 p₁) where
+  sources : (v : ℕ) → get p₁ v + share down (has rows v) ≡ get p v + share up (has rows v)
+  sources v = let z : 0 + v ≡ v = omega arith in rw z at (changed a v)
+
+  pub terminals : (v : ℕ) → 32 ≤ v → get p₁ v ≡ get p v
+  terminals v l = let z = none-above 32 rows v fit l in omega (arith, sources v, share-out up _ z, share-out down _ z)
+
+  module _ {cols : ℕ} {p' : List ℕ} (b : Changed cols 32 up down p₁ 0 p') where
+    source-changed : (i : ℕ) → i < 32 → get p' i + share down (has rows i) ≡ get p i + share up (has rows i)
+    source-changed i h = omega (arith, b .below i h, sources i)
+
+    terminal-changed : (j : ℕ) → get p' (32 + j) + share down (has cols j) ≡ get p (32 + j) + share up (has cols j)
+    terminal-changed j = omega (arith, changed b j, terminals (32 + j) (omega arith))
+
+    -- no node changed by more
+    between : (v : ℕ) → v < 96 → (get p v ≤ get p' v + down) × (get p' v ≤ get p v + up)
+    between v l = elim (decLt v 32) [
+      | yes o ↦ (omega (arith, source-changed v o, share-most down (has rows v)), omega (arith, source-changed v o, share-most up (has rows v)))
+      | no o ↦
+          let z : 32 + (v - 32) ≡ v = omega arith in
+          let e : get p' v + share down (has cols (v - 32)) ≡ get p v + share up (has cols (v - 32)) = rw z at (terminal-changed (v - 32)) in
+          (omega (arith, e, share-most down (has cols (v - 32))), omega (arith, e, share-most up (has cols (v - 32))))
+    ]
+
+pub rise-room : {rows d most : ℕ} {p : List ℕ} → rows < 2 ^ 32 → length p ≡ 96 → Top p 96 most → most + d ≤ 800000000 → ChangeReady rows 0 d 0 p
+rise-room {rows} fit long t h = record {
   within = λ k e. omega (arith, bit-place 32 rows k fit e);
   long = long;
   top = λ v l. omega (arith, t .each v l);
+  low = λ k e. omega arith;
 }
 
-module _ {rows d most : ℕ} {p p₁ : List ℕ} (fit : rows < 2 ^ 32) (t : Top p 96 most) (h : most + d ≤ 800000000)
-    (a : Raised rows 0 d p 0 p₁) where
-  sources : (v : ℕ) → get p₁ v ≡ get p v + share d (has rows v)
-  sources v = let z : 0 + v ≡ v = omega arith in rw z at (risen a v)
-
-  terminals : (v : ℕ) → 32 ≤ v → get p₁ v ≡ get p v
-  terminals v l = omega (arith, sources v, share-out d _ (none-above 32 rows v fit l))
-
-  pub lift-room-2 : {cols : ℕ} → cols < 2 ^ 64 → RaiseReady cols 32 d p₁
-  lift-room-2 {cols} fits = record {
+module _ {rows d most : ℕ} {p p₁ : List ℕ} (fit : rows < 2 ^ 32) (t : Top p 96 most) (h : most + d ≤ 800000000) (a : Changed rows 0 d 0 p 0 p₁) where
+  pub rise-room-2 : {cols : ℕ} → cols < 2 ^ 64 → ChangeReady cols 32 d 0 p₁
+  rise-room-2 {cols} fits = record {
     within = λ k e. omega (arith, bit-place 64 cols k fits e);
     long = a .long;
-    top = λ v l. omega (arith, sources v, share-most d (has rows v), t .each v l);
+    top = λ v l. omega (arith, sources fit a v, share-most d (has rows v), t .each v l);
+    low = λ k e. omega arith;
   }
 
   -- both rises together
-  pub rose : {cols : ℕ} {p' : List ℕ} → Raised cols 32 d p₁ 0 p' → Rose rows cols d p p'
+  pub rose : {cols : ℕ} {p' : List ℕ} → Changed cols 32 d 0 p₁ 0 p' → Rose 32 64 rows cols d 0 p p'
   rose {cols} {p'} b = record {
     long = b .long;
-    source = λ i l. b .below i (omega arith) ∙ sources i;
-    terminal = λ j l. risen b j ∙ ap (λ (z : ℕ). z + share d (has cols j)) (terminals (32 + j) (omega arith));
-    up = λ v l. both v l .0;
-    high = λ v l. both v l .1;
+    source = λ i l. omega (arith, source-changed fit a b i l, share-none (has rows i));
+    terminal = λ j l. omega (arith, terminal-changed fit a b j, share-none (has cols j));
+    floor = λ v l. omega (arith, between fit a b v l);
+    high = λ v l. omega (arith, between fit a b v l, t .each v l);
   }
-    where
-      both : (v : ℕ) → v < 96 → (get p v ≤ get p' v) × (get p' v ≤ 800000000)
-      both v l = elim (decLt v 32) [
-        | yes o ↦
-            let e = b .below v o in
-            (omega (arith, e, sources v), omega (arith, e, sources v, share-most d (has rows v), t .each v l))
-        | no o ↦
-            let z : 32 + (v - 32) ≡ v = omega arith in
-            let e : get p' v ≡ get p₁ v + share d (has cols (v - 32)) = rw z at (risen b (v - 32)) in
-            (omega (arith, e, terminals v (omega arith)), omega (arith, e, terminals v (omega arith), share-most d (has cols (v - 32)), t .each v l))
-      ]
+
+-- a node falls where the part does not have it
+share-rest : (d b c : ℕ) → b ≤ 1 → (b ≡ 0 → c ≡ 1) → (b ≡ 1 → c ≡ 0) → share d b + share d c ≡ d
+share-rest d b c h f g = elim (ℕ-discrete b 0) [
+  | yes z ↦ omega (arith, share-out d b z, share-in d c (f z))
+  | no z ↦ let e : b ≡ 1 = omega arith in omega (arith, share-in d b e, share-out d c (g e))
+]
+
+module _ {m n rows cols least s t : ℕ} {p : List ℕ} (d : ℕ) (r : LiftReady m n p) (low : Bottom p 96 least) (h : d + 416000000 ≤ least)
+    (os : Others m rows s) (ot : Others n cols t) where
+  fits : s < 2 ^ 32
+  fits = omega (arith, os .within, pow-mono (r .sources))
+
+  pub fall-room : ChangeReady s 0 0 d p
+  fall-room = record {
+    within = λ k e. omega (arith, bit-place 32 s k fits e);
+    long = r .long;
+    top = λ v l. omega (arith, r .high v l);
+    low = λ k e. let z : 0 + k ≡ k = omega arith in rw z (omega (arith, low .each k (omega (arith, bit-place 32 s k fits e))));
+  }
+
+  module _ {p₁ : List ℕ} (a : Changed s 0 0 d p 0 p₁) where
+    pub fall-room-2 : ChangeReady t 32 0 d p₁
+    fall-room-2 = record {
+      within = λ k e. omega (arith, place k e);
+      long = a .long;
+      top = λ v l. omega (arith, sources fits a v, share-none (has s v), r .high v l);
+      low = λ k e. omega (arith, terminals fits a (32 + k) (omega arith), low .each (32 + k) (omega (arith, place k e)));
+    }
+      where
+        place : (k : ℕ) → has t k ≡ 1 → k < 64
+        place k e = omega (arith, bit-place n t k (ot .within) e, r .terminals)
+
+    -- both falls together: against the rest the part has risen
+    pub fell : {p' : List ℕ} → Changed t 32 0 d p₁ 0 p' → Rose m n rows cols d d p p'
+    fell {p'} b = record {
+      long = b .long;
+      source = λ i l.
+          omega (
+            arith,
+            source-changed fits a b i (omega (arith, r .sources)),
+            share-none (has s i),
+            share-rest d (has rows i) (has s i) (bit-most rows i) (os .out i l) (os .only i),
+          );
+      terminal = λ j l.
+          omega (arith, terminal-changed fits a b j, share-none (has t j), share-rest d (has cols j) (has t j) (bit-most cols j) (ot .out j l) (ot .only j));
+      floor = λ v l. omega (arith, between fits a b v l, low .each v l);
+      high = λ v l. omega (arith, between fits a b v l, r .high v l);
+    }
+
+-- what holds of all sources and terminals holds of those below m and n
+pub lifted-fewer : {m n rows cols d : ℕ} {p p' : List ℕ} {r : Bool} → m ≤ 32 → n ≤ 64 → Lifted 32 64 rows cols d p p' r → Lifted m n rows cols d p p' r
+lifted-fewer a b l = record {
+  rose = λ z. let q = l .rose z in (
+    q .0,
+    record {
+      long = q .1 .long;
+      source = λ i h. q .1 .source i (omega arith);
+      terminal = λ j h. q .1 .terminal j (omega arith);
+      floor = q .1 .floor;
+      high = q .1 .high;
+    },
+  );
+  same = l .same;
+}
+
+-- after a fall that was not made
+pub lifted-after : {m n rows cols d : ℕ} {p p₁ p' : List ℕ} {s r : Bool} → m ≤ 32 → n ≤ 64 → Lifted m n rows cols d p p₁ s → s ≡ false
+    → Lifted 32 64 rows cols d p₁ p' r → Lifted m n rows cols d p p' r
+lifted-after {m} {n} {rows} {cols} {d} {p' = p'} {r = r} a b f z l = subst (λ (q : List ℕ). Lifted m n rows cols d q p' r) (f .same z) (lifted-fewer a b l)
 
 -- ---- the check that no lane in use leaves
 
@@ -217,5 +306,13 @@ top-next {p} {k} {most} q = record {
   each = λ v l. elim (ℕ-discrete v k) [
     | yes z ↦ rw z (or-above most (get p k) .1)
     | no z ↦ omega (arith, or-above most (get p k) .0, q .each v (omega arith))
+  ];
+}
+
+pub bottom-next : {p : List ℕ} {k least : ℕ} → Bottom p k least → Bottom p (k + 1) (bitAnd least (get p k))
+bottom-next {p} {k} {least} q = record {
+  each = λ v l. elim (ℕ-discrete v k) [
+    | yes z ↦ rw z (and-le-r least (get p k))
+    | no z ↦ omega (arith, and-le-l least (get p k), q .each v (omega arith))
   ];
 }

@@ -58,15 +58,12 @@ differ-digit (suc zero) (suc zero) h l = omega arith
 differ-digit (suc zero) (suc (suc y)) h l = absurd (omega arith)
 differ-digit (suc (suc x)) y h l = absurd (omega arith)
 
--- a bit of one word that the other has not
-bit-xor : (a b i : ℕ) → bit a i ≡ 1 → bit b i ≡ 0 → bit (bitXor a b) i ≡ 1
+bit-xor : (a b i : ℕ) → bit (bitXor a b) i ≡ differ (bit a i) (bit b i)
 unfolding bit
-bit-xor a b zero o z =
-    let e : differ (a % 2) (b % 2) ≡ 1 = ap (λ (x : ℕ). differ x (b % 2)) o ∙ ap (λ (y : ℕ). differ 1 y) z in
-    omega (arith, xor-step a b)
-bit-xor a b (suc i) o z =
+bit-xor a b zero = omega (arith, xor-step a b, differ-digit (a % 2) (b % 2) (omega arith) (omega arith))
+bit-xor a b (suc i) =
     let e : bitXor a b / 2 ≡ bitXor (a / 2) (b / 2) = omega (arith, xor-step a b, differ-digit (a % 2) (b % 2) (omega arith) (omega arith)) in
-    ap (λ y. bit y i) e ∙ bit-xor (a / 2) (b / 2) i o z
+    ap (λ y. bit y i) e ∙ bit-xor (a / 2) (b / 2) i
 
 -- the bits below n
 bit-ones : (n k : ℕ) → k < n → bit (2 ^ n - 1) k ≡ 1
@@ -79,7 +76,11 @@ pub others : {n all : ℕ} (part : ℕ) → all ≡ 2 ^ n - 1 → Others n part 
 others {n} {all} part e = record {
   out = λ k h z.
       let o : bit all k ≡ 1 = ap (λ y. bit y k) e ∙ bit-ones n k h in
-      omega (arith, bit-and all (bitXor all part) k, bit-xor all part k o z);
+      omega (arith, bit-and all (bitXor all part) k, bit-xor all part k ∙ ap (λ (x : ℕ). differ x (bit part k)) o ∙ ap (λ (y : ℕ). differ 1 y) z);
+  only = λ k z. elim (ℕ-discrete (bit all k) 1) [
+    | yes o ↦ omega (arith, bit-and all (bitXor all part) k, bit-xor all part k ∙ ap (λ (x : ℕ). differ x (bit part k)) o ∙ ap (λ (y : ℕ). differ 1 y) z)
+    | no o ↦ omega (arith, bit-and all (bitXor all part) k, bit-most all k)
+  ];
   within = omega (arith, and-le-l all (bitXor all part), ones-lt n);
 }
 

@@ -2,7 +2,7 @@
 use mathlib.Core.Path.{_≡_}
 use mathlib.Core.Bool.{Bool, true, false}
 use mathlib.Core.List.{List}
-use Prim.Native.Nat.{ℕ, zero, suc, _+_, _-_, _*_, _^_, _≤_, _<_}
+use Prim.Native.Nat.{ℕ, zero, suc, min, _+_, _-_, _*_, _^_, _≤_, _<_}
 use lib.ListN.{length}
 use Rattle.transport.specs.Plan.{Table}
 use Rattle.residual.specs.Cells.{cells}
@@ -16,7 +16,7 @@ use Rattle.cuts.specs.Columns.{Transposed}
 abbrev pub has : ℕ → ℕ → ℕ
 has part k = bit part k
 
--- what a node rises by
+-- what a node of the part changes by
 unfoldable pub share : ℕ → ℕ → ℕ
 share d zero = 0
 share d (suc b) = d
@@ -24,18 +24,20 @@ share d (suc b) = d
 -- r has the bits below n that are not in the part
 pub record Others (n part r : ℕ) : Type 0 where
   pub out : (k : ℕ) → k < n → has part k ≡ 0 → bit r k ≡ 1
+  pub only : (k : ℕ) → has part k ≡ 1 → bit r k ≡ 0
   pub within : r < 2 ^ n
 
-pub record RaiseReady (part first d : ℕ) (p : List ℕ) : Type 0 where
+pub record ChangeReady (part first up down : ℕ) (p : List ℕ) : Type 0 where
   pub within : (k : ℕ) → has part k ≡ 1 → first + k < 96
   pub long : length p ≡ 96
-  pub top : (v : ℕ) → v < 96 → get p v + d ≤ 4000000000
+  pub top : (v : ℕ) → v < 96 → get p v + up ≤ 4000000000
+  pub low : (k : ℕ) → has part k ≡ 1 → down ≤ get p (first + k)
 
--- the nodes of the part have risen, but for those that are left
-pub record Raised (part first d : ℕ) (p : List ℕ) (left : ℕ) (p' : List ℕ) : Type 0 where
+-- the nodes of the part have risen by up and fallen by down, but for those that are left
+pub record Changed (part first up down : ℕ) (p : List ℕ) (left : ℕ) (p' : List ℕ) : Type 0 where
   pub long : length p' ≡ 96
   pub own : (k : ℕ) → bit left k ≤ has part k
-  pub each : (k : ℕ) → get p' (first + k) ≡ get p (first + k) + share d (has part k - bit left k)
+  pub each : (k : ℕ) → get p' (first + k) + share down (has part k - bit left k) ≡ get p (first + k) + share up (has part k - bit left k)
   pub below : (v : ℕ) → v < first → get p' v ≡ get p v
 
 -- no source of rows is noted to serve a terminal outside cols
@@ -131,21 +133,32 @@ pub record Near (m n rows cols : ℕ) (cost w : List ℕ) (key : ℕ) : Type 0 w
 pub record Top (p : List ℕ) (k most : ℕ) : Type 0 where
   pub each : (v : ℕ) → v < k → get p v ≤ most
 
--- the part has risen by d, or nothing has changed
-pub record Rose (rows cols d : ℕ) (p p' : List ℕ) : Type 0 where
+-- no potential of a node below k is below least
+pub record Bottom (p : List ℕ) (k least : ℕ) : Type 0 where
+  pub each : (v : ℕ) → v < k → least ≤ get p v
+
+pub record LiftReady (m n : ℕ) (p : List ℕ) : Type 0 where
+  pub sources : m ≤ 32
+  pub terminals : n ≤ 64
+  pub high : (v : ℕ) → v < 96 → get p v ≤ 800000000
+  pub long : length p ≡ 96
+
+-- of the sources below m and the terminals below n the part has risen by d, and all of them have fallen by e; no potential came below 416,000,000
+pub record Rose (m n rows cols d e : ℕ) (p p' : List ℕ) : Type 0 where
   pub long : length p' ≡ 96
-  pub source : (i : ℕ) → i < 32 → get p' i ≡ get p i + share d (has rows i)
-  pub terminal : (j : ℕ) → j < 64 → get p' (32 + j) ≡ get p (32 + j) + share d (has cols j)
-  pub up : (v : ℕ) → v < 96 → get p v ≤ get p' v
+  pub source : (i : ℕ) → i < m → get p' i + e ≡ get p i + share d (has rows i)
+  pub terminal : (j : ℕ) → j < n → get p' (32 + j) + e ≡ get p (32 + j) + share d (has cols j)
+  pub floor : (v : ℕ) → v < 96 → min (get p v) 416000000 ≤ get p' v
   pub high : (v : ℕ) → v < 96 → get p' v ≤ 800000000
 
-pub record Lifted (rows cols d : ℕ) (p p' : List ℕ) (r : Bool) : Type 0 where
-  pub rose : r ≡ true → Rose rows cols d p p'
+-- the part stands higher by d against the rest, or nothing has changed
+pub record Lifted (m n rows cols d : ℕ) (p p' : List ℕ) (r : Bool) : Type 0 where
+  pub rose : r ≡ true → (e : ℕ) × Rose m n rows cols d e p p'
   pub same : r ≡ false → p' ≡ p
 
--- the potentials p' in place of p: none is lower, and every plan that was slack and whose lanes are noted in serves still is
+-- the potentials p' in place of p: none came below 416,000,000, and every plan that was slack and whose lanes are noted in serves still is
 pub record Shifted (m n : ℕ) (cost serves p p' : List ℕ) : Type 0 where
   pub long : length p' ≡ 96
-  pub up : (v : ℕ) → v < 96 → get p v ≤ get p' v
+  pub floor : (v : ℕ) → v < 96 → min (get p v) 416000000 ≤ get p' v
   pub high : (v : ℕ) → v < 96 → get p' v ≤ 800000000
   pub sound : (cap x : List ℕ) → Covers m n x serves → Sound (net m n cost cap x) p → Sound (net m n cost cap x) p'

@@ -181,9 +181,14 @@ fn next_lane(
             return tight;
         }
     }
-    let before = pot[1];
+    let first = pot[0];
+    let second = pot[1];
     let lane = cut_in(m, n, part, below, cost, columns, serves, pot);
-    up[FLAT] = if before == pot[1] { 1 } else { 0 };
+    up[FLAT] = if (first == pot[0]) & (second == pot[1]) {
+        1
+    } else {
+        0
+    };
     lane
 }
 
@@ -217,10 +222,23 @@ fn step(
     true
 }
 
-// Cuts as long as the path is blocked. Where that fails the tree has no path any more.
+// The last source at which the path is blocked before any cut: the one drained, where it is one and the tree still has a path.
+fn blocked_at_start(drained: u32, up: &[u32; 128], x: &[u32; 2048]) -> u32 {
+    if NONE <= up[1] {
+        return NONE;
+    }
+    if drained < NONE {
+        return drained;
+    }
+    blocked(up, x)
+}
+
+// Cuts as long as the path is blocked. Where that fails the tree has no path any more. The source drained, where it is one, is taken to be the last at
+// which the path is blocked.
 pub fn advance(
     m: usize,
     n: usize,
+    drained: u32,
     cost: &[u32; 2048],
     columns: &[u32; 2048],
     x: &[u32; 2048],
@@ -233,9 +251,9 @@ pub fn advance(
     requires { ⌜ CutReady m n (now cost) (now columns) (now pot) ⌝ }
     ensures { λ _. ⌜ Advanced m n (now (cost .entry)) (now (x .entry)) (now (serves .entry)) (now (pot .entry)) (now (serves .exit)) (now (pot .exit)) ⌝ }
 {
+    let mut v = blocked_at_start(drained, up, x);
     let mut left: u32 = 200;
     while 0 < left {
-        let v = blocked(up, x);
         if v == NONE {
             return;
         }
@@ -243,6 +261,7 @@ pub fn advance(
             up[1] = NONE;
             return;
         }
+        v = blocked(up, x);
         left = left - 1;
     }
 }

@@ -1,5 +1,5 @@
-// The cut: the potentials of a part of the nodes rise by the least reduced cost of the lanes into it, where no lane in use leaves it.
-// A part has a bit for each source and a bit for each terminal. The unit costs are given by source and by terminal.
+// The cut: the potentials of a part of the nodes rise by the least reduced cost of the lanes into it, where no lane in use leaves it; or those of the
+// other nodes fall by it, where they are fewer. A part has a bit for each source and a bit for each terminal. The unit costs are given by source and by terminal.
 ghost use mathlib.Core.Path.{_≡_};
 ghost use mathlib.Core.Bool.{true};
 ghost use Prim.Native.Nat.{_≤_, _<_};
@@ -7,7 +7,7 @@ ghost use lib.Bits.{bitAnd};
 ghost use lib.ListN.{length};
 ghost use Rattle.residual.specs.Cells.{cells};
 ghost use Rattle.cuts.specs.Columns.{byTerminal};
-ghost use Rattle.cuts.specs.Cut.{Others, RaiseReady, Raised, Shut, FoldReady, Folded, WeightsReady, Weighed, LowsReady, Lows, LeastReady, Low, SourcesReady, TerminalsReady, Nearest, NearReady, Near, Top, CutReady, Lifted, Shifted};
+ghost use Rattle.cuts.specs.Cut.{Others, ChangeReady, Changed, Shut, FoldReady, Folded, WeightsReady, Weighed, LowsReady, Lows, LeastReady, Low, SourcesReady, TerminalsReady, Nearest, NearReady, Near, Top, Bottom, CutReady, LiftReady, Lifted, Shifted};
 
 // The bits below n that are not in the part.
 fn others(n: usize, part: u64) -> u64
@@ -204,15 +204,26 @@ fn top(pot: &[u32; 96]) -> u32
     most
 }
 
-// The nodes of the part rise by d; its bit k is node first + k.
-fn raise(part: u64, first: usize, d: u32, pot: &mut [u32; 96])
-    requires { ⌜ RaiseReady part first d (now pot) ⌝ }
-    ensures { λ _. ⌜ Raised part first d (now (pot .entry)) 0 (now (pot .exit)) ⌝ }
+// A number that no potential is below: it has each bit that all of them have.
+fn bottom(pot: &[u32; 96]) -> u32
+    ensures { λ r. ⌜ Bottom (now (pot .entry)) 96 r ⌝ }
+{
+    let mut least: u32 = u32::MAX;
+    for v in 0..96 {
+        least = least & pot[v];
+    }
+    least
+}
+
+// The nodes of the part rise by up and fall by down; its bit k is node first + k.
+fn change(part: u64, first: usize, up: u32, down: u32, pot: &mut [u32; 96])
+    requires { ⌜ ChangeReady part first up down (now pot) ⌝ }
+    ensures { λ _. ⌜ Changed part first up down (now (pot .entry)) 0 (now (pot .exit)) ⌝ }
 {
     let mut left = part;
     while 0 < left {
         let v = first + u64::trailing_zeros(left) as usize;
-        pot[v] = pot[v] + d;
+        pot[v] = pot[v] + up - down;
         left = left & (left - 1);
     }
 }
@@ -224,9 +235,9 @@ pub struct Outcome {
 }
 
 // The rise of a part by d, where it is plain that no potential comes above 800,000,000.
-fn lift(rows: u32, cols: u64, d: u32, pot: &mut [u32; 96]) -> bool
+fn rise(rows: u32, cols: u64, d: u32, pot: &mut [u32; 96]) -> bool
     requires { ⌜ length (now pot) ≡ 96 ⌝ }
-    ensures { λ r. ⌜ Lifted rows cols d (now (pot .entry)) (now (pot .exit)) r ⌝ }
+    ensures { λ r. ⌜ Lifted 32 64 rows cols d (now (pot .entry)) (now (pot .exit)) r ⌝ }
 {
     let most = top(pot);
     if 800_000_000 < most {
@@ -235,9 +246,42 @@ fn lift(rows: u32, cols: u64, d: u32, pot: &mut [u32; 96]) -> bool
     if 800_000_000 - most < d {
         return false;
     }
-    raise(rows as u64, 0, d, pot);
-    raise(cols, 32, d, pot);
+    change(rows as u64, 0, d, 0, pot);
+    change(cols, 32, d, 0, pot);
     true
+}
+
+// The fall of all nodes but the part by d, where it is plain that no potential comes below 416,000,000.
+fn fall(m: usize, n: usize, rows: u32, cols: u64, d: u32, pot: &mut [u32; 96]) -> bool
+    requires { ⌜ LiftReady m n (now pot) ⌝ }
+    ensures { λ r. ⌜ Lifted m n rows cols d (now (pot .entry)) (now (pot .exit)) r ⌝ }
+{
+    let least = bottom(pot);
+    if least < 416_000_000 {
+        return false;
+    }
+    if least - 416_000_000 < d {
+        return false;
+    }
+    let sources = others(m, rows as u64);
+    let terminals = others(n, cols);
+    change(sources, 0, 0, d, pot);
+    change(terminals, 32, 0, d, pot);
+    true
+}
+
+// The part comes to stand higher by d against the other nodes: it rises, or these fall, where the terminals among them are fewer.
+fn lift(m: usize, n: usize, rows: u32, cols: u64, d: u32, pot: &mut [u32; 96]) -> bool
+    requires { ⌜ LiftReady m n (now pot) ⌝ }
+    ensures { λ r. ⌜ Lifted m n rows cols d (now (pot .entry)) (now (pot .exit)) r ⌝ }
+{
+    if 2 * u64::count_ones(cols) as usize <= n {
+        return rise(rows, cols, d, pot);
+    }
+    if fall(m, n, rows, cols, d, pot) {
+        return true;
+    }
+    rise(rows, cols, d, pot)
 }
 
 // The cut of a part, whichever it is.
@@ -266,7 +310,7 @@ pub fn cut(
     if far.key < 800_000_000 {
         return none;
     }
-    let done = lift(rows, cols, far.key - 800_000_000, pot);
+    let done = lift(m, n, rows, cols, far.key - 800_000_000, pot);
     Outcome {
         done,
         node: far.node,

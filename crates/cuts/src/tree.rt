@@ -5,23 +5,26 @@
 // No node.
 pub const NONE: u32 = 96;
 
-// A part is taken off the nodes from one up to source 0, where they have it, or put on them, where they have not.
+// A part is taken off the nodes from one on upwards, or put on them, as far as source stop hangs from none of them.
 fn turn_over(
     from: u32,
+    stop: u32,
     r: u32,
     c: u64,
     up: &[u32; 128],
     rows: &mut [u32; 128],
     cols: &mut [u64; 128],
 ) {
+    let bit = 1u32 << stop % 32;
     let mut a = from;
     let mut left: u32 = 96;
     while 0 < left {
-        if a == 0 {
+        let v = (a % 128) as usize;
+        let part = rows[v];
+        if part & bit != 0 {
             return;
         }
-        let v = (a % 128) as usize;
-        rows[v] = rows[v] ^ r;
+        rows[v] = part ^ r;
         cols[v] = cols[v] ^ c;
         a = up[v];
         left = left - 1;
@@ -63,7 +66,7 @@ fn turn_round(
     }
 }
 
-// The part below v leaves the node above it and hangs from host by its node e.
+// The part below source v leaves the node above it and hangs from source host by its node e. Nodes above both v and host keep it.
 pub fn rehang(
     v: u32,
     e: u32,
@@ -76,7 +79,7 @@ pub fn rehang(
     let r = rows[k];
     let c = cols[k];
     let above = up[k];
-    turn_over(above, r, c, up, rows, cols);
-    turn_over(host, r, c, up, rows, cols);
+    turn_over(above, host, r, c, up, rows, cols);
+    turn_over(host, v, r, c, up, rows, cols);
     turn_round(v, e, host, r, c, up, rows, cols);
 }

@@ -1,7 +1,6 @@
 // One pivot: the lane from source i to terminal j comes into the tree, and one on the way between them leaves.
 use super::tree::NONE;
-use super::tree::put_on;
-use super::tree::take_off;
+use super::tree::turn_over;
 use super::tree::turn_round;
 use std::num::wrapping_add_u32;
 use std::num::wrapping_sub_u32;
@@ -119,6 +118,30 @@ fn raise_terminals(part: u64, d: u32, key: &mut [u32; 64]) {
     }
 }
 
+// A part rises. Where it has more than half of 64 terminals the rest of all nodes falls in its place, as long as source 0 stays near 2^24, from which
+// the potentials must not go far.
+fn shift(
+    r: u32,
+    c: u64,
+    all_rows: u32,
+    all_cols: u64,
+    rise: u32,
+    p: &mut [u32; 32],
+    key: &mut [u32; 64],
+) {
+    if 32 < u64::count_ones(c) {
+        let fall = wrapping_sub_u32(0, rise);
+        let from_low = wrapping_sub_u32(wrapping_add_u32(p[0], fall), 12_582_912);
+        if from_low < 8_388_608 {
+            raise_sources(all_rows ^ r, fall, p);
+            raise_terminals(all_cols ^ c, fall, key);
+            return;
+        }
+    }
+    raise_sources(r, rise, p);
+    raise_terminals(c, rise, key);
+}
+
 // The pivot at a lane that is d too cheap.
 pub fn pivot(
     i: u32,
@@ -148,8 +171,8 @@ pub fn pivot(
     let rise = if first { d } else { fall };
     let end = if first { i } else { j };
     let host = if first { j } else { i };
-    take_off(from, top, r, c, lost, won, up, rows, cols, flow);
-    put_on(host, top, r, c, won, lost, up, rows, cols, flow);
+    turn_over(from, top, r, c, lost, won, up, rows, cols, flow);
+    turn_over(host, top, r, c, won, lost, up, rows, cols, flow);
     turn_round(
         node,
         end,
@@ -164,6 +187,5 @@ pub fn pivot(
         cols,
         flow,
     );
-    raise_sources(r, rise, p);
-    raise_terminals(c, rise, key);
+    shift(r, c, rows[0], cols[0], rise, p, key);
 }

@@ -37,9 +37,9 @@ fn gain(a: u32, source: u32, terminal: u32) -> u32 {
     if a < 32 { source } else { terminal }
 }
 
-// Takes a part off from the node where it hung and from those above it, below stop; their lanes gain, those above sources one amount, those
-// above terminals another.
-pub fn take_off(
+// A part is taken off the nodes from one on upwards, below stop, where they have it, or put on them, where they have not; their lanes gain, those above
+// sources one amount, those above terminals another.
+pub fn turn_over(
     from: u32,
     stop: u32,
     r: u32,
@@ -58,36 +58,8 @@ pub fn take_off(
             return;
         }
         let v = (a % 128) as usize;
-        rows[v] = rows[v] & (u32::MAX - r);
-        cols[v] = cols[v] & (u64::MAX - c);
-        flow[v] = wrapping_add_u32(flow[v], gain(a, source, terminal));
-        a = up[v];
-        left = left - 1;
-    }
-}
-
-// Adds a part to the node where it hangs now and to those above it, below stop; their lanes gain too.
-pub fn put_on(
-    from: u32,
-    stop: u32,
-    r: u32,
-    c: u64,
-    source: u32,
-    terminal: u32,
-    up: &[u32; 128],
-    rows: &mut [u32; 128],
-    cols: &mut [u64; 128],
-    flow: &mut [u32; 128],
-) {
-    let mut a = from;
-    let mut left: u32 = 96;
-    while 0 < left {
-        if a == stop {
-            return;
-        }
-        let v = (a % 128) as usize;
-        rows[v] = rows[v] | r;
-        cols[v] = cols[v] | c;
+        rows[v] = rows[v] ^ r;
+        cols[v] = cols[v] ^ c;
         flow[v] = wrapping_add_u32(flow[v], gain(a, source, terminal));
         a = up[v];
         left = left - 1;

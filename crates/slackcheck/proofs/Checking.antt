@@ -7,8 +7,8 @@ use Prim.Native.Nat.{ℕ, zero, suc, _+_, _-_, _*_, _%_, _^_, _≤_, _<_}
 use native.Mathlib.Decide.{ℕ-discrete, decLt}
 use native.Mathlib.Omega.{arith}
 use borrow.Author.Count.{below-more}
-use borrow.Author.Tests.{leb-true, eqb-true}
-use lib.Dec.{leb, eqb}
+use borrow.Author.Tests.{ltb-true, eqb-true}
+use lib.Dec.{ltb, eqb}
 use lib.ListN.{length, set, length-set, replicate, length-replicate, getD-replicate}
 use lib.Seq.{getD-set-same, getD-set-other}
 use lib.Pow.{pow-pos, pow-lt}
@@ -18,6 +18,7 @@ use Rattle.transport.specs.Plan.{Table, row, col}
 use Rattle.transport.specs.Curve.{amountsAt}
 use Rattle.residual.specs.Cells.{cells}
 use Rattle.residual.specs.Network.{get}
+use Rattle.residual.proofs.Bits.{or-above}
 use Rattle.residual.specs.Bits.{bit}
 use Rattle.residual.specs.LanesInUse.{Covers}
 use Rattle.slackcheck.specs.Checked.{Good, RowChecked, Few, Got}
@@ -37,50 +38,65 @@ pub one : (a b : Bool) → (a || b) ≡ true → (a ≡ true) ⊎ (b ≡ true)
 one true b e = inl refl
 one false b e = inr e
 
--- the tests of a lane
-pub lane-good : (c u x p q : ℕ) → ((((leb x u) && (leb x 1048575)) && (leb q (c + p))) && ((eqb x 0) || (leb (c + p) q))) ≡ true → Good c u x p q
-lane-good c u x p q e =
-    let a = leb x u in
-    let b = leb x 1048575 in
-    let r = leb q (c + p) in
-    let t = (eqb x 0) || (leb (c + p) q) in
-    let h = both ((a && b) && r) t e in let k = both (a && b) r (h .0) in record {
-      under = leb-true x u (both a b (k .0) .0);
-      few = leb-true x 1048575 (both a b (k .0) .1);
-      slack = record {
-        ahead = λ _. leb-true q (c + p) (k .1);
-        back = λ l. elim (one (eqb x 0) (leb (c + p) q) (h .1)) [ inl z ↦ absurd (omega (arith, eqb-true x 0 z)) | inr z ↦ leb-true (c + p) q z ];
-      };
-    }
+-- where a number with the bits of two is below a limit, both are
+or-below : {k : ℕ} (a b : ℕ) → bitOr a b < k → (a < k) × (b < k)
+or-below a b h = (omega (arith, or-above a b), omega (arith, or-above a b))
 
--- ---- the lanes of source i before j: where all are good, what they carry is summed
-
-pub record RowTo (n : ℕ) (c u x : Table) (p : List ℕ) (i : ℕ) (good : Bool) (sent j : ℕ) : Type 0 where
-  pub most : j ≤ n
-  pub small : sent ≤ j * 1048575
-  pub lanes : good ≡ true → (b : ℕ) → b < j → Good (c i b) (u i b) (x i b) (get p i) (get p (32 + b))
-  pub sum : good ≡ true → sent ≡ row j x i
-
-pub row-start : {n : ℕ} {c u x : Table} {p : List ℕ} {i : ℕ} → RowTo n c u x p i true 0 0
-unfolding row
-row-start {x = x} {i = i} = record { most = omega arith; small = omega arith; lanes = λ _ b l. absurd (omega arith); sum = λ _. sym (sum-zero (λ j. x i j)) }
-
-pub row-next : {n : ℕ} {c u x : Table} {p : List ℕ} {i : ℕ} {good lane : Bool} {sent j : ℕ} → RowTo n c u x p i good sent j → j < n
-    → (lane ≡ true → Good (c i j) (u i j) (x i j) (get p i) (get p (32 + j))) → RowTo n c u x p i (good && lane) (sent + x i j % 1048576) (j + 1)
-unfolding row
-row-next {x = x} {i = i} {good} {lane} {sent} {j} q h o = record {
-  most = omega arith;
-  small = omega (arith, q .small);
-  lanes = λ e. below-more _ _ (q .lanes (both good lane e .0)) (o (both good lane e .1));
-  sum = λ e. let z : x i j % 1048576 ≡ x i j = omega (arith, o (both good lane e .1) .few) in rw z (sum-more j (λ b. x i b) sent (q .sum (both good lane e .0)));
+-- the tests of a lane: gap is the source's potential and the unit cost less the terminal's potential, room the ceiling less the amount, both modulo
+-- 2^32; below 2^31 neither has wrapped
+lane-good : {c u x p q gap room : ℕ} → q ≤ 800000000 → (gap + q) % 2 ^ 32 ≡ c + p → (room + x) % 2 ^ 32 ≡ u
+    → (eqb x 0 || eqb gap 0) ≡ true → gap < 2147483648 → room < 2147483648 → x < 1048576 → Good c u x p q
+lane-good {x = x} {gap = gap} h g r t a b l = record {
+  under = omega arith;
+  few = omega arith;
+  slack = record {
+    ahead = λ _. omega arith;
+    back = λ k. elim (one (eqb x 0) (eqb gap 0) t) [ inl z ↦ absurd (omega (arith, eqb-true x 0 z)) | inr z ↦ omega (arith, eqb-true gap 0 z) ];
+  };
 }
 
-pub row-end : {n : ℕ} {c u x : Table} {p : List ℕ} {i : ℕ} {good : Bool} {sent j amount : ℕ} → RowTo n c u x p i good sent j → n ≤ j
-    → (good && eqb sent amount) ≡ true → RowChecked n c u x p i amount
-row-end {n = n} {x = x} {i = i} {good} {sent} {j} {amount} q h e =
-    let g = both good (eqb sent amount) e in let z : j ≡ n = omega (arith, q .most) in record {
-      sent = rw (← z) (sym (q .sum (g .0)) ∙ eqb-true sent amount (g .1));
-      lanes = λ b l. q .lanes (g .0) b (omega arith);
+-- ---- the lanes of source i before j: where those in use are tight, no difference has wrapped and no amount is large, all are good, and what they carry is summed
+
+pub record RowTo (n : ℕ) (c u x : Table) (p : List ℕ) (i : ℕ) (tight : Bool) (signs all sent j : ℕ) : Type 0 where
+  pub most : j ≤ n
+  pub small : sent ≤ j * 1048575
+  pub lanes : tight ≡ true → signs < 2147483648 → all < 1048576 → (b : ℕ) → b < j → Good (c i b) (u i b) (x i b) (get p i) (get p (32 + b))
+  pub sum : all < 1048576 → sent ≡ row j x i
+
+pub row-start : {n : ℕ} {c u x : Table} {p : List ℕ} {i : ℕ} → RowTo n c u x p i true 0 0 0 0
+unfolding row
+row-start {x = x} {i = i} = record { most = omega arith; small = omega arith; lanes = λ _ _ _ b l. absurd (omega arith); sum = λ _. sym (sum-zero (λ j. x i j)) }
+
+pub row-next : {n : ℕ} {c u x : Table} {p : List ℕ} {i : ℕ} {tight : Bool} {signs all sent j : ℕ} (gap room : ℕ) → RowTo n c u x p i tight signs all sent j → j < n
+    → get p (32 + j) ≤ 800000000 → (gap + get p (32 + j)) % 2 ^ 32 ≡ c i j + get p i → (room + x i j) % 2 ^ 32 ≡ u i j
+    → RowTo n c u x p i (tight && (eqb (x i j) 0 || eqb gap 0)) (bitOr (bitOr signs gap) room) (bitOr all (x i j)) (sent + x i j % 1048576) (j + 1)
+unfolding row
+row-next {x = x} {i = i} {tight} {signs} {all} {sent} {j} gap room q h k g r = record {
+  most = omega arith;
+  small = omega (arith, q .small);
+  lanes = λ e s a.
+      let o = both tight (eqb (x i j) 0 || eqb gap 0) e in
+      let w = or-below (bitOr signs gap) room s in
+      let v = or-below signs gap (w .0) in
+      let y = or-below all (x i j) a in
+      below-more _ _ (q .lanes (o .0) (v .0) (y .0)) (lane-good k g r (o .1) (v .1) (w .1) (y .1));
+  sum = λ a.
+      let y = or-below all (x i j) a in
+      let z : x i j % 1048576 ≡ x i j = omega arith in rw z (sum-more j (λ b. x i b) sent (q .sum (y .0)));
+}
+
+pub row-end : {n : ℕ} {c u x : Table} {p : List ℕ} {i : ℕ} {tight : Bool} {signs all sent j amount : ℕ} → RowTo n c u x p i tight signs all sent j → n ≤ j
+    → (((tight && ltb signs 2147483648) && ltb all 1048576) && eqb sent amount) ≡ true → RowChecked n c u x p i amount
+row-end {n = n} {x = x} {i = i} {tight} {signs} {all} {sent} {j} {amount} q h e =
+    let s = ltb signs 2147483648 in
+    let a = ltb all 1048576 in
+    let g = both ((tight && s) && a) (eqb sent amount) e in
+    let f = both (tight && s) a (g .0) in
+    let t = both tight s (f .0) in
+    let few = ltb-true all 1048576 (f .1) in
+    let z : j ≡ n = omega (arith, q .most) in record {
+      sent = rw (← z) (sym (q .sum few) ∙ eqb-true sent amount (g .1));
+      lanes = λ b l. q .lanes (t .0) (ltb-true signs 2147483648 (t .1)) few b (omega arith);
     }
 
 -- ---- what the terminals get, with the lanes of source i before j

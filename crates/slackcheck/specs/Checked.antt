@@ -32,6 +32,7 @@ pub record RowReady (n : ℕ) (c : Table) (p : List ℕ) (i : ℕ) : Type 0 wher
   pub terminals : n ≤ 64
   pub costs : (j : ℕ) → j < n → c i j ≤ 2000000
   pub high : get p i ≤ 800000000
+  pub ends : (j : ℕ) → j < n → get p (32 + j) ≤ 800000000
 
 -- source i sends its amount on good lanes
 pub record RowChecked (n : ℕ) (c u x : Table) (p : List ℕ) (i amount : ℕ) : Type 0 where

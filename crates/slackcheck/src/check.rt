@@ -1,24 +1,16 @@
 // The check of a plan and its potentials.
+use std::num::wrapping_sub_u32;
 ghost use mathlib.Core.Path.{_≡_};
 ghost use mathlib.Core.Bool.{true};
 ghost use Prim.Native.Nat.{_+_, _≤_, _<_};
 ghost use Rattle.transport.specs.Curve.{amountsAt};
 ghost use Rattle.residual.specs.Cells.{cells};
 ghost use Rattle.residual.specs.Network.{get};
-ghost use Rattle.slackcheck.specs.Checked.{Good, Levels, CheckReady, RowReady, RowChecked, RowsChecked, Few, Got, ColumnsChecked, Checked};
+ghost use Rattle.slackcheck.specs.Checked.{Levels, CheckReady, RowReady, RowChecked, RowsChecked, Few, Got, ColumnsChecked, Checked};
 
-// Is a lane within its ceiling and slack: no terminal's potential is above its source's and the unit cost, and it is equal where drums go? And does
-// it carry less than 2^20, so that sums fit? No branch: four lanes are looked at at a time.
-fn lane_good(cost: u32, cap: u32, amount: u32, p: u32, q: u32) -> bool
-    requires { ⌜ (cost ≤ 2000000) × (p ≤ 800000000) ⌝ }
-    ensures { λ r. ⌜ (r ≡ true → Good cost cap amount p q) ⌝ }
-{
-    let far = cost + p;
-    let tight = (amount == 0) | (far <= q);
-    (amount <= cap) & (amount <= 1_048_575) & (q <= far) & tight
-}
-
-// Does source i send this amount, on lanes that are slack?
+// Does source i send this amount, on lanes within their ceilings that are slack, each with less than 2^20, so that sums fit? Where a terminal's
+// potential is above its source's and the unit cost, or an amount above its ceiling, the difference modulo 2^32 has its top bit set. No branch, and no
+// comparison of words without signs, which plain vectors do not have: four lanes are looked at at a time.
 fn row_good(
     n: usize,
     i: usize,
@@ -32,16 +24,21 @@ fn row_good(
     ensures { λ r. ⌜ (r ≡ true → RowChecked n (cells (now (cost .entry))) (cells (now (cap .entry))) (cells (now (x .entry))) (now (pot .entry)) i amount) ⌝ }
 {
     let p = pot[i];
-    let mut good = true;
+    let mut tight = true;
+    let mut signs: u32 = 0;
+    let mut all: u32 = 0;
     let mut sent: u32 = 0;
     for j in 0..n {
         let k = i * 64 + j;
         let part = x[k];
-        let lane = lane_good(cost[k], cap[k], part, p, pot[32 + j]);
-        good = good & lane;
+        let gap = wrapping_sub_u32(cost[k] + p, pot[32 + j]);
+        let room = wrapping_sub_u32(cap[k], part);
+        tight = tight & ((part == 0) | (gap == 0));
+        signs = signs | gap | room;
+        all = all | part;
         sent = sent + part % 1_048_576;
     }
-    good & (sent == amount)
+    tight & (signs < 2_147_483_648) & (all < 1_048_576) & (sent == amount)
 }
 
 // What source i sends at a split of what both plants make.

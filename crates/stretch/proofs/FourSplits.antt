@@ -1,190 +1,147 @@
--- The scan of a stretch four splits at a time, and the incumbent from its split and its total. Assumes nothing.
-use mathlib.Core.Path.{_≡_, refl, sym, ap, _∙_}
+-- The splits of a stretch looked at in fours: only the first four of least total has to be looked at split by split. Assumes nothing.
+use mathlib.Core.Path.{_≡_, sym, ap, _∙_}
 use mathlib.Core.List.{List}
-use Prim.Native.Nat.{ℕ, zero, suc, _+_, _-_, _*_, _≤_, _<_}
+use Prim.Native.Nat.{ℕ, zero, suc, min, _+_, _-_, _*_, _≤_, _<_}
 use native.Mathlib.Decide.{decLt}
+use native.Mathlib.Nat.{add-zero, add-suc}
 use native.Mathlib.Omega.{arith}
 use lib.ListN.{getD}
-use borrow.Author.Tests.{lt-ltb, le-ltb}
-use Rattle.stretch.specs.Scan.{along, better, scanned, ScanReady}
-use Rattle.stretch.specs.FirstLeast.{firstLeast, looked, lookOf, lookAt, firstOfFour, FourReady, Looking}
+use Rattle.stretch.specs.Scan.{along, better, scanned, scannedPart, ScanReady, LineReady}
+use Rattle.stretch.specs.LeastOfFour.{totalAt, leastOfFour, Lowest}
 use Rattle.stretch.specs.declared.Incumbent.{Incumbent}
-use Rattle.stretch.specs.declared.scan.Look.{Look}
-use Rattle.stretch.proofs.IncumbentScan.{better-new, better-old, scanned-none, scanned-more, along-is, line-room}
+use Rattle.stretch.specs.declared.scan.Block.{Block}
+use Rattle.stretch.proofs.IncumbentScan.{better-new, better-old, scanned-none, scanned-more, along-is}
 
--- ---- the first of least total
+-- ---- the total of the incumbent
 
-pub pick-new : (a b : Look) → b .total < a .total → firstLeast a b ≡ b
-unfolding firstLeast
-pick-new a b h = rw (lt-ltb (b .total) (a .total) h)
-
-pub pick-old : (a b : Look) → a .total ≤ b .total → firstLeast a b ≡ a
-unfolding firstLeast
-pick-old a b h = rw (le-ltb (b .total) (a .total) h)
-
-pick-assoc : (a b c : Look) → firstLeast (firstLeast a b) c ≡ firstLeast a (firstLeast b c)
-pick-assoc a b c = elim (decLt (b .total) (a .total)) [
-  | yes l ↦ elim (decLt (c .total) (b .total)) [
-    | yes h ↦ rw (pick-new b c h, pick-new a b l) (pick-new b c h ∙ sym (pick-new a c (omega arith)))
-    | no h ↦ rw (pick-old b c (omega arith), pick-new a b l) (pick-old b c (omega arith))
-  ]
-  | no l ↦ elim (decLt (c .total) (b .total)) [
-    | yes h ↦ rw (pick-new b c h, pick-old a b (omega arith)) refl
-    | no h ↦ rw (pick-old b c (omega arith), pick-old a b (omega arith)) (pick-old a c (omega arith))
-  ]
+better-total : (b : Incumbent) (y v e : ℕ) → (better b y v e) .total ≡ min (b .total) (v + e)
+better-total b y v e = elim (decLt (v + e) (b .total)) [
+  | yes h ↦ rw (better-new b y v e h) (omega arith)
+  | no h ↦ rw (better-old b y v e (omega arith)) (omega arith)
 ]
 
--- one by one is the same as the first of four
-four-assoc : (h a b c d : Look)
-    → firstLeast (firstLeast (firstLeast (firstLeast h a) b) c) d ≡ firstLeast h (firstLeast (firstLeast a b) (firstLeast c d))
-four-assoc h a b c d =
-    pick-assoc (firstLeast (firstLeast h a) b) c d
-    ∙ ap (λ z. firstLeast z (firstLeast c d)) (pick-assoc h a b)
-    ∙ pick-assoc h (firstLeast a b) (firstLeast c d)
+min-assoc : (a b c : ℕ) → min (min a b) c ≡ min a (min b c)
+min-assoc a b c = omega arith
 
-look-better : (b : Incumbent) (y v e : ℕ) → lookOf (better b y v e) ≡ firstLeast (lookOf b) (record { split = y; total = v + e })
-look-better b y v e = elim (decLt (v + e) (b .total)) [
-  | yes h ↦ ap lookOf (better-new b y v e h) ∙ sym (pick-new (lookOf b) (record { split = y; total = v + e }) h)
-  | no h ↦ ap lookOf (better-old b y v e (omega arith)) ∙ sym (pick-old (lookOf b) (record { split = y; total = v + e }) (omega arith))
-]
+module _ (table : List ℕ) (y v gain loss : ℕ) where
+  -- one split more: it is the smaller of the two
+  total-more : (b : Incumbent) (k : ℕ) → (scanned table y v gain loss b (suc k)) .total ≡ min ((scanned table y v gain loss b k) .total) (totalAt table y v gain loss (suc k))
+  total-more b k = rw (scanned-more table y v gain loss b k) (better-total (scanned table y v gain loss b k) (y + suc k) (along v gain loss (suc k)) (getD table (y + suc k) 0))
 
--- ---- the scan
+  total-four : (b : Incumbent) → (scanned table y v gain loss b 4) .total ≡ min (b .total) (leastOfFour table y v gain loss)
+  unfolding leastOfFour
+  total-four b = rw (total-more b 3, total-more b 2, total-more b 1, total-more b 0, scanned-none table y v gain loss b) (simp min-assoc)
 
-module _ (table : List ℕ) (y v gain loss : ℕ) (b : Incumbent) where
-  look-more : (t k : ℕ) → k ≡ suc t → lookOf (scanned table y v gain loss b k) ≡ firstLeast (lookOf (scanned table y v gain loss b t)) (lookAt table y v gain loss k)
-  look-more t k e = rw e (ap lookOf (scanned-more table y v gain loss b t) ∙ look-better (scanned table y v gain loss b t) (y + suc t) (along v gain loss (suc t)) (getD table (y + suc t) 0))
+  total-falls : (b : Incumbent) (k : ℕ) → (scanned table y v gain loss b k) .total ≤ b .total
+  total-falls b zero = rw (scanned-none table y v gain loss b) (omega arith)
+  total-falls b (suc k) = omega (arith, total-more b k, total-falls b k)
 
-  look-four : (t : ℕ) → lookOf (scanned table y v gain loss b (t + 4)) ≡ firstLeast (lookOf (scanned table y v gain loss b t))
-      (firstLeast (firstLeast (lookAt table y v gain loss (t + 1)) (lookAt table y v gain loss (t + 2))) (firstLeast (lookAt table y v gain loss (t + 3)) (lookAt table y v gain loss (t + 4))))
-  look-four t =
-      let at : ℕ → Look = lookAt table y v gain loss in
-      look-more (t + 3) (t + 4) (omega arith)
-      ∙ ap (λ z. firstLeast z (at (t + 4))) (look-more (t + 2) (t + 3) (omega arith))
-      ∙ ap (λ z. firstLeast (firstLeast z (at (t + 3))) (at (t + 4))) (look-more (t + 1) (t + 2) (omega arith))
-      ∙ ap (λ z. firstLeast (firstLeast (firstLeast z (at (t + 2))) (at (t + 3))) (at (t + 4))) (look-more t (t + 1) (omega arith))
-      ∙ four-assoc (lookOf (scanned table y v gain loss b t)) (at (t + 1)) (at (t + 2)) (at (t + 3)) (at (t + 4))
+  -- an incumbent whose total does not fall stays
+  scanned-same : (b : Incumbent) (k : ℕ) → b .total ≤ (scanned table y v gain loss b k) .total → scanned table y v gain loss b k ≡ b
+  scanned-same b zero h = scanned-none table y v gain loss b
+  scanned-same b (suc k) h =
+      scanned-more table y v gain loss b k
+      ∙ better-old (scanned table y v gain loss b k) (y + suc k) (along v gain loss (suc k)) (getD table (y + suc k) 0) (omega (arith, total-more b k, total-falls b k))
+      ∙ scanned-same b k (omega (arith, total-more b k))
 
-pub look-start : {table : List ℕ} {y v gain loss : ℕ} {b : Incumbent} → Looking table y v gain loss b 0 v (lookOf b)
-look-start {table} {y} {v} {gain} {loss} {b} = record {
-  fours = refl;
-  line = omega arith;
-  least = ap lookOf (sym (scanned-none table y v gain loss b));
+  total-less : (b b' : Incumbent) (k : ℕ) → b' .total ≤ b .total → (scanned table y v gain loss b' k) .total ≤ (scanned table y v gain loss b k) .total
+  total-less b b' zero h = rw (scanned-none table y v gain loss b, scanned-none table y v gain loss b') h
+  total-less b b' (suc k) h = omega (arith, total-more b k, total-more b' k, total-less b b' k h)
+
+  -- where the total falls, what it falls to does not depend on the incumbent before
+  scanned-either : (b b' : Incumbent) (k : ℕ) → b' .total ≤ b .total → (scanned table y v gain loss b' k) .total < b' .total
+      → scanned table y v gain loss b' k ≡ scanned table y v gain loss b k
+  scanned-either b b' zero h l = absurd (omega (arith, ap (λ (i : Incumbent). i .total) (scanned-none table y v gain loss b')))
+  scanned-either b b' (suc k) h l =
+      let s = scanned table y v gain loss b k in
+      let s' = scanned table y v gain loss b' k in
+      let value = along v gain loss (suc k) in
+      let entry = getD table (y + suc k) 0 in
+      rw (scanned-more table y v gain loss b k, scanned-more table y v gain loss b' k)
+      (elim (decLt (value + entry) (s' .total)) [
+        | yes n ↦ better-new s' (y + suc k) value entry n ∙ sym (better-new s (y + suc k) value entry (omega (arith, total-less b b' k h)))
+        | no n ↦ ap (λ (i : Incumbent). better i (y + suc k) value entry) (scanned-either b b' k h (omega (arith, total-more b' k)))
+      ])
+
+-- ---- a part of a stretch
+
+-- the line from the split reached on is the stretch's own
+along-on : (v gain loss t d : ℕ) → loss * t ≤ v + gain * t → along (along v gain loss t) gain loss d ≡ along v gain loss (t + d)
+unfolding along
+along-on v gain loss t d h = omega arith
+
+-- a scan that is taken up t drums on
+scanned-part : (table : List ℕ) (y v gain loss : ℕ) (b : Incumbent) (t d : ℕ) → loss * t ≤ v + gain * t
+    → scannedPart table y v gain loss (scanned table y v gain loss b t) t d ≡ scanned table y v gain loss b (t + d)
+scanned-part table y v gain loss b t zero h = rw add-zero (scanned-none table (y + t) (along v gain loss t) gain loss (scanned table y v gain loss b t))
+scanned-part table y v gain loss b t (suc d) h =
+    let e : y + t + suc d ≡ y + suc (t + d) = omega arith in
+    scanned-more table (y + t) (along v gain loss t) gain loss (scanned table y v gain loss b t) d
+    ∙ rw (scanned-part table y v gain loss b t d h, along-on v gain loss t (suc d) h, e, add-suc t d) (sym (scanned-more table y v gain loss b (t + d)))
+
+-- the rest of a scan
+pub scanned-rest : {table : List ℕ} {y k v gain loss t : ℕ} (b : Incumbent) {held s : Incumbent} → ScanReady table y k v gain loss → t ≤ k
+    → held ≡ scanned table y v gain loss b t → s ≡ scannedPart table y v gain loss held t (k - t) → s ≡ scanned table y v gain loss b k
+scanned-rest {table} {y} {k} {v} {gain} {loss} {t} b r h e f =
+    let all : t + (k - t) ≡ k = omega arith in
+    f ∙ rw e (scanned-part table y v gain loss b t (k - t) (r .above t h)) ∙ ap (scanned table y v gain loss b) all
+
+-- ---- the fours
+
+pub lowest-start : {table : List ℕ} {y v gain loss : ℕ} {b : Incumbent} → Lowest table y v gain loss b 0 (record { start = 0; total = b .total })
+lowest-start {table} {y} {v} {gain} {loss} {b} = record {
+  least = ap (λ (i : Incumbent). i .total) (sym (scanned-none table y v gain loss b));
+  within = λ h. omega arith;
+  found = λ h. absurd (omega arith);
 }
 
+-- the next four, of least total low
 module _
-    {table : List ℕ} {y k v gain loss : ℕ} {b : Incumbent} {t value : ℕ} {held : Look} (r : ScanReady table y k v gain loss)
-    (s : Looking table y v gain loss b t value held) (h : t + 4 ≤ k) where
-  above : (d : ℕ) → d ≤ 4 → loss * d ≤ value + gain * d
-  above d l = omega (arith, s .line, r .above (t + d) (omega arith))
+    {table : List ℕ} {y v gain loss : ℕ} {b : Incumbent} {t low : ℕ} {held : Block} (s : Lowest table y v gain loss b t held)
+    (value : ℕ) (line : value + loss * t ≡ v + gain * t) (e : low ≡ leastOfFour table (y + t) value gain loss) where
+  abbrev before : Incumbent
+  before = scanned table y v gain loss b t
 
-  pub four-ready : FourReady table (y + t) value gain loss
-  four-ready = record {
-    entries = omega (arith, r .entries);
-    small = λ d l. let e : y + t + d ≡ y + (t + d) = omega arith in rw e (r .small (t + d) (omega arith));
-    room = omega (arith, s .line, line-room {t = t + 4} r h .value);
-    above = above;
+  next : scannedPart table y v gain loss before t 4 ≡ scanned table y v gain loss b (t + 4)
+  next = scanned-part table y v gain loss b t 4 (omega arith)
+
+  falls : (scannedPart table y v gain loss before t 4) .total ≡ min (held .total) low
+  falls = cc (total-four table (y + t) (along v gain loss t) gain loss before, along-is v gain loss t value line, s .least)
+
+  pub lowest-new : low < held .total → Lowest table y v gain loss b (t + 4) (record { start = t; total = low })
+  lowest-new h = record {
+    least = rw (← next, falls) (omega arith);
+    within = λ l. omega arith;
+    found = λ l. sym next ∙ scanned-either table (y + t) (along v gain loss t) gain loss b before 4 (total-falls table y v gain loss b t) (omega (arith, falls, s .least));
   }
 
-  -- the line from the split reached on is the stretch's own
-  look-moved : (d : ℕ) → d ≤ 4 → lookAt table (y + t) value gain loss d ≡ lookAt table y v gain loss (t + d)
-  unfolding along
-  look-moved d l =
-      let e : y + t + d ≡ y + (t + d) = omega arith in
-      let a : value + gain * d - loss * d ≡ v + gain * (t + d) - loss * (t + d) = omega (arith, s .line, above d l) in
-      rw (e, a)
-
-  pub look-next : (held' : Look) → held' ≡ firstLeast held (firstOfFour table (y + t) value gain loss)
-      → Looking table y v gain loss b (t + 4) (value + 4 * gain - 4 * loss) held'
-  unfolding firstOfFour
-  look-next held' e = record {
-    fours = omega (arith, s .fours);
-    line = omega (arith, s .line, above 4 (omega arith));
-    least = cc (
-      e,
-      s .least,
-      look-moved 1 (omega arith),
-      look-moved 2 (omega arith),
-      look-moved 3 (omega arith),
-      look-moved 4 (omega arith),
-      look-four table y v gain loss b t,
-    );
+  pub lowest-old : held .total ≤ low → Lowest table y v gain loss b (t + 4) held
+  lowest-old h = record {
+    least = rw (← next, falls) (omega arith);
+    within = λ l. omega (arith, s .within l);
+    found = λ l. sym next ∙ scanned-same table (y + t) (along v gain loss t) gain loss before 4 (omega (arith, falls, s .least)) ∙ s .found l;
   }
+
+-- no total is below the incumbent's
+pub lowest-none : {table : List ℕ} {y v gain loss : ℕ} {b : Incumbent} {t : ℕ} {held : Block} → Lowest table y v gain loss b t held → b .total ≤ held .total
+    → b ≡ scanned table y v gain loss b t
+lowest-none {table} {y} {v} {gain} {loss} {b} {t} s h = sym (scanned-same table y v gain loss b t (omega (arith, s .least)))
 
 -- the four totals as they are reckoned, one drum after the other
-pub four-is : {table : List ℕ} {y v gain loss : ℕ} → FourReady table y v gain loss → {a b c d e f r : Look}
-    → a ≡ looked table (y + 1) (v + gain - loss)
-    → b ≡ looked table (y + 2) (v + gain - loss + gain - loss)
-    → c ≡ looked table (y + 3) (v + gain - loss + gain - loss + gain - loss)
-    → d ≡ looked table (y + 4) (v + gain - loss + gain - loss + gain - loss + gain - loss)
-    → e ≡ firstLeast a b → f ≡ firstLeast c d → r ≡ firstLeast e f → r ≡ firstOfFour table y v gain loss
-unfolding firstOfFour
-four-is {table} {y} {v} {gain} {loss} p ea eb ec ed ee ef er =
+pub four-is : {table : List ℕ} {y v gain loss a b c d e f r : ℕ} → LineReady table y 4 v gain loss
+    → a ≡ (v + gain - loss) + getD table (y + 1) 0
+    → b ≡ (v + gain - loss + gain - loss) + getD table (y + 2) 0
+    → c ≡ (v + gain - loss + gain - loss + gain - loss) + getD table (y + 3) 0
+    → d ≡ (v + gain - loss + gain - loss + gain - loss + gain - loss) + getD table (y + 4) 0
+    → e ≡ min a b → f ≡ min c d → r ≡ min e f → r ≡ leastOfFour table y v gain loss
+unfolding leastOfFour
+four-is {table} {y} {v} {gain} {loss} p =
     let l1 = p .above 1 (omega arith) in
     let l2 = p .above 2 (omega arith) in
     let l3 = p .above 3 (omega arith) in
     let l4 = p .above 4 (omega arith) in
-    cc (
-      along-is v gain loss 1 (v + gain - loss) (omega (arith, l1)),
-      along-is v gain loss 2 (v + gain - loss + gain - loss) (omega (arith, l1, l2)),
-      along-is v gain loss 3 (v + gain - loss + gain - loss + gain - loss) (omega (arith, l1, l2, l3)),
-      along-is v gain loss 4 (v + gain - loss + gain - loss + gain - loss + gain - loss) (omega (arith, l1, l2, l3, l4)),
-    )
-
--- ---- the incumbent from its split and its total
-
--- the incumbent s of a scan of k splits: the one before, or one of smaller total, t drums on
-data Came (y v gain loss k : ℕ) (b s : Incumbent) : Type 0 where
-  kept : s ≡ b → Came y v gain loss k b s
-  gone : (t : ℕ) → t ≤ k → s .split ≡ y + t → s .freight ≡ along v gain loss t → s .total < b .total → Came y v gain loss k b s
-
-came-most : {y v gain loss k : ℕ} {b s : Incumbent} → Came y v gain loss k b s → s .total ≤ b .total
-came-most (kept e) = omega (arith, ap (λ (i : Incumbent). i .total) e)
-came-most (gone t h p q l) = omega arith
-
-came-later : {y v gain loss k : ℕ} {b s : Incumbent} → Came y v gain loss k b s → Came y v gain loss (suc k) b s
-came-later (kept e) = kept e
-came-later (gone t h p q l) = gone t (omega arith) p q l
-
-came : (table : List ℕ) (y v gain loss : ℕ) (b : Incumbent) (k : ℕ) → Came y v gain loss k b (scanned table y v gain loss b k)
-came table y v gain loss b zero = kept (scanned-none table y v gain loss b)
-came table y v gain loss b (suc k) =
-    let before = scanned table y v gain loss b k in
-    let value = along v gain loss (suc k) in
-    let entry = getD table (y + suc k) 0 in
-    elim (decLt (value + entry) (before .total)) [
-      | yes h ↦ rw (scanned-more table y v gain loss b k, better-new before (y + suc k) value entry h)
-          (gone (suc k) (omega arith) refl refl (omega (arith, came-most (came table y v gain loss b k))))
-      | no h ↦ rw (scanned-more table y v gain loss b k, better-old before (y + suc k) value entry (omega arith)) (came-later (came table y v gain loss b k))
-    ]
-
--- a look of smaller total than the incumbent's: its place on the stretch, and its freight there
-pub record Reckoned (y v gain loss k : ℕ) (held : Look) (s : Incumbent) : Type 0 where
-  pub from : y ≤ held .split
-  pub within : held .split - y ≤ k
-  pub same : record { split = held .split; total = held .total; freight = (v + gain * (held .split - y)) - loss * (held .split - y) } ≡ s
-
-same-incumbent : {x z f : ℕ} {s : Incumbent} → x ≡ s .split → z ≡ s .total → f ≡ s .freight → record { split = x; total = z; freight = f } ≡ s
-same-incumbent p q w = rw (p, q, w) refl
-
-reckon : {y v gain loss k : ℕ} {b s : Incumbent} {held : Look} → Came y v gain loss k b s → held ≡ lookOf s → held .total < b .total → Reckoned y v gain loss k held s
-unfolding along
-reckon (kept e) c h = absurd (omega (arith, ap (λ (i : Incumbent). i .total) e, ap (λ (l : Look). l .total) c))
-reckon {y} {v} {gain} {loss} {held = held} (gone t w p q l) c h =
-    let split = ap (λ (x : Look). x .split) c in
-    let went : held .split - y ≡ t = omega (arith, split, p) in
-    record {
-      from = omega (arith, split, p);
-      within = omega (arith, went);
-      same = same-incumbent split (ap (λ (x : Look). x .total) c) (ap (λ (d : ℕ). (v + gain * d) - loss * d) went ∙ sym q);
-    }
-
-keep : {y v gain loss k : ℕ} {b s : Incumbent} {held : Look} → Came y v gain loss k b s → held ≡ lookOf s → b .total ≤ held .total → b ≡ s
-keep (kept e) c h = sym e
-keep (gone t w p q l) c h = absurd (omega (arith, ap (λ (x : Look). x .total) c))
-
-module _ {table : List ℕ} {y v gain loss : ℕ} {b : Incumbent} {t value : ℕ} {held : Look} (s : Looking table y v gain loss b t value held) where
-  pub look-kept : b .total ≤ held .total → b ≡ scanned table y v gain loss b t
-  look-kept = keep (came table y v gain loss b t) (s .least)
-
-  pub look-reckoned : held .total < b .total → Reckoned y v gain loss t held (scanned table y v gain loss b t)
-  look-reckoned = reckon (came table y v gain loss b t) (s .least)
+    let e1 = along-is v gain loss 1 (v + gain - loss) (omega arith) in
+    let e2 = along-is v gain loss 2 (v + gain - loss + gain - loss) (omega arith) in
+    let e3 = along-is v gain loss 3 (v + gain - loss + gain - loss + gain - loss) (omega arith) in
+    let e4 = along-is v gain loss 4 (v + gain - loss + gain - loss + gain - loss + gain - loss) (omega arith) in
+    λ ea eb ec ed ee ef er. cc

@@ -2,12 +2,12 @@
 use mathlib.Core.Path.{_≡_, refl, sym, _∙_}
 use mathlib.Core.List.{List}
 use Prim.Native.Nat.{ℕ, suc, _+_, _-_, _*_, _≤_, _<_}
-use native.Mathlib.Nat.{mul-le-mul}
+use native.Mathlib.Nat.{mul-le-mul, mul-le-mul-left}
 use native.Mathlib.Numerals.{add-one}
 use native.Mathlib.Omega.{arith}
 use lib.ListN.{getD}
 use borrow.Author.Tests.{lt-ltb, le-ltb}
-use Rattle.stretch.specs.Scan.{along, better, scanned, ScanReady, Scanning}
+use Rattle.stretch.specs.Scan.{along, better, scanned, ScanReady, LineReady, Scanning}
 use Rattle.stretch.specs.declared.Incumbent.{Incumbent}
 
 -- a smaller total takes the incumbent's place, no other does
@@ -51,16 +51,35 @@ line-room {t = t} r h =
       above = r .above t h;
     }
 
--- a scan that is taken up t drums on
-pub scan-from : {table : List ℕ} {y v gain loss t : ℕ} {b held : Incumbent} → LineRoom v gain loss t → held ≡ scanned table y v gain loss b t
-    → Scanning table y v gain loss b t (v + gain * t - loss * t) held
-scan-from r e = record { line = omega (arith, r .above); best = e }
+-- a part of a stretch, from t drums on, is a line of its own
+pub line-ready : {table : List ℕ} {y k v gain loss value : ℕ} (t d : ℕ) → ScanReady table y k v gain loss → t + d ≤ k → value + loss * t ≡ v + gain * t
+    → LineReady table (y + t) d value gain loss
+line-ready {y = y} t d r h line = record {
+  entries = omega (arith, r .entries);
+  small = λ i l. let e : y + t + i ≡ y + (t + i) = omega arith in rw e (r .small (t + i) (omega arith));
+  room = omega (arith, line-room {t = t + d} r h .value);
+  above = λ i l. omega (arith, r .above (t + i) (omega arith));
+}
+
+pub ready-less : {table : List ℕ} {y k k' v gain loss : ℕ} → ScanReady table y k v gain loss → k' ≤ k → ScanReady table y k' v gain loss
+ready-less r h = record {
+  entries = omega (arith, r .entries);
+  small = λ t l. r .small t (omega arith);
+  start = r .start;
+  rise = r .rise;
+  fall = r .fall;
+  few = omega (arith, r .few);
+  above = λ t l. r .above t (omega arith);
+}
+
+pub scan-start : {table : List ℕ} {y v gain loss : ℕ} {b : Incumbent} → Scanning table y v gain loss b 0 v b
+scan-start {table} {y} {v} {gain} {loss} {b} = record { line = omega arith; best = sym (scanned-none table y v gain loss b) }
 
 module _
-    {table : List ℕ} {y k v gain loss : ℕ} {b : Incumbent} {t value : ℕ} {held : Incumbent} (r : ScanReady table y k v gain loss)
+    {table : List ℕ} {y k v gain loss : ℕ} {b : Incumbent} {t value : ℕ} {held : Incumbent} (r : LineReady table y k v gain loss)
     (s : Scanning table y v gain loss b t value held) (h : t < k) where
   pub scan-room : value + gain ≤ 5000000000000
-  scan-room = omega (arith, s .line, line-room {t = t + 1} r (omega arith) .value)
+  scan-room = let l : t + 1 ≤ k = omega arith in omega (arith, s .line, r .room, mul-le-mul-left gain l)
 
   pub scan-fall : loss ≤ value + gain
   scan-fall = omega (arith, s .line, r .above (t + 1) (omega arith))

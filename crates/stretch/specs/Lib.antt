@@ -1,5 +1,5 @@
 pub mod Scan
-pub mod FirstLeast
+pub mod LeastOfFour
 pub mod ResidualPath
 pub mod PathUndone
 pub mod Stretch

@@ -21,6 +21,10 @@ scanned table y v gain loss b zero = b
 scanned table y v gain loss b (suc k) =
     better (scanned table y v gain loss b k) (y + suc k) (along v gain loss (suc k)) (getD table (y + suc k) 0)
 
+-- the incumbent after a look at k splits of a stretch, those after y + t alone
+abbrev pub scannedPart : List ℕ → ℕ → ℕ → ℕ → ℕ → Incumbent → ℕ → ℕ → Incumbent
+scannedPart table y v gain loss b t k = scanned table (y + t) (along v gain loss t) gain loss b k
+
 -- what a scan asks: the splits up to y + k have entries, and no freight on the way falls below 0 or grows out of range
 pub record ScanReady (table : List ℕ) (y k v gain loss : ℕ) : Type 0 where
   pub entries : y + k < length table
@@ -29,6 +33,13 @@ pub record ScanReady (table : List ℕ) (y k v gain loss : ℕ) : Type 0 where
   pub rise : gain ≤ 1000000000
   pub fall : loss ≤ 1000000000
   pub few : k ≤ 4000
+  pub above : (t : ℕ) → t ≤ k → loss * t ≤ v + gain * t
+
+-- the same for the k splits after any split y of a stretch, whose freight v has grown on the way there
+pub record LineReady (table : List ℕ) (y k v gain loss : ℕ) : Type 0 where
+  pub entries : y + k < length table
+  pub small : (t : ℕ) → t ≤ k → getD table (y + t) 0 ≤ 1000000000
+  pub room : v + gain * k ≤ 5000000000000
   pub above : (t : ℕ) → t ≤ k → loss * t ≤ v + gain * t
 
 -- the scan has looked at the splits up to y + t

@@ -149,7 +149,8 @@ fn hold(split: u64, y: u64, next: u64, pot: &[u32; 96], prices: &mut [u32; 96])
     }
 }
 
-// What a stretch found: δ, the next split y + δ with f there, what each drum adds to f and takes off it, and the incumbent.
+// What a stretch found: δ, the next split y + δ with f there, what each drum adds to f and takes off it, and the incumbent; and a source whose lane on
+// the path lost its last drums, of which nothing is promised.
 pub struct Moved {
     pub delta: u64,
     pub split: u64,
@@ -157,6 +158,7 @@ pub struct Moved {
     pub gain: u64,
     pub loss: u64,
     pub best: Incumbent,
+    pub drained: u32,
 }
 
 // One stretch from split y, whose plan x has the given freight, at most limit drums further, which are left to u. The incumbent's plan is x, where
@@ -212,7 +214,7 @@ pub fn stretch(
     // 2° The next split y + δ, the amounts after moving δ along the path, and f there: f + δ · (cost of the path).
     let drums = delta as u64;
     let next = y + drums;
-    push(prev, count, 1, delta, x, serves);
+    let drained = push(prev, count, 1, delta, x, serves);
     let value = freight + gain * drums - loss * drums;
     // 3° The incumbent, revised where a total on the way is smaller: every split of the stretch is looked at. Its plan is that of the next split
     // with the drums beyond its own taken back; it is copied only where the climb leaves it.
@@ -230,5 +232,6 @@ pub fn stretch(
         gain,
         loss,
         best: held,
+        drained,
     }
 }

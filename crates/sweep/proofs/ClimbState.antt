@@ -48,8 +48,8 @@ swing-on cap k c a = record {
   long-p = a .long;
   plants = k .plants;
   one = refl;
-  high = omega (arith, k .one, k .high, a .up 1 (omega arith));
-  floor = λ v h. omega (arith, k .floor v h, a .up v h);
+  high = omega (arith, k .one, k .high, a .floor 1 (omega arith));
+  floor = λ v h. omega (arith, k .floor v h, a .floor v h);
 }
 
 -- what the plan for everybody asks of the plan where the climb stands

@@ -136,9 +136,10 @@ fn climb(
     let mut count: usize = 0;
     let mut rise: u64 = 0;
     let mut fall: u64 = 0;
+    let mut drained: u32 = 96;
     // Step 3, which ends where the split is hi. Before each stretch the tree is cut until its path has room.
     while y < hi {
-        advance(m, n, cost, columns, x, serves, pot, up, rows, cols);
+        advance(m, n, drained, cost, columns, x, serves, pot, up, rows, cols);
         let left = (hi - y) as u32;
         let moved = stretch(
             m,
@@ -167,6 +168,7 @@ fn climb(
         value = moved.freight;
         y = moved.split;
         best = moved.best;
+        drained = moved.drained;
     }
     count = note(count, y, value, added, splits, freights);
     keep_last(best.split, y, x, pot, kept, &mut prices);

@@ -18,10 +18,10 @@ record Going (prev : List ℕ) (amount count goal : ℕ) (x₀ serves₀ : List 
   marked : (z : List ℕ) → Marks prev left v serves z → Marks prev count goal serves₀ z
 
 abbrev Inv-loop : tie.InvT-loop
-Inv-loop prev count goal amount x₀ serves₀ v₀ left₀ x serves v left = Going prev amount count goal x₀ serves₀ x serves v left
+Inv-loop prev count goal amount x₀ serves₀ v₀ left₀ last₀ x serves v left last = Going prev amount count goal x₀ serves₀ x serves v left
 
 abbrev μ-loop : tie.MeasureT-loop
-μ-loop prev count goal amount x₀ serves₀ v₀ left₀ x serves v left = left
+μ-loop prev count goal amount x₀ serves₀ v₀ left₀ last₀ x serves v left last = left
 
 loop-holds : tie.Need-loop-holds Inv-loop μ-loop
 loop-holds c = record { able = c .pre .0; rest = λ z w. w; trail = c .pre .1; marked = λ z w. w }
@@ -41,6 +41,9 @@ carry-requires c κs = turn-node (c .before .before .before .before .args .prev 
 serve-requires : tie.Need-serve-requires Inv-loop μ-loop
 serve-requires c κs = let n = trail-node (c .before .before .before .before .before .before .args .prev .now) (c .before .before .before .before .before .loop .v) 32 (c .before .before .before .before .before .loop .left) (c .before .before .before .before .loop-test .taken) (c .before .before .before .before .before .loop .inv .trail) in (n .0, n .2)
 
+drained-requires : tie.Need-drained-requires Inv-loop μ-loop
+drained-requires c κs = search needs
+
 sub-left : tie.Need-sub-left Inv-loop μ-loop
 sub-left c = search needs
 
@@ -49,13 +52,13 @@ loop-less c = search needs
 
 loop-again : tie.Need-loop-again Inv-loop μ-loop
 loop-again c =
-    let l = c .before .before .before .before .before .loop-test .taken in
-    let i = c .before .before .before .before .before .before .loop .inv in
+    let l = c .before .before .before .before .before .before .before .loop-test .taken in
+    let i = c .before .before .before .before .before .before .before .before .loop .inv in
     record {
-      able = turn-able (c .before .before .before .before .before .before .before .args .prev .now) (c .before .before .before .before .before .before .before .args .amount) (c .before .before .before .before .before .before .loop .v) (c .before .before .before .before .before .before .loop .x) (c .before .before .before .before .before .before .loop .left) l (i .able) _ (c .before .before .carry .ensures);
-      rest = λ z w. i .rest z (turn-back (c .before .before .before .before .before .before .before .args .prev .now) (c .before .before .before .before .before .before .before .args .amount) (c .before .before .before .before .before .before .loop .v) (c .before .before .before .before .before .before .loop .x) (c .before .before .before .before .before .before .loop .left) l _ z (c .before .before .carry .ensures) w);
-      trail = trail-next (c .before .before .before .before .before .before .before .args .prev .now) (c .before .before .before .before .before .before .loop .v) 32 (c .before .before .before .before .before .before .loop .left) l (i .trail);
-      marked = λ z w. i .marked z (marks-back (c .before .before .before .before .before .before .before .args .prev .now) (c .before .before .before .before .before .before .loop .v) (c .before .before .before .before .before .before .loop .left) l z (c .serve .ensures) w);
+      able = turn-able (c .before .before .before .before .before .before .before .before .before .args .prev .now) (c .before .before .before .before .before .before .before .before .before .args .amount) (c .before .before .before .before .before .before .before .before .loop .v) (c .before .before .before .before .before .before .before .before .loop .x) (c .before .before .before .before .before .before .before .before .loop .left) l (i .able) _ (c .before .before .before .before .carry .ensures);
+      rest = λ z w. i .rest z (turn-back (c .before .before .before .before .before .before .before .before .before .args .prev .now) (c .before .before .before .before .before .before .before .before .before .args .amount) (c .before .before .before .before .before .before .before .before .loop .v) (c .before .before .before .before .before .before .before .before .loop .x) (c .before .before .before .before .before .before .before .before .loop .left) l _ z (c .before .before .before .before .carry .ensures) w);
+      trail = trail-next (c .before .before .before .before .before .before .before .before .before .args .prev .now) (c .before .before .before .before .before .before .before .before .loop .v) 32 (c .before .before .before .before .before .before .before .before .loop .left) l (i .trail);
+      marked = λ z w. i .marked z (marks-back (c .before .before .before .before .before .before .before .before .before .args .prev .now) (c .before .before .before .before .before .before .before .before .loop .v) (c .before .before .before .before .before .before .before .before .loop .left) l z (c .before .before .serve .ensures) w);
     }
 
 returns : tie.Need-returns Inv-loop μ-loop
@@ -76,6 +79,7 @@ push-spec =
     cast-w
     carry-requires
     serve-requires
+    drained-requires
     sub-left
     loop-less
     loop-again

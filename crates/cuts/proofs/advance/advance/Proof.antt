@@ -8,28 +8,31 @@ use Rattle.cuts.proofs.advance.advance.Statement.{statement}
 use Rattle.cuts.proofs.advance.advance.Tie as tie
 
 abbrev Inv-loop : tie.InvT-loop
-Inv-loop m n cost columns x serves₀ pot₀ up₀ rows₀ cols₀ left₀ serves pot up rows cols left = (left ≤ 200) × Advanced m n cost x serves₀ pot₀ serves pot
+Inv-loop m n drained cost columns x serves₀ pot₀ up₀ rows₀ cols₀ v₀ left₀ serves pot up rows cols v left = (left ≤ 200) × Advanced m n cost x serves₀ pot₀ serves pot
 
 abbrev μ-loop : tie.MeasureT-loop
-μ-loop m n cost columns x serves₀ pot₀ up₀ rows₀ cols₀ left₀ serves pot up rows cols left = left
+μ-loop m n drained cost columns x serves₀ pot₀ up₀ rows₀ cols₀ v₀ left₀ serves pot up rows cols v left = left
+
+blocked-at-start-requires : tie.Need-blocked-at-start-requires Inv-loop μ-loop
+blocked-at-start-requires c κs = search needs
 
 loop-holds : tie.Need-loop-holds Inv-loop μ-loop
-loop-holds c = (omega arith, advance-start (c .pre))
-
-blocked-requires : tie.Need-blocked-requires Inv-loop μ-loop
-blocked-requires c κs = search needs
+loop-holds c = (omega arith, advance-start (c .before .before .pre))
 
 returns : tie.Need-returns Inv-loop μ-loop
-returns c = c .before .before .before .before .loop .inv .1
+returns c = c .before .before .loop .inv .1
 
 step-requires : tie.Need-step-requires Inv-loop μ-loop
-step-requires c κs = advance-ready (c .before .before .before .before .before .before .before .before .before .before .pre) (c .before .before .before .before .before .before .before .before .before .loop .inv .1)
+step-requires c κs = advance-ready (c .before .before .before .before .before .before .before .before .before .before .pre) (c .before .before .before .before .before .before .before .loop .inv .1)
 
 element-write-up : tie.Need-element-write-up Inv-loop μ-loop
 element-write-up c = search needs
 
 returns-2 : tie.Need-returns-2 Inv-loop μ-loop
-returns-2 c = advance-next (c .before .before .before .before .before .before .before .before .before .before .before .loop .inv .1) (c .before .step .ensures)
+returns-2 c = advance-next (c .before .before .before .before .before .before .before .before .before .loop .inv .1) (c .before .step .ensures)
+
+blocked-requires : tie.Need-blocked-requires Inv-loop μ-loop
+blocked-requires c κs = search needs
 
 sub-left : tie.Need-sub-left Inv-loop μ-loop
 sub-left c = search needs
@@ -38,7 +41,7 @@ loop-less : tie.Need-loop-less Inv-loop μ-loop
 loop-less c = search needs
 
 loop-again : tie.Need-loop-again Inv-loop μ-loop
-loop-again c = (omega (arith, c .before .before .before .before .before .before .before .before .before .before .before .loop .inv .0), advance-next (c .before .before .before .before .before .before .before .before .before .before .before .loop .inv .1) (c .before .step .ensures))
+loop-again c = (omega (arith, c .before .before .before .before .before .before .before .before .before .before .before .loop .inv .0), advance-next (c .before .before .before .before .before .before .before .before .before .before .before .loop .inv .1) (c .before .before .before .step .ensures))
 
 returns-3 : tie.Need-returns-3 Inv-loop μ-loop
 returns-3 c = c .before .loop .inv .1
@@ -49,12 +52,13 @@ advance-spec =
     (tie.spec
     Inv-loop
     μ-loop
+    blocked-at-start-requires
     loop-holds
-    blocked-requires
     returns
     step-requires
     element-write-up
     returns-2
+    blocked-requires
     sub-left
     loop-less
     loop-again

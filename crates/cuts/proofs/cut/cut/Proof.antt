@@ -22,7 +22,7 @@ returns-2 : tie.Need-returns-2
 returns-2 c = shift-none (c .before .before .before .before .before .before .before .before .pre)
 
 lift-requires : tie.Need-lift-requires
-lift-requires c κs = search needs
+lift-requires c κs = let r = c .before .before .before .before .before .before .before .before .before .before .pre in record { sources = r .sources; terminals = r .terminals; high = r .high; long = r .long }
 
 returns-3 : tie.Need-returns-3
 returns-3 c = shift-lift _ (c .before .before .before .before .before .before .before .before .before .before .before .pre) (c .before .before .before .before .before .before .before .before .before .before .closed .ensures (not-false _ (c .before .before .before .before .before .before .before .before .before .if1 .left))) (c .before .before .before .before .before .before .before .weights .ensures) (c .before .before .before .before .before .nearest .ensures) (c .before .before .before .if2 .left) (c .lift .ensures)

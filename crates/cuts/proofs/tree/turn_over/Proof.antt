@@ -5,28 +5,31 @@ use Rattle.cuts.proofs.tree.turn_over.Statement.{statement}
 use Rattle.cuts.proofs.tree.turn_over.Tie as tie
 
 abbrev Inv-loop : tie.InvT-loop
-Inv-loop from r c up rows₀ cols₀ a₀ left₀ rows cols a left = left ≤ 96
+Inv-loop from stop r c up rows₀ cols₀ bit a₀ left₀ rows cols a left = left ≤ 96
 
 abbrev μ-loop : tie.MeasureT-loop
-μ-loop from r c up rows₀ cols₀ a₀ left₀ rows cols a left = left
+μ-loop from stop r c up rows₀ cols₀ bit a₀ left₀ rows cols a left = left
+
+shl-bit : tie.Need-shl-bit Inv-loop μ-loop
+shl-bit c = search needs
 
 loop-holds : tie.Need-loop-holds Inv-loop μ-loop
 loop-holds c = search needs
 
-returns : tie.Need-returns Inv-loop μ-loop
-returns c = search needs
-
 cast-v : tie.Need-cast-v Inv-loop μ-loop
 cast-v c = search needs
 
+mul-part : tie.Need-mul-part Inv-loop μ-loop
+mul-part c = search needs
+
+element-copy-out-part : tie.Need-element-copy-out-part Inv-loop μ-loop
+element-copy-out-part c = search needs
+
+returns : tie.Need-returns Inv-loop μ-loop
+returns c = search needs
+
 mul-rows : tie.Need-mul-rows Inv-loop μ-loop
 mul-rows c = search needs
-
-element-copy-out-rows : tie.Need-element-copy-out-rows Inv-loop μ-loop
-element-copy-out-rows c = search needs
-
-mul-rows-2 : tie.Need-mul-rows-2 Inv-loop μ-loop
-mul-rows-2 c = search needs
 
 element-write-rows : tie.Need-element-write-rows Inv-loop μ-loop
 element-write-rows c = search needs
@@ -67,12 +70,13 @@ turn-over-spec =
     (tie.spec
     Inv-loop
     μ-loop
+    shl-bit
     loop-holds
-    returns
     cast-v
+    mul-part
+    element-copy-out-part
+    returns
     mul-rows
-    element-copy-out-rows
-    mul-rows-2
     element-write-rows
     mul-cols
     element-copy-out-cols

@@ -1,5 +1,6 @@
 -- `slackcheck::check::row_good` meets its contract. Assumes nothing.
 use Prim.Native.Nat.{_-_}
+use native.Mathlib.Omega.{arith}
 use borrow.Author.Needs.{needs}
 use Rattle.residual.specs.Cells.{cells}
 use Rattle.slackcheck.proofs.Checking.{RowTo, row-start, row-next, row-end}
@@ -7,10 +8,10 @@ use Rattle.slackcheck.proofs.check.row_good.Statement.{statement}
 use Rattle.slackcheck.proofs.check.row_good.Tie as tie
 
 abbrev Inv-loop : tie.InvT-loop
-Inv-loop n i amount cost cap x pot p good₀ sent₀ j₀ good sent j = RowTo n (cells cost) (cells cap) (cells x) pot i good sent j
+Inv-loop n i amount cost cap x pot p tight₀ signs₀ all₀ sent₀ j₀ tight signs all sent j = RowTo n (cells cost) (cells cap) (cells x) pot i tight signs all sent j
 
 abbrev μ-loop : tie.MeasureT-loop
-μ-loop n i amount cost cap x pot p good₀ sent₀ j₀ good sent j = n - j
+μ-loop n i amount cost cap x pot p tight₀ signs₀ all₀ sent₀ j₀ tight signs all sent j = n - j
 
 mul-p : tie.Need-mul-p Inv-loop μ-loop
 mul-p c = search needs
@@ -33,29 +34,37 @@ mul-part c = search needs
 element-copy-out-part : tie.Need-element-copy-out-part Inv-loop μ-loop
 element-copy-out-part c = search needs
 
-mul-lane-good : tie.Need-mul-lane-good Inv-loop μ-loop
-mul-lane-good c = search needs
+mul-wrapping-sub-u32 : tie.Need-mul-wrapping-sub-u32 Inv-loop μ-loop
+mul-wrapping-sub-u32 c = search needs
 
-element-copy-out-lane-good : tie.Need-element-copy-out-lane-good Inv-loop μ-loop
-element-copy-out-lane-good c = search needs
+element-copy-out-wrapping-sub-u32 : tie.Need-element-copy-out-wrapping-sub-u32 Inv-loop μ-loop
+element-copy-out-wrapping-sub-u32 c = search needs
 
-mul-lane-good-2 : tie.Need-mul-lane-good-2 Inv-loop μ-loop
-mul-lane-good-2 c = search needs
+add-wrapping-sub-u32 : tie.Need-add-wrapping-sub-u32 Inv-loop μ-loop
+add-wrapping-sub-u32 c =
+    let s = c .before .before .before .before .before in
+    omega (arith, s .pre .costs (c .before .before .before .loop .j) (c .before .before .loop-test .taken), s .pre .high)
 
-element-copy-out-lane-good-2 : tie.Need-element-copy-out-lane-good-2 Inv-loop μ-loop
-element-copy-out-lane-good-2 c = search needs
+add-wrapping-sub-u32-2 : tie.Need-add-wrapping-sub-u32-2 Inv-loop μ-loop
+add-wrapping-sub-u32-2 c = search needs
 
-add-lane-good : tie.Need-add-lane-good Inv-loop μ-loop
-add-lane-good c = search needs
+mul-wrapping-sub-u32-2 : tie.Need-mul-wrapping-sub-u32-2 Inv-loop μ-loop
+mul-wrapping-sub-u32-2 c = search needs
 
-mul-lane-good-3 : tie.Need-mul-lane-good-3 Inv-loop μ-loop
-mul-lane-good-3 c = search needs
+element-copy-out-wrapping-sub-u32-2 : tie.Need-element-copy-out-wrapping-sub-u32-2 Inv-loop μ-loop
+element-copy-out-wrapping-sub-u32-2 c = search needs
 
-element-copy-out-lane-good-3 : tie.Need-element-copy-out-lane-good-3 Inv-loop μ-loop
-element-copy-out-lane-good-3 c = search needs
+wrapping-sub-u32-requires : tie.Need-wrapping-sub-u32-requires Inv-loop μ-loop
+wrapping-sub-u32-requires c κs = search needs
 
-lane-good-requires : tie.Need-lane-good-requires Inv-loop μ-loop
-lane-good-requires c κs = (c .before .before .before .before .before .before .before .pre .costs (c .before .before .before .before .before .loop .j) (c .before .before .before .before .loop-test .taken), c .before .before .before .before .before .before .before .pre .high)
+mul-wrapping-sub-u32-3 : tie.Need-mul-wrapping-sub-u32-3 Inv-loop μ-loop
+mul-wrapping-sub-u32-3 c = search needs
+
+element-copy-out-wrapping-sub-u32-3 : tie.Need-element-copy-out-wrapping-sub-u32-3 Inv-loop μ-loop
+element-copy-out-wrapping-sub-u32-3 c = search needs
+
+wrapping-sub-u32-requires-2 : tie.Need-wrapping-sub-u32-requires-2 Inv-loop μ-loop
+wrapping-sub-u32-requires-2 c κs = search needs
 
 add-sent : tie.Need-add-sent Inv-loop μ-loop
 add-sent c = search needs
@@ -67,7 +76,16 @@ loop-less : tie.Need-loop-less Inv-loop μ-loop
 loop-less c = search needs
 
 loop-again : tie.Need-loop-again Inv-loop μ-loop
-loop-again c = row-next (c .before .before .before .before .before .before .loop .inv) (c .before .before .before .before .before .loop-test .taken) (c .lane-good .ensures)
+loop-again c =
+    let l = c .before .before .before .before .before .before in
+    row-next
+    (c .before .before .wrapping-sub-u32 .result)
+    (c .wrapping-sub-u322 .result)
+    (l .before .loop .inv)
+    (l .loop-test .taken)
+    (l .before .before .before .pre .ends (l .before .loop .j) (l .loop-test .taken))
+    (c .before .before .wrapping-sub-u32 .ensures)
+    (c .wrapping-sub-u322 .ensures)
 
 returns : tie.Need-returns Inv-loop μ-loop
 returns c = row-end (c .before .loop .inv) (c .loop-test .left)
@@ -85,14 +103,16 @@ row-good-spec =
     add-k
     mul-part
     element-copy-out-part
-    mul-lane-good
-    element-copy-out-lane-good
-    mul-lane-good-2
-    element-copy-out-lane-good-2
-    add-lane-good
-    mul-lane-good-3
-    element-copy-out-lane-good-3
-    lane-good-requires
+    mul-wrapping-sub-u32
+    element-copy-out-wrapping-sub-u32
+    add-wrapping-sub-u32
+    add-wrapping-sub-u32-2
+    mul-wrapping-sub-u32-2
+    element-copy-out-wrapping-sub-u32-2
+    wrapping-sub-u32-requires
+    mul-wrapping-sub-u32-3
+    element-copy-out-wrapping-sub-u32-3
+    wrapping-sub-u32-requires-2
     add-sent
     add-j
     loop-less

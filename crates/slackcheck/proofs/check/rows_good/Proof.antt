@@ -1,5 +1,5 @@
 -- `slackcheck::check::rows_good` meets its contract. Assumes nothing.
-use Prim.Native.Nat.{_-_, _≤_}
+use Prim.Native.Nat.{_+_, _-_, _≤_}
 use native.Mathlib.Omega.{arith}
 use borrow.Author.Needs.{needs}
 use Rattle.transport.specs.Curve.{amountsAt}
@@ -26,7 +26,7 @@ amount-at-requires : tie.Need-amount-at-requires Inv-loop μ-loop
 amount-at-requires c κs = (omega (arith, c .before .before .pre .0 .sources, c .loop-test .taken), c .before .before .pre .1 .0)
 
 row-good-requires : tie.Need-row-good-requires Inv-loop μ-loop
-row-good-requires c κs = let r = c .before .before .before .pre in record { source = omega (arith, r .0 .sources, c .before .loop-test .taken); terminals = r .0 .terminals; costs = λ j h. r .0 .costs (c .before .before .loop .i) j (c .before .loop-test .taken) h; high = r .1 .1 .high (c .before .before .loop .i) (omega (arith, r .0 .sources, c .before .loop-test .taken)) }
+row-good-requires c κs = let r = c .before .before .before .pre in record { source = omega (arith, r .0 .sources, c .before .loop-test .taken); terminals = r .0 .terminals; costs = λ j h. r .0 .costs (c .before .before .loop .i) j (c .before .loop-test .taken) h; high = r .1 .1 .high (c .before .before .loop .i) (omega (arith, r .0 .sources, c .before .loop-test .taken)); ends = λ j h. r .1 .1 .high (32 + j) (omega (arith, r .0 .terminals)) }
 
 returns : tie.Need-returns Inv-loop μ-loop
 returns c = λ e. absurd (true≢false (sym e))

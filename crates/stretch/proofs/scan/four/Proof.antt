@@ -29,44 +29,44 @@ add-v4 c = search needs
 sub-v4 : tie.Need-sub-v4
 sub-v4 c = let p = c .before .pre in omega (arith, p .above 2 (omega arith), p .above 3 (omega arith), p .above 4 (omega arith))
 
-add-look-at : tie.Need-add-look-at
-add-look-at c = search needs
+add-total-of : tie.Need-add-total-of
+add-total-of c = search needs
 
-look-at-requires : tie.Need-look-at-requires
-look-at-requires c κs = let p = c .before .pre in (omega (arith, p .entries), omega (arith, p .room, p .small 1 (omega arith)))
+total-of-requires : tie.Need-total-of-requires
+total-of-requires c κs = let p = c .before .pre in (omega (arith, p .entries), omega (arith, p .room, p .small 1 (omega arith)))
 
-add-look-at-2 : tie.Need-add-look-at-2
-add-look-at-2 c = search needs
+add-total-of-2 : tie.Need-add-total-of-2
+add-total-of-2 c = search needs
 
-look-at-requires-2 : tie.Need-look-at-requires-2
-look-at-requires-2 c κs = let p = c .before .before .pre in (omega (arith, p .entries), omega (arith, p .room, p .small 2 (omega arith)))
+total-of-requires-2 : tie.Need-total-of-requires-2
+total-of-requires-2 c κs = let p = c .before .before .pre in (omega (arith, p .entries), omega (arith, p .room, p .small 2 (omega arith)))
 
-add-look-at-3 : tie.Need-add-look-at-3
-add-look-at-3 c = search needs
+add-total-of-3 : tie.Need-add-total-of-3
+add-total-of-3 c = search needs
 
-look-at-requires-3 : tie.Need-look-at-requires-3
-look-at-requires-3 c κs = let p = c .before .before .before .pre in (omega (arith, p .entries), omega (arith, p .room, p .small 3 (omega arith)))
+total-of-requires-3 : tie.Need-total-of-requires-3
+total-of-requires-3 c κs = let p = c .before .before .before .pre in (omega (arith, p .entries), omega (arith, p .room, p .small 3 (omega arith)))
 
-add-look-at-4 : tie.Need-add-look-at-4
-add-look-at-4 c = search needs
+add-total-of-4 : tie.Need-add-total-of-4
+add-total-of-4 c = search needs
 
-look-at-requires-4 : tie.Need-look-at-requires-4
-look-at-requires-4 c κs = let p = c .before .before .before .before .pre in (omega (arith, p .entries), omega (arith, p .room, p .small 4 (omega arith)))
+total-of-requires-4 : tie.Need-total-of-requires-4
+total-of-requires-4 c κs = let p = c .before .before .before .before .pre in (omega (arith, p .entries), omega (arith, p .room, p .small 4 (omega arith)))
 
-pick-requires : tie.Need-pick-requires
-pick-requires c κs = search needs
+smaller-requires : tie.Need-smaller-requires
+smaller-requires c κs = search needs
 
-pick-requires-2 : tie.Need-pick-requires-2
-pick-requires-2 c κs = search needs
+smaller-requires-2 : tie.Need-smaller-requires-2
+smaller-requires-2 c κs = search needs
 
-pick-requires-3 : tie.Need-pick-requires-3
-pick-requires-3 c κs = search needs
+smaller-requires-3 : tie.Need-smaller-requires-3
+smaller-requires-3 c κs = search needs
 
 returns : tie.Need-returns
 returns c =
-    four-is (c .before .before .before .before .before .before .before .before .pre) (c .before .before .before .before .before .before .look-at .ensures)
-    (c .before .before .before .before .before .look-at2 .ensures) (c .before .before .before .before .look-at3 .ensures)
-    (c .before .before .before .look-at4 .ensures) (c .before .before .pick .ensures) (c .before .pick2 .ensures) (c .pick3 .ensures)
+    four-is (c .before .before .before .before .before .before .before .before .pre) (c .before .before .before .before .before .before .total-of .ensures)
+    (c .before .before .before .before .before .total-of2 .ensures) (c .before .before .before .before .total-of3 .ensures)
+    (c .before .before .before .total-of4 .ensures) (c .before .before .smaller .ensures) (c .before .smaller2 .ensures) (c .smaller3 .ensures)
 
 pub four-spec : {M : Type 1} → statement M
 four-spec =
@@ -80,15 +80,15 @@ four-spec =
     sub-v3
     add-v4
     sub-v4
-    add-look-at
-    look-at-requires
-    add-look-at-2
-    look-at-requires-2
-    add-look-at-3
-    look-at-requires-3
-    add-look-at-4
-    look-at-requires-4
-    pick-requires
-    pick-requires-2
-    pick-requires-3
+    add-total-of
+    total-of-requires
+    add-total-of-2
+    total-of-requires-2
+    add-total-of-3
+    total-of-requires-3
+    add-total-of-4
+    total-of-requires-4
+    smaller-requires
+    smaller-requires-2
+    smaller-requires-3
     returns)

@@ -12,19 +12,19 @@ use Rattle.sweep.proofs.curve.climb.Statement.{statement}
 use Rattle.sweep.proofs.curve.climb.Tie as tie
 
 abbrev Inv-loop : tie.InvT-loop
-Inv-loop m n cost cap lo hi freight demand table added splits₀ freights₀ x₀ serves₀ pot₀ kept₀ up₀ rows₀ cols₀ columns at best₀ prices₀ dist₀ prev₀ y₀ value₀ count₀ rise₀ fall₀ splits freights x serves pot kept up rows cols best prices dist prev y value count rise fall = Standing m n cost cap x₀ x pot kept prices y value best × Climbing (curveFrom m n cost cap x₀) table added splits₀ freights₀ lo hi splits freights y value count rise fall best × (rise ≤ 800000000) × (fall ≤ 800000000) × Covers m n x serves
+Inv-loop m n cost cap lo hi freight demand table added splits₀ freights₀ x₀ serves₀ pot₀ kept₀ up₀ rows₀ cols₀ columns at best₀ prices₀ dist₀ prev₀ y₀ value₀ count₀ rise₀ fall₀ drained₀ splits freights x serves pot kept up rows cols best prices dist prev y value count rise fall drained = Standing m n cost cap x₀ x pot kept prices y value best × Climbing (curveFrom m n cost cap x₀) table added splits₀ freights₀ lo hi splits freights y value count rise fall best × (rise ≤ 800000000) × (fall ≤ 800000000) × Covers m n x serves
 
 abbrev μ-loop : tie.MeasureT-loop
-μ-loop m n cost cap lo hi freight demand table added splits₀ freights₀ x₀ serves₀ pot₀ kept₀ up₀ rows₀ cols₀ columns at best₀ prices₀ dist₀ prev₀ y₀ value₀ count₀ rise₀ fall₀ splits freights x serves pot kept up rows cols best prices dist prev y value count rise fall = hi - y
+μ-loop m n cost cap lo hi freight demand table added splits₀ freights₀ x₀ serves₀ pot₀ kept₀ up₀ rows₀ cols₀ columns at best₀ prices₀ dist₀ prev₀ y₀ value₀ count₀ rise₀ fall₀ drained₀ splits freights x serves pot kept up rows cols best prices dist prev y value count rise fall drained = hi - y
 
-mul-t34 : tie.Need-mul-t34 Inv-loop μ-loop
-mul-t34 c = omega (arith, c .before .before .pre .0 .entries, c .before .before .pre .0 .order, c .before .before .good)
+mul-t35 : tie.Need-mul-t35 Inv-loop μ-loop
+mul-t35 c = omega (arith, c .before .before .pre .0 .entries, c .before .before .pre .0 .order, c .before .before .good)
 
-shared-slice-read-t36 : tie.Need-shared-slice-read-t36 Inv-loop μ-loop
-shared-slice-read-t36 c = omega (arith, c .before .before .before .pre .0 .entries, c .before .before .before .pre .0 .order)
+shared-slice-read-t37 : tie.Need-shared-slice-read-t37 Inv-loop μ-loop
+shared-slice-read-t37 c = omega (arith, c .before .before .before .pre .0 .entries, c .before .before .before .pre .0 .order)
 
-add-t37 : tie.Need-add-t37 Inv-loop μ-loop
-add-t37 c = let r = c .before .before .before .pre .0 in omega (arith, start-most r, r .small (c .before .before .before .args .lo) (omega arith) (r .order))
+add-t38 : tie.Need-add-t38 Inv-loop μ-loop
+add-t38 c = let r = c .before .before .before .pre .0 in omega (arith, start-most r, r .small (c .before .before .before .args .lo) (omega arith) (r .order))
 
 loop-holds : tie.Need-loop-holds Inv-loop μ-loop
 loop-holds c = let r = c .before .before .before .before .pre .0 in (stand-start r _ _, ascend-start r, omega arith, omega arith, c .before .before .before .before .pre .1 .1 .0)
@@ -77,9 +77,9 @@ climb-spec =
     (tie.spec
     Inv-loop
     μ-loop
-    mul-t34
-    shared-slice-read-t36
-    add-t37
+    mul-t35
+    shared-slice-read-t37
+    add-t38
     loop-holds
     advance-requires
     sub-left

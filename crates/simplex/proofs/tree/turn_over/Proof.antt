@@ -1,8 +1,8 @@
--- `simplex::tree::take_off` is safe and ends. Assumes nothing.
+-- `simplex::tree::turn_over` is safe and ends. Assumes nothing.
 use Prim.Native.Nat.{_≤_}
 use borrow.Author.Needs.{needs}
-use Rattle.simplex.proofs.tree.take_off.Statement.{statement}
-use Rattle.simplex.proofs.tree.take_off.Tie as tie
+use Rattle.simplex.proofs.tree.turn_over.Statement.{statement}
+use Rattle.simplex.proofs.tree.turn_over.Tie as tie
 
 abbrev Inv-loop : tie.InvT-loop
 Inv-loop from stop r c source terminal up rows₀ cols₀ flow₀ a₀ left₀ rows cols flow a left = left ≤ 96
@@ -25,9 +25,6 @@ mul-rows c = search needs
 element-copy-out-rows : tie.Need-element-copy-out-rows Inv-loop μ-loop
 element-copy-out-rows c = search needs
 
-sub-rows : tie.Need-sub-rows Inv-loop μ-loop
-sub-rows c = search needs
-
 mul-rows-2 : tie.Need-mul-rows-2 Inv-loop μ-loop
 mul-rows-2 c = search needs
 
@@ -39,9 +36,6 @@ mul-cols c = search needs
 
 element-copy-out-cols : tie.Need-element-copy-out-cols Inv-loop μ-loop
 element-copy-out-cols c = search needs
-
-sub-cols : tie.Need-sub-cols Inv-loop μ-loop
-sub-cols c = search needs
 
 mul-cols-2 : tie.Need-mul-cols-2 Inv-loop μ-loop
 mul-cols-2 c = search needs
@@ -85,8 +79,8 @@ loop-again c = search needs
 returns-2 : tie.Need-returns-2 Inv-loop μ-loop
 returns-2 c = search needs
 
-pub take-off-spec : {M : Type 1} → statement M
-take-off-spec =
+pub turn-over-spec : {M : Type 1} → statement M
+turn-over-spec =
     tie.close
     (tie.spec
     Inv-loop
@@ -96,12 +90,10 @@ take-off-spec =
     cast-v
     mul-rows
     element-copy-out-rows
-    sub-rows
     mul-rows-2
     element-write-rows
     mul-cols
     element-copy-out-cols
-    sub-cols
     mul-cols-2
     element-write-cols
     mul-wrapping-add-u32
