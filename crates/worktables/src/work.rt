@@ -66,7 +66,7 @@ pub fn raise_rows(m: usize, n: usize, costs: &[i64], to: &mut [u32; 2048])
 
 // Copies m rows of n amounts out of rows of 64; later cells are left as they are.
 pub fn gather_rows(m: usize, n: usize, cells: &[u32; 2048], to: &mut [u64])
-    requires { ⌜ (m ≤ 32) × (n ≤ 64) × (m * n ≤ length (now to)) × (length (now cells) ≡ 2048) ⌝ }
+    requires { ⌜ (m ≤ 32) × (n ≤ 64) × (m * n ≤ length (now to)) ⌝ }
     ensures { λ _. ⌜ RowsMoved m n 64 n (now (cells .entry)) (now (to .exit)) × (length (now (to .exit)) ≡ length (now (to .entry))) × ((k : ℕ) → m * n ≤ k → getD (now (to .exit)) k 0 ≡ getD (now (to .entry)) k 0) ⌝ }
 {
     let all = &cells[..];

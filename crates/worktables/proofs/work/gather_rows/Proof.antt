@@ -21,7 +21,7 @@ fits c = row-within (c .before .before .before .before .args .m) (c .before .loo
 
 -- and lies within the working array
 inside : (c : tie.In-loop Inv-loop μ-loop) → c .before .loop .i * 64 + c .before .before .before .before .args .n ≤ length (now (c .before .before .before .before .args .cells))
-inside c = omega (arith, c .before .before .before .before .pre .0, c .before .before .before .before .pre .1, c .before .before .before .before .pre .3)
+inside c = omega (arith, c .before .before .before .before .pre .0, c .before .before .before .before .pre .1, c .before .before .all .given)
 
 loop-holds : tie.Need-loop-holds Inv-loop μ-loop
 loop-holds c = (move-start _ _ _ _ _, omega arith, sym (zero-mul _))
@@ -42,7 +42,7 @@ part-copy-out-start : tie.Need-part-copy-out-start Inv-loop μ-loop
 part-copy-out-start c = omega arith
 
 part-copy-out-end : tie.Need-part-copy-out-end Inv-loop μ-loop
-part-copy-out-end c = omega (arith, c .before .before .before .before .pre .0, c .before .before .before .before .pre .1, c .before .before .before .before .pre .3)
+part-copy-out-end c = omega (arith, c .before .before .before .before .pre .0, c .before .before .before .before .pre .1, c .before .before .all .given)
 
 copy-out-requires : tie.Need-copy-out-requires Inv-loop μ-loop
 copy-out-requires c κs =
