@@ -14,13 +14,13 @@ use Rattle.transport.specs.Curve.{written}
 use Rattle.dimacs.specs.Arc as file
 use Rattle.dimacs.specs.Arc.{arc}
 use Rattle.dimacs.specs.Form.{ArcLine, File, Form, whole, broken, formOf}
-use Rattle.dimacs.proofs.LinesLaws.{or-true}
+use Rattle.dimacs.proofs.NodeAndArcLines.{or-true}
 use Rattle.network.specs.declared.Answer.{Answer}
 use Rattle.flowproblem.specs.Reduce.{cells}
 use Rattle.flowproblem.specs.Answer.{arcsOf, networkOf, Room, badFile, badName, outOfLimits, flows, leastTotal, Outcome, carried, refused, flowOutcome, limited, judged, outcomeOf}
 use Rattle.flowproblem.specs.Promise.{Slices, roomOf, Answered}
-use Rattle.network.specs.Judged.{outcome, slicesOf}
-use Rattle.flowproblem.proofs.Cells.{cells-length, cells-at}
+use Rattle.network.specs.Answer.{outcome, slicesOf}
+use Rattle.flowproblem.proofs.NodesAndSources.{cells-length, cells-at}
 use Rattle.flowproblem.proofs.Answers.{answer-29, answer-30}
 use Rattle.arclist.specs.Count.{arcsSaid}
 use Rattle.arclist.specs.declared.Arc.{Arc}

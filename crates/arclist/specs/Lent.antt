@@ -11,7 +11,7 @@ use Rattle.dimacs.specs.Arc as file
 use Rattle.dimacs.specs.Form.{File, whole, formOf}
 use Rattle.flowproblem.specs.Reduce.{cells}
 use Rattle.flowproblem.specs.Answer.{CheapestFlow, arcsOf, networkOf, Room, Outcome, carried, refused, outcomeOf}
-use Rattle.network.specs.Judged.{outcome}
+use Rattle.network.specs.Answer.{outcome}
 use Rattle.arclist.specs.declared.Arc.{Arc}
 use Rattle.arclist.specs.declared.find.Found.{Found}
 

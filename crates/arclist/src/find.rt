@@ -3,7 +3,7 @@ use crate::Arc;
 use network::Answer;
 ghost use mathlib.Core.Path.{_≡_};
 ghost use Prim.Native.Nat.{_<_};
-ghost use Rattle.network.specs.Judged.{outcome};
+ghost use Rattle.network.specs.Answer.{outcome};
 ghost use Rattle.arclist.specs.Lent.{atMost, countOf, arcAt};
 
 // The answer, how many arcs are to be written, and the arrays that have their numbers.

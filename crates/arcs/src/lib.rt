@@ -10,7 +10,7 @@ ghost use mathlib.Core.Path.{_≡_};
 ghost use Prim.Native.Nat.{_≤_};
 ghost use lib.ListN.{length};
 ghost use Rattle.transport.specs.Curve.{written};
-ghost use Rattle.network.specs.Judged.{outcome};
+ghost use Rattle.network.specs.Answer.{outcome};
 ghost use Rattle.flowproblem.specs.Reduce.{cells};
 ghost use Rattle.arclist.specs.Lent.{arcAt, ArcsAnswered};
 

@@ -1,1 +1,1 @@
-pub mod Bounding
+pub mod BoundsPrinting

@@ -5,7 +5,7 @@ ghost use lib.ListN.{length, take};
 ghost use Rattle.answertext.specs.Bounds.{boundsText, MarksFit};
 ghost use Rattle.filecase.specs.CaseFiles.{caseAnswer};
 ghost use Rattle.casefile.specs.Printed.{filedCase, Told};
-ghost use Rattle.casefile.specs.Cuts.{cutCase, Stored};
+ghost use Rattle.casefile.specs.StoredCase.{cutCase, Stored};
 ghost use Rattle.boundsfile.specs.Bounded.{CasePrinted, HighPrinted, FilesPrinted, bothStand};
 use answertext::bounds::put_bounds;
 use casefile::planned::Printed;

@@ -5,7 +5,7 @@ ghost use lib.ListN.{length, set};
 ghost use Rattle.casetests.specs.Verdict.{verdict};
 ghost use Rattle.casestore.specs.Store.{suppliesAt, inCase, zeroed, entriesIn, extended};
 ghost use Rattle.casestore.specs.Calls.{editDemand, editSupply, editCost, editEntry};
-ghost use Rattle.casestore.specs.Inner.{Open, Acted, runIn};
+ghost use Rattle.casestore.specs.OpenStore.{Open, Acted, runIn};
 use crate::costs::raised;
 use casestore::layout::RUN1;
 use casestore::layout::RUN2;

@@ -21,7 +21,7 @@ use Rattle.filecase.specs.declared.case.CaseAnswer.the-variants as answers
 use Rattle.casefile.specs.declared.planned.Printed.{Printed}
 use Rattle.filecase.specs.CaseFiles.{costsIn, suppliesIn, demandsIn, entriesIn, caseAnswer, TariffStored, CaseStored}
 use Rattle.casefile.specs.Printed.{filedCase, caseOf, fileCase, fileOutcome, Told, PlanPrinted, OutcomePrinted, CasePrinted, FilesPrinted}
-use Rattle.casefile.specs.Cuts.{cutCase, Stored}
+use Rattle.casefile.specs.StoredCase.{cutCase, Stored}
 use Rattle.filecase.proofs.CaseLengths.{BothStand, both-stand}
 use Rattle.casefile.proofs.Printing.{printed-refusal}
 use Rattle.casefile.proofs.FileRefusals.{Alike, alike-equal, alike-refused, alike-long}

@@ -1,2 +1,2 @@
 pub mod Printed
-pub mod Cuts
+pub mod StoredCase

@@ -16,7 +16,7 @@ ghost use lib.ListN.{length, take};
 ghost use Rattle.csvtext.specs.Text.{planText, refusalText};
 ghost use Rattle.csvtext.specs.Writing.{Fits};
 ghost use Rattle.casefile.specs.Printed.{filedCase, Told, CasePrinted, FilesPrinted};
-ghost use Rattle.casefile.specs.Cuts.{cutCase, Stored};
+ghost use Rattle.casefile.specs.StoredCase.{cutCase, Stored};
 
 // What was printed: the text's length; 0, or the refusal's number and place; m and n of the case, 0 where a file is refused.
 pub struct Printed {

@@ -13,11 +13,11 @@ use Rattle.casestore.specs.declared.opened.Opened.the-variants.{Held, Closed}
 use Rattle.casestore.specs.State.{Draft, State, lentWith}
 use Rattle.casestore.specs.Store.{suppliesAt, demandsAt, costsAt, ceilingsAt, tableAt, inCase, costIn, entriesIn, stateAt, sources, terminals, heldIn}
 use Rattle.caseplans.specs.Planning.{outcomeIn, PlannedFrom}
-use Rattle.casestore.specs.Inner.{openedOf, Open}
-use Rattle.casestore.proofs.Parts.{part-length}
-use Rattle.casestore.proofs.Opening.{is-shut, is-found, found-size}
-use Rattle.casestore.proofs.Cells.{case-cells, room-0}
-use Rattle.casestore.proofs.Gate.{held-none, held-some}
+use Rattle.casestore.specs.OpenStore.{openedOf, Open}
+use Rattle.casestore.proofs.ListParts.{part-length}
+use Rattle.casestore.proofs.OpenStore.{is-shut, is-found, found-size}
+use Rattle.casestore.proofs.CaseCells.{case-cells, room-0}
+use Rattle.casestore.proofs.CallPromise.{held-none, held-some}
 
 module _ (m n : ℕ) (cells : List ℕ) (o : Open m n cells) (a b c d e : ℕ) (ea : a ≡ inCase (demandsAt m)) (eb : b ≡ inCase (costsAt m n))
     (ec : c ≡ inCase (ceilingsAt m n)) (ed : d ≡ inCase (tableAt m n)) (ee : e ≡ entriesIn cells) where

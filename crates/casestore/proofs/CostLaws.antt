@@ -12,7 +12,7 @@ use Rattle.problem.specs.Range.{outside, raisedOf, AllInside}
 use Rattle.problem.proofs.MachineIntegers.{raised-is, raised-above}
 use Rattle.problem.proofs.RaisedLists.{map-at}
 use Rattle.casestore.specs.Store.{inCase, costIn}
-use Rattle.casestore.proofs.Copies.{Filling, filling-next, filling-end, filled-front}
+use Rattle.casestore.proofs.RangeCopies.{Filling, filling-next, filling-end, filled-front}
 
 -- a cost in range is read back
 pub cost-back : (z : ℤ) → outside z ≡ false → costIn (raisedOf z) ≡ z

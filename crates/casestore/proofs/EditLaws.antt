@@ -18,12 +18,12 @@ use Rattle.problem.proofs.TestsPassed.{first-passes, second-passes, refuseIf-no
 use Rattle.casestore.specs.State.{Draft}
 use Rattle.casestore.specs.Calls.{editDemand, editSupply, editCost, editEntry, refuseWhen, absent, leastRun, refusalIn, acted, withCase, withEntry}
 use Rattle.casestore.specs.Store.{suppliesAt, demandsAt, costsAt, tableAt, inCase, width, slot, draftIn, stateAt, sources, terminals, opens, heldIn, entriesFor, entriesIn, zeroed, extended, writes}
-use Rattle.casestore.specs.Inner.{Open}
-use Rattle.casestore.proofs.Drafts.{demand-draft, supply-draft, cost-draft, entry-draft}
-use Rattle.casestore.proofs.Held.{inside, held-eq, is-open, edit-state}
-use Rattle.casestore.proofs.Cells.{few-entries, first-cell, entries-long}
-use Rattle.casestore.proofs.Zeros.{ext-length, ext-low, first-state}
-use Rattle.casestore.proofs.Gate.{Faithful, when-none}
+use Rattle.casestore.specs.OpenStore.{Open}
+use Rattle.casestore.proofs.StoreInSlot.{demand-draft, supply-draft, cost-draft, entry-draft}
+use Rattle.casestore.proofs.StateAfterWrites.{inside, held-eq, is-open, edit-state}
+use Rattle.casestore.proofs.CaseCells.{few-entries, first-cell, entries-long}
+use Rattle.casestore.proofs.ZerosPastTable.{ext-length, ext-low, first-state}
+use Rattle.casestore.proofs.CallPromise.{Faithful, when-none}
 
 -- lane (i, j), both from 1, is one of m × n
 pub lane-in : (m n i j : ℕ) → 1 ≤ i → i ≤ m → 1 ≤ j → j ≤ n → (i - 1) * n + (j - 1) < m * n

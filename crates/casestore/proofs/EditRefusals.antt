@@ -14,9 +14,9 @@ use Rattle.problem.specs.Outcome.{Outcome, refused, refuseIf, _orElse_}
 use Rattle.casestore.specs.State.{Draft}
 use Rattle.casestore.specs.Calls.{editDemand, editSupply, editCost, editEntry, refuseWhen, absent, leastRun, refusalIn}
 use Rattle.casestore.specs.Store.{stateAt, draftIn, entriesIn}
-use Rattle.casestore.specs.Inner.{Open, runIn}
-use Rattle.casestore.proofs.Refusals.{or-true, first-24, past-24, when, not-when}
-use Rattle.casestore.proofs.Cells.{case-cells, entries-long}
+use Rattle.casestore.specs.OpenStore.{Open, runIn}
+use Rattle.casestore.proofs.CallRefusals.{or-true, first-24, past-24, when, not-when}
+use Rattle.casestore.proofs.CaseCells.{case-cells, entries-long}
 
 -- a refusal after 24 and 4
 module _ (t u w : Bool) (i : ℕ) where

@@ -17,12 +17,12 @@ use Rattle.casestore.specs.State.{Draft, lentWith, entered}
 use Rattle.casestore.specs.Calls.{absent}
 use Rattle.casestore.specs.Store.{cellsFor, suppliesAt, demandsAt, costsAt, ceilingsAt, tableAt, inCase, width, slot, costIn, entriesFor, draftIn, markIn, stateAt, opens, inLimits, heldIn, header, cellsOf}
 use Rattle.casestore.specs.Promise.{entryRefusal, Entered}
-use Rattle.casestore.specs.Inner.{Sized}
-use Rattle.casestore.proofs.Parts.{part-at}
+use Rattle.casestore.specs.OpenStore.{Sized}
+use Rattle.casestore.proofs.ListParts.{part-at}
 use Rattle.casestore.proofs.Slots.{case-part, case-cell}
 use Rattle.casestore.proofs.CostLaws.{costs-back}
-use Rattle.casestore.proofs.Drafts.{draft-eq}
-use Rattle.casestore.proofs.Held.{state-eq, inside}
+use Rattle.casestore.proofs.StoreInSlot.{draft-eq}
+use Rattle.casestore.proofs.StateAfterWrites.{state-eq, inside}
 
 -- ---- one list written after another
 

@@ -16,13 +16,13 @@ use Rattle.casestore.specs.declared.opened.Opened.the-variants.{Held, Cl
 use Rattle.casestore.specs.State.{Draft, State}
 use Rattle.casestore.specs.Store.{suppliesAt, demandsAt, costsAt, ceilingsAt, tableAt, inCase, costIn, entriesIn, stateAt, heldIn}
 use Rattle.casestore.specs.Seeing.{tariffRefusal, tableRefusal, tariffAnswer, tableAnswer, costsIn, suppliesIn, demandsIn, tableIn, shownUnless, TariffShown, TableShown}
-use Rattle.casestore.specs.Inner.{Open, openedOf}
-use Rattle.casestore.proofs.Parts.{part-length}
-use Rattle.casestore.proofs.Copies.{filled-front}
-use Rattle.casestore.proofs.Refusals.{or-true}
-use Rattle.casestore.proofs.Opening.{is-shut, is-found, found-size}
-use Rattle.casestore.proofs.Gate.{held-none, held-some}
-use Rattle.casestore.proofs.Cells.{case-cells, room-0, entries-long}
+use Rattle.casestore.specs.OpenStore.{Open, openedOf}
+use Rattle.casestore.proofs.ListParts.{part-length}
+use Rattle.casestore.proofs.RangeCopies.{filled-front}
+use Rattle.casestore.proofs.CallRefusals.{or-true}
+use Rattle.casestore.proofs.OpenStore.{is-shut, is-found, found-size}
+use Rattle.casestore.proofs.CallPromise.{held-none, held-some}
+use Rattle.casestore.proofs.CaseCells.{case-cells, room-0, entries-long}
 
 module _ (m n : ℕ) (cells : List ℕ) (op : Open m n cells) where
   costs-long : length (stateAt m n cells .case .costs) ≡ m * n

@@ -9,8 +9,8 @@ use native.Mathlib.Omega.{arith}
 use lib.ListN.{length, getD, set, take, drop, length-drop}
 use lib.Seq.{paste, length-paste, getD-drop, drop-set-lt, drop-set-add, take-set-lt}
 use Rattle.casestore.specs.Store.{cellsFor, width, start, slot, copied, inCase}
-use Rattle.casestore.specs.Inner.{Open, Apart, Slots}
-use Rattle.casestore.proofs.Parts.{part-length, part-at, part-ext, copy-below, copy-in, copy-above}
+use Rattle.casestore.specs.OpenStore.{Open, Apart, Slots}
+use Rattle.casestore.proofs.ListParts.{part-length, part-at, part-ext, copy-below, copy-in, copy-above}
 
 -- slot 0 starts after ten cells
 pub start-0 : (m n : ℕ) → start m n 0 ≡ 10

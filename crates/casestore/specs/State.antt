@@ -18,6 +18,20 @@ pub record Draft : Type 0 where
   pub ceilings : List ℕ
   pub table : List ℕ
 
+-- the draft of lent numbers and slices
+abbrev pub draft : ℕ → ℕ → ℕ → ℕ → List ℤ → List ℕ → List ℕ → List ℕ → List ℕ → Draft
+draft m n run1 run2 costs supplies demands ceilings table = record {
+  m = m;
+  n = n;
+  run1 = run1;
+  run2 = run2;
+  supplies = supplies;
+  demands = demands;
+  costs = costs;
+  ceilings = ceilings;
+  table = table;
+}
+
 -- the working case, and what each mark holds; marks are numbered 1 to 8
 pub record State : Type 0 where
   pub case : Draft

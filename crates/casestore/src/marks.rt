@@ -4,7 +4,7 @@ ghost use lib.ListN.{drop};
 ghost use lib.Seq.{paste};
 ghost use Rattle.casetests.specs.Verdict.{verdict};
 ghost use Rattle.casestore.specs.Calls.{setMark, goBack};
-ghost use Rattle.casestore.specs.Inner.{Open, Acted, Apart, Slots};
+ghost use Rattle.casestore.specs.OpenStore.{Open, Acted, Apart, Slots};
 ghost use Rattle.casestore.specs.Store.{copied};
 use crate::layout::FLAGS;
 use crate::layout::slot_start;

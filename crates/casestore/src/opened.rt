@@ -1,6 +1,6 @@
 // Which working case a store holds.
 ghost use mathlib.Core.Path.{_≡_};
-ghost use Rattle.casestore.specs.Inner.{openedOf};
+ghost use Rattle.casestore.specs.OpenStore.{openedOf};
 use crate::layout::cells_for;
 
 pub enum Opened {

@@ -1,8 +1,8 @@
-pub mod Cases
+pub mod RecordsCase
 pub mod RoundTrip
-pub mod Writes
+pub mod WriterParts
 pub mod Rewrites
-pub mod Nine
-pub mod Files
-pub mod Stored
+pub mod TestsOneToNine
+pub mod OneForm
+pub mod TextsStored
 pub mod Examples

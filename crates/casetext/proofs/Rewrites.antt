@@ -20,13 +20,13 @@ use Rattle.filecase.specs.declared.case.CaseAnswer.{CaseAnswer}
 use Rattle.filecase.specs.declared.case.CaseAnswer.the-variants as answers
 use Rattle.filecase.specs.CaseFiles.{caseAnswer, CaseStored}
 use Rattle.casefile.specs.Printed.{fileCase}
-use Rattle.casefile.specs.Cuts.{cutCase, Stored}
+use Rattle.casefile.specs.StoredCase.{cutCase, Stored}
 use Rattle.casefile.proofs.FileRefusals.{Alike}
 use Rattle.casefile.proofs.StoredCase.{cut-alike}
 use Rattle.casetext.specs.declared.Texts.{Texts}
 use Rattle.casetext.specs.declared.Texts.the-variants as texts
 use Rattle.casetext.specs.Writing.{writeRefusal, CaseWritten, FilesRewritten}
-use Rattle.casetext.proofs.Writes.{entries-form, write-tested, told-refused}
+use Rattle.casetext.proofs.WriterParts.{entries-form, write-tested, told-refused}
 
 -- what is told of a case is told of one that the tests before the balance refuse alike
 module _ (c c′ : Case) (tariff production tariff′ production′ : List ℕ) (answer : Texts) where

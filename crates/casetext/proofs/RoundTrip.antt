@@ -22,9 +22,9 @@ use Rattle.filecase.specs.CaseFiles.{caseAnswer}
 use Rattle.casefile.specs.Printed.{filedCase, fileCase}
 use Rattle.tarifftext.specs.Texts.{tariffText, productionText, tariffRecords, productionRecords}
 use Rattle.casetext.specs.Writing.{test32, entriesRefusal}
-use Rattle.tarifftext.proofs.Forms.{Small, tariff-form, production-form}
-use Rattle.tarifftext.proofs.Lengths.{tariff-most, production-most}
-use Rattle.casetext.proofs.Cases.{table-whole, tariff-even, tariff-count, tariff-wanted, case-is, production-even, production-count}
+use Rattle.tarifftext.proofs.TextRecords.{Small, tariff-form, production-form}
+use Rattle.tarifftext.proofs.TextLengths.{tariff-most, production-most}
+use Rattle.casetext.proofs.RecordsCase.{table-whole, tariff-even, tariff-count, tariff-wanted, case-is, production-even, production-count}
 
 -- the same sources, terminals, costs, supplies, demands and table, taken with least runs 0 and ceilings 4,000, with the cells that files have for an answer
 abbrev pub caseAlone : Case → Case

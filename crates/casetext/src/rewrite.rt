@@ -7,7 +7,7 @@ use filetable::store::smaller;
 ghost use Prim.Native.Nat.{min, _*_};
 ghost use lib.ListN.{take};
 ghost use Rattle.planner.specs.Judge.{freeCase};
-ghost use Rattle.casefile.specs.Cuts.{Stored};
+ghost use Rattle.casefile.specs.StoredCase.{Stored};
 ghost use Rattle.casetext.specs.Writing.{CaseWritten, FilesRewritten};
 
 // Cells for the unit costs of 32 sources and 64 terminals.

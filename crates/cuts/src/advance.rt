@@ -4,8 +4,13 @@ ghost use Prim.Native.Nat.{_<_};
 ghost use Rattle.cuts.specs.Cut.{CutReady, Shifted};
 ghost use Rattle.cuts.specs.Advance.{Forgot, Advanced};
 use super::cut::cut;
-use super::tree::NONE;
-use super::tree::rehang;
+use spanningtree::NONE;
+use spanningtree::entering::Lane;
+use spanningtree::entering::came_in;
+use spanningtree::entering::tight_lane;
+use spanningtree::leaving::blocked;
+use spanningtree::leaving::blocked_at_start;
+use spanningtree::parts::rehang;
 
 // The cell of up, which is no node's, that has 1 where the last cut left the potentials as they were.
 const FLAT: usize = 127;
@@ -21,119 +26,6 @@ fn forget(i: usize, j: usize, x: &[u32; 2048], serves: &mut [u32; 64])
             serves[j] = word - (1 << i);
         }
     }
-}
-
-// On the way up from plant 1 the last source whose lane upwards loses drums and has none; NONE where there is no such source or no way.
-fn blocked(up: &[u32; 128], x: &[u32; 2048]) -> u32 {
-    let mut last = NONE;
-    let mut v: u32 = 1;
-    let mut left: u32 = 48;
-    while 0 < left {
-        let u = up[(v % 128) as usize];
-        if NONE <= u {
-            return NONE;
-        }
-        if x[((v % 32) * 64 + (u % 128 + 32) % 64) as usize] == 0 {
-            last = v;
-        }
-        v = up[(u % 128) as usize];
-        if v == 0 {
-            return last;
-        }
-        left = left - 1;
-    }
-    NONE
-}
-
-// The first terminal of the part to which source i has a tight lane; 64 where there is none.
-fn enter(i: usize, cols: u64, columns: &[u32; 2048], pot: &[u32; 96]) -> u32 {
-    let s = i % 32;
-    let p = pot[s] % 1_073_741_824;
-    let mut left = cols;
-    while 0 < left {
-        let j = u64::trailing_zeros(left) % 64;
-        let k = j as usize;
-        if columns[k * 32 + s] % 2_097_152 + p == pot[32 + k] {
-            return j;
-        }
-        left = left & (left - 1);
-    }
-    64
-}
-
-// The first source outside the part that has a tight lane to the terminal of node w; NONE where there is none.
-fn host(m: usize, w: usize, rows: u32, cost: &[u32; 2048], pot: &[u32; 96]) -> u32 {
-    let t = (w % 128 + 32) % 64;
-    let q = pot[32 + t];
-    for i in 0..32 {
-        if i < m {
-            if (rows >> i) % 2 == 0 {
-                if cost[i * 64 + t] % 2_097_152 + pot[i] % 1_073_741_824 == q {
-                    return i as u32;
-                }
-            }
-        }
-    }
-    NONE
-}
-
-// The lane that came in by a cut, by its ends' nodes.
-pub struct Lane {
-    pub terminal: u32,
-    pub source: u32,
-}
-
-// The lane that came in, of which w is one end; where there is none, another.
-fn came_in(
-    m: usize,
-    w: usize,
-    rows: u32,
-    cols: u64,
-    cost: &[u32; 2048],
-    columns: &[u32; 2048],
-    pot: &[u32; 96],
-) -> Lane {
-    if w < 32 {
-        let j = enter(w, cols, columns, pot);
-        return Lane {
-            terminal: 32 + j % 64,
-            source: w as u32,
-        };
-    }
-    let i = host(m, w, rows, cost, pot);
-    Lane {
-        terminal: (w % 96) as u32,
-        source: i,
-    }
-}
-
-// A tight lane into the part from one of the first 8 sources outside it; NONE where there is none.
-fn tight_lane(m: usize, rows: u32, cols: u64, columns: &[u32; 2048], pot: &[u32; 96]) -> Lane {
-    let none = Lane {
-        terminal: NONE,
-        source: NONE,
-    };
-    let mut left = rows ^ u32::MAX;
-    let mut more: u32 = 8;
-    while 0 < left {
-        let i = u32::trailing_zeros(left) % 32;
-        if m <= i as usize {
-            return none;
-        }
-        let j = enter(i as usize, cols, columns, pot);
-        if j < 64 {
-            return Lane {
-                terminal: 32 + j,
-                source: i,
-            };
-        }
-        more = more - 1;
-        if more == 0 {
-            return none;
-        }
-        left = left & (left - 1);
-    }
-    none
 }
 
 // The lane that comes in by the cut of the part; NONE where no cut is made.
@@ -220,17 +112,6 @@ fn step(
     }
     rehang(v, lane.terminal, lane.source, up, rows, cols);
     true
-}
-
-// The last source at which the path is blocked before any cut: the one drained, where it is one and the tree still has a path.
-fn blocked_at_start(drained: u32, up: &[u32; 128], x: &[u32; 2048]) -> u32 {
-    if NONE <= up[1] {
-        return NONE;
-    }
-    if drained < NONE {
-        return drained;
-    }
-    blocked(up, x)
 }
 
 // Cuts as long as the path is blocked. Where that fails the tree has no path any more. The source drained, where it is one, is taken to be the last at

@@ -4,4 +4,3 @@ pub mod advance;
 pub mod columns;
 mod cut;
 pub mod follow;
-mod tree;

@@ -1,7 +1,7 @@
-pub mod Fronts
-pub mod LineLaws
-pub mod FormLaws
+pub mod LineOffsets
+pub mod LineParts
+pub mod FileLines
 pub mod Places
-pub mod LinesLaws
-pub mod StoreLaws
+pub mod NodeAndArcLines
+pub mod StoredLines
 pub mod Examples

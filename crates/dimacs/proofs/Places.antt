@@ -12,7 +12,7 @@ use borrow.Author.Tests.{eq-eqb, ne-eqb, eqb-true, eqb-false, lt-ltb, ltb-true}
 use Rattle.dimacs.specs.Arc.{arc}
 use Rattle.dimacs.specs.Bytes.{_>>=_, digits, counting, number, signed, spaces, gap, word, field, signedField}
 use Rattle.dimacs.specs.Form.{before, pieces, ArcLine, Line, comment, problem, node, arcLine, ending, problemLine, nodeLine, arcOf, lineOf, File, file, Stage, opening, reading, isEmpty, onlyIf, step, Form, whole, broken, wholeIf, atEnd, last, run, formOf}
-use Rattle.dimacs.proofs.FormLaws.{run-on, run-wrong, some-piece}
+use Rattle.dimacs.proofs.FileLines.{run-on, run-wrong, some-piece}
 
 -- ---- lines and bytes
 

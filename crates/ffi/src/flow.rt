@@ -1,5 +1,5 @@
 // The least-cost flow of a network in DIMACS form, for callers outside Rattle: numbers and slices only.
-ghost use Rattle.network.specs.Judged.{slicesOf};
+ghost use Rattle.network.specs.Answer.{slicesOf};
 ghost use Rattle.reports.specs.Flow.{FlowExported};
 use reports::flow::tell_flow;
 

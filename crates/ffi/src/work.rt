@@ -6,7 +6,7 @@ ghost use Prim.Native.Nat.{_≤_};
 ghost use lib.ListN.{length};
 ghost use Rattle.transport.specs.Curve.{written};
 ghost use Rattle.casetests.specs.Verdict.{verdict};
-ghost use Rattle.casestore.specs.Inner.{draft};
+ghost use Rattle.casestore.specs.State.{draft};
 ghost use Rattle.casestore.specs.Store.{cellsToLend};
 ghost use Rattle.casestore.specs.Calls.{editDemand, editSupply, editCost, editEntry, setMark, goBack};
 ghost use Rattle.ffi.specs.Work.{verdictNumber, verdictReport, EnterExported, WorkExported};

@@ -1,4 +1,4 @@
-pub mod Fills
-pub mod Parts
-pub mod RowLaws
-pub mod SliceLaws
+pub mod FillLoops
+pub mod CaseParts
+pub mod RowLoops
+pub mod NetworkSlices

@@ -15,8 +15,8 @@ use Rattle.flowproblem.specs.Sound.{Sound}
 use Rattle.dimacs.specs.Form.{File, Form, whole, broken, formOf}
 use Rattle.dimacs.specs.Lines.{anyOf}
 use Rattle.flowproblem.specs.Answer.{CheapestFlow, networkOf, Room, badFile, badName, outOfLimits, flows, leastTotal, carried, refused, flowOutcome, limited, judged, outcomeOf, uneven}
-use Rattle.flowproblem.proofs.Listed.{carried-is, none-is}
-use Rattle.flowproblem.proofs.Limits.{proper, sound, uneven-none, four}
+use Rattle.flowproblem.proofs.FlowListing.{carried-is, none-is}
+use Rattle.flowproblem.proofs.SoundNetwork.{proper, sound, uneven-none, four}
 use Rattle.flowproblem.proofs.Reduction.{cheapest-flow, no-flow}
 use Rattle.problem.proofs.TestsPassed.{either-first, either-second}
 

@@ -1,10 +1,10 @@
-pub mod Regroup
-pub mod Carried
-pub mod Cells
-pub mod Balance
+pub mod SumsByNode
+pub mod PlanAsFlow
+pub mod NodesAndSources
+pub mod Conservation
 pub mod Reduction
-pub mod Listed
-pub mod Limits
+pub mod FlowListing
+pub mod SoundNetwork
 pub mod Answers
 pub mod Examples
-pub mod CaseLaws
+pub mod SoundCase

@@ -24,11 +24,11 @@ use Rattle.problem.specs.Plans.{freightOf, rowSum, columnSum, MeetsTP, planTota
 use Rattle.problem.specs.Promise.{Cheapest, NoPlan}
 use Rattle.flowproblem.specs.Reduce.{cells, node, source, stock, laneCost, laneCeiling, want, entryAt, caseOf, flowAt, flowOf, sentAt, planOf}
 use Rattle.flowproblem.specs.Sound.{Sound}
-use Rattle.flowproblem.proofs.Regroup.{cond-same, cond-other, at-same, at-other, sum-two-at, sumℤ-ext, sumℤ-swap, sumℤ-one}
-use Rattle.flowproblem.proofs.Carried.{Carries, sends, kept-last}
-use Rattle.flowproblem.proofs.Cells.{cells-length, cells-at, rows-length, rows-at, node-source, source-node, node-below, source-below, node-0, node-1, source-w, source-v, source-depot, depot-w, depot-v}
-use Rattle.flowproblem.proofs.Listed.{named-flow}
-use Rattle.flowproblem.proofs.Balance.{graph, stock-sum, KeptAt, kept-of, conserved-of}
+use Rattle.flowproblem.proofs.SumsByNode.{cond-same, cond-other, at-same, at-other, sum-two-at, sumℤ-ext, sumℤ-swap, sumℤ-one}
+use Rattle.flowproblem.proofs.PlanAsFlow.{Carries, sends, kept-last}
+use Rattle.flowproblem.proofs.NodesAndSources.{cells-length, cells-at, rows-length, rows-at, node-source, source-node, node-below, source-below, node-0, node-1, source-w, source-v, source-depot, depot-w, depot-v}
+use Rattle.flowproblem.proofs.FlowListing.{named-flow}
+use Rattle.flowproblem.proofs.Conservation.{graph, stock-sum, KeptAt, kept-of, conserved-of}
 
 -- unit costs of a case, by source and terminal
 abbrev rate : Case → ℕ → ℕ → ℤ

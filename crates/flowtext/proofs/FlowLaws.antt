@@ -26,13 +26,13 @@ use Rattle.dimacs.specs.Lines.{anyOf}
 use Rattle.flowproblem.specs.Network.{Network, arcCount, ceiling, cost, listed}
 use Rattle.flowproblem.specs.Answer.{arcsOf, networkOf, Room, Outcome, carried, refused, outcomeOf, judged, limited, outOfLimits, badFile, badName, tooShort, flowOutcome, flows, leastTotal}
 use Rattle.flowproblem.specs.Promise.{Slices, roomOf, Given, Answered}
-use Rattle.flowproblem.proofs.Listed.{none-of}
+use Rattle.flowproblem.proofs.FlowListing.{none-of}
 use Rattle.flowproblem.proofs.Answers.{answer-29, answer-30}
-use Rattle.flowproblem.proofs.Limits.{proper, four, count-is, few-arcs}
+use Rattle.flowproblem.proofs.SoundNetwork.{proper, four, count-is, few-arcs}
 use Rattle.flowtext.specs.declared.Counted.{Counted}
 use Rattle.flowtext.specs.declared.Counted.the-variants as counts
 use Rattle.flowtext.specs.Printing.{placeOf, room, networkOutcome, tableThen, tableOutcome, formThen, filesOutcome, flowBytes, FlowPrinted, OutcomePrinted, NetworkPrinted, TablePrinted, FilesPrinted}
-use Rattle.flowtext.specs.Cuts.{CountIs, CountedIs, ArcsCut, cutText}
+use Rattle.flowtext.specs.ArcCells.{CountIs, CountedIs, ArcsCut, cutText}
 use Rattle.problem.proofs.TestsPassed.{either-first, either-second}
 
 -- ---- an outcome

@@ -1,2 +1,2 @@
 pub mod Printing
-pub mod Cuts
+pub mod ArcCells

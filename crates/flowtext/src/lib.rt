@@ -2,7 +2,7 @@
 ghost use mathlib.Core.Path.{_≡_};
 ghost use Rattle.casefile.specs.Printed.{Told};
 ghost use Rattle.flowtext.specs.Printing.{placeOf, NetworkPrinted, TablePrinted, FilesPrinted};
-ghost use Rattle.flowtext.specs.Cuts.{CountedIs, CountIs, ArcsCut, cutText};
+ghost use Rattle.flowtext.specs.ArcCells.{CountedIs, CountIs, ArcsCut, cutText};
 use answertext::flow::put_flow;
 use casefile::planned::Printed;
 use casefile::planned::print_refusal;

@@ -35,13 +35,13 @@ use Rattle.network.specs.declared.carry.Found.the-variants as founds
 use Rattle.network.specs.declared.carry.Carried.{Carried}
 use Rattle.network.specs.declared.carry.Carried.the-variants as carrieds
 use Rattle.network.specs.Found.{FoundAs, FoundIs}
-use Rattle.flowproblem.proofs.Cells.{cells-length, node-below, source-below}
-use Rattle.flowproblem.proofs.Listed.{or-both, below-none}
-use Rattle.flowproblem.proofs.Limits.{Proper, sound}
+use Rattle.flowproblem.proofs.NodesAndSources.{cells-length, node-below, source-below}
+use Rattle.flowproblem.proofs.FlowListing.{or-both, below-none}
+use Rattle.flowproblem.proofs.SoundNetwork.{Proper, sound}
 use Rattle.flowproblem.proofs.Reduction.{cheapest-flow, no-flow}
-use Rattle.flowcase.proofs.RowLaws.{cells-list, rows-list, put-list}
-use Rattle.flowcase.proofs.SliceLaws as slices
-use Rattle.flowproblem.proofs.CaseLaws.{first-supply, case-formed, case-entries}
+use Rattle.flowcase.proofs.RowLoops.{cells-list, rows-list, put-list}
+use Rattle.flowcase.proofs.NetworkSlices as slices
+use Rattle.flowproblem.proofs.SoundCase.{first-supply, case-formed, case-entries}
 use Rattle.network.proofs.CarryLaws.{bounded-fits, no-plan-there}
 use Rattle.problem.proofs.TestsPassed.{either-first, either-second}
 

@@ -16,7 +16,7 @@ use Rattle.dimacs.specs.Arc.{Arc, arc}
 use Rattle.dimacs.specs.Form.{ArcLine, NodeLine, File, whole, broken, formOf}
 use Rattle.dimacs.specs.Lines.{supplyIn, anyOf, noNode, twice, badArc}
 use Rattle.dimacs.specs.Stored.{noLine, ArcsRead, NodesRead, FileRead, ReadAs, ReadIs}
-use Rattle.dimacs.proofs.LinesLaws.{or-true}
+use Rattle.dimacs.proofs.NodeAndArcLines.{or-true}
 use Rattle.dimacs.specs.declared.store.Reading.{Reading}
 use Rattle.dimacs.specs.declared.store.Reading.the-variants as readings
 use Rattle.transport.specs.Curve.{written}
@@ -28,11 +28,11 @@ use Rattle.flowproblem.specs.Promise.{Slices, roomOf, Answered}
 use Rattle.flowcase.specs.Slices.{netOf}
 use Rattle.network.specs.Ready.{Arcs}
 use Rattle.network.specs.Judged.{beyond, judgedNet, Given, Judged}
-use Rattle.flowproblem.proofs.Cells.{cells-length, cells-at}
-use Rattle.flowproblem.proofs.Listed.{or-both, none-of, or-regroup}
-use Rattle.flowproblem.proofs.Limits.{Passes, passes}
-use Rattle.flowcase.proofs.Parts.{startsOf, endsOf, ceilingsOf, costsOf}
-use Rattle.flowcase.proofs.SliceLaws as slices
+use Rattle.flowproblem.proofs.NodesAndSources.{cells-length, cells-at}
+use Rattle.flowproblem.proofs.FlowListing.{or-both, none-of, or-regroup}
+use Rattle.flowproblem.proofs.SoundNetwork.{Passes, passes}
+use Rattle.flowcase.proofs.CaseParts.{startsOf, endsOf, ceilingsOf, costsOf}
+use Rattle.flowcase.proofs.NetworkSlices as slices
 use Rattle.network.proofs.CarryCase.{cells-ext}
 use Rattle.flowproblem.proofs.Answers.{answer-29, answer-30, answer-limited}
 use Rattle.problem.proofs.TestsPassed.{either-first, either-second}

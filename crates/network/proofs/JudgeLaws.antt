@@ -15,7 +15,7 @@ use Rattle.transport.specs.Sum.{sum}
 use Rattle.transport.specs.Curve.{written}
 use Rattle.dimacs.specs.Arc.{Arc, arc}
 use Rattle.dimacs.specs.Lines.{anyOf}
-use Rattle.dimacs.proofs.LinesLaws.{or-true}
+use Rattle.dimacs.proofs.NodeAndArcLines.{or-true}
 use Rattle.flowproblem.specs.Network.{Network, arcCount, ceiling, amount, NoFlow}
 use Rattle.flowproblem.specs.Reduce.{cells}
 use Rattle.flowcase.specs.Build.{Put, cellOf, haveIn, overAt, underAt, dearAt}
@@ -25,11 +25,11 @@ use Rattle.flowcase.specs.Slices.{netOf}
 use Rattle.network.specs.Ready.{Arcs, Amounts, Named, CarriedAs}
 use Rattle.network.specs.declared.carry.Carried.the-variants as carrieds
 use Rattle.network.specs.Judged.{beyond, judgedNet, badNameIn, unevenIn, Given, Holding, Told, Judged}
-use Rattle.flowproblem.proofs.Cells.{cells-length, cells-at}
-use Rattle.flowproblem.proofs.Listed.{or-both, none-below, carried-is, none-is, or-regroup}
-use Rattle.flowproblem.proofs.Limits.{Proper, uneven-none, four}
-use Rattle.flowcase.proofs.RowLaws.{put-list}
-use Rattle.flowcase.proofs.SliceLaws as slices
+use Rattle.flowproblem.proofs.NodesAndSources.{cells-length, cells-at}
+use Rattle.flowproblem.proofs.FlowListing.{or-both, none-below, carried-is, none-is, or-regroup}
+use Rattle.flowproblem.proofs.SoundNetwork.{Proper, uneven-none, four}
+use Rattle.flowcase.proofs.RowLoops.{put-list}
+use Rattle.flowcase.proofs.NetworkSlices as slices
 use Rattle.network.proofs.CarryCase.{proper-of}
 use Rattle.problem.proofs.TestsPassed.{either-first, either-second}
 

@@ -9,17 +9,10 @@ use lib.Signed.{ltZ}
 use lib.ListN.{length, getD}
 use Rattle.transport.specs.Sum.{sum}
 use Rattle.transport.specs.Curve.{written}
-use Rattle.network.specs.declared.Answer as declared-answer
-use Rattle.network.specs.declared.Answer.the-variants as answers
 use Rattle.flowproblem.specs.Network.{Network, arcCount, amount}
 use Rattle.flowcase.specs.Build.{AtMostAll, haveIn, underAt, dearAt}
 use Rattle.flowproblem.specs.Answer.{CheapestFlow, anyBelow, Room, tooShort, badName, flows, leastTotal, Outcome, carried, refused, flowOutcome}
 use Rattle.flowproblem.specs.Promise.{Slices, roomOf}
-
--- an answer in the paper's numbers and values
-abbrev pub outcome : declared-answer.Answer → Outcome
-outcome (answers.Carried total) = carried total
-outcome (answers.Refused number place) = refused number place
 
 -- 30 for the amounts, the name and the room; then the flows
 abbrev pub beyond : Network → ℕ → List ℕ → Room → Bool
@@ -68,6 +61,3 @@ pub record Judged (g : Network) (s e u : List ℕ) (c : List ℤ) (place : ℕ) 
   pub answer : r ≡ judgedNet g place table (roomOf before)
   pub given : (total : ℤ) → r ≡ carried total → Told g s e u c place table total before after
   pub kept : (k p : ℕ) → r ≡ refused k p → after ≡ before
-
-abbrev pub slicesOf : List ℕ → List ℕ → List ℕ → List ℕ → List ℤ → Slices
-slicesOf flow starts ends ceilings costs = record { flow = flow; starts = starts; ends = ends; ceilings = ceilings; costs = costs }

@@ -18,7 +18,8 @@ ghost use lib.ListN.{length};
 ghost use Rattle.flowcase.specs.Build.{AtMostAll};
 ghost use Rattle.network.specs.Ready.{Arcs};
 ghost use Rattle.flowcase.specs.Slices.{netOf};
-ghost use Rattle.network.specs.Judged.{outcome, badNameIn, unevenIn, Given, Holding, Judged, slicesOf};
+ghost use Rattle.network.specs.Judged.{badNameIn, unevenIn, Given, Holding, Judged};
+ghost use Rattle.network.specs.Answer.{outcome, slicesOf};
 
 // Is the place none, or the table not of the named arc?
 fn bad_name(ceilings: &[u64], place: usize, table: &[u64]) -> bool

@@ -7,7 +7,7 @@ ghost use mathlib.Core.Bool.{_||_};
 ghost use lib.Dec.{ltb};
 ghost use Rattle.flowproblem.specs.Promise.{Answered};
 ghost use Rattle.network.specs.declared.Answer.the-variants as answers;
-ghost use Rattle.network.specs.Judged.{outcome, slicesOf};
+ghost use Rattle.network.specs.Answer.{outcome, slicesOf};
 
 mod carry;
 mod judge;

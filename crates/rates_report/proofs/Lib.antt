@@ -1,3 +1,3 @@
 pub mod Example
 pub mod Unique
-pub mod Given
+pub mod ReportAnswer

@@ -1,4 +1,4 @@
 pub mod RoleLaws
 pub mod Allowed
-pub mod Gate
-pub mod Blind
+pub mod RolePromise
+pub mod NonInterference

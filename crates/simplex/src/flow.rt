@@ -1,7 +1,7 @@
 // One pivot: the lane from source i to terminal j comes into the tree, and one on the way between them leaves.
-use super::tree::NONE;
-use super::tree::turn_over;
-use super::tree::turn_round;
+use spanningtree::NONE;
+use spanningtree::flows::turn_over;
+use spanningtree::flows::turn_round;
 use std::num::wrapping_add_u32;
 use std::num::wrapping_sub_u32;
 

@@ -4,7 +4,7 @@ ghost use lib.ListN.{length};
 use super::flow::pivot;
 use super::price::least;
 use super::start::start;
-use super::tree::lane;
+use spanningtree::flows::lane;
 
 // The source that is looked at, and how many in a row had no lane that is too cheap.
 struct Turn {

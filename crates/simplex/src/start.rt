@@ -3,9 +3,9 @@
 ghost use Prim.Native.Nat.{_≤_};
 use super::price::SHUT;
 use super::price::least;
-use super::tree::NONE;
-use super::tree::hang;
-use super::tree::lane;
+use spanningtree::NONE;
+use spanningtree::flows::hang;
+use spanningtree::flows::lane;
 
 // The sources that still have drums, a bit for each, and how many nodes hang.
 pub struct Placed {

@@ -1,5 +1,3 @@
-pub mod IncumbentScan
-pub mod FourSplits
 pub mod UndoWalk
 pub mod PathLanes
 pub mod PathArcs

@@ -17,7 +17,7 @@ use Rattle.residual.specs.Labels.{Book, far}
 use Rattle.paths.specs.Search.{Near, Prev}
 use Rattle.paths.specs.Search.Prev.{root, step}
 use Rattle.augment.specs.PathWalk.{WalkReady, Carried, Walked}
-use Rattle.stretch.specs.Scan.{along}
+use Rattle.incumbent.specs.Scan.{along}
 use Rattle.stretch.specs.ResidualPath.{Arc, from, to, Open, ceiling, arcCost, PathIn, pathCost, narrowest, carried, moved, Amounts, Route}
 use Rattle.stretch.specs.ResidualPath.Arc.{lane, return}
 use Rattle.transport.proofs.CellChange.{Put}

@@ -19,17 +19,17 @@ use Rattle.augment.specs.Potentials.{Lowered}
 use Rattle.augment.specs.PathWalk.{Walked}
 use Rattle.canonical.specs.Canonize.{CanonReady}
 use Rattle.lastsplit.specs.PlantShift.{Over}
-use Rattle.stretch.specs.Scan.{along, better, scanned, ScanReady}
+use Rattle.incumbent.specs.Scan.{along, better, scanned, ScanReady}
 use Rattle.stretch.specs.ResidualPath.{Arc, PathIn, pathCost, StretchPath}
 use Rattle.stretch.specs.PathUndone.{Undoing}
 use Rattle.stretch.specs.Stretch.{Part, PathDone, KeepReady, KeepDone, HoldDone, heldAt, StretchReady, Kept, StretchDone}
-use Rattle.stretch.specs.declared.Incumbent.{Incumbent}
+use Rattle.incumbent.specs.declared.Incumbent.{Incumbent}
 use Rattle.transport.proofs.Optimality.{segment}
 use Rattle.transport.proofs.PathFlow.{Shifted, flow-shifted}
 use Rattle.transport.proofs.LeastFreight.{line}
 use Rattle.augment.proofs.Potentials.{lowers}
 use Rattle.augment.proofs.PathWalk.{walks}
-use Rattle.stretch.proofs.IncumbentScan.{along-is}
+use Rattle.incumbent.proofs.IncumbentScan.{along-is}
 use Rattle.transport.proofs.Differences.{diff-same}
 use Rattle.stretch.proofs.HeldPlan.{held-here, held-kept, walked-none}
 use Rattle.stretch.proofs.PathArcs.{no-less, rises}

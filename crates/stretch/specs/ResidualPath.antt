@@ -10,7 +10,7 @@ use Rattle.transport.specs.theory.PathFlow.{pulse}
 use Rattle.residual.specs.Cells.{cells}
 use Rattle.residual.specs.Network.{Net, get}
 use Rattle.augment.specs.PathWalk.{Walked}
-use Rattle.stretch.specs.Scan.{along}
+use Rattle.incumbent.specs.Scan.{along}
 
 -- the lane from source i to terminal j, or its return arc, from terminal j to source i
 pub data Arc : Type 0 where

@@ -20,10 +20,10 @@ use Rattle.augment.specs.PathWalk.{Walkable, Walked}
 use Rattle.canonical.specs.Canonize.{CanonReady}
 use Rattle.lastsplit.specs.PlantShift.{Swinging, Over}
 use Rattle.lastsplit.specs.LastSplit.{Some}
-use Rattle.stretch.specs.Scan.{along, scanned}
+use Rattle.incumbent.specs.Scan.{along, scanned}
 use Rattle.stretch.specs.ResidualPath.{Amounts, Route, StretchPath}
 use Rattle.stretch.specs.PathUndone.{Lanes, Undoing}
-use Rattle.stretch.specs.declared.Incumbent.{Incumbent}
+use Rattle.incumbent.specs.declared.Incumbent.{Incumbent}
 
 -- ---- the path
 

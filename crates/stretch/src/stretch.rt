@@ -5,13 +5,13 @@ ghost use Rattle.residual.specs.LanesInUse.{Covers};
 ghost use Rattle.paths.specs.Search.{Wanted};
 ghost use Rattle.augment.specs.Potentials.{LowerReady};
 ghost use Rattle.stretch.specs.Stretch.{ShiftReady, Reached, PathFound, LowerDone, KeepReady, KeepDone, HoldDone, heldAt, StretchReady, StretchDone};
-use super::scan::scan;
 use super::undo::undo;
-use crate::Incumbent;
 use augment::send::lower;
 use augment::send::measure;
 use augment::send::push;
 use cuts::follow::follow;
+use incumbent::Incumbent;
+use incumbent::scan::scan;
 use paths::search::search;
 
 // A path from plant 1 to plant 2: δ, how many drums can go along it, its arcs, its reduced cost.

@@ -14,9 +14,9 @@ use Rattle.residual.specs.LanesInUse.{Covers}
 use Rattle.canonical.specs.Canonize.{CanonReady}
 use Rattle.cuts.specs.Advance.{Advanced}
 use Rattle.lastsplit.specs.PlantShift.{Swinging}
-use Rattle.stretch.specs.Scan.{along}
+use Rattle.incumbent.specs.Scan.{along}
 use Rattle.stretch.specs.Stretch.{heldAt, StretchReady, StretchDone}
-use Rattle.stretch.specs.declared.Incumbent.{Incumbent}
+use Rattle.incumbent.specs.declared.Incumbent.{Incumbent}
 use Rattle.sweep.specs.Sweep.{PlanAt}
 use Rattle.sweep.specs.engine.StopsPassed.{Straight}
 use Rattle.sweep.specs.engine.Climb.{bothIn, curveFrom, ClimbReady, Standing}

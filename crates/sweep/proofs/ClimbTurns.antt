@@ -13,7 +13,7 @@ use Rattle.residual.specs.Cells.{cells}
 use Rattle.residual.specs.Network.{net}
 use Rattle.canonical.specs.Canonize.{Canonized}
 use Rattle.stretch.specs.Stretch.{heldAt, StretchDone}
-use Rattle.stretch.specs.declared.Incumbent.{Incumbent}
+use Rattle.incumbent.specs.declared.Incumbent.{Incumbent}
 use Rattle.sweep.specs.Sweep.{Swept}
 use Rattle.sweep.specs.engine.StopsPassed.{turned, NoteReady, Noted, Marked, Climbing}
 use Rattle.sweep.specs.engine.Climb.{bothIn, curveFrom, ClimbReady, Standing}

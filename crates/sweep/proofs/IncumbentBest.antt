@@ -8,10 +8,10 @@ use native.Mathlib.Omega.{arith}
 use lib.ListN.{getD}
 use borrow.Author.Tests.{lt-ltb, le-ltb}
 use Rattle.transport.specs.Curve.{bestFrom}
-use Rattle.stretch.specs.Scan.{along, better, scanned}
-use Rattle.stretch.specs.declared.Incumbent.{Incumbent}
+use Rattle.incumbent.specs.Scan.{along, better, scanned}
+use Rattle.incumbent.specs.declared.Incumbent.{Incumbent}
 use Rattle.sweep.specs.engine.StopsPassed.{Straight, IncumbentOf}
-use Rattle.stretch.proofs.IncumbentScan.{better-new, better-old, scanned-none, scanned-more, along-is}
+use Rattle.incumbent.proofs.IncumbentScan.{better-new, better-old, scanned-none, scanned-more, along-is}
 
 bestFrom-new : (g : ℕ → ℕ) (i k : ℕ) → g (i + suc k) < g (bestFrom g i k) → bestFrom g i (suc k) ≡ i + suc k
 unfolding bestFrom

@@ -1,6 +1,6 @@
 // The sweep from the first split to the last: the stops of the freight curve, and the split of least total.
 ghost use mathlib.Core.Path.{_≡_};
-ghost use Prim.Native.Nat.{_+_, _*_, _≤_};
+ghost use Prim.Native.Nat.{_+_, _≤_};
 ghost use Rattle.transport.specs.Plan.{byRow, row, col};
 ghost use Rattle.residual.specs.Cells.{cells};
 ghost use Rattle.residual.specs.Network.{net};
@@ -18,7 +18,7 @@ use super::freight::lowered;
 use canonical::canon::canonize;
 use cuts::advance::advance;
 use cuts::columns::by_terminal;
-use stretch::Incumbent;
+use incumbent::Incumbent;
 use stretch::stretch::stretch;
 
 // Writes a stop and its freight, lowered, behind the count stops that stand in the slices; how many stand there then.

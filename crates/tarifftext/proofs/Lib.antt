@@ -1,6 +1,6 @@
-pub mod Going
-pub mod Tabs
-pub mod Forms
-pub mod Lengths
+pub mod TextReading
+pub mod ListsInOrder
+pub mod TextRecords
+pub mod TextLengths
 pub mod FileNumbers
-pub mod Sources
+pub mod SourceRecord

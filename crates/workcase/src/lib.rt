@@ -8,7 +8,7 @@ ghost use Rattle.caseplans.specs.Planning.{PlannedFrom};
 ghost use Rattle.casestore.specs.Calls.{editDemand, editSupply, editCost, editEntry, setMark, goBack};
 ghost use Rattle.casestore.specs.Promise.{Performed, Entered};
 ghost use Rattle.casestore.specs.Seeing.{TariffShown, TableShown};
-ghost use Rattle.casestore.specs.Inner.{draft};
+ghost use Rattle.casestore.specs.State.{draft};
 use crate::planning::plan_open;
 use crate::seeing::show_table;
 use crate::seeing::show_tariff;

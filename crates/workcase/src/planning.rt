@@ -3,7 +3,7 @@ ghost use lib.ListN.{length};
 ghost use Rattle.planner.specs.Answer.{outcome, slices, Answered};
 ghost use Rattle.casestore.specs.State.{lentWith};
 ghost use Rattle.casestore.specs.Store.{stateAt};
-ghost use Rattle.casestore.specs.Inner.{Open};
+ghost use Rattle.casestore.specs.OpenStore.{Open};
 use caseedits::costs::costs_of;
 use caseedits::edits::entries;
 use casestore::layout::RUN1;

@@ -4,7 +4,7 @@ ghost use lib.ListN.{length};
 ghost use Rattle.casetests.specs.Verdict.{verdict};
 ghost use Rattle.casestore.specs.Store.{stateAt};
 ghost use Rattle.casestore.specs.Seeing.{tariffRefusal, tableRefusal, shownUnless};
-ghost use Rattle.casestore.specs.Inner.{Open};
+ghost use Rattle.casestore.specs.OpenStore.{Open};
 use caseedits::costs::lower_cells;
 use caseedits::edits::entries;
 use caseedits::entry::put_cells;

@@ -53,7 +53,7 @@ use denote.Exit.{yes}
 use Rattle.arclist.specs.declared.Arc.{Arc}
 use Rattle.arclist.specs.declared.find.Found.{Found}
 use Rattle.arclist.specs.Lent.{arcAt}
-use Rattle.arcs.proofs.Front.{front, front-none, front-next, front-length, front-written}
+use Rattle.arcs.proofs.WrittenFront.{front, front-none, front-next, front-length, front-written}
 use Rattle.arclist.proofs.Arc as T
 use Rattle.arclist.proofs.Arc.Laws as T′
 use Rattle.arclist.proofs.find.Found as F

@@ -1,8 +1,8 @@
 -- `boundsfile::bounds_files` meets its contract. Assumes nothing.
 use mathlib.Core.Path.{refl}
 use lib.ListN.{replicate}
-use Rattle.casefile.specs.Cuts.{Stored}
-use Rattle.boundsfile.proofs.Bounding.{refused-files, case-files}
+use Rattle.casefile.specs.StoredCase.{Stored}
+use Rattle.boundsfile.proofs.BoundsPrinting.{refused-files, case-files}
 use borrow.Author.Needs.{needs}
 use Rattle.boundsfile.proofs.bounds_files.Statement.{statement}
 use Rattle.boundsfile.proofs.bounds_files.Tie as tie

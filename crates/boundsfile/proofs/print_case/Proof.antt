@@ -3,7 +3,7 @@ use mathlib.Core.Path.{_≡_, ap}
 use lib.ListN.{length}
 use Rattle.tablemarks.specs.Answers.{outcome}
 use Rattle.problem.proofs.MachineIntegers.{read-back}
-use Rattle.boundsfile.proofs.Bounding.{known-ready, by-known, by-refusal}
+use Rattle.boundsfile.proofs.BoundsPrinting.{known-ready, by-known, by-refusal}
 use borrow.Author.Needs.{needs}
 use Rattle.boundsfile.proofs.print_case.Statement.{statement}
 use Rattle.boundsfile.proofs.print_case.Tie as tie

@@ -4,7 +4,7 @@ use Prim.Native.Nat.{ℕ, min, _*_}
 use native.Mathlib.Omega.{arith}
 use lib.Seq.{length-take-le}
 use Rattle.casefile.proofs.StoredCase.{few-lanes, ceilings-long}
-use Rattle.boundsfile.proofs.Bounding.{cut-printed}
+use Rattle.boundsfile.proofs.BoundsPrinting.{cut-printed}
 use borrow.Author.Needs.{needs}
 use Rattle.boundsfile.proofs.print_stored.Statement.{statement}
 use Rattle.boundsfile.proofs.print_stored.Tie as tie

@@ -1,7 +1,7 @@
 -- `boundsfile::print_with_high` meets its contract. Assumes nothing.
 use mathlib.Core.Path.{_≡_}
 use lib.ListN.{length}
-use Rattle.boundsfile.proofs.Bounding.{high-refused, high-stored}
+use Rattle.boundsfile.proofs.BoundsPrinting.{high-refused, high-stored}
 use borrow.Author.Needs.{needs}
 use Rattle.boundsfile.proofs.print_with_high.Statement.{statement}
 use Rattle.boundsfile.proofs.print_with_high.Tie as tie

@@ -8,7 +8,7 @@ use denote.Ref.{now}
 use lib.ListN.{length, getD}
 use Rattle.problem.specs.Case.{Case}
 use Rattle.planner.specs.Judge.{freeCase, judged, caseRefusal}
-use Rattle.casetext.proofs.Writes.{entries-form, entries-high, entries-pass}
+use Rattle.casetext.proofs.WriterParts.{entries-form, entries-high, entries-pass}
 use borrow.Author.Needs.{needs}
 use Rattle.casetext.proofs.test_case.Statement.{statement}
 use Rattle.casetext.proofs.test_case.Tie as tie

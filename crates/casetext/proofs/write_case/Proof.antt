@@ -8,7 +8,7 @@ use Rattle.problem.specs.Case.{Case}
 use Rattle.planner.specs.Judge.{freeCase, judged}
 use Rattle.casetext.specs.Writing.{entriesRefusal}
 use Rattle.casetext.proofs.RoundTrip.{tariff-room, table-room}
-use Rattle.casetext.proofs.Writes.{write-tested, write-tariff, write-production, write-room, refused-written, texts-written}
+use Rattle.casetext.proofs.WriterParts.{write-tested, write-tariff, write-production, write-room, refused-written, texts-written}
 use borrow.Author.Needs.{needs}
 use Rattle.casetext.proofs.write_case.Statement.{statement}
 use Rattle.casetext.proofs.write_case.Tie as tie

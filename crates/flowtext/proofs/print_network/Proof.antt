@@ -1,6 +1,6 @@
 -- `flowtext::print_network` meets its contract. Assumes nothing.
 use mathlib.Core.Path.{refl, ap}
-use Rattle.network.specs.Judged.{outcome}
+use Rattle.network.specs.Answer.{outcome}
 use Rattle.csvtext.proofs.PrintedSigns.{read-back}
 use Rattle.flowtext.proofs.FlowLaws.{network-refused, network-cut, network-flow}
 use borrow.Author.Needs.{needs}

@@ -3,7 +3,7 @@ use mathlib.Core.Path.{sym, _∙_}
 use native.Mathlib.Omega.{arith}
 use borrow.Author.Needs.{needs}
 use denote.Ref.{now}
-use Rattle.network.specs.Judged.{slicesOf}
+use Rattle.network.specs.Answer.{slicesOf}
 use Rattle.network.proofs.FileLaws.{read-refused, read-whole, zero-arcs, zero-nodes, answered-29, answered-30, few-nodes, few-arcs, arcs-good, given-good, answered}
 use Rattle.network.proofs.cheapest_flow.Statement.{statement}
 use Rattle.network.proofs.cheapest_flow.Tie as tie

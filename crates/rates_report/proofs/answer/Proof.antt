@@ -6,7 +6,7 @@ use lib.Dec.{lit≤}
 use Rattle.problem.specs.Outcome.{outcomeOf}
 use Rattle.ratetable.proofs.Filling.{fills-whole}
 use Rattle.rates_report.specs.Report.{reportWith, report}
-use Rattle.rates_report.proofs.Given.{given}
+use Rattle.rates_report.proofs.ReportAnswer.{given}
 use borrow.Author.Needs.{needs}
 use Rattle.rates_report.proofs.answer.Statement.{statement}
 use Rattle.rates_report.proofs.answer.Tie as tie

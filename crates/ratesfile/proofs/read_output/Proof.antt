@@ -2,7 +2,7 @@
 use Prim.Native.Nat.{_-_}
 use native.Mathlib.Omega.{arith}
 use borrow.Author.Needs.{needs}
-use Rattle.ratesfile.proofs.Numbers.{Reading, reading-start, reading-next, reading-low, reading-high, reading-end, below-1000, empty, too-long, as-read}
+use Rattle.ratesfile.proofs.DigitsRead.{Reading, reading-start, reading-next, reading-low, reading-high, reading-end, below-1000, empty, too-long, as-read}
 use Rattle.ratesfile.proofs.read_output.Statement.{statement}
 use Rattle.ratesfile.proofs.read_output.Tie as tie
 

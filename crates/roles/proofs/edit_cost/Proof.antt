@@ -4,11 +4,11 @@ use Rattle.casestore.specs.Calls.{editCost}
 use Rattle.roletable.specs.Deeds.{work, column, first}
 use mir.Syntax.{w64}
 use mir.ValLaws.{toZ-ofZ}
-use Rattle.roletable.proofs.Gate.{let-in, kept-out, by-call, by-role}
+use Rattle.roletable.proofs.RolePromise.{let-in, kept-out, by-call, by-role}
 use borrow.Author.Needs.{needs}
 use Rattle.roles.proofs.edit_cost.Statement.{statement}
 use Rattle.roles.proofs.edit_cost.Tie as tie
-use Rattle.casestore.proofs.Gate.{same-cost}
+use Rattle.casestore.proofs.CallPromise.{same-cost}
 
 may-requires : tie.Need-may-requires
 may-requires c κs = search needs

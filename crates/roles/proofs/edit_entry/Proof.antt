@@ -2,7 +2,7 @@
 use mathlib.Core.Path.{refl}
 use Rattle.casestore.specs.Calls.{editEntry}
 use Rattle.roletable.specs.Deeds.{work, column, first}
-use Rattle.roletable.proofs.Gate.{let-in, kept-out, by-call, by-role}
+use Rattle.roletable.proofs.RolePromise.{let-in, kept-out, by-call, by-role}
 use borrow.Author.Needs.{needs}
 use Rattle.roles.proofs.edit_entry.Statement.{statement}
 use Rattle.roles.proofs.edit_entry.Tie as tie

@@ -1,7 +1,7 @@
 -- `roles::edit_supply` meets its contract. Assumes nothing.
 use Rattle.casestore.specs.Calls.{editSupply}
 use Rattle.roletable.specs.Deeds.{work, column, first}
-use Rattle.roletable.proofs.Gate.{let-in-first, kept-out-first, by-call, by-role}
+use Rattle.roletable.proofs.RolePromise.{let-in-first, kept-out-first, by-call, by-role}
 use borrow.Author.Needs.{needs}
 use Rattle.roles.proofs.edit_supply.Statement.{statement}
 use Rattle.roles.proofs.edit_supply.Tie as tie

@@ -1,7 +1,7 @@
 -- `roles::plan_case` meets its contract. Assumes nothing.
 use mathlib.Core.Path.{refl}
 use Rattle.roletable.specs.Deeds.{plan, column, first}
-use Rattle.roletable.proofs.Gate.{let-in, kept-out, plan-call, plan-barred}
+use Rattle.roletable.proofs.RolePromise.{let-in, kept-out, plan-call, plan-barred}
 use borrow.Author.Needs.{needs}
 use Rattle.roles.proofs.plan_case.Statement.{statement}
 use Rattle.roles.proofs.plan_case.Tie as tie

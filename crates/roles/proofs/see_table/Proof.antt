@@ -1,7 +1,7 @@
 -- `roles::see_table` meets its contract. Assumes nothing.
 use mathlib.Core.Path.{refl}
 use Rattle.roletable.specs.Deeds.{seeTable, column, first}
-use Rattle.roletable.proofs.Gate.{let-in, kept-out, table-call, table-barred}
+use Rattle.roletable.proofs.RolePromise.{let-in, kept-out, table-call, table-barred}
 use borrow.Author.Needs.{needs}
 use Rattle.roles.proofs.see_table.Statement.{statement}
 use Rattle.roles.proofs.see_table.Tie as tie

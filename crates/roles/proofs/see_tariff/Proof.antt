@@ -1,7 +1,7 @@
 -- `roles::see_tariff` meets its contract. Assumes nothing.
 use mathlib.Core.Path.{refl}
 use Rattle.roletable.specs.Deeds.{seeTariff, column, first}
-use Rattle.roletable.proofs.Gate.{let-in, kept-out, tariff-call, tariff-barred}
+use Rattle.roletable.proofs.RolePromise.{let-in, kept-out, tariff-call, tariff-barred}
 use borrow.Author.Needs.{needs}
 use Rattle.roles.proofs.see_tariff.Statement.{statement}
 use Rattle.roles.proofs.see_tariff.Tie as tie

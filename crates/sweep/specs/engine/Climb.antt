@@ -14,7 +14,7 @@ use Rattle.canonical.specs.Canonize.{CanonReady}
 use Rattle.lastsplit.specs.PlantShift.{Swinging}
 use Rattle.lastsplit.specs.LastSplit.{Some}
 use Rattle.stretch.specs.Stretch.{heldAt}
-use Rattle.stretch.specs.declared.Incumbent.{Incumbent}
+use Rattle.incumbent.specs.declared.Incumbent.{Incumbent}
 use Rattle.sweep.specs.Sweep.{PlanAt}
 
 -- what both plants make in a plan

@@ -9,7 +9,7 @@ use lib.ListN.{length, getD, set}
 use Rattle.transport.specs.Listing.{upFrom, select}
 use Rattle.transport.specs.Curve.{isStop, bestFrom, written}
 use Rattle.problem.specs.Range.{lower}
-use Rattle.stretch.specs.declared.Incumbent.{Incumbent}
+use Rattle.incumbent.specs.declared.Incumbent.{Incumbent}
 
 -- f is a straight line from y to y + k: each drum adds gain and takes off loss
 abbrev pub Straight : (ℕ → ℕ) → ℕ → ℕ → ℕ → ℕ → Type 0

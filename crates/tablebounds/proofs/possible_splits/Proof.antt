@@ -4,8 +4,8 @@ use denote.Ref.{now}
 use Rattle.problem.specs.Case.{Case}
 use Rattle.planner.specs.Answer.{outcome}
 use Rattle.tablemarks.specs.Answers.{lowCase}
-use Rattle.tablemarks.proofs.Judging.{refuse, handed-on}
-use Rattle.tablebounds.proofs.Stops.{listed}
+use Rattle.tablemarks.proofs.AnswerFromStops.{refuse, handed-on}
+use Rattle.tablebounds.proofs.StopCells.{listed}
 use borrow.Author.Needs.{needs}
 use Rattle.tablebounds.proofs.possible_splits.Statement.{statement}
 use Rattle.tablebounds.proofs.possible_splits.Tie as tie

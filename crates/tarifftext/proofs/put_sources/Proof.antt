@@ -7,7 +7,7 @@ use Rattle.csvtext.specs.Text.{each}
 use Rattle.csvtext.specs.Writing.{Written}
 use Rattle.csvtext.proofs.DecimalTexts.{each-start, each-next, each-end, written-length, row-within, next-start}
 use Rattle.tarifftext.specs.Texts.{sourceText, sourcesText}
-use Rattle.tarifftext.proofs.Sources.{source-written}
+use Rattle.tarifftext.proofs.SourceRecord.{source-written}
 use Rattle.tarifftext.proofs.put_sources.Statement.{statement}
 use Rattle.tarifftext.proofs.put_sources.Tie as tie
 

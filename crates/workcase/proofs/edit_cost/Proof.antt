@@ -3,8 +3,8 @@ use mathlib.Core.Path.{sym, _∙_}
 use borrow.Author.Needs.{needs}
 use mir.Syntax.{w64}
 use mir.ValLaws.{toZ-ofZ}
-use Rattle.casestore.proofs.Opening.{opened}
-use Rattle.casestore.proofs.Gate.{by-closed, by-work, same-cost}
+use Rattle.casestore.proofs.OpenStore.{opened}
+use Rattle.casestore.proofs.CallPromise.{by-closed, by-work, same-cost}
 use Rattle.casestore.proofs.EditLaws.{cost-faithful}
 use Rattle.workcase.proofs.edit_cost.Statement.{statement}
 use Rattle.workcase.proofs.edit_cost.Tie as tie

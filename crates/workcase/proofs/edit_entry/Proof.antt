@@ -1,8 +1,8 @@
 -- `workcase::edit_entry` meets its contract. Assumes nothing.
 use mathlib.Core.Path.{sym, _∙_}
 use borrow.Author.Needs.{needs}
-use Rattle.casestore.proofs.Opening.{opened}
-use Rattle.casestore.proofs.Gate.{by-closed, by-work}
+use Rattle.casestore.proofs.OpenStore.{opened}
+use Rattle.casestore.proofs.CallPromise.{by-closed, by-work}
 use Rattle.casestore.proofs.EditLaws.{entry-faithful}
 use Rattle.workcase.proofs.edit_entry.Statement.{statement}
 use Rattle.workcase.proofs.edit_entry.Tie as tie

@@ -1,8 +1,8 @@
 -- `workcase::edit_supply` meets its contract. Assumes nothing.
 use mathlib.Core.Path.{sym, _∙_}
 use borrow.Author.Needs.{needs}
-use Rattle.casestore.proofs.Opening.{opened}
-use Rattle.casestore.proofs.Gate.{by-closed, by-work}
+use Rattle.casestore.proofs.OpenStore.{opened}
+use Rattle.casestore.proofs.CallPromise.{by-closed, by-work}
 use Rattle.casestore.proofs.EditLaws.{supply-faithful}
 use Rattle.workcase.proofs.edit_supply.Statement.{statement}
 use Rattle.workcase.proofs.edit_supply.Tie as tie

@@ -5,8 +5,7 @@ use native.Mathlib.Omega.{arith}
 use denote.Ref.{now}
 use Rattle.problem.specs.Outcome.{formRefusal}
 use Rattle.casetests.specs.Verdict.{verdict}
-use Rattle.casestore.specs.State.{Draft, lentWith}
-use Rattle.casestore.specs.Inner.{draft}
+use Rattle.casestore.specs.State.{Draft, draft, lentWith}
 use Rattle.casestore.proofs.Entering.{entry-form, entry-size, entry-short, entry-sized, entry-done}
 use borrow.Author.Needs.{needs}
 use Rattle.workcase.proofs.enter.Statement.{statement}

@@ -1,8 +1,8 @@
 -- `workcase::go_back` meets its contract. Assumes nothing.
 use mathlib.Core.Path.{sym, _∙_}
 use borrow.Author.Needs.{needs}
-use Rattle.casestore.proofs.Opening.{opened}
-use Rattle.casestore.proofs.Gate.{back-faithful, by-closed, by-work}
+use Rattle.casestore.proofs.OpenStore.{opened}
+use Rattle.casestore.proofs.CallPromise.{back-faithful, by-closed, by-work}
 use Rattle.workcase.proofs.go_back.Statement.{statement}
 use Rattle.workcase.proofs.go_back.Tie as tie
 

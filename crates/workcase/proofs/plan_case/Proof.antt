@@ -1,6 +1,6 @@
 -- `workcase::plan_case` meets its contract. By the planner's promise. Assumes nothing.
 use mathlib.Core.Path.{sym, _∙_}
-use Rattle.casestore.proofs.Opening.{opened}
+use Rattle.casestore.proofs.OpenStore.{opened}
 use Rattle.caseplans.proofs.PlanLaws.{plan-closed, plan-work}
 use borrow.Author.Needs.{needs}
 use Rattle.workcase.proofs.plan_case.Statement.{statement}

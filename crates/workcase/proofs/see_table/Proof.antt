@@ -1,6 +1,6 @@
 -- `workcase::see_table` meets its contract. Assumes nothing.
 use mathlib.Core.Path.{sym, _∙_}
-use Rattle.casestore.proofs.Opening.{opened}
+use Rattle.casestore.proofs.OpenStore.{opened}
 use Rattle.casestore.proofs.SeeLaws.{table-closed, table-work}
 use borrow.Author.Needs.{needs}
 use Rattle.workcase.proofs.see_table.Statement.{statement}

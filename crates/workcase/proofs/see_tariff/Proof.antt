@@ -1,6 +1,6 @@
 -- `workcase::see_tariff` meets its contract. Assumes nothing.
 use mathlib.Core.Path.{sym, _∙_}
-use Rattle.casestore.proofs.Opening.{opened}
+use Rattle.casestore.proofs.OpenStore.{opened}
 use Rattle.casestore.proofs.SeeLaws.{tariff-closed, tariff-work}
 use borrow.Author.Needs.{needs}
 use Rattle.workcase.proofs.see_tariff.Statement.{statement}

@@ -1,8 +1,8 @@
 -- `workcase::set_mark` meets its contract. Assumes nothing.
 use mathlib.Core.Path.{sym, _∙_}
 use borrow.Author.Needs.{needs}
-use Rattle.casestore.proofs.Opening.{opened}
-use Rattle.casestore.proofs.Gate.{mark-faithful, by-closed, by-work}
+use Rattle.casestore.proofs.OpenStore.{opened}
+use Rattle.casestore.proofs.CallPromise.{mark-faithful, by-closed, by-work}
 use Rattle.workcase.proofs.set_mark.Statement.{statement}
 use Rattle.workcase.proofs.set_mark.Tie as tie
 

@@ -1,6 +1,6 @@
 -- `workcase::store_cells` meets its contract. Assumes nothing.
 use mathlib.Core.Path.{_∙_}
-use Rattle.casestore.proofs.Opening.{too-few-sources, too-many-sources, no-terminals, too-many-terminals, lent-cells}
+use Rattle.casestore.proofs.OpenStore.{too-few-sources, too-many-sources, no-terminals, too-many-terminals, lent-cells}
 use Rattle.workcase.proofs.store_cells.Statement.{statement}
 use Rattle.workcase.proofs.store_cells.Tie as tie
 

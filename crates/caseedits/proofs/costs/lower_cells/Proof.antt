@@ -7,7 +7,7 @@ use denote.Ref.{now}
 use lib.ListN.{length}
 use Rattle.problem.proofs.MachineIntegers.{read-back}
 use Rattle.casestore.specs.Store.{costIn}
-use Rattle.casestore.proofs.Copies.{Filling, filling-start, filling-length}
+use Rattle.casestore.proofs.RangeCopies.{Filling, filling-start, filling-length}
 use Rattle.casestore.proofs.CostLaws.{lower-next, lower-fits, lower-end}
 use borrow.Author.Needs.{needs}
 use Rattle.caseedits.proofs.costs.lower_cells.Statement.{statement}

@@ -7,7 +7,7 @@ use lib.ListN.{length, length-map}
 use denote.Ref.{now}
 use Rattle.problem.specs.Range.{outside, raisedOf}
 use Rattle.problem.proofs.MachineIntegers.{read-back}
-use Rattle.casestore.proofs.Copies.{Filling, filling-start, filling-length, filling-end}
+use Rattle.casestore.proofs.RangeCopies.{Filling, filling-start, filling-length, filling-end}
 use Rattle.casestore.proofs.CostLaws.{raise-next, raise-fits}
 use Rattle.caseedits.proofs.costs.raise_cells.Statement.{statement}
 use Rattle.caseedits.proofs.costs.raise_cells.Tie as tie

@@ -1,6 +1,6 @@
 -- `caseedits::edits::least_run` meets its contract. Assumes nothing.
 use borrow.Author.Tests.{eq-eqb, ne-eqb}
-use Rattle.casestore.specs.Inner.{runIn}
+use Rattle.casestore.specs.OpenStore.{runIn}
 use borrow.Author.Needs.{needs}
 use Rattle.caseedits.proofs.edits.least_run.Statement.{statement}
 use Rattle.caseedits.proofs.edits.least_run.Tie as tie

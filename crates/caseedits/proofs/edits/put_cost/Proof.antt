@@ -8,9 +8,9 @@ use Rattle.problem.specs.Range.{outside, raisedOf}
 use denote.Ref.{now}
 use Prim.Native.Nat.{_+_, _-_, _*_}
 use Rattle.casestore.specs.Store.{costsAt, writes}
-use Rattle.casestore.proofs.Held.{within}
-use Rattle.casestore.proofs.Refusals.{refuses, works, out-low, out-high}
-use Rattle.casestore.proofs.Cells.{room-0, lanes-few}
+use Rattle.casestore.proofs.StateAfterWrites.{within}
+use Rattle.casestore.proofs.CallRefusals.{refuses, works, out-low, out-high}
+use Rattle.casestore.proofs.CaseCells.{room-0, lanes-few}
 use Rattle.casestore.proofs.CostLaws.{cost-placed}
 use Rattle.casestore.proofs.EditLaws.{row-few, lane-in}
 use Rattle.casestore.proofs.EditRefusals.{cost-24-source, cost-24-terminal, cost-5, cost-none}

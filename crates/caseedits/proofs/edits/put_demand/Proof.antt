@@ -3,9 +3,9 @@ use native.Mathlib.Omega.{arith}
 use denote.Ref.{now}
 use Prim.Native.Nat.{_-_}
 use Rattle.casestore.specs.Store.{demandsAt, writes}
-use Rattle.casestore.proofs.Held.{within}
-use Rattle.casestore.proofs.Refusals.{refuses, works, out-low, out-high}
-use Rattle.casestore.proofs.Cells.{room-0}
+use Rattle.casestore.proofs.StateAfterWrites.{within}
+use Rattle.casestore.proofs.CallRefusals.{refuses, works, out-low, out-high}
+use Rattle.casestore.proofs.CaseCells.{room-0}
 use Rattle.casestore.proofs.EditLaws.{placed}
 use Rattle.casestore.proofs.EditRefusals.{demand-24, demand-4, demand-none}
 use borrow.Author.Needs.{needs}

@@ -2,8 +2,8 @@
 use denote.Ref.{now}
 use native.Mathlib.Omega.{arith}
 use Rattle.casestore.specs.Store.{tableAt, writes}
-use Rattle.casestore.proofs.Refusals.{refuses, works}
-use Rattle.casestore.proofs.Cells.{room-0, lanes-few, few-entries}
+use Rattle.casestore.proofs.CallRefusals.{refuses, works}
+use Rattle.casestore.proofs.CaseCells.{room-0, lanes-few, few-entries}
 use Rattle.casestore.proofs.EditLaws.{placed}
 use Rattle.casestore.proofs.EditRefusals.{entry-24, entry-none}
 use borrow.Author.Needs.{needs}

@@ -1,7 +1,7 @@
 -- `caseedits::edits::put_first` meets its contract. Assumes nothing.
 use denote.Ref.{now}
 use native.Mathlib.Omega.{arith}
-use Rattle.casestore.proofs.Cells.{room-0, lanes-few, few-entries}
+use Rattle.casestore.proofs.CaseCells.{room-0, lanes-few, few-entries}
 use Rattle.casestore.proofs.EditLaws.{first-set}
 use borrow.Author.Needs.{needs}
 use Rattle.caseedits.proofs.edits.put_first.Statement.{statement}

@@ -1,8 +1,8 @@
 -- `caseedits::edits::put_supply` meets its contract. Assumes nothing.
 use native.Mathlib.Omega.{arith}
-use Rattle.casestore.proofs.Held.{within}
-use Rattle.casestore.proofs.Refusals.{refuses, works, out-low, out-high}
-use Rattle.casestore.proofs.Cells.{room-0}
+use Rattle.casestore.proofs.StateAfterWrites.{within}
+use Rattle.casestore.proofs.CallRefusals.{refuses, works, out-low, out-high}
+use Rattle.casestore.proofs.CaseCells.{room-0}
 use Rattle.casestore.proofs.EditLaws.{first-writes, other-writes}
 use Rattle.casestore.proofs.EditRefusals.{supply-24, supply-4, supply-23, supply-none}
 use borrow.Author.Needs.{needs}

@@ -4,7 +4,7 @@ use denote.Ref.{now}
 use native.Mathlib.Omega.{arith}
 use lib.ListN.{replicate}
 use Rattle.casestore.specs.Store.{zeroed}
-use Rattle.casestore.proofs.Copies.{Filling, filling-start, filling-length, zero-fits, zero-next, zero-end}
+use Rattle.casestore.proofs.RangeCopies.{Filling, filling-start, filling-length, zero-fits, zero-next, zero-end}
 use Rattle.caseedits.proofs.edits.zero_cells.Statement.{statement}
 use Rattle.caseedits.proofs.edits.zero_cells.Tie as tie
 

@@ -2,7 +2,7 @@
 use Prim.Native.Nat.{_-_}
 use native.Mathlib.Omega.{arith}
 use lib.ListN.{length}
-use Rattle.casestore.proofs.Copies.{Filling, filling-start, filling-length, filling-next, filling-end}
+use Rattle.casestore.proofs.RangeCopies.{Filling, filling-start, filling-length, filling-next, filling-end}
 use Rattle.caseedits.proofs.entry.put_cells.Statement.{statement}
 use Rattle.caseedits.proofs.entry.put_cells.Tie as tie
 

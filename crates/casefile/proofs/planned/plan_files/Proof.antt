@@ -1,7 +1,7 @@
 -- `casefile::planned::plan_files` meets its contract. Assumes nothing.
 use mathlib.Core.Path.{refl}
 use lib.ListN.{replicate}
-use Rattle.casefile.specs.Cuts.{Stored}
+use Rattle.casefile.specs.StoredCase.{Stored}
 use Rattle.casefile.proofs.StoredCase.{refused-files, case-files}
 use borrow.Author.Needs.{needs}
 use Rattle.casefile.proofs.planned.plan_files.Statement.{statement}

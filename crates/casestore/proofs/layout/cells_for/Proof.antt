@@ -1,7 +1,7 @@
 -- `casestore::layout::cells_for` meets its contract. Assumes nothing.
 use native.Mathlib.Omega.{arith}
 use Rattle.casestore.specs.Store.{cellsFor}
-use Rattle.casestore.proofs.Opening.{lanes}
+use Rattle.casestore.proofs.OpenStore.{lanes}
 use Rattle.casestore.proofs.layout.cells_for.Statement.{statement}
 use Rattle.casestore.proofs.layout.cells_for.Tie as tie
 

@@ -1,7 +1,7 @@
 -- `casestore::layout::slot_width` meets its contract. Assumes nothing.
 use native.Mathlib.Omega.{arith}
 use Rattle.casestore.specs.Store.{width}
-use Rattle.casestore.proofs.Opening.{lanes}
+use Rattle.casestore.proofs.OpenStore.{lanes}
 use Rattle.casestore.proofs.layout.slot_width.Statement.{statement}
 use Rattle.casestore.proofs.layout.slot_width.Tie as tie
 

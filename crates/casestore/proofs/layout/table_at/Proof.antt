@@ -1,6 +1,6 @@
 -- `casestore::layout::table_at` meets its contract. Assumes nothing.
 use native.Mathlib.Omega.{arith}
-use Rattle.casestore.proofs.Opening.{lanes}
+use Rattle.casestore.proofs.OpenStore.{lanes}
 use borrow.Author.Needs.{needs}
 use Rattle.casestore.proofs.layout.table_at.Statement.{statement}
 use Rattle.casestore.proofs.layout.table_at.Tie as tie

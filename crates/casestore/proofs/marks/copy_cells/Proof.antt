@@ -1,7 +1,7 @@
 -- `casestore::marks::copy_cells` meets its contract. The invariant: the first i cells are copied. Assumes nothing.
 use Prim.Native.Nat.{_-_}
 use native.Mathlib.Omega.{arith}
-use Rattle.casestore.proofs.Copies.{Copying, copying-start, copying-length, copying-next, copying-end}
+use Rattle.casestore.proofs.RangeCopies.{Copying, copying-start, copying-length, copying-next, copying-end}
 use Rattle.casestore.proofs.marks.copy_cells.Statement.{statement}
 use Rattle.casestore.proofs.marks.copy_cells.Tie as tie
 

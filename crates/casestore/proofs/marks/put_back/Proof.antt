@@ -2,8 +2,8 @@
 use mathlib.Core.Logic.{inr}
 use native.Mathlib.Omega.{arith}
 use Rattle.casestore.specs.Store.{writes}
-use Rattle.casestore.proofs.Held.{within, large}
-use Rattle.casestore.proofs.Refusals.{refuses, works, out-low, out-high, back-24, back-25, back-none, flag-unset, flag-set}
+use Rattle.casestore.proofs.StateAfterWrites.{within, large}
+use Rattle.casestore.proofs.CallRefusals.{refuses, works, out-low, out-high, back-24, back-25, back-none, flag-unset, flag-set}
 use borrow.Author.Needs.{needs}
 use Rattle.casestore.proofs.marks.put_back.Statement.{statement}
 use Rattle.casestore.proofs.marks.put_back.Tie as tie

@@ -6,8 +6,8 @@ use Prim.Native.Nat.{ℕ, _+_}
 use native.Mathlib.Omega.{arith}
 use lib.ListN.{set}
 use Rattle.casestore.specs.Store.{writes}
-use Rattle.casestore.proofs.Held.{within, large}
-use Rattle.casestore.proofs.Refusals.{refuses, works, out-low, out-high, mark-24, mark-none}
+use Rattle.casestore.proofs.StateAfterWrites.{within, large}
+use Rattle.casestore.proofs.CallRefusals.{refuses, works, out-low, out-high, mark-24, mark-none}
 use borrow.Author.Needs.{needs}
 use Rattle.casestore.proofs.marks.put_mark.Statement.{statement}
 use Rattle.casestore.proofs.marks.put_mark.Tie as tie

@@ -1,6 +1,6 @@
 -- `casestore::opened::open_store` meets its contract. Assumes nothing.
 use native.Mathlib.Omega.{arith}
-use Rattle.casestore.proofs.Opening.{shut-small, shut-two, shut-few, shut-one, shut-many, shut-room, found}
+use Rattle.casestore.proofs.OpenStore.{shut-small, shut-two, shut-few, shut-one, shut-many, shut-room, found}
 use borrow.Author.Needs.{needs}
 use Rattle.casestore.proofs.opened.open_store.Statement.{statement}
 use Rattle.casestore.proofs.opened.open_store.Tie as tie

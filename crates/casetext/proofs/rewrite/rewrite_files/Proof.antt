@@ -1,7 +1,7 @@
 -- `casetext::rewrite::rewrite_files` meets its contract. Assumes nothing.
 use mathlib.Core.Path.{refl}
 use lib.ListN.{replicate}
-use Rattle.casefile.specs.Cuts.{Stored}
+use Rattle.casefile.specs.StoredCase.{Stored}
 use Rattle.casetext.proofs.Rewrites.{refused-rewritten, case-rewritten}
 use borrow.Author.Needs.{needs}
 use Rattle.casetext.proofs.rewrite.rewrite_files.Statement.{statement}

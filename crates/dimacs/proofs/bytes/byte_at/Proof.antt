@@ -3,7 +3,7 @@ use mathlib.Core.Path.{sym}
 use native.Mathlib.Omega.{arith}
 use denote.Ref.{now}
 use lib.ListN.{List·getD-eq-default}
-use Rattle.dimacs.proofs.Fronts.{at-any}
+use Rattle.dimacs.proofs.LineOffsets.{at-any}
 use borrow.Author.Needs.{needs}
 use Rattle.dimacs.proofs.bytes.byte_at.Statement.{statement}
 use Rattle.dimacs.proofs.bytes.byte_at.Tie as tie

@@ -1,7 +1,7 @@
 -- `dimacs::bytes::read_counting` meets its contract. Assumes nothing.
 use native.Mathlib.Omega.{arith}
 use denote.Ref.{now}
-use Rattle.dimacs.proofs.Fronts.{there, counting-low, counting-high, counting-read}
+use Rattle.dimacs.proofs.LineOffsets.{there, counting-low, counting-high, counting-read}
 use borrow.Author.Needs.{needs}
 use Rattle.dimacs.proofs.bytes.read_counting.Statement.{statement}
 use Rattle.dimacs.proofs.bytes.read_counting.Tie as tie

@@ -1,9 +1,9 @@
 -- `dimacs::bytes::read_digits` meets its contract. Assumes nothing.
-use Rattle.dimacs.proofs.Fronts.{there}
+use Rattle.dimacs.proofs.LineOffsets.{there}
 use native.Mathlib.Omega.{arith}
 use denote.Ref.{now}
 use borrow.Author.Needs.{needs}
-use Rattle.dimacs.proofs.Fronts.{SoFar, so-far-start, fits, one-more, no-more-low, no-more-high, all-read}
+use Rattle.dimacs.proofs.LineOffsets.{SoFar, so-far-start, fits, one-more, no-more-low, no-more-high, all-read}
 use Rattle.dimacs.proofs.bytes.read_digits.Statement.{statement}
 use Rattle.dimacs.proofs.bytes.read_digits.Tie as tie
 

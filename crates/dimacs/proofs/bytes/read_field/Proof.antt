@@ -1,7 +1,7 @@
 -- `dimacs::bytes::read_field` meets its contract. Assumes nothing.
 use native.Mathlib.Omega.{arith}
 use denote.Ref.{now}
-use Rattle.dimacs.proofs.Fronts.{there, field-none, field-some}
+use Rattle.dimacs.proofs.LineOffsets.{there, field-none, field-some}
 use borrow.Author.Needs.{needs}
 use Rattle.dimacs.proofs.bytes.read_field.Statement.{statement}
 use Rattle.dimacs.proofs.bytes.read_field.Tie as tie

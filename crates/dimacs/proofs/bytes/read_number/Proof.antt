@@ -1,5 +1,5 @@
 -- `dimacs::bytes::read_number` meets its contract. Assumes nothing.
-use Rattle.dimacs.proofs.Fronts.{number-zero, number-other}
+use Rattle.dimacs.proofs.LineOffsets.{number-zero, number-other}
 use borrow.Author.Needs.{needs}
 use Rattle.dimacs.proofs.bytes.read_number.Statement.{statement}
 use Rattle.dimacs.proofs.bytes.read_number.Tie as tie

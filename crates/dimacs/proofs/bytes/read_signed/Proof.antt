@@ -1,7 +1,7 @@
 -- `dimacs::bytes::read_signed` meets its contract. Assumes nothing.
 use native.Mathlib.Omega.{arith}
 use denote.Ref.{now}
-use Rattle.dimacs.proofs.Fronts.{there, signed-minus, signed-plain}
+use Rattle.dimacs.proofs.LineOffsets.{there, signed-minus, signed-plain}
 use borrow.Author.Needs.{needs}
 use Rattle.dimacs.proofs.bytes.read_signed.Statement.{statement}
 use Rattle.dimacs.proofs.bytes.read_signed.Tie as tie

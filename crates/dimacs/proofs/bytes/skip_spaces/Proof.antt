@@ -6,7 +6,7 @@ use denote.Ref.{now}
 use borrow.Author.Needs.{needs}
 use lib.ListN.{length, drop}
 use Rattle.dimacs.specs.Bytes.{spaces}
-use Rattle.dimacs.proofs.Fronts.{there, spaces-more, spaces-stop}
+use Rattle.dimacs.proofs.LineOffsets.{there, spaces-more, spaces-stop}
 use Rattle.dimacs.proofs.bytes.skip_spaces.Statement.{statement}
 use Rattle.dimacs.proofs.bytes.skip_spaces.Tie as tie
 

@@ -1,6 +1,6 @@
 -- `dimacs::form::at_end` meets its contract. Assumes nothing.
 use borrow.Author.Tests.{not-true, not-false}
-use Rattle.dimacs.proofs.FormLaws.{end-closed, end-short, end-whole}
+use Rattle.dimacs.proofs.FileLines.{end-closed, end-short, end-whole}
 use Rattle.dimacs.proofs.form.at_end.Statement.{statement}
 use Rattle.dimacs.proofs.form.at_end.Tie as tie
 

@@ -2,7 +2,7 @@
 use borrow.Author.Needs.{needs}
 use Prim.Native.Nat.{_-_}
 use lib.ListN.{length}
-use Rattle.dimacs.proofs.FormLaws.{Along, along-start, along-next, along-lf, along-end}
+use Rattle.dimacs.proofs.FileLines.{Along, along-start, along-next, along-lf, along-end}
 use Rattle.dimacs.proofs.form.line_end.Statement.{statement}
 use Rattle.dimacs.proofs.form.line_end.Tie as tie
 

@@ -1,6 +1,6 @@
 -- `dimacs::form::with_arc` meets its contract. Assumes nothing.
 use borrow.Author.Tests.{not-true, not-false}
-use Rattle.dimacs.proofs.FormLaws.{arc-closed, arc-good, arc-late}
+use Rattle.dimacs.proofs.FileLines.{arc-closed, arc-good, arc-late}
 use borrow.Author.Needs.{needs}
 use Rattle.dimacs.proofs.form.with_arc.Statement.{statement}
 use Rattle.dimacs.proofs.form.with_arc.Tie as tie

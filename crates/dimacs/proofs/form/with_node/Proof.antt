@@ -1,6 +1,6 @@
 -- `dimacs::form::with_node` meets its contract. Assumes nothing.
 use borrow.Author.Tests.{not-true, not-false}
-use Rattle.dimacs.proofs.FormLaws.{node-closed, node-late, node-good}
+use Rattle.dimacs.proofs.FileLines.{node-closed, node-late, node-good}
 use Rattle.dimacs.proofs.form.with_node.Statement.{statement}
 use Rattle.dimacs.proofs.form.with_node.Tie as tie
 

@@ -1,5 +1,5 @@
 -- `dimacs::form::with_problem` meets its contract. Assumes nothing.
-use Rattle.dimacs.proofs.FormLaws.{problem-first}
+use Rattle.dimacs.proofs.FileLines.{problem-first}
 use borrow.Author.Needs.{needs}
 use Rattle.dimacs.proofs.form.with_problem.Statement.{statement}
 use Rattle.dimacs.proofs.form.with_problem.Tie as tie

@@ -1,8 +1,8 @@
 -- `dimacs::line::after_min` meets its contract. Assumes nothing.
 use native.Mathlib.Omega.{arith}
 use denote.Ref.{now}
-use Rattle.dimacs.proofs.LineLaws.{min-none, min-1, min-2, min-3, min-read}
-use Rattle.dimacs.proofs.Fronts.{there}
+use Rattle.dimacs.proofs.LineParts.{min-none, min-1, min-2, min-3, min-read}
+use Rattle.dimacs.proofs.LineOffsets.{there}
 use borrow.Author.Needs.{needs}
 use Rattle.dimacs.proofs.line.after_min.Statement.{statement}
 use Rattle.dimacs.proofs.line.after_min.Tie as tie

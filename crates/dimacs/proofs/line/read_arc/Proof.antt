@@ -1,5 +1,5 @@
 -- `dimacs::line::read_arc` meets its contract. Assumes nothing.
-use Rattle.dimacs.proofs.LineLaws.{field-in, arc-1, arc-2, arc-3, arc-4, arc-5, arc-long, arc-read}
+use Rattle.dimacs.proofs.LineParts.{field-in, arc-1, arc-2, arc-3, arc-4, arc-5, arc-long, arc-read}
 use borrow.Author.Needs.{needs}
 use Rattle.dimacs.proofs.line.read_arc.Statement.{statement}
 use Rattle.dimacs.proofs.line.read_arc.Tie as tie

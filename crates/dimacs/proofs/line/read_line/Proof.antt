@@ -1,7 +1,7 @@
 -- `dimacs::line::read_line` meets its contract. Assumes nothing.
 use native.Mathlib.Omega.{arith}
 use denote.Ref.{now}
-use Rattle.dimacs.proofs.LineLaws.{room, line-comment, line-problem, line-node, line-arc, line-wrong}
+use Rattle.dimacs.proofs.LineParts.{room, line-comment, line-problem, line-node, line-arc, line-wrong}
 use borrow.Author.Needs.{needs}
 use Rattle.dimacs.proofs.line.read_line.Statement.{statement}
 use Rattle.dimacs.proofs.line.read_line.Tie as tie

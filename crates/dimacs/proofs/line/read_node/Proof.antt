@@ -1,5 +1,5 @@
 -- `dimacs::line::read_node` meets its contract. Assumes nothing.
-use Rattle.dimacs.proofs.LineLaws.{field-in, node-no-id, node-no-supply, node-long, node-read}
+use Rattle.dimacs.proofs.LineParts.{field-in, node-no-id, node-no-supply, node-long, node-read}
 use borrow.Author.Needs.{needs}
 use Rattle.dimacs.proofs.line.read_node.Statement.{statement}
 use Rattle.dimacs.proofs.line.read_node.Tie as tie

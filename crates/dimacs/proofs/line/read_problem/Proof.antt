@@ -1,5 +1,5 @@
 -- `dimacs::line::read_problem` meets its contract. Assumes nothing.
-use Rattle.dimacs.proofs.LineLaws.{field-in, min-in, problem-no-min, problem-no-nodes, problem-no-arcs, problem-long, problem-read}
+use Rattle.dimacs.proofs.LineParts.{field-in, min-in, problem-no-min, problem-no-nodes, problem-no-arcs, problem-long, problem-read}
 use borrow.Author.Needs.{needs}
 use Rattle.dimacs.proofs.line.read_problem.Statement.{statement}
 use Rattle.dimacs.proofs.line.read_problem.Tie as tie

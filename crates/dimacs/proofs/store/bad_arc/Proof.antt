@@ -1,5 +1,5 @@
 -- `dimacs::store::bad_arc` meets its contract. Assumes nothing.
-use Rattle.dimacs.proofs.LinesLaws.{bad-1, bad-2, bad-3, bad-4, bad-5, bad-6, bad-7, bad-8}
+use Rattle.dimacs.proofs.NodeAndArcLines.{bad-1, bad-2, bad-3, bad-4, bad-5, bad-6, bad-7, bad-8}
 use Rattle.dimacs.proofs.store.bad_arc.Statement.{statement}
 use Rattle.dimacs.proofs.store.bad_arc.Tie as tie
 

@@ -4,7 +4,7 @@ use mathlib.Core.Bool.{Bool, _||_}
 use native.Mathlib.Omega.{arith}
 use mir.Syntax.{w64}
 use mir.ValLaws.{toZ-ofZ}
-use Rattle.dimacs.proofs.StoreLaws.{arc-past, arc-next}
+use Rattle.dimacs.proofs.StoredLines.{arc-past, arc-next}
 use borrow.Author.Needs.{needs}
 use Rattle.dimacs.proofs.store.put_arc.Statement.{statement}
 use Rattle.dimacs.proofs.store.put_arc.Tie as tie

@@ -4,8 +4,8 @@ use mathlib.Core.Logic.{inl, inr}
 use Prim.Native.Nat.{ℕ, _-_, _<_, _^_}
 use native.Mathlib.Omega.{arith}
 use lib.IntN.{subℕ}
-use Rattle.dimacs.proofs.LinesLaws.{supply-parts, given-small, taken-small}
-use Rattle.dimacs.proofs.StoreLaws.{node-none, node-again, node-next}
+use Rattle.dimacs.proofs.NodeAndArcLines.{supply-parts, given-small, taken-small}
+use Rattle.dimacs.proofs.StoredLines.{node-none, node-again, node-next}
 use borrow.Author.Needs.{needs}
 use Rattle.dimacs.proofs.store.put_node.Statement.{statement}
 use Rattle.dimacs.proofs.store.put_node.Tie as tie

@@ -8,8 +8,8 @@ use lib.ListN.{length}
 use Rattle.dimacs.specs.declared.form.Form.{Form}
 use Rattle.dimacs.specs.declared.store.Reading.{Reading}
 use Rattle.dimacs.specs.Stored.{flagged, ReadAs}
-use Rattle.dimacs.proofs.FormLaws.{no-lf, form-ends, form-wrong, form-on}
-use Rattle.dimacs.proofs.StoreLaws.{Kept, kept-start, kept-ends, kept-on}
+use Rattle.dimacs.proofs.FileLines.{no-lf, form-ends, form-wrong, form-on}
+use Rattle.dimacs.proofs.StoredLines.{Kept, kept-start, kept-ends, kept-on}
 use Rattle.dimacs.proofs.store.read_file.Statement.{statement}
 use Rattle.dimacs.proofs.store.read_file.Tie as tie
 

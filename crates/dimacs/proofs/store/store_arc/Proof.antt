@@ -7,7 +7,7 @@ use lib.ListN.{length}
 use Rattle.dimacs.specs.Form.{ArcLine}
 use Rattle.dimacs.specs.LineReader.{Small}
 use Rattle.dimacs.specs.Stored.{arcIn}
-use Rattle.dimacs.proofs.StoreLaws.{arc-none, arc-some}
+use Rattle.dimacs.proofs.StoredLines.{arc-none, arc-some}
 use borrow.Author.Needs.{needs}
 use Rattle.dimacs.proofs.store.store_arc.Statement.{statement}
 use Rattle.dimacs.proofs.store.store_arc.Tie as tie

@@ -2,7 +2,7 @@
 use mathlib.Core.Path.{ap, subst}
 use Rattle.dimacs.specs.LineReader.{Small}
 use Rattle.dimacs.specs.Stored.{nodeIn}
-use Rattle.dimacs.proofs.StoreLaws.{node-nothing, node-some}
+use Rattle.dimacs.proofs.StoredLines.{node-nothing, node-some}
 use borrow.Author.Needs.{needs}
 use Rattle.dimacs.proofs.store.store_node.Statement.{statement}
 use Rattle.dimacs.proofs.store.store_node.Tie as tie

@@ -6,7 +6,7 @@ use borrow.Author.Needs.{needs}
 use denote.Ref.{now}
 use lib.ListN.{length, getD}
 use Rattle.flowcase.specs.Build.{into}
-use Rattle.flowcase.proofs.Fills.{into-none, into-next, at-most-value}
+use Rattle.flowcase.proofs.FillLoops.{into-none, into-next, at-most-value}
 use Rattle.flowcase.proofs.build.ceilings_into.Statement.{statement}
 use Rattle.flowcase.proofs.build.ceilings_into.Tie as tie
 

@@ -1,5 +1,5 @@
 -- `flowcase::build::counted` meets its contract. Assumes nothing.
-use Rattle.flowcase.proofs.Fills.{at-yes, at-no}
+use Rattle.flowcase.proofs.FillLoops.{at-yes, at-no}
 use Rattle.flowcase.proofs.build.counted.Statement.{statement}
 use Rattle.flowcase.proofs.build.counted.Tie as tie
 

@@ -6,7 +6,7 @@ use borrow.Author.Needs.{needs}
 use denote.Ref.{now}
 use lib.ListN.{length}
 use Rattle.flowcase.specs.Build.{wantIn, Filled}
-use Rattle.flowcase.proofs.Fills.{filled-none, filled-next, filled-all}
+use Rattle.flowcase.proofs.FillLoops.{filled-none, filled-next, filled-all}
 use Rattle.flowcase.proofs.build.fill_demands.Statement.{statement}
 use Rattle.flowcase.proofs.build.fill_demands.Tie as tie
 

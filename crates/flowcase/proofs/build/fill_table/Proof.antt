@@ -5,7 +5,7 @@ use native.Mathlib.Omega.{arith}
 use borrow.Author.Needs.{needs}
 use denote.Ref.{now}
 use Rattle.flowcase.specs.Build.{entryIn, Filled}
-use Rattle.flowcase.proofs.Fills.{filled-none, filled-next, filled-all}
+use Rattle.flowcase.proofs.FillLoops.{filled-none, filled-next, filled-all}
 use Rattle.flowcase.proofs.build.fill_table.Statement.{statement}
 use Rattle.flowcase.proofs.build.fill_table.Tie as tie
 

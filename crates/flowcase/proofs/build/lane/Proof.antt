@@ -1,5 +1,5 @@
 -- `flowcase::build::lane` meets its contract. Assumes nothing.
-use Rattle.flowcase.proofs.Fills.{lane-start, lane-end, lane-closed}
+use Rattle.flowcase.proofs.FillLoops.{lane-start, lane-end, lane-closed}
 use Rattle.flowcase.proofs.build.lane.Statement.{statement}
 use Rattle.flowcase.proofs.build.lane.Tie as tie
 

@@ -1,6 +1,6 @@
 -- `flowcase::build::moved_entry` meets its contract. Assumes nothing.
 use denote.Ref.{now}
-use Rattle.flowcase.proofs.Fills.{entry-below, entry-here, entry-past}
+use Rattle.flowcase.proofs.FillLoops.{entry-below, entry-here, entry-past}
 use borrow.Author.Needs.{needs}
 use Rattle.flowcase.proofs.build.moved_entry.Statement.{statement}
 use Rattle.flowcase.proofs.build.moved_entry.Tie as tie

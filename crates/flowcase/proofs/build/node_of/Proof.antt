@@ -1,5 +1,5 @@
 -- `flowcase::build::node_of` meets its contract. Assumes nothing.
-use Rattle.flowcase.proofs.Fills.{node-is}
+use Rattle.flowcase.proofs.FillLoops.{node-is}
 use borrow.Author.Needs.{needs}
 use Rattle.flowcase.proofs.build.node_of.Statement.{statement}
 use Rattle.flowcase.proofs.build.node_of.Tie as tie

@@ -1,5 +1,5 @@
 -- `flowcase::build::source_of` meets its contract. Assumes nothing.
-use Rattle.flowcase.proofs.Fills.{source-is}
+use Rattle.flowcase.proofs.FillLoops.{source-is}
 use borrow.Author.Needs.{needs}
 use Rattle.flowcase.proofs.build.source_of.Statement.{statement}
 use Rattle.flowcase.proofs.build.source_of.Tie as tie

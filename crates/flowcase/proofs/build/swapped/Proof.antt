@@ -1,5 +1,5 @@
 -- `flowcase::build::swapped` meets its contract. Assumes nothing.
-use Rattle.flowcase.proofs.Fills.{swap-a, swap-b, swap-neither}
+use Rattle.flowcase.proofs.FillLoops.{swap-a, swap-b, swap-neither}
 use Rattle.flowcase.proofs.build.swapped.Statement.{statement}
 use Rattle.flowcase.proofs.build.swapped.Tie as tie
 

@@ -1,6 +1,6 @@
 -- `flowcase::build::want` meets its contract. Assumes nothing.
 use mathlib.Core.Path.{sym}
-use Rattle.flowproblem.proofs.Regroup.{cond-same, cond-other}
+use Rattle.flowproblem.proofs.SumsByNode.{cond-same, cond-other}
 use Rattle.flowcase.proofs.build.want.Statement.{statement}
 use Rattle.flowcase.proofs.build.want.Tie as tie
 

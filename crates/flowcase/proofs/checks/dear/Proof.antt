@@ -9,7 +9,7 @@ use lib.ListN.{length}
 use mathlib.Core.Bool.{false}
 use Rattle.flowproblem.specs.Answer.{anyBelow}
 use Rattle.flowcase.specs.Build.{dearAt}
-use Rattle.flowcase.proofs.RowLaws.{none-yet, none-next, one-there}
+use Rattle.flowcase.proofs.RowLoops.{none-yet, none-next, one-there}
 use Rattle.flowcase.proofs.checks.dear.Statement.{statement}
 use Rattle.flowcase.proofs.checks.dear.Tie as tie
 

@@ -7,7 +7,7 @@ use denote.Ref.{now}
 use lib.ListN.{length}
 use lib.IntN.{pos}
 use Rattle.flowcase.specs.Build.{Put, cellOf}
-use Rattle.flowcase.proofs.RowLaws.{put-none, put-next, put-all}
+use Rattle.flowcase.proofs.RowLoops.{put-none, put-next, put-all}
 use Rattle.problem.proofs.MachineIntegers.{read-back}
 use Rattle.flowcase.proofs.rows.copy_costs.Statement.{statement}
 use Rattle.flowcase.proofs.rows.copy_costs.Tie as tie

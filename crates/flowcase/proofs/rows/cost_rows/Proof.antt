@@ -10,7 +10,7 @@ use lib.IntN.{pos}
 use lib.ListN.{length}
 use Rattle.flowproblem.specs.Reduce.{nodeOf}
 use Rattle.flowcase.specs.Build.{RowsAre, costIn}
-use Rattle.flowcase.proofs.RowLaws.{rows-none, rows-next, put-ext, at-mul}
+use Rattle.flowcase.proofs.RowLoops.{rows-none, rows-next, put-ext, at-mul}
 use Rattle.flowcase.proofs.rows.cost_rows.Statement.{statement}
 use Rattle.flowcase.proofs.rows.cost_rows.Tie as tie
 

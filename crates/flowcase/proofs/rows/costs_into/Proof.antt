@@ -9,7 +9,7 @@ use mathlib.Core.Bool.{cond}
 use lib.Dec.{eqb}
 use lib.IntN.{ℤ, pos}
 use Rattle.flowcase.specs.Build.{Put, costIn}
-use Rattle.flowcase.proofs.RowLaws.{put-none, put-next, put-all}
+use Rattle.flowcase.proofs.RowLoops.{put-none, put-next, put-all}
 use Rattle.problem.proofs.MachineIntegers.{read-back}
 use Rattle.flowcase.proofs.rows.costs_into.Statement.{statement}
 use Rattle.flowcase.proofs.rows.costs_into.Tie as tie

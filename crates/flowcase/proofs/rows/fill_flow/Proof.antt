@@ -8,8 +8,8 @@ use lib.ListN.{length, getD}
 use mathlib.Core.Bool.{cond}
 use lib.Dec.{eqb}
 use Rattle.flowcase.specs.Build.{Put, flowIn}
-use Rattle.flowcase.proofs.RowLaws.{put-none, put-next, put-all}
-use Rattle.flowcase.proofs.RowLaws.{at-cell, at-mul}
+use Rattle.flowcase.proofs.RowLoops.{put-none, put-next, put-all}
+use Rattle.flowcase.proofs.RowLoops.{at-cell, at-mul}
 use Rattle.flowcase.proofs.rows.fill_flow.Statement.{statement}
 use Rattle.flowcase.proofs.rows.fill_flow.Tie as tie
 

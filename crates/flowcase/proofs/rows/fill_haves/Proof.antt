@@ -5,8 +5,8 @@ use native.Mathlib.Omega.{arith}
 use denote.Ref.{now}
 use lib.ListN.{length, getD}
 use Rattle.flowcase.specs.Build.{Put, haveIn}
-use Rattle.flowcase.proofs.RowLaws.{put-none, put-next, put-all}
-use Rattle.flowcase.proofs.Fills.{into-most}
+use Rattle.flowcase.proofs.RowLoops.{put-none, put-next, put-all}
+use Rattle.flowcase.proofs.FillLoops.{into-most}
 use Rattle.flowcase.proofs.rows.fill_haves.Statement.{statement}
 use Rattle.flowcase.proofs.rows.fill_haves.Tie as tie
 

@@ -6,7 +6,7 @@ use borrow.Author.Needs.{needs}
 use denote.Ref.{now}
 use lib.ListN.{length, getD}
 use Rattle.flowcase.specs.Build.{Put, stockIn}
-use Rattle.flowcase.proofs.RowLaws.{put-none, put-next, put-all}
+use Rattle.flowcase.proofs.RowLoops.{put-none, put-next, put-all}
 use mathlib.Core.Path.{subst}
 use Rattle.flowcase.proofs.rows.fill_supplies.Statement.{statement}
 use Rattle.flowcase.proofs.rows.fill_supplies.Tie as tie

@@ -1,6 +1,6 @@
 -- `flowcase::rows::flow_at` meets its contract. Assumes nothing.
 use mathlib.Core.Path.{sym}
-use Rattle.flowproblem.proofs.Regroup.{cond-same, cond-other}
+use Rattle.flowproblem.proofs.SumsByNode.{cond-same, cond-other}
 use Rattle.flowcase.proofs.rows.flow_at.Statement.{statement}
 use Rattle.flowcase.proofs.rows.flow_at.Tie as tie
 

@@ -9,7 +9,7 @@ use denote.Ref.{now}
 use lib.ListN.{length}
 use Rattle.flowproblem.specs.Reduce.{nodeOf}
 use Rattle.flowcase.specs.Build.{RowsAre, laneIn}
-use Rattle.flowcase.proofs.RowLaws.{rows-none, rows-next, put-ext, at-mul}
+use Rattle.flowcase.proofs.RowLoops.{rows-none, rows-next, put-ext, at-mul}
 use Rattle.flowcase.proofs.rows.lane_rows.Statement.{statement}
 use Rattle.flowcase.proofs.rows.lane_rows.Tie as tie
 

@@ -6,7 +6,7 @@ use borrow.Author.Needs.{needs}
 use denote.Ref.{now}
 use lib.ListN.{length}
 use Rattle.flowcase.specs.Build.{Put, laneIn}
-use Rattle.flowcase.proofs.RowLaws.{put-none, put-next, put-all}
+use Rattle.flowcase.proofs.RowLoops.{put-none, put-next, put-all}
 use Rattle.flowcase.proofs.rows.lanes_into.Statement.{statement}
 use Rattle.flowcase.proofs.rows.lanes_into.Tie as tie
 

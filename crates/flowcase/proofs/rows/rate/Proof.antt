@@ -1,7 +1,7 @@
 -- `flowcase::rows::rate` meets its contract. Assumes nothing.
 use mathlib.Core.Path.{sym, _∙_}
 use lib.IntN.{pos}
-use Rattle.flowproblem.proofs.Regroup.{cond-same, cond-other}
+use Rattle.flowproblem.proofs.SumsByNode.{cond-same, cond-other}
 use mir.Syntax.{w64}
 use mir.ValLaws.{toZ-ofZ}
 use Rattle.flowcase.proofs.rows.rate.Statement.{statement}

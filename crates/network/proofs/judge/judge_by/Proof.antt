@@ -5,7 +5,7 @@ use Prim.Native.Nat.{ℕ}
 use native.Mathlib.Omega.{arith}
 use borrow.Author.Needs.{needs}
 use denote.Ref.{now}
-use Rattle.network.specs.Judged.{slicesOf}
+use Rattle.network.specs.Answer.{slicesOf}
 use Rattle.network.proofs.CarryCase.{carried-flow, carried-nothing}
 use Rattle.network.proofs.JudgeLaws.{by-over, by-name, by-room, by-uneven, by-nothing, by-flow, place-low, named-there, amounts-there, told-there, flow-room, starts-room, ends-room, ceilings-room, costs-room}
 use Rattle.network.proofs.judge.judge_by.Statement.{statement}

@@ -4,7 +4,7 @@ use lib.IntN.{ℤ}
 use lib.ListN.{set}
 use denote.Ref.{now}
 use Rattle.transport.specs.Curve.{written}
-use Rattle.network.specs.Judged.{outcome}
+use Rattle.network.specs.Answer.{outcome}
 use Rattle.reports.specs.Flow.{numberOf, reportOf, worthOf}
 use Rattle.reports.proofs.FlowReports.{first-written}
 use borrow.Author.Needs.{needs}

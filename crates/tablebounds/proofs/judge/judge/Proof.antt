@@ -7,7 +7,7 @@ use denote.Ref.{now}
 use Rattle.problem.specs.Case.{Case}
 use Rattle.tablemarks.specs.Heights.{found}
 use Rattle.tablemarks.specs.Answers.{Outcome, lowCase, Answered}
-use Rattle.tablemarks.proofs.Judging.{some-cell, first-cell, last-cell, drawing, draws, in-order, at-most, in-low, in-high, wrong-long, bad-in, bad-place, too-short, low-summed, high-summed, settled}
+use Rattle.tablemarks.proofs.AnswerFromStops.{some-cell, first-cell, last-cell, drawing, draws, in-order, at-most, in-low, in-high, wrong-long, bad-in, bad-place, too-short, low-summed, high-summed, settled}
 use borrow.Author.Needs.{needs}
 use Rattle.tablebounds.proofs.judge.judge.Statement.{statement}
 use Rattle.tablebounds.proofs.judge.judge.Tie as tie

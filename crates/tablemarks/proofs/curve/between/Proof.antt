@@ -1,7 +1,7 @@
 -- `tablemarks::curve::between` meets its contract. The products are small. Assumes nothing.
 use native.Mathlib.Omega.{arith}
 use Prim.Native.Nat.{_-_}
-use Rattle.tablemarks.proofs.Passes.{product-small}
+use Rattle.tablemarks.proofs.HeightLoops.{product-small}
 use borrow.Author.Needs.{needs}
 use Rattle.tablemarks.proofs.curve.between.Statement.{statement}
 use Rattle.tablemarks.proofs.curve.between.Tie as tie

@@ -7,7 +7,7 @@ use lib.ListN.{length, getD, length-set}
 use denote.Ref.{now}
 use Rattle.problem.proofs.MachineIntegers.{read-back}
 use Rattle.tablemarks.specs.Heights.{height, Moderate, Drawn, Drawing}
-use Rattle.tablemarks.proofs.Passes.{drawn-first, line-at, stretch-at}
+use Rattle.tablemarks.proofs.HeightLoops.{drawn-first, line-at, stretch-at}
 use Rattle.tablemarks.proofs.curve.draw.Statement.{statement}
 use Rattle.tablemarks.proofs.curve.draw.Tie as tie
 

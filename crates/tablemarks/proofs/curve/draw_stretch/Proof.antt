@@ -4,7 +4,7 @@ use Prim.Native.Nat.{ℕ, _+_, _-_, _≤_}
 use native.Mathlib.Omega.{arith}
 use lib.ListN.{length, length-set}
 use Rattle.tablemarks.specs.Heights.{Line, Drawn}
-use Rattle.tablemarks.proofs.Passes.{on-line, drawn-next}
+use Rattle.tablemarks.proofs.HeightLoops.{on-line, drawn-next}
 use Rattle.tablemarks.proofs.curve.draw_stretch.Statement.{statement}
 use Rattle.tablemarks.proofs.curve.draw_stretch.Tie as tie
 

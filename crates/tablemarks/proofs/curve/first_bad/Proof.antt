@@ -5,7 +5,7 @@ use Prim.Native.Nat.{ℕ, _-_, _≤_, _<_}
 use native.Mathlib.Omega.{arith}
 use lib.ListN.{length}
 use denote.Ref.{now}
-use Rattle.tablemarks.proofs.Passes.{bad, good, below-low, above-most, good-more, bad-some, bad-none}
+use Rattle.tablemarks.proofs.HeightLoops.{bad, good, below-low, above-most, good-more, bad-some, bad-none}
 use Rattle.tablemarks.proofs.curve.first_bad.Statement.{statement}
 use Rattle.tablemarks.proofs.curve.first_bad.Tie as tie
 

@@ -6,7 +6,7 @@ use lib.IntN.{ℤ, natAbs}
 use lib.Signed.{nonNeg}
 use mir.Syntax.{w64}
 use mir.Val.{Fits}
-use Rattle.tablemarks.proofs.Passes.{height-sum, height-fits, stored}
+use Rattle.tablemarks.proofs.HeightLoops.{height-sum, height-fits, stored}
 use Rattle.tablemarks.proofs.curve.height_of.Statement.{statement}
 use Rattle.tablemarks.proofs.curve.height_of.Tie as tie
 

@@ -5,7 +5,7 @@ use native.Mathlib.Omega.{arith}
 use lib.ListN.{length, getD}
 use denote.Ref.{now}
 use Rattle.tablemarks.specs.Heights.{leastUpTo, leastSum}
-use Rattle.tablemarks.proofs.Passes.{least-start, least-next}
+use Rattle.tablemarks.proofs.HeightLoops.{least-start, least-next}
 use Rattle.tablemarks.proofs.curve.least_sum.Statement.{statement}
 use Rattle.tablemarks.proofs.curve.least_sum.Tie as tie
 

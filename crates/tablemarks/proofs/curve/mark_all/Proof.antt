@@ -3,7 +3,7 @@ use mathlib.Core.Path.{_≡_}
 use Prim.Native.Nat.{_-_}
 use native.Mathlib.Omega.{arith}
 use lib.ListN.{length}
-use Rattle.tablemarks.proofs.Passes.{Marking, mark-start, mark-long, mark-next, mark-end}
+use Rattle.tablemarks.proofs.HeightLoops.{Marking, mark-start, mark-long, mark-next, mark-end}
 use Rattle.tablemarks.proofs.curve.mark_all.Statement.{statement}
 use Rattle.tablemarks.proofs.curve.mark_all.Tie as tie
 

@@ -4,7 +4,7 @@ use lib.IntN.{ℤ}
 use mir.Syntax.{w64}
 use mir.Val.{SFits, toZ, ofZ}
 use mir.ValLaws.{toZ-ofZ}
-use Rattle.tablemarks.proofs.Passes.{signed-is, signed-fits}
+use Rattle.tablemarks.proofs.HeightLoops.{signed-is, signed-fits}
 use borrow.Author.Needs.{needs}
 use Rattle.tablemarks.proofs.curve.signed.Statement.{statement}
 use Rattle.tablemarks.proofs.curve.signed.Tie as tie

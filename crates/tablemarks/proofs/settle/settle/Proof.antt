@@ -9,7 +9,7 @@ use Rattle.transport.specs.Curve.{written}
 use Rattle.problem.proofs.MachineIntegers.{read-back}
 use Rattle.tablemarks.specs.Heights.{marksBy}
 use Rattle.tablemarks.specs.Answers.{known, settledOf}
-use Rattle.tablemarks.proofs.Passes.{least-small}
+use Rattle.tablemarks.proofs.HeightLoops.{least-small}
 use borrow.Author.Needs.{needs}
 use Rattle.tablemarks.proofs.settle.settle.Statement.{statement}
 use Rattle.tablemarks.proofs.settle.settle.Tie as tie

@@ -2,7 +2,7 @@
 use mathlib.Core.Path.{refl}
 use native.Mathlib.Omega.{arith}
 use denote.Ref.{now}
-use Rattle.casestore.proofs.Cells.{room-0, lanes-few, few-entries}
+use Rattle.casestore.proofs.CaseCells.{room-0, lanes-few, few-entries}
 use Rattle.caseplans.proofs.PlanLaws.{lanes-long, planned-cells}
 use borrow.Author.Needs.{needs}
 use Rattle.workcase.proofs.planning.plan_open.Statement.{statement}

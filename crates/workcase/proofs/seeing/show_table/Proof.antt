@@ -3,8 +3,8 @@ use mathlib.Core.Path.{refl}
 use Prim.Native.Nat.{_+_, _-_}
 use native.Mathlib.Omega.{arith}
 use denote.Ref.{now}
-use Rattle.casestore.proofs.Parts.{part-length}
-use Rattle.casestore.proofs.Cells.{room-0, lanes-few, few-entries}
+use Rattle.casestore.proofs.ListParts.{part-length}
+use Rattle.casestore.proofs.CaseCells.{room-0, lanes-few, few-entries}
 use Rattle.casestore.proofs.SeeLaws.{short-table, long-table, table-shown}
 use borrow.Author.Needs.{needs}
 use Rattle.workcase.proofs.seeing.show_table.Statement.{statement}

@@ -3,8 +3,8 @@ use mathlib.Core.Path.{refl}
 use Prim.Native.Nat.{_-_}
 use native.Mathlib.Omega.{arith}
 use denote.Ref.{now}
-use Rattle.casestore.proofs.Parts.{part-length}
-use Rattle.casestore.proofs.Cells.{room-0, lanes-few}
+use Rattle.casestore.proofs.ListParts.{part-length}
+use Rattle.casestore.proofs.CaseCells.{room-0, lanes-few}
 use Rattle.casestore.proofs.SeeLaws.{short-costs, short-supplies, short-demands, long-enough, costs-shown, supplies-shown, demands-shown}
 use borrow.Author.Needs.{needs}
 use Rattle.workcase.proofs.seeing.show_tariff.Statement.{statement}

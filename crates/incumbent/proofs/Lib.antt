@@ -1,0 +1,2 @@
+pub mod IncumbentScan
+pub mod FourSplits

@@ -1,0 +1,118 @@
+-- `spanningtree::flows::turn_round` is safe and ends. Assumes nothing.
+use Prim.Native.Nat.{_≤_}
+use borrow.Author.Needs.{needs}
+use Rattle.spanningtree.proofs.flows.turn_round.Statement.{statement}
+use Rattle.spanningtree.proofs.flows.turn_round.Tie as tie
+
+abbrev Inv-loop : tie.InvT-loop
+Inv-loop v e host amount r c source terminal up₀ rows₀ cols₀ flow₀ a₀ above₀ moved₀ off-rows₀ off-cols₀ left₀ up rows cols flow a above moved off-rows off-cols left = left ≤ 96
+
+abbrev μ-loop : tie.MeasureT-loop
+μ-loop v e host amount r c source terminal up₀ rows₀ cols₀ flow₀ a₀ above₀ moved₀ off-rows₀ off-cols₀ left₀ up rows cols flow a above moved off-rows off-cols left = left
+
+loop-holds : tie.Need-loop-holds Inv-loop μ-loop
+loop-holds c = search needs
+
+cast-w : tie.Need-cast-w Inv-loop μ-loop
+cast-w c = search needs
+
+mul-next : tie.Need-mul-next Inv-loop μ-loop
+mul-next c = search needs
+
+element-copy-out-next : tie.Need-element-copy-out-next Inv-loop μ-loop
+element-copy-out-next c = search needs
+
+mul-next-rows : tie.Need-mul-next-rows Inv-loop μ-loop
+mul-next-rows c = search needs
+
+element-copy-out-next-rows : tie.Need-element-copy-out-next-rows Inv-loop μ-loop
+element-copy-out-next-rows c = search needs
+
+mul-next-cols : tie.Need-mul-next-cols Inv-loop μ-loop
+mul-next-cols c = search needs
+
+element-copy-out-next-cols : tie.Need-element-copy-out-next-cols Inv-loop μ-loop
+element-copy-out-next-cols c = search needs
+
+mul-next-flow : tie.Need-mul-next-flow Inv-loop μ-loop
+mul-next-flow c = search needs
+
+element-copy-out-next-flow : tie.Need-element-copy-out-next-flow Inv-loop μ-loop
+element-copy-out-next-flow c = search needs
+
+mul-up : tie.Need-mul-up Inv-loop μ-loop
+mul-up c = search needs
+
+element-write-up : tie.Need-element-write-up Inv-loop μ-loop
+element-write-up c = search needs
+
+mul-flow : tie.Need-mul-flow Inv-loop μ-loop
+mul-flow c = search needs
+
+element-write-flow : tie.Need-element-write-flow Inv-loop μ-loop
+element-write-flow c = search needs
+
+mul-rows : tie.Need-mul-rows Inv-loop μ-loop
+mul-rows c = search needs
+
+element-write-rows : tie.Need-element-write-rows Inv-loop μ-loop
+element-write-rows c = search needs
+
+mul-cols : tie.Need-mul-cols Inv-loop μ-loop
+mul-cols c = search needs
+
+element-write-cols : tie.Need-element-write-cols Inv-loop μ-loop
+element-write-cols c = search needs
+
+returns : tie.Need-returns Inv-loop μ-loop
+returns c = search needs
+
+gain-requires : tie.Need-gain-requires Inv-loop μ-loop
+gain-requires c κs = search needs
+
+wrapping-add-u32-requires : tie.Need-wrapping-add-u32-requires Inv-loop μ-loop
+wrapping-add-u32-requires c κs = search needs
+
+sub-left : tie.Need-sub-left Inv-loop μ-loop
+sub-left c = search needs
+
+loop-less : tie.Need-loop-less Inv-loop μ-loop
+loop-less c = search needs
+
+loop-again : tie.Need-loop-again Inv-loop μ-loop
+loop-again c = search needs
+
+returns-2 : tie.Need-returns-2 Inv-loop μ-loop
+returns-2 c = search needs
+
+pub turn-round-spec : {M : Type 1} → statement M
+turn-round-spec =
+    tie.close
+    (tie.spec
+    Inv-loop
+    μ-loop
+    loop-holds
+    cast-w
+    mul-next
+    element-copy-out-next
+    mul-next-rows
+    element-copy-out-next-rows
+    mul-next-cols
+    element-copy-out-next-cols
+    mul-next-flow
+    element-copy-out-next-flow
+    mul-up
+    element-write-up
+    mul-flow
+    element-write-flow
+    mul-rows
+    element-write-rows
+    mul-cols
+    element-write-cols
+    returns
+    gain-requires
+    wrapping-add-u32-requires
+    sub-left
+    loop-less
+    loop-again
+    returns-2)

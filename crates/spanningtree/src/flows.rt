@@ -1,0 +1,107 @@
+// A tree whose lanes carry drums, as the simplex has it: flow[v] is what the lane between v and the node above it carries.
+ghost use Prim.Native.Nat.{_<_};
+use std::num::wrapping_add_u32;
+
+// The cell of the lane between a source and a terminal, whichever of v and u it is.
+pub fn lane(v: u32, u: u32) -> usize
+    ensures { λ r. ⌜ r < 2048 ⌝ }
+{
+    let source = if v < 32 { v } else { u };
+    let terminal = if v < 32 { u } else { v };
+    ((source % 32) * 64 + (terminal % 128 + 32) % 64) as usize
+}
+
+// Hangs a node, with the part below it, from host by a lane that carries amount.
+pub fn hang(
+    child: u32,
+    host: u32,
+    amount: u32,
+    up: &mut [u32; 128],
+    rows: &mut [u32; 128],
+    cols: &mut [u64; 128],
+    flow: &mut [u32; 128],
+) {
+    let v = (child % 128) as usize;
+    let u = (host % 128) as usize;
+    up[v] = host;
+    flow[v] = amount;
+    rows[u] = rows[u] | rows[v];
+    cols[u] = cols[u] | cols[v];
+}
+
+// What the lane above a node gains.
+fn gain(a: u32, source: u32, terminal: u32) -> u32 {
+    if a < 32 { source } else { terminal }
+}
+
+// A part is taken off the nodes from one on upwards, below stop, where they have it, or put on them, where they have not; their lanes gain, those above
+// sources one amount, those above terminals another.
+pub fn turn_over(
+    from: u32,
+    stop: u32,
+    r: u32,
+    c: u64,
+    source: u32,
+    terminal: u32,
+    up: &[u32; 128],
+    rows: &mut [u32; 128],
+    cols: &mut [u64; 128],
+    flow: &mut [u32; 128],
+) {
+    let mut a = from;
+    let mut left: u32 = 96;
+    while 0 < left {
+        if a == stop {
+            return;
+        }
+        let v = (a % 128) as usize;
+        rows[v] = rows[v] ^ r;
+        cols[v] = cols[v] ^ c;
+        flow[v] = wrapping_add_u32(flow[v], gain(a, source, terminal));
+        a = up[v];
+        left = left - 1;
+    }
+}
+
+// Turns the way from e up to v round, so that the part r, c that hung by v hangs by e from host; its lanes gain too.
+pub fn turn_round(
+    v: u32,
+    e: u32,
+    host: u32,
+    amount: u32,
+    r: u32,
+    c: u64,
+    source: u32,
+    terminal: u32,
+    up: &mut [u32; 128],
+    rows: &mut [u32; 128],
+    cols: &mut [u64; 128],
+    flow: &mut [u32; 128],
+) {
+    let mut a = e;
+    let mut above = host;
+    let mut moved = amount;
+    let mut off_rows: u32 = 0;
+    let mut off_cols: u64 = 0;
+    let mut left: u32 = 96;
+    while 0 < left {
+        let w = (a % 128) as usize;
+        let next = up[w];
+        let next_rows = rows[w];
+        let next_cols = cols[w];
+        let next_flow = flow[w];
+        up[w] = above;
+        flow[w] = moved;
+        rows[w] = r ^ off_rows;
+        cols[w] = c ^ off_cols;
+        if a == v {
+            return;
+        }
+        off_rows = next_rows;
+        off_cols = next_cols;
+        moved = wrapping_add_u32(next_flow, gain(a, source, terminal));
+        above = a;
+        a = next;
+        left = left - 1;
+    }
+}
