@@ -10,7 +10,7 @@ use Rattle.transport.specs.Curve.{amountsAt, leastIn, bestFrom, stopsOf, writte
 use Rattle.residual.specs.Cells.{cells}
 use Rattle.problem.specs.Range.{lower}
 use Rattle.range.specs.Begun.{Begun}
-use Rattle.range.specs.Range.{amountIn, demandIn}
+use Rattle.range.specs.Range.{demandIn}
 use Rattle.sweep.specs.Sweep.{SweepReady, Swept}
 use Rattle.sweep.specs.engine.FreightSum.{FreightReady}
 use Rattle.sweep.specs.engine.Climb.{bothIn, ClimbReady}
@@ -57,8 +57,8 @@ module _ {m n : ℕ} (c u : Table) {d d' : ℕ} {a a' b b' : ℕ → ℕ} (e : d
 
 -- ---- the sweep
 
-module _ {m n : ℕ} {cost cap : List ℕ} (supply : List ℕ) {demand x serves p : List ℕ} {d lo hi : ℕ} {table : List ℕ} {added : ℕ} {splits : List ℕ} {freights : List ℤ}
-    (b : Begun m n cost cap (amountIn supply) (demandIn demand) d lo hi x serves p) (r : SweepReady m n demand lo hi table added splits freights) where
+module _ {m n : ℕ} {cost cap : List ℕ} {a : ℕ → ℕ} {demand x serves p : List ℕ} {d lo hi : ℕ} {table : List ℕ} {added : ℕ} {splits : List ℕ} {freights : List ℤ}
+    (b : Begun m n cost cap a (demandIn demand) d lo hi x serves p) (r : SweepReady m n demand lo hi table added splits freights) where
   pub freight-ready : FreightReady m n (cells cost) (cells x)
   freight-ready = record {
     sources = b .swinging .sound .sources;

@@ -10,7 +10,14 @@ use Rattle.transport.specs.Plan.{Table, byRow, row, col, freight, Under}
 use Rattle.transport.specs.Curve.{amountsAt, leastIn, bestFrom, stopsOf, written}
 use Rattle.transport.specs.Canonical.{canonicalAt}
 use Rattle.problem.specs.Range.{lower}
+use Rattle.range.specs.Begun.{Begun}
 use Rattle.range.specs.Range.{demandIn}
+
+-- step 1 left a cheapest plan at lo, of some amounts of the sources
+pub record SweepStart (m n : ℕ) (cost cap demand : List ℕ) (lo hi : ℕ) (x serves p : List ℕ) : Type 0 where
+  pub made : ℕ
+  pub amounts : ℕ → ℕ
+  pub begun : Begun m n cost cap amounts (demandIn demand) made lo hi x serves p
 
 pub record SweepReady (m n : ℕ) (demand : List ℕ) (lo hi : ℕ) (table : List ℕ) (added : ℕ) (splits : List ℕ) (freights : List ℤ) : Type 0 where
   pub few : sum n (demandIn demand) ≤ 256000

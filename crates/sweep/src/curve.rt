@@ -1,6 +1,6 @@
 // The sweep from the first split to the last: the stops of the freight curve, and the split of least total.
 ghost use mathlib.Core.Path.{_≡_};
-ghost use Prim.Native.Nat.{_+_, _≤_};
+ghost use Prim.Native.Nat.{ℕ, _+_, _≤_};
 ghost use Rattle.transport.specs.Plan.{byRow, row, col};
 ghost use Rattle.residual.specs.Cells.{cells};
 ghost use Rattle.residual.specs.Network.{net};
@@ -8,9 +8,9 @@ ghost use Rattle.residual.specs.LanesInUse.{Covers};
 ghost use Rattle.paths.specs.Search.{Wanted};
 ghost use Rattle.cuts.specs.Columns.{Transposed};
 ghost use Rattle.range.specs.Begun.{Begun};
-ghost use Rattle.range.specs.Range.{amountIn, demandIn};
+ghost use Rattle.range.specs.Range.{demandIn};
 ghost use Rattle.stretch.specs.Stretch.{heldAt};
-ghost use Rattle.sweep.specs.Sweep.{SweepReady, Swept};
+ghost use Rattle.sweep.specs.Sweep.{SweepStart, SweepReady, Swept};
 ghost use Rattle.sweep.specs.engine.StopsPassed.{NoteReady, Noted, Marked, turned};
 ghost use Rattle.sweep.specs.engine.Climb.{bothIn, ClimbReady};
 use super::freight::freight_of;
@@ -188,9 +188,7 @@ pub fn sweep(
     n: usize,
     cost: &[u32; 2048],
     cap: &[u32; 2048],
-    supply: &[u32; 32],
     demand: &[u32; 96],
-    made: u32,
     lo: u64,
     hi: u64,
     table: &[u64],
@@ -205,9 +203,9 @@ pub fn sweep(
     rows: &mut [u32; 128],
     cols: &mut [u64; 128],
 ) -> Curve
-    requires { ⌜ Begun m n (now cost) (now cap) (amountIn (now supply)) (demandIn (now demand)) made lo hi (now x) (now serves) (now pot) ⌝ }
+    requires { ⌜ SweepStart m n (now cost) (now cap) (now demand) lo hi (now x) (now serves) (now pot) ⌝ }
     requires { ⌜ SweepReady m n (now demand) lo hi (now table) added (now splits) (now freights) ⌝ }
-    ensures { λ r. ⌜ Swept m n (byRow 64 (now (cost .entry))) (byRow 64 (now (cap .entry))) made (amountIn (now (supply .entry))) (demandIn (now (demand .entry))) lo hi (now (table .entry)) added (now (splits .entry)) (now (freights .entry)) (now (splits .exit)) (now (freights .exit)) (now (kept .exit)) (r .split) (r .total) (r .freight) (r .stops) ⌝ }
+    ensures { λ r. ⌜ ((made : ℕ) (a : ℕ → ℕ) → Begun m n (now (cost .entry)) (now (cap .entry)) a (demandIn (now (demand .entry))) made lo hi (now (x .entry)) (now (serves .entry)) (now (pot .entry)) → Swept m n (byRow 64 (now (cost .entry))) (byRow 64 (now (cap .entry))) made a (demandIn (now (demand .entry))) lo hi (now (table .entry)) added (now (splits .entry)) (now (freights .entry)) (now (splits .exit)) (now (freights .exit)) (now (kept .exit)) (r .split) (r .total) (r .freight) (r .stops)) ⌝ }
 {
     let freight = freight_of(m, n, cost, x);
     let mut columns = [0u32; 2048];

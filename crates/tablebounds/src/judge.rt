@@ -1,21 +1,15 @@
 // From the planner's stops to the answers.
-ghost use Rattle.tablemarks.specs.Answers.{outcome, lowCase, Listed, Answered};
+ghost use Rattle.problem.specs.Case.{Case};
+ghost use Rattle.tablemarks.specs.Answers.{outcome, Listed, Answered};
+ghost use Rattle.tablebounds.specs.Judge.{tabled, SomeListed};
 use tablemarks::Answer;
 use tablemarks::curve::Found;
 use tablemarks::curve::draw;
 use tablemarks::curve::first_bad;
 use tablemarks::settle::settle;
 
-// Tests 28 and 11, and the answers, of a case that the planner gave its stops.
+// Tests 28 and 11, and the answers, of every case with this low table that the planner gave these stops.
 pub fn judge(
-    m: usize,
-    n: usize,
-    run1: u64,
-    run2: u64,
-    costs: &[i64],
-    supplies: &[u64],
-    demands: &[u64],
-    ceilings: &[u64],
     low: &[u64],
     high: &[u64],
     splits: &[u64],
@@ -23,8 +17,8 @@ pub fn judge(
     count: usize,
     answers: &mut [u64],
 ) -> Answer
-    requires { ⌜ Listed (lowCase m n run1 run2 (now costs) (now supplies) (now demands) (now ceilings) (now low)) (now splits) (now freights) count ⌝ }
-    ensures { λ r. ⌜ Answered (lowCase m n run1 run2 (now (costs .entry)) (now (supplies .entry)) (now (demands .entry)) (now (ceilings .entry)) (now (low .entry))) (now (high .entry)) (outcome r) (now (answers .entry)) (now (answers .exit)) ⌝ }
+    requires { ⌜ SomeListed (now low) (now splits) (now freights) count ⌝ }
+    ensures { λ r. ⌜ ((c : Case) → Listed (tabled c (now (low .entry))) (now (splits .entry)) (now (freights .entry)) count → Answered (tabled c (now (low .entry))) (now (high .entry)) (outcome r) (now (answers .entry)) (now (answers .exit))) ⌝ }
 {
     let lo = splits[0];
     let hi = splits[count - 1];

@@ -45,21 +45,6 @@ pub fn possible_splits(
             total: _,
             freight: _,
             stops,
-        } => judge(
-            m,
-            n,
-            run1,
-            run2,
-            costs,
-            supplies,
-            demands,
-            ceilings,
-            low,
-            high,
-            &splits,
-            &freights,
-            stops,
-            answers,
-        ),
+        } => judge(low, high, &splits, &freights, stops, answers),
     }
 }

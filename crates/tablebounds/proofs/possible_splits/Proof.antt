@@ -40,7 +40,7 @@ slice-aggregate-judge-2 : tie.Need-slice-aggregate-judge-2
 slice-aggregate-judge-2 c = search needs
 
 judge-requires : tie.Need-judge-requires
-judge-requires c κs = listed (c .before .before .before .before .before .before .before .before .before .plan2 .ensures) _ _ _ _ (ap outcome (c .before .before .before .before .answer2 .given .1))
+judge-requires c κs = record { case = the (c .before .before .before .before .before .before .before .before .before .before .before .before .before .before .before .before .before .before .before); listed = listed (c .before .before .before .before .before .before .before .before .before .plan2 .ensures) _ _ _ _ (ap outcome (c .before .before .before .before .answer2 .given .1)) }
 
 returns : tie.Need-returns
 returns c =
@@ -52,7 +52,7 @@ same-length : tie.Need-same-length
 same-length c = search needs
 
 returns-2 : tie.Need-returns-2
-returns-2 c = search needs
+returns-2 c = c .before .before .judge .ensures (the (c .before .before .before .before .before .before .before .before .before .before .before .before .before .before .before .before .before .before .before .before .before .before)) (listed (c .before .before .before .before .before .before .before .before .before .before .before .before .plan2 .ensures) _ _ _ _ (ap outcome (c .before .before .before .before .before .before .before .answer2 .given .1)))
 
 pub possible-splits-spec : {M : Type 1} → statement M
 possible-splits-spec =

@@ -4,60 +4,55 @@ use Prim.Native.Nat.{_≤_}
 use native.Mathlib.Omega.{arith}
 use lib.ListN.{length}
 use denote.Ref.{now}
-use Rattle.problem.specs.Case.{Case}
 use Rattle.tablemarks.specs.Heights.{found}
-use Rattle.tablemarks.specs.Answers.{Outcome, lowCase, Answered}
+use Rattle.tablemarks.specs.Answers.{Outcome, Answered}
+use Rattle.tablebounds.specs.Judge.{tabled}
 use Rattle.tablemarks.proofs.AnswerFromStops.{some-cell, first-cell, last-cell, drawing, draws, in-order, at-most, in-low, in-high, wrong-long, bad-in, bad-place, too-short, low-summed, high-summed, settled}
 use borrow.Author.Needs.{needs}
 use Rattle.tablebounds.proofs.judge.judge.Statement.{statement}
 use Rattle.tablebounds.proofs.judge.judge.Tie as tie
 
--- the case
-abbrev the : tie.Start → Case
-the s =
-    lowCase (s .args .m) (s .args .n) (s .args .run1) (s .args .run2) (now (s .args .costs)) (now (s .args .supplies)) (now (s .args .demands)) (now (s .args .ceilings)) (now (s .args .low))
-
 shared-slice-read-lo : tie.Need-shared-slice-read-lo
-shared-slice-read-lo c = let s = c .before .before .before .before .before .before .before .before in omega (arith, some-cell (s .pre), s .pre .in-splits)
+shared-slice-read-lo c = let s = c .before .before .before .before .before in omega (arith, some-cell (s .pre .listed), s .pre .listed .in-splits)
 
 sub-hi : tie.Need-sub-hi
-sub-hi c = some-cell (c .before .before .before .before .before .before .before .before .pre)
+sub-hi c = some-cell (c .before .before .before .before .before .pre .listed)
 
 mul-hi : tie.Need-mul-hi
 mul-hi c = search needs
 
 shared-slice-read-hi : tie.Need-shared-slice-read-hi
-shared-slice-read-hi c = let s = c .before .before .before .before .before .before .before .before .before in omega (arith, some-cell (s .pre), s .pre .in-splits)
+shared-slice-read-hi c = let s = c .before .before .before .before .before .before in omega (arith, some-cell (s .pre .listed), s .pre .listed .in-splits)
 
 returns : tie.Need-returns
-returns c = let s = c .before .before .before .before .before .before .before .before .before .before in wrong-long (s .pre) (now (s .args .high)) (now (s .args .answers)) (c .if1 .taken)
+returns c = let s = c .before .before .before .before .before .before .before in λ q l. wrong-long l (now (s .args .high)) (now (s .args .answers)) (c .if1 .taken)
 
 add-end : tie.Need-add-end
-add-end c = let s = c .before .before .before .before .before .before .before .before .before .before in omega (arith, at-most (s .pre) (now (s .args .high)))
+add-end c = let s = c .before .before .before .before .before .before .before in omega (arith, at-most (s .pre .listed) (now (s .args .high)))
 
 mul-lows : tie.Need-mul-lows
-mul-lows c = let s = c .before .before .before .before .before .before .before .before .before .before in omega (arith, at-most (s .pre) (now (s .args .high)), in-order (s .pre) (now (s .args .high)))
+mul-lows c = let s = c .before .before .before .before .before .before .before in omega (arith, at-most (s .pre .listed) (now (s .args .high)), in-order (s .pre .listed) (now (s .args .high)))
 
 sub-lows : tie.Need-sub-lows
-sub-lows c = let s = c .before .before .before .before .before .before .before .before .before .before in omega (arith, in-order (s .pre) (now (s .args .high)))
+sub-lows c = let s = c .before .before .before .before .before .before .before in omega (arith, in-order (s .pre .listed) (now (s .args .high)))
 
 part-lows-start : tie.Need-part-lows-start
-part-lows-start c = let s = c .before .before .before .before .before .before .before .before .before .before in omega (arith, in-order (s .pre) (now (s .args .high)))
+part-lows-start c = let s = c .before .before .before .before .before .before .before in omega (arith, in-order (s .pre .listed) (now (s .args .high)))
 
 part-lows-end : tie.Need-part-lows-end
-part-lows-end c = let s = c .before .before .before .before .before .before .before .before .before .before in omega (arith, in-low (s .pre) (now (s .args .high)))
+part-lows-end c = let s = c .before .before .before .before .before .before .before in omega (arith, in-low (s .pre .listed) (now (s .args .high)))
 
 mul-highs : tie.Need-mul-highs
-mul-highs c = let s = c .before .before .before .before .before .before .before .before .before .before .before in omega (arith, at-most (s .pre) (now (s .args .high)), in-order (s .pre) (now (s .args .high)))
+mul-highs c = let s = c .before .before .before .before .before .before .before .before in omega (arith, at-most (s .pre .listed) (now (s .args .high)), in-order (s .pre .listed) (now (s .args .high)))
 
 sub-highs : tie.Need-sub-highs
-sub-highs c = let s = c .before .before .before .before .before .before .before .before .before .before .before in omega (arith, in-order (s .pre) (now (s .args .high)))
+sub-highs c = let s = c .before .before .before .before .before .before .before .before in omega (arith, in-order (s .pre .listed) (now (s .args .high)))
 
 part-highs-start : tie.Need-part-highs-start
-part-highs-start c = let s = c .before .before .before .before .before .before .before .before .before .before .before in omega (arith, in-order (s .pre) (now (s .args .high)))
+part-highs-start c = let s = c .before .before .before .before .before .before .before .before in omega (arith, in-order (s .pre .listed) (now (s .args .high)))
 
 part-highs-end : tie.Need-part-highs-end
-part-highs-end c = let s = c .before .before .before .before .before .before .before .before .before .before .before in omega (arith, in-high (s .pre) (now (s .args .high)) (c .before .if1 .left))
+part-highs-end c = let s = c .before .before .before .before .before .before .before .before in omega (arith, in-high (s .pre .listed) (now (s .args .high)) (c .before .if1 .left))
 
 first-bad-requires : tie.Need-first-bad-requires
 first-bad-requires c κs = search needs
@@ -67,41 +62,41 @@ enum-known-k c = search needs
 
 add-place : tie.Need-add-place
 add-place c =
-    let s = c .before .before .before .before .before .before .before .before .before .before .before .before .before .before .before .before in
+    let s = c .before .before .before .before .before .before .before .before .before .before .before .before .before in
     let same = c .before .before .before .before .before .before .if1 .left in
-    omega (arith, bad-in (s .pre) (now (s .args .high)) same (c .before .k .given .0 .0) (sym (c .before .before .before .first-bad .ensures) ∙ ap found (c .before .k .given .1)), at-most (s .pre) (now (s .args .high)), in-order (s .pre) (now (s .args .high)), first-cell (s .pre), last-cell (s .pre))
+    omega (arith, bad-in (s .pre .listed) (now (s .args .high)) same (c .before .k .given .0 .0) (sym (c .before .before .before .first-bad .ensures) ∙ ap found (c .before .k .given .1)), at-most (s .pre .listed) (now (s .args .high)), in-order (s .pre .listed) (now (s .args .high)), first-cell (s .pre .listed), last-cell (s .pre .listed))
 
 returns-2 : tie.Need-returns-2
 returns-2 c =
-    let s = c .before .before .before .before .before .before .before .before .before .before .before .before .before .before .before .before in
-    bad-place (s .pre) (now (s .args .high)) (c .before .before .before .before .before .before .if1 .left) (now (s .args .answers)) (c .before .k .given .0 .0) (sym (c .before .before .before .first-bad .ensures) ∙ ap found (c .before .k .given .1))
+    let s = c .before .before .before .before .before .before .before .before .before .before .before .before .before in
+    λ q l. bad-place l (now (s .args .high)) (c .before .before .before .before .before .before .if1 .left) (now (s .args .answers)) (c .before .k .given .0 .0) (sym (c .before .before .before .first-bad .ensures) ∙ ap found (c .before .k .given .1))
 
 enum-told : tie.Need-enum-told
 enum-told c = search needs
 
 returns-3 : tie.Need-returns-3
 returns-3 c =
-    let s = c .before .before .before .before .before .before .before .before .before .before .before .before .before .before .before .before in
-    too-short (s .pre) (now (s .args .high)) (c .before .before .before .before .before .before .if1 .left) (sym (c .before .before .before .first-bad .ensures) ∙ ap found (c .before .enum-told .given .1)) (now (s .args .answers)) (c .if2 .taken)
+    let s = c .before .before .before .before .before .before .before .before .before .before .before .before .before in
+    λ q l. too-short l (now (s .args .high)) (c .before .before .before .before .before .before .if1 .left) (sym (c .before .before .before .first-bad .ensures) ∙ ap found (c .before .enum-told .given .1)) (now (s .args .answers)) (c .if2 .taken)
 
 slice-aggregate-draw : tie.Need-slice-aggregate-draw
 slice-aggregate-draw c = search needs
 
 draw-requires : tie.Need-draw-requires
-draw-requires c κs = (drawing (c .before .before .before .before .before .before .before .before .before .before .before .before .before .before .before .before .before .pre), omega arith)
+draw-requires c κs = (drawing (c .before .before .before .before .before .before .before .before .before .before .before .before .before .before .pre .listed), omega arith)
 
 slice-aggregate-settle : tie.Need-slice-aggregate-settle
 slice-aggregate-settle c = search needs
 
 settle-requires : tie.Need-settle-requires
 settle-requires c κs =
-    let s = c .before .before .before .before .before .before .before .before .before .before .before .before .before .before .before .before .before .before .before .before .before in
+    let s = c .before .before .before .before .before .before .before .before .before .before .before .before .before .before .before .before .before .before in
     let same = c .before .before .before .before .before .before .before .before .before .before .before .if1 .left in
     let n = sym (c .before .before .before .before .before .before .before .before .first-bad .ensures) ∙ ap found (c .before .before .before .before .before .before .enum-told .given .1) in
     let d = c .before .before .before .draw in
     let room : 4001 ≤ length (d .last .1 .1 .1 .0) = omega (arith, d .ensures .0) in (
-      low-summed (s .pre) (now (s .args .high)) same n (d .last .1 .1 .1 .0) room (draws (s .pre) (d .last .1 .1 .1 .0) (d .ensures .1)),
-      high-summed (s .pre) (now (s .args .high)) same n (d .last .1 .1 .1 .0) room (draws (s .pre) (d .last .1 .1 .1 .0) (d .ensures .1)),
+      low-summed (s .pre .listed) (now (s .args .high)) same n (d .last .1 .1 .1 .0) room (draws (s .pre .listed) (d .last .1 .1 .1 .0) (d .ensures .1)),
+      high-summed (s .pre .listed) (now (s .args .high)) same n (d .last .1 .1 .1 .0) room (draws (s .pre .listed) (d .last .1 .1 .1 .0) (d .ensures .1)),
       c .before .before .before .before .before .if2 .left,
     )
 
@@ -110,14 +105,14 @@ same-length c = search needs
 
 returns-4 : tie.Need-returns-4
 returns-4 c =
-    let s = c .before .before .before .before .before .before .before .before .before .before .before .before .before .before .before .before .before .before .before .before .before .before .before .before in
+    let s = c .before .before .before .before .before .before .before .before .before .before .before .before .before .before .before .before .before .before .before .before .before in
     let same = c .before .before .before .before .before .before .before .before .before .before .before .before .before .before .if1 .left in
     let n = sym (c .before .before .before .before .before .before .before .before .before .before .before .first-bad .ensures) ∙ ap found (c .before .before .before .before .before .before .before .before .before .enum-told .given .1) in
     let d = c .before .before .before .before .before .before .draw in
     let room : 4001 ≤ length (d .last .1 .1 .1 .0) = omega (arith, d .ensures .0) in
     let w = c .before .before .settle in
-    subst (λ (o : Outcome). Answered (the s) (now (s .args .high)) o (now (s .args .answers)) (w .last .1 .1 .1 .1 .0)) (sym (w .ensures .0))
-    (settled (s .pre) (now (s .args .high)) same n (d .last .1 .1 .1 .0) room (draws (s .pre) (d .last .1 .1 .1 .0) (d .ensures .1)) (now (s .args .answers)) (w .last .1 .1 .1 .1 .0) (c .before .before .before .before .before .before .before .before .if2 .left) (w .ensures .1))
+    λ q l. subst (λ (o : Outcome). Answered (tabled q (now (s .args .low))) (now (s .args .high)) o (now (s .args .answers)) (w .last .1 .1 .1 .1 .0)) (sym (w .ensures .0))
+    (settled l (now (s .args .high)) same n (d .last .1 .1 .1 .0) room (draws l (d .last .1 .1 .1 .0) (d .ensures .1)) (now (s .args .answers)) (w .last .1 .1 .1 .1 .0) (c .before .before .before .before .before .before .before .before .if2 .left) (w .ensures .1))
 
 pub judge-spec : {M : Type 1} → statement M
 judge-spec =
