@@ -2,7 +2,5 @@ pub mod PartBits
 pub mod CutSlack
 pub mod CutSteps
 pub mod CutSides
-pub mod TreeWalk
-pub mod TreePath
 pub mod Advancing
 pub mod ByTerminal

@@ -1,4 +1,3 @@
 pub mod Columns
 pub mod Cut
-pub mod Follow
 pub mod Advance

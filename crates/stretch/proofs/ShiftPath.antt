@@ -12,11 +12,11 @@ use Rattle.paths.specs.Search.{Sound, Near, Label, Stuck, Searched, Labelled}
 use Rattle.augment.specs.Potentials.{LowerReady, Lowered}
 use Rattle.augment.specs.Send.{SendReady}
 use Rattle.augment.specs.PathWalk.{WalkReady}
-use Rattle.cuts.specs.Follow.{Followed}
+use Rattle.treepath.specs.Follow.{Followed}
 use Rattle.stretch.specs.Stretch.{ShiftReady, Reached, PathDone, PathFound, LowerDone}
 use Rattle.paths.proofs.SearchCut.{cut-greatest}
 use Rattle.augment.proofs.Delivery.{lower-ready, stroll-ready, push-ready, mark-ready, pushed, delivered, after}
-use Rattle.cuts.proofs.TreePath.{tree-path}
+use Rattle.treepath.proofs.TreePath.{tree-path}
 use Rattle.lastsplit.proofs.PlantShift.{Only, swing-ready, swing-over}
 use Rattle.lastsplit.proofs.LastSplit.{only}
 use Rattle.stretch.proofs.PathLanes.{lanes}

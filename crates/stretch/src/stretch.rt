@@ -9,10 +9,10 @@ use super::undo::undo;
 use augment::send::lower;
 use augment::send::measure;
 use augment::send::push;
-use cuts::follow::follow;
 use incumbent::Incumbent;
 use incumbent::scan::scan;
 use paths::search::search;
+use treepath::follow::follow;
 
 // A path from plant 1 to plant 2: δ, how many drums can go along it, its arcs, its reduced cost.
 pub struct Path {

@@ -10,7 +10,7 @@ use lib.ListN.{length, set, length-set, replicate, length-replicate}
 use lib.Seq.{getD-set-same, getD-set-other}
 use Rattle.residual.specs.Network.{Net, get}
 use Rattle.residual.specs.Network.Arc.{ahead, back}
-use Rattle.cuts.specs.Follow.{FollowReady, either, carries, Tied, Bears, Chain, width, Followed}
+use Rattle.treepath.specs.Follow.{FollowReady, either, carries, Tied, Bears, Chain, width, Followed}
 
 -- ---- one arc
 

@@ -1,11 +1,11 @@
--- `cuts::follow::follow` meets its contract. Assumes nothing.
+-- `treepath::follow::follow` meets its contract. Assumes nothing.
 use Prim.Native.Nat.{_-_, _%_}
 use native.Mathlib.Omega.{arith}
 use Rattle.residual.specs.Network.{net, get}
-use Rattle.cuts.proofs.TreeWalk.{Walk, walk-start, walk-next, walk-end}
+use Rattle.treepath.proofs.TreeWalk.{Walk, walk-start, walk-next, walk-end}
 use borrow.Author.Needs.{needs}
-use Rattle.cuts.proofs.follow.follow.Statement.{statement}
-use Rattle.cuts.proofs.follow.follow.Tie as tie
+use Rattle.treepath.proofs.follow.follow.Statement.{statement}
+use Rattle.treepath.proofs.follow.follow.Tie as tie
 
 abbrev Inv-loop : tie.InvT-loop
 Inv-loop m n cost cap x pot up limit prev₀ v₀ count₀ amount₀ prev v count amount = Walk (net m n cost cap x) pot (λ a. get up a % 128) limit prev v count amount

@@ -1,11 +1,11 @@
--- `cuts::follow::tied_ahead` meets its contract. Assumes nothing.
+-- `treepath::follow::tied_ahead` meets its contract. Assumes nothing.
 use Prim.Native.Nat.{_-_}
 use native.Mathlib.Omega.{arith}
 use mathlib.Core.Path.{refl}
-use Rattle.cuts.proofs.TreeWalk.{tied-ahead}
+use Rattle.treepath.proofs.TreeWalk.{tied-ahead}
 use borrow.Author.Needs.{needs}
-use Rattle.cuts.proofs.follow.tied_ahead.Statement.{statement}
-use Rattle.cuts.proofs.follow.tied_ahead.Tie as tie
+use Rattle.treepath.proofs.follow.tied_ahead.Statement.{statement}
+use Rattle.treepath.proofs.follow.tied_ahead.Tie as tie
 
 returns : tie.Need-returns
 returns c = λ e. absurd (omega arith)

@@ -1,11 +1,11 @@
--- `cuts::follow::tied_back` meets its contract. Assumes nothing.
+-- `treepath::follow::tied_back` meets its contract. Assumes nothing.
 use Prim.Native.Nat.{_-_}
 use native.Mathlib.Omega.{arith}
 use mathlib.Core.Path.{refl}
-use Rattle.cuts.proofs.TreeWalk.{tied-back}
+use Rattle.treepath.proofs.TreeWalk.{tied-back}
 use borrow.Author.Needs.{needs}
-use Rattle.cuts.proofs.follow.tied_back.Statement.{statement}
-use Rattle.cuts.proofs.follow.tied_back.Tie as tie
+use Rattle.treepath.proofs.follow.tied_back.Statement.{statement}
+use Rattle.treepath.proofs.follow.tied_back.Tie as tie
 
 returns : tie.Need-returns
 returns c = λ e. absurd (omega arith)

@@ -1,9 +1,9 @@
--- `cuts::follow::even` meets its contract. Assumes nothing.
+-- `treepath::follow::even` meets its contract. Assumes nothing.
 use mathlib.Core.Bool.{true≢false}
 use mathlib.Core.Path.{sym}
 use borrow.Author.Needs.{needs}
-use Rattle.cuts.proofs.follow.even.Statement.{statement}
-use Rattle.cuts.proofs.follow.even.Tie as tie
+use Rattle.treepath.proofs.follow.even.Statement.{statement}
+use Rattle.treepath.proofs.follow.even.Tie as tie
 
 add-if1 : tie.Need-add-if1
 add-if1 c = search needs

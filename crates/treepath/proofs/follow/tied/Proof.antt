@@ -1,8 +1,8 @@
--- `cuts::follow::tied` meets its contract. Assumes nothing.
+-- `treepath::follow::tied` meets its contract. Assumes nothing.
 use native.Mathlib.Omega.{arith}
-use Rattle.cuts.proofs.TreeWalk.{fewer}
-use Rattle.cuts.proofs.follow.tied.Statement.{statement}
-use Rattle.cuts.proofs.follow.tied.Tie as tie
+use Rattle.treepath.proofs.TreeWalk.{fewer}
+use Rattle.treepath.proofs.follow.tied.Statement.{statement}
+use Rattle.treepath.proofs.follow.tied.Tie as tie
 
 tied-back-requires : tie.Need-tied-back-requires
 tied-back-requires c κs = fewer (omega (arith, c .before .pre .1 .0 (c .if1 .taken))) (omega arith) (c .before .pre .0)

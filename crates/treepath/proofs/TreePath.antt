@@ -12,8 +12,8 @@ use Rattle.residual.specs.Network.Arc.{ahead, back}
 use Rattle.residual.specs.Labels.{Book, book, far}
 use Rattle.paths.specs.Search.{Sound, Near, Label, Prev, Searched}
 use Rattle.paths.specs.Search.Prev.{root, step}
-use Rattle.cuts.specs.Follow.{either, carries, Tied, Chain, width, Followed}
-use Rattle.cuts.proofs.TreeWalk.{either-yes, either-no, within}
+use Rattle.treepath.specs.Follow.{either, carries, Tied, Chain, width, Followed}
+use Rattle.treepath.proofs.TreeWalk.{either-yes, either-no, within}
 
 -- ---- the nodes of a list
 

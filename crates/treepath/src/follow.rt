@@ -4,7 +4,7 @@ ghost use mathlib.Core.Bool.{true};
 ghost use mathlib.Core.List.{List};
 ghost use Prim.Native.Nat.{ℕ, _+_, _-_, _≤_, _<_};
 ghost use Rattle.residual.specs.Network.{net};
-ghost use Rattle.cuts.specs.Follow.{FollowReady, Bears, Followed};
+ghost use Rattle.treepath.specs.Follow.{FollowReady, Bears, Followed};
 use paths::search::smaller;
 
 // Do the potentials of a lane's ends differ by its unit cost?

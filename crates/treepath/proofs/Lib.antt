@@ -1,0 +1,2 @@
+pub mod TreeWalk
+pub mod TreePath
