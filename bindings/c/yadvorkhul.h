@@ -1,7 +1,7 @@
 /* The proved two-plant production and freight planner, for C and C++.
 
-   The archive target/staticlib/libffi.a, which `rt staticlib ffi` writes, defines the functions. Nothing checks these
-   declarations against the Rattle source (crates/ffi/src): a slice there is a pointer and then a length here, and
+   The archive target/staticlib/libyadvorkhul.a, which `rt staticlib yadvorkhul` writes, defines the functions. Nothing checks these
+   declarations against the Rattle source (crates/yadvorkhul/src): a slice there is a pointer and then a length here, and
    a usize is a size_t of 64 bits. */
 #ifndef YADVORKHUL_H
 #define YADVORKHUL_H

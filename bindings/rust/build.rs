@@ -1,7 +1,7 @@
 //! Builds the proved static library and links it.
 //!
-//! `rt staticlib ffi` is run in the root of the repository. It proves the crate and what it depends on (what lies below it is
-//! not proved again where nothing changed) and writes target/staticlib/libffi.a. Where the environment names a folder in
+//! `rt staticlib yadvorkhul` is run in the root of the repository. It proves the crate and what it depends on (what lies below it is
+//! not proved again where nothing changed) and writes target/staticlib/libyadvorkhul.a. Where the environment names a folder in
 //! YADVORKHUL_LIB, the archive of that folder is linked instead and `rt` is not run.
 
 use std::path::{Path, PathBuf};
@@ -13,12 +13,12 @@ fn main() {
         Some(folder) => PathBuf::from(folder),
         None => prove(),
     };
-    println!("cargo:rerun-if-changed={}", folder.join("libffi.a").display());
+    println!("cargo:rerun-if-changed={}", folder.join("libyadvorkhul.a").display());
     println!("cargo:rustc-link-search=native={}", folder.display());
-    println!("cargo:rustc-link-lib=static=ffi");
+    println!("cargo:rustc-link-lib=static=yadvorkhul");
 }
 
-/// Runs `rt staticlib ffi` and answers the folder of the archive.
+/// Runs `rt staticlib yadvorkhul` and answers the folder of the archive.
 fn prove() -> PathBuf {
     let here = PathBuf::from(std::env::var_os("CARGO_MANIFEST_DIR").expect("set by cargo"));
     let root = here.join("../..").canonicalize().expect("the repository's root");
@@ -31,19 +31,19 @@ fn prove() -> PathBuf {
             }
         }
     }
-    let status = Command::new("rt").args(["staticlib", "ffi"]).current_dir(&root).status();
+    let status = Command::new("rt").args(["staticlib", "yadvorkhul"]).current_dir(&root).status();
     match status {
         Ok(status) if status.success() => root.join("target/staticlib"),
-        Ok(status) => panic!("`rt staticlib ffi` in the repository's root ended with {status}"),
-        Err(error) => panic!("`rt` could not be run ({error}): the Rattle kit must be on the PATH, or YADVORKHUL_LIB name the folder of libffi.a"),
+        Ok(status) => panic!("`rt staticlib yadvorkhul` in the repository's root ended with {status}"),
+        Err(error) => panic!("`rt` could not be run ({error}): the Rattle kit must be on the PATH, or YADVORKHUL_LIB name the folder of libyadvorkhul.a"),
     }
 }
 
-/// `ffi` and every crate of the repository that it depends on, as crates.txt has it.
+/// `yadvorkhul` and every crate of the repository that it depends on, as crates.txt has it.
 fn below_ffi(root: &Path) -> Vec<String> {
     let text = std::fs::read_to_string(root.join("crates.txt")).expect("crates.txt in the repository's root");
     let lines: Vec<(&str, &str)> = text.lines().filter_map(|line| line.split('#').next()?.split_once(':')).collect();
-    let mut names = vec![String::from("ffi")];
+    let mut names = vec![String::from("yadvorkhul")];
     let mut seen = 0;
     while seen < names.len() {
         let below = lines.iter().find(|(name, _)| name.trim() == names[seen]).map_or("", |(_, below)| *below);

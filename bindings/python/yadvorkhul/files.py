@@ -1,6 +1,6 @@
 """Reads the two files of a case, and refuses them by the numbers 20 to 22 and the places of the program `plan`.
 
-The reader here is not proved; the program's is (`crates/casefile`). `test_files.py` compares the two.
+The reader here is not proved; the program's is (`crates/plan_files`). `test_files.py` compares the two.
 """
 
 from typing import List, NamedTuple, Optional

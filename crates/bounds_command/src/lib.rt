@@ -1,18 +1,18 @@
 // The command `bounds`: reads a tariff and two production files, of the low and the high entries, writes which splits can be the cheapest, or
 // the refusal, to standard output, and says what a refusal means on standard error.
-use boundsfile::bounds_files;
-use boundsfile::low_stands;
-use casefile::planned::Printed;
+use bounds_files::bounds_files;
+use bounds_files::low_stands;
 use check::same;
-use command::refusal::explain;
-use command::refusal::explain_file;
-use command::refusal::explain_table;
-use filebytes::file::file_room;
-use filebytes::file::first;
-use filebytes::file::read_file;
-use filebytes::message::say;
-use filebytes::message::say_with;
-use filetable::table::tariff_stands;
+use csv_table::table::tariff_stands;
+use file_io::file::file_room;
+use file_io::file::first;
+use file_io::file::read_file;
+use file_io::message::say;
+use file_io::message::say_with;
+use plan_command::refusal::explain;
+use plan_command::refusal::explain_file;
+use plan_command::refusal::explain_table;
+use plan_files::planned::Printed;
 ghost use mathlib.Core.Path.{_≡_};
 ghost use lib.ListN.{length};
 

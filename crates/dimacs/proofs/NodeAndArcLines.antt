@@ -11,7 +11,7 @@ use lib.Signed.{ltZ}
 use borrow.Author.Tests.{eq-eqb, ne-eqb, lt-ltb, le-ltb}
 use Rattle.dimacs.specs.Form.{NodeLine}
 use Rattle.dimacs.specs.Lines.{supplyIn, anyOf, noNode, twice, badArc}
-use Rattle.caseform.specs.Records.{signed as withSign}
+use Rattle.csv_form.specs.Records.{signed as withSign}
 use Rattle.dimacs.specs.Stored.{arcMade}
 
 -- ---- tests one after the other

@@ -11,7 +11,7 @@ use Rattle.dimacs.specs.declared.line.Offset.the-variants as offsets
 use Rattle.dimacs.specs.Arc.{arc}
 use Rattle.dimacs.specs.Bytes.{_>>=_, gap, word}
 use Rattle.dimacs.specs.Form.{Line, comment, problem, node, arcLine, lineOf}
-use Rattle.caseform.specs.Records.{signed as withSign}
+use Rattle.csv_form.specs.Records.{signed as withSign}
 
 -- the word min
 abbrev pub minWord : List ℕ

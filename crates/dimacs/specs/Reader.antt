@@ -6,7 +6,7 @@ use mathlib.Core.List.{List}
 use Prim.Native.Nat.{ℕ, _≤_, _<_, _^_}
 use lib.IntN.{ℤ}
 use lib.ListN.{length, drop}
-use Rattle.caseform.specs.Records.{signed as withSign}
+use Rattle.csv_form.specs.Records.{signed as withSign}
 use Rattle.dimacs.specs.declared.bytes.Number as number-answer
 use Rattle.dimacs.specs.declared.bytes.Number.the-variants as numbers
 use Rattle.dimacs.specs.declared.bytes.Signed as signed-answer

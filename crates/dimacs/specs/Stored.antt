@@ -15,7 +15,7 @@ use Rattle.dimacs.specs.declared.store.Reading.the-variants as readings
 use Rattle.dimacs.specs.Arc.{Arc, arc}
 use Rattle.dimacs.specs.Form.{ArcLine, NodeLine, File, Form, whole, broken, formOf}
 use Rattle.dimacs.specs.Lines.{supplyIn, anyOf, noNode, twice, badArc}
-use Rattle.caseform.specs.Records.{signed as withSign}
+use Rattle.csv_form.specs.Records.{signed as withSign}
 
 -- an n line and an a line by their numbers, as lists of one
 abbrev pub nodeMade : ℕ → Bool → ℕ → List NodeLine

@@ -7,7 +7,7 @@ use crate::form::line_end;
 use crate::form::with_line;
 use crate::line::Line;
 use crate::line::read_line;
-use caseform::field::with_sign;
+use csv_form::field::with_sign;
 ghost use mathlib.Core.Path.{_≡_};
 ghost use mathlib.Core.Bool.{Bool, true, false, cond, _||_};
 ghost use mathlib.Core.List.{List, [], _++_};

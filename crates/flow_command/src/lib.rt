@@ -1,14 +1,14 @@
 // The command `flow`: reads a DIMACS network file and the table of the arc that is named, writes the cheapest flow, or the refusal, to standard
 // output, and says what a refusal means on standard error.
-use casefile::planned::Printed;
 use check::same;
-use command::refusal::explain_file;
-use filebytes::file::file_room;
-use filebytes::file::first;
-use filebytes::file::read_file;
-use filebytes::message::say;
-use filebytes::message::say_with;
-use flowtext::flow_files;
+use file_io::file::file_room;
+use file_io::file::first;
+use file_io::file::read_file;
+use file_io::message::say;
+use file_io::message::say_with;
+use flow_files::flow_files;
+use plan_command::refusal::explain_file;
+use plan_files::planned::Printed;
 ghost use mathlib.Core.Path.{_≡_};
 ghost use lib.ListN.{length};
 

@@ -1,4 +1,4 @@
 // Plans the two files of the current folder; the stored run is case A.
 fn main() {
-    command::run();
+    plan_command::run();
 }

@@ -10,8 +10,8 @@ use Rattle.transport.specs.Sum.{sum}
 use Rattle.problem.specs.Case.{Case, supply, demand, allDemand, depotStock, made, steps}
 use Rattle.problem.specs.Outcome.{Outcome, refused, _orElse_, formRefusal, refusalOf, test7, test8, test9, test11}
 use Rattle.problem.specs.LentTests.{entriesRefusal, splitsRefusal, Amounts, Within}
-use Rattle.casetests.specs.Verdict.{madeOf}
-use Rattle.casetests.specs.declared.tests.Made.the-variants.{Drums, Unbalanced}
+use Rattle.validation.specs.Verdict.{madeOf}
+use Rattle.validation.specs.declared.tests.Made.the-variants.{Drums, Unbalanced}
 use Rattle.planner.specs.Ready.{OnBalance}
 use Rattle.problem.proofs.TestsPassed.{first-decides, first-passes, second-passes, formed}
 use Rattle.problem.proofs.TestParts.{met, unmet}

@@ -3,15 +3,15 @@ ghost use mathlib.Core.Path.{_≡_};
 ghost use Prim.Native.Nat.{ℕ, _-_, min};
 ghost use lib.ListN.{replicate};
 ghost use Rattle.problem.specs.Outcome.{formRefusal};
-ghost use Rattle.casetests.specs.Verdict.{verdict};
+ghost use Rattle.validation.specs.Verdict.{verdict};
 ghost use Rattle.planner.specs.Judge.{judged, caseRefusal, freeCase};
-use casetests::limits::Checked;
-use casetests::limits::Size;
-use casetests::tests::Made;
-use casetests::tests::Verdict;
-use casetests::tests::entries_test;
-use casetests::tests::form_test;
-use casetests::tests::made_of;
+use validation::limits::Checked;
+use validation::limits::Size;
+use validation::tests::Made;
+use validation::tests::Verdict;
+use validation::tests::entries_test;
+use validation::tests::form_test;
+use validation::tests::made_of;
 
 // A case passes, or it is refused by a number and a place.
 pub enum Judged {

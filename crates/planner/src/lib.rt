@@ -3,10 +3,10 @@ ghost use lib.ListN.{length};
 ghost use Rattle.problem.specs.Case.{lent};
 ghost use Rattle.planner.specs.Answer.{outcome, slices, Answered};
 use crate::solve::solve;
-use casetests::tests::Made;
-use casetests::tests::Verdict;
-use casetests::tests::form_test;
-use casetests::tests::made_of;
+use validation::tests::Made;
+use validation::tests::Verdict;
+use validation::tests::form_test;
+use validation::tests::made_of;
 
 pub mod judge;
 mod solve;

@@ -4,17 +4,17 @@ ghost use Rattle.problem.specs.Case.{lent};
 ghost use Rattle.planner.specs.Ready.{OnBalance};
 ghost use Rattle.planner.specs.Answer.{outcome, slices, Answered};
 use crate::Answer;
-use casetests::tests::Verdict;
-use casetests::tests::splits_test;
-use casetests::tests::sum_of;
-use range::begin::begin;
+use engine_arrays::work::copy_rows;
+use engine_arrays::work::gather_rows;
+use engine_arrays::work::raise_rows;
+use engine_arrays::work::supplied;
+use engine_arrays::work::wanted;
+use split_range::begin::begin;
 use sweep::curve::sweep;
 use sweep::freight::lowered;
-use worktables::work::copy_rows;
-use worktables::work::gather_rows;
-use worktables::work::raise_rows;
-use worktables::work::supplied;
-use worktables::work::wanted;
+use validation::tests::Verdict;
+use validation::tests::splits_test;
+use validation::tests::sum_of;
 
 // Prepares the working arrays with raised costs, has the engine find the first and the last split, tests 27, 9 and 11, has the engine sweep
 // the splits, copies the plan out and lowers total and freight. Whether step 1 tries the simplex does not show in the answer.

@@ -7,9 +7,9 @@ use native.Mathlib.Nat.{mul-le-mul}
 use native.Mathlib.Omega.{arith}
 use lib.ListN.{length, getD, take}
 use borrow.Author.Tests.{lt-ltb, le-ltb}
-use Rattle.csvtext.specs.Column.{columnText, columnPrinted}
-use Rattle.csvtext.specs.Writing.{Written}
-use Rattle.csvtext.proofs.Columns.{column-short}
+use Rattle.csv_print.specs.Column.{columnText, columnPrinted}
+use Rattle.csv_print.specs.Writing.{Written}
+use Rattle.csv_print.proofs.Columns.{column-short}
 use Rattle.ratetable.specs.Rate.{rate, ratesFrom, RateTable}
 use Rattle.ratetable.proofs.Squares.{rate-is}
 use Rattle.ratetable.proofs.Filling.{from-length, from-at, table-takes}

@@ -4,7 +4,7 @@ use mathlib.Core.List.{List, [], _∷_}
 use Prim.Native.Nat.{ℕ, _+_, _*_, _-_}
 use lib.Dec.{ltb, eqb}
 use lib.ListN.{length}
-use Rattle.csvtext.specs.Column.{columnText}
+use Rattle.csv_print.specs.Column.{columnText}
 use Rattle.ratetable.specs.Rate.{ratesFrom}
 use Rattle.ratesfile.specs.declared.Output.{Output}
 use Rattle.ratesfile.specs.declared.Output.the-variants.{UpTo, Unclear}

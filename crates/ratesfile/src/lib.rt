@@ -1,8 +1,8 @@
 // The production file of square-root rates, from the text of a number to the bytes of the file.
 ghost use mathlib.Core.Path.{_≡_};
-ghost use Rattle.csvtext.specs.Writing.{Written};
+ghost use Rattle.csv_print.specs.Writing.{Written};
 ghost use Rattle.ratesfile.specs.File.{outputOf, ratesText, fileText};
-use csvtext::column::put_column;
+use csv_print::column::put_column;
 use ratetable::rates;
 
 // What a text says of plant 1's greatest output.

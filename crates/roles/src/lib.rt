@@ -1,21 +1,21 @@
 // The working case by roles: each deed is done only where the table of roles allows it.
 ghost use lib.ListN.{length};
-ghost use Rattle.casetests.specs.Verdict.{verdict};
+ghost use Rattle.validation.specs.Verdict.{verdict};
 ghost use Rattle.planner.specs.Answer.{outcome, slices};
-ghost use Rattle.casestore.specs.Store.{heldIn};
-ghost use Rattle.casestore.specs.Calls.{editDemand, editSupply, editCost, editEntry, setMark, goBack};
+ghost use Rattle.work_store.specs.Store.{heldIn};
+ghost use Rattle.work_store.specs.Calls.{editDemand, editSupply, editCost, editEntry, setMark, goBack};
 ghost use Rattle.roletable.specs.Promise.{PerformedBy, PlannedBy, TariffSeen, TableSeen};
-use casetests::tests::Verdict;
 use planner::Answer;
 use roletable::table::may;
 use roletable::table::may_supply;
+use validation::tests::Verdict;
 
 // Alters the demand of terminal j.
 pub fn edit_demand(role: usize, j: usize, value: u64, store: &mut [u64]) -> Verdict
     ensures { λ r. ⌜ PerformedBy role (editDemand j value) (now (store .entry)) (now (store .exit)) (verdict r) ⌝ }
 {
     if may(role, 1) {
-        return workcase::edit_demand(j, value, store);
+        return work_case::edit_demand(j, value, store);
     }
     Verdict::Refused(31, 0)
 }
@@ -25,7 +25,7 @@ pub fn edit_supply(role: usize, i: usize, value: u64, store: &mut [u64]) -> Verd
     ensures { λ r. ⌜ PerformedBy role (editSupply i value) (now (store .entry)) (now (store .exit)) (verdict r) ⌝ }
 {
     if may_supply(role, i) {
-        return workcase::edit_supply(i, value, store);
+        return work_case::edit_supply(i, value, store);
     }
     Verdict::Refused(31, 0)
 }
@@ -35,7 +35,7 @@ pub fn edit_cost(role: usize, i: usize, j: usize, value: i64, store: &mut [u64])
     ensures { λ r. ⌜ PerformedBy role (editCost i j value) (now (store .entry)) (now (store .exit)) (verdict r) ⌝ }
 {
     if may(role, 2) {
-        return workcase::edit_cost(i, j, value, store);
+        return work_case::edit_cost(i, j, value, store);
     }
     Verdict::Refused(31, 0)
 }
@@ -45,7 +45,7 @@ pub fn edit_entry(role: usize, y: usize, value: u64, store: &mut [u64]) -> Verdi
     ensures { λ r. ⌜ PerformedBy role (editEntry y value) (now (store .entry)) (now (store .exit)) (verdict r) ⌝ }
 {
     if may(role, 3) {
-        return workcase::edit_entry(y, value, store);
+        return work_case::edit_entry(y, value, store);
     }
     Verdict::Refused(31, 0)
 }
@@ -55,7 +55,7 @@ pub fn set_mark(role: usize, k: usize, store: &mut [u64]) -> Verdict
     ensures { λ r. ⌜ PerformedBy role (setMark k) (now (store .entry)) (now (store .exit)) (verdict r) ⌝ }
 {
     if may(role, 7) {
-        return workcase::set_mark(k, store);
+        return work_case::set_mark(k, store);
     }
     Verdict::Refused(31, 0)
 }
@@ -65,7 +65,7 @@ pub fn go_back(role: usize, k: usize, store: &mut [u64]) -> Verdict
     ensures { λ r. ⌜ PerformedBy role (goBack k) (now (store .entry)) (now (store .exit)) (verdict r) ⌝ }
 {
     if may(role, 8) {
-        return workcase::go_back(k, store);
+        return work_case::go_back(k, store);
     }
     Verdict::Refused(31, 0)
 }
@@ -81,7 +81,7 @@ pub fn plan_case(
     ensures { λ r. ⌜ PlannedBy role (heldIn (now (store .entry))) (length (now (plan .entry))) (length (now (splits .entry))) (length (now (freights .entry))) (outcome r) (slices (now (plan .entry)) (now (splits .entry)) (now (freights .entry))) (slices (now (plan .exit)) (now (splits .exit)) (now (freights .exit))) ⌝ }
 {
     if may(role, 6) {
-        return workcase::plan_case(store, plan, splits, freights);
+        return work_case::plan_case(store, plan, splits, freights);
     }
     Answer::Refused {
         number: 31,
@@ -100,7 +100,7 @@ pub fn see_tariff(
     ensures { λ r. ⌜ TariffSeen role (heldIn (now (store .entry))) (now (costs .entry)) (now (supplies .entry)) (now (demands .entry)) (now (costs .exit)) (now (supplies .exit)) (now (demands .exit)) (verdict r) ⌝ }
 {
     if may(role, 4) {
-        return workcase::see_tariff(store, costs, supplies, demands);
+        return work_case::see_tariff(store, costs, supplies, demands);
     }
     Verdict::Refused(31, 0)
 }
@@ -110,7 +110,7 @@ pub fn see_table(role: usize, store: &[u64], table: &mut [u64]) -> Verdict
     ensures { λ r. ⌜ TableSeen role (heldIn (now (store .entry))) (now (table .entry)) (now (table .exit)) (verdict r) ⌝ }
 {
     if may(role, 5) {
-        return workcase::see_table(store, table);
+        return work_case::see_table(store, table);
     }
     Verdict::Refused(31, 0)
 }

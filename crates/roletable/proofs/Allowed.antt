@@ -7,7 +7,7 @@ use Prim.Native.Nat.{ℕ}
 use lib.IntN.{ℤ}
 use Rattle.transport.specs.Listing.{upFrom}
 use Rattle.problem.specs.Outcome.{Outcome, refuseIf}
-use Rattle.casestore.specs.Calls.{editDemand, editSupply, editCost, editEntry, setMark, goBack}
+use Rattle.work_store.specs.Calls.{editDemand, editSupply, editCost, editEntry, setMark, goBack}
 use Rattle.roletable.specs.Roles.{noRole, barred, barredFirst}
 use Rattle.roletable.specs.Deeds.{Deed, work, seeTariff, seeTable, plan, column, first, test31}
 

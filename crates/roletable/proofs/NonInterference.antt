@@ -11,11 +11,11 @@ use lib.IntN.{ℤ}
 use lib.ListN.{length}
 use Rattle.problem.specs.Outcome.{Outcome, refused, refuseIf, _orElse_}
 use Rattle.planner.specs.Answer.{Slices}
-use Rattle.casestore.specs.State.{State}
-use Rattle.casestore.specs.Calls.{Call, editDemand, editSupply, editCost, editEntry, setMark, goBack, leastRun, refusalIn, acted, unless, step}
-use Rattle.casestore.specs.Store.{heldIn}
-use Rattle.caseplans.specs.Planning.{outcomeIn}
-use Rattle.casestore.specs.Seeing.{tariffRefusal, tariffAnswer, tableAnswer, costsIn, suppliesIn, demandsIn, tableIn, shownUnless}
+use Rattle.work_store.specs.State.{State}
+use Rattle.work_store.specs.Calls.{Call, editDemand, editSupply, editCost, editEntry, setMark, goBack, leastRun, refusalIn, acted, unless, step}
+use Rattle.work_store.specs.Store.{heldIn}
+use Rattle.work_plans.specs.Planning.{outcomeIn}
+use Rattle.work_store.specs.Seeing.{tariffRefusal, tariffAnswer, tableAnswer, costsIn, suppliesIn, demandsIn, tableIn, shownUnless}
 use Rattle.roletable.specs.Roles.{noRole, barred, barredFirst}
 use Rattle.roletable.specs.Deeds.{work, seeTariff, seeTable, plan, column, first, test31}
 use Rattle.roletable.specs.Promise.{answerBy, unlessHeld, stepsBy, outcomeUnless}

@@ -11,12 +11,12 @@ use borrow.Author.Tests.{not-true, not-false}
 use Rattle.problem.specs.Outcome.{Outcome, refused, refuseIf}
 use Rattle.planner.specs.Answer.{Slices}
 use Rattle.problem.proofs.TestsPassed.{first-decides, second-decides}
-use Rattle.casestore.specs.State.{State}
-use Rattle.casestore.specs.Calls.{Call}
-use Rattle.casestore.specs.Store.{heldIn}
-use Rattle.casestore.specs.Promise.{answerTo, steps, Performed}
-use Rattle.caseplans.specs.Planning.{outcomeIn, PlannedFrom}
-use Rattle.casestore.specs.Seeing.{tariffAnswer, tableAnswer, TariffShown, TableShown}
+use Rattle.work_store.specs.State.{State}
+use Rattle.work_store.specs.Calls.{Call}
+use Rattle.work_store.specs.Store.{heldIn}
+use Rattle.work_store.specs.Promise.{answerTo, steps, Performed}
+use Rattle.work_plans.specs.Planning.{outcomeIn, PlannedFrom}
+use Rattle.work_store.specs.Seeing.{tariffAnswer, tableAnswer, TariffShown, TableShown}
 use Rattle.roletable.specs.Roles.{barred, barredFirst}
 use Rattle.roletable.specs.Deeds.{Deed, work, seeTariff, seeTable, plan, column, first, test31}
 use Rattle.roletable.specs.Promise.{answerBy, unlessHeld, stepsBy, PerformedBy, outcomeUnless, PlannedBy, TariffSeen, TableSeen}

@@ -4,7 +4,7 @@ use mathlib.Core.Option.{Option}
 use Prim.Native.Nat.{ℕ}
 use lib.Dec.{eqb}
 use Rattle.problem.specs.Outcome.{Outcome, refuseIf}
-use Rattle.casestore.specs.Calls.{Call, editDemand, editSupply, editCost, editEntry, setMark, goBack}
+use Rattle.work_store.specs.Calls.{Call, editDemand, editSupply, editCost, editEntry, setMark, goBack}
 use Rattle.roletable.specs.Roles.{barred, barredFirst}
 
 pub data Deed : Type 0 where

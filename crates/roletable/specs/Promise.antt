@@ -7,12 +7,12 @@ use lib.IntN.{ℤ}
 use lib.ListN.{length}
 use Rattle.problem.specs.Outcome.{Outcome, refused, _orElse_}
 use Rattle.planner.specs.Answer.{Slices, Answered}
-use Rattle.casestore.specs.State.{State, lentWith}
-use Rattle.casestore.specs.Calls.{Call}
-use Rattle.casestore.specs.Store.{heldIn, sources, terminals, writes}
-use Rattle.casestore.specs.Promise.{answerTo, steps, cellsUnless}
-use Rattle.caseplans.specs.Planning.{outcomeIn}
-use Rattle.casestore.specs.Seeing.{tariffAnswer, tableAnswer, shownUnless, costsIn, suppliesIn, demandsIn, tableIn}
+use Rattle.work_store.specs.State.{State, lentWith}
+use Rattle.work_store.specs.Calls.{Call}
+use Rattle.work_store.specs.Store.{heldIn, sources, terminals, writes}
+use Rattle.work_store.specs.Promise.{answerTo, steps, cellsUnless}
+use Rattle.work_plans.specs.Planning.{outcomeIn}
+use Rattle.work_store.specs.Seeing.{tariffAnswer, tableAnswer, shownUnless, costsIn, suppliesIn, demandsIn, tableIn}
 use Rattle.roletable.specs.Deeds.{work, seeTariff, seeTable, plan, test31}
 
 -- the answer to a call: 31 first of all

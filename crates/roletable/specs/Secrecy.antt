@@ -8,9 +8,9 @@ use lib.IntN.{ℤ}
 use lib.ListN.{length, replicate}
 use Rattle.problem.specs.Outcome.{Outcome}
 use Rattle.planner.specs.Answer.{Slices}
-use Rattle.casestore.specs.State.{Draft, State}
-use Rattle.casestore.specs.Calls.{Call, edited}
-use Rattle.casestore.specs.Store.{heldIn}
+use Rattle.work_store.specs.State.{Draft, State}
+use Rattle.work_store.specs.Calls.{Call, edited}
+use Rattle.work_store.specs.Store.{heldIn}
 use Rattle.roletable.specs.Promise.{PerformedBy, PlannedBy, TariffSeen, TableSeen}
 
 -- a case with every entry 0

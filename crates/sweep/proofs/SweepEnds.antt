@@ -9,8 +9,8 @@ use Rattle.transport.specs.Plan.{Table, byRow, col, freight}
 use Rattle.transport.specs.Curve.{amountsAt, leastIn, bestFrom, stopsOf, written}
 use Rattle.residual.specs.Cells.{cells}
 use Rattle.problem.specs.Range.{lower}
-use Rattle.range.specs.Begun.{Begun}
-use Rattle.range.specs.Range.{demandIn}
+use Rattle.split_range.specs.Begun.{Begun}
+use Rattle.split_range.specs.Range.{demandIn}
 use Rattle.sweep.specs.Sweep.{SweepReady, Swept}
 use Rattle.sweep.specs.engine.FreightSum.{FreightReady}
 use Rattle.sweep.specs.engine.Climb.{bothIn, ClimbReady}

@@ -10,8 +10,8 @@ use Rattle.transport.specs.Plan.{Table, byRow, row, col, freight, Under}
 use Rattle.transport.specs.Curve.{amountsAt, leastIn, bestFrom, stopsOf, written}
 use Rattle.transport.specs.Canonical.{canonicalAt}
 use Rattle.problem.specs.Range.{lower}
-use Rattle.range.specs.Begun.{Begun}
-use Rattle.range.specs.Range.{demandIn}
+use Rattle.split_range.specs.Begun.{Begun}
+use Rattle.split_range.specs.Range.{demandIn}
 
 -- step 1 left a cheapest plan at lo, of some amounts of the sources
 pub record SweepStart (m n : ℕ) (cost cap demand : List ℕ) (lo hi : ℕ) (x serves p : List ℕ) : Type 0 where

@@ -6,7 +6,7 @@ use lib.ListN.{length}
 use denote.Ref.{now}
 use Rattle.problem.specs.Outcome.{formRefusal}
 use Rattle.problem.specs.Case.{Case, lent}
-use Rattle.casetests.specs.Verdict.{verdict}
+use Rattle.validation.specs.Verdict.{verdict}
 use Rattle.planner.proofs.EngineAnswer.{refuses}
 use Rattle.planner.proofs.LaterTests.{form-decides, amounts, unbalanced, on-balance}
 use Rattle.planner.proofs.plan_by.Statement.{statement}

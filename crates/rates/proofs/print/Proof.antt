@@ -2,7 +2,7 @@
 use mathlib.Core.Path.{sym}
 use native.Mathlib.Omega.{arith}
 use lib.Seq.{length-take-le}
-use Rattle.csvtext.proofs.DecimalTexts.{written-length}
+use Rattle.csv_print.proofs.DecimalTexts.{written-length}
 use borrow.Author.Needs.{needs}
 use Rattle.rates.proofs.print.Statement.{statement}
 use Rattle.rates.proofs.print.Tie as tie

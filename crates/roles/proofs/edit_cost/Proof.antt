@@ -1,6 +1,6 @@
 -- `roles::edit_cost` meets its contract. Assumes nothing.
 use mathlib.Core.Path.{refl}
-use Rattle.casestore.specs.Calls.{editCost}
+use Rattle.work_store.specs.Calls.{editCost}
 use Rattle.roletable.specs.Deeds.{work, column, first}
 use mir.Syntax.{w64}
 use mir.ValLaws.{toZ-ofZ}
@@ -8,7 +8,7 @@ use Rattle.roletable.proofs.RolePromise.{let-in, kept-out, by-call, by-role}
 use borrow.Author.Needs.{needs}
 use Rattle.roles.proofs.edit_cost.Statement.{statement}
 use Rattle.roles.proofs.edit_cost.Tie as tie
-use Rattle.casestore.proofs.CallPromise.{same-cost}
+use Rattle.work_store.proofs.CallPromise.{same-cost}
 
 may-requires : tie.Need-may-requires
 may-requires c κs = search needs

@@ -1,5 +1,5 @@
 -- `roles::edit_supply` meets its contract. Assumes nothing.
-use Rattle.casestore.specs.Calls.{editSupply}
+use Rattle.work_store.specs.Calls.{editSupply}
 use Rattle.roletable.specs.Deeds.{work, column, first}
 use Rattle.roletable.proofs.RolePromise.{let-in-first, kept-out-first, by-call, by-role}
 use borrow.Author.Needs.{needs}

@@ -1,6 +1,6 @@
 -- `roles::go_back` meets its contract. Assumes nothing.
 use mathlib.Core.Path.{refl}
-use Rattle.casestore.specs.Calls.{goBack}
+use Rattle.work_store.specs.Calls.{goBack}
 use Rattle.roletable.specs.Deeds.{work, column, first}
 use Rattle.roletable.proofs.RolePromise.{let-in, kept-out, by-call, by-role}
 use borrow.Author.Needs.{needs}

@@ -1,6 +1,6 @@
 -- `roles::set_mark` meets its contract. Assumes nothing.
 use mathlib.Core.Path.{refl}
-use Rattle.casestore.specs.Calls.{setMark}
+use Rattle.work_store.specs.Calls.{setMark}
 use Rattle.roletable.specs.Deeds.{work, column, first}
 use Rattle.roletable.proofs.RolePromise.{let-in, kept-out, by-call, by-role}
 use borrow.Author.Needs.{needs}

@@ -4,7 +4,7 @@ use Prim.Native.Nat.{ℕ}
 use native.Mathlib.Omega.{arith}
 use lib.ListN.{length, length-replicate}
 use lib.Seq.{length-take-le}
-use Rattle.casetests.proofs.FormTests.{Limits, lanes, in-limits, by-size}
+use Rattle.validation.proofs.FormTests.{Limits, lanes, in-limits, by-size}
 use Rattle.planner.proofs.Judging.{free-formed}
 use borrow.Author.Needs.{needs}
 use Rattle.planner.proofs.judge.free_form.Statement.{statement}

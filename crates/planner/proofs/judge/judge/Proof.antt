@@ -6,7 +6,7 @@ use native.Mathlib.Omega.{arith}
 use denote.Ref.{now}
 use Rattle.problem.specs.Case.{Case}
 use Rattle.problem.specs.Outcome.{formRefusal}
-use Rattle.casetests.specs.Verdict.{verdict}
+use Rattle.validation.specs.Verdict.{verdict}
 use Rattle.planner.specs.Judge.{freeCase}
 use Rattle.planner.specs.Ready.{OnBalance}
 use Rattle.planner.proofs.LaterTests.{amounts, on-balance}

@@ -1,6 +1,6 @@
 -- `planner::judge::told` meets its contract. Assumes nothing.
 use mathlib.Core.Path.{sym, ap}
-use Rattle.casetests.specs.Verdict.{verdict}
+use Rattle.validation.specs.Verdict.{verdict}
 use borrow.Author.Needs.{needs}
 use Rattle.planner.proofs.judge.told.Statement.{statement}
 use Rattle.planner.proofs.judge.told.Tie as tie

@@ -9,7 +9,7 @@ use lib.ListN.{length, length-replicate}
 use lib.IntN.{subℕ}
 use denote.Ref.{now}
 use Rattle.problem.specs.Case.{Case, lent}
-use Rattle.casetests.specs.Verdict.{verdict}
+use Rattle.validation.specs.Verdict.{verdict}
 use Rattle.problem.proofs.TestsPassed.{Formed, Roomy, roomy}
 use Rattle.problem.proofs.RaisedCurve.{added}
 use Rattle.problem.proofs.MachineIntegers.{read-back}

@@ -1,0 +1,85 @@
+-- `bounds_files::print_stored` meets its contract. Assumes nothing.
+use mathlib.Core.Path.{_≡_, sym, ap₂}
+use Prim.Native.Nat.{ℕ, min, _*_}
+use native.Mathlib.Omega.{arith}
+use lib.Seq.{length-take-le}
+use Rattle.plan_files.proofs.StoredCase.{few-lanes, ceilings-long}
+use Rattle.bounds_files.proofs.BoundsPrinting.{cut-printed}
+use borrow.Author.Needs.{needs}
+use Rattle.bounds_files.proofs.print_stored.Statement.{statement}
+use Rattle.bounds_files.proofs.print_stored.Tie as tie
+
+-- the lanes that are kept
+product : (c : tie.After-smaller4) → c .before .before .before .smaller .result * c .before .before .smaller2 .result ≡ min (c .before .before .before .before .before .before .before .before .before .args .m) 32 * min (c .before .before .before .before .before .before .before .before .before .args .n) 64
+product c = ap₂ (λ (x y : ℕ). x * y) (c .before .before .before .smaller .ensures) (c .before .before .smaller2 .ensures)
+
+smaller-requires : tie.Need-smaller-requires
+smaller-requires c κs = search needs
+
+smaller-requires-2 : tie.Need-smaller-requires-2
+smaller-requires-2 c κs = search needs
+
+smaller-requires-3 : tie.Need-smaller-requires-3
+smaller-requires-3 c κs = search needs
+
+smaller-requires-4 : tie.Need-smaller-requires-4
+smaller-requires-4 c κs = search needs
+
+mul-lanes : tie.Need-mul-lanes
+mul-lanes c = record { fits = omega (arith, few-lanes (c .before .before .before .before .before .before .before .before .before .args .m) (c .before .before .before .before .before .before .before .before .before .args .n), product c) }
+
+lane-ceilings-requires : tie.Need-lane-ceilings-requires
+lane-ceilings-requires c κs = search needs
+
+slice-aggregate-print-case : tie.Need-slice-aggregate-print-case
+slice-aggregate-print-case c = sym (length-take-le _ _ (omega (arith, few-lanes (c .before .before .before .before .before .before .before .before .before .before .before .args .m) (c .before .before .before .before .before .before .before .before .before .before .before .args .n), product (c .before .before), c .before .before .before .before .before .before .before .before .before .before .before .pre .0 .lanes)))
+
+slice-aggregate-print-case-2 : tie.Need-slice-aggregate-print-case-2
+slice-aggregate-print-case-2 c = sym (length-take-le _ _ (omega (arith, c .before .before .before .before .before .before .smaller .ensures, c .before .before .before .before .before .before .before .before .before .before .before .before .pre .0 .sources)))
+
+slice-aggregate-print-case-3 : tie.Need-slice-aggregate-print-case-3
+slice-aggregate-print-case-3 c = sym (length-take-le _ _ (omega (arith, c .before .before .before .before .before .before .smaller2 .ensures, c .before .before .before .before .before .before .before .before .before .before .before .before .before .pre .0 .terminals)))
+
+array-share-prefix-ceilings : tie.Need-array-share-prefix-ceilings
+array-share-prefix-ceilings c = omega (arith, few-lanes (c .before .before .before .before .before .before .before .before .before .before .before .before .before .args .m) (c .before .before .before .before .before .before .before .before .before .before .before .before .before .args .n), product (c .before .before .before .before))
+
+slice-aggregate-print-case-4 : tie.Need-slice-aggregate-print-case-4
+slice-aggregate-print-case-4 c = sym (length-take-le _ _ (omega (arith, few-lanes (c .before .before .before .before .before .before .before .before .before .before .before .before .before .before .args .m) (c .before .before .before .before .before .before .before .before .before .before .before .before .before .before .args .n), product (c .before .before .before .before .before), ceilings-long _ (c .before .before .before .before .lane-ceilings .ensures))))
+
+slice-aggregate-print-case-5 : tie.Need-slice-aggregate-print-case-5
+slice-aggregate-print-case-5 c = sym (length-take-le _ _ (omega (arith, c .before .before .before .before .before .before .before .smaller3 .ensures, c .before .before .before .before .before .before .before .before .before .before .before .before .before .before .before .pre .0 .entries)))
+
+slice-aggregate-print-case-6 : tie.Need-slice-aggregate-print-case-6
+slice-aggregate-print-case-6 c = sym (length-take-le _ _ (omega (arith, c .before .before .before .before .before .before .before .smaller4 .ensures, c .before .before .before .before .before .before .before .before .before .before .before .before .before .before .before .before .pre .1)))
+
+print-case-requires : tie.Need-print-case-requires
+print-case-requires c κs = search needs
+
+same-length : tie.Need-same-length
+same-length c = search needs
+
+returns : tie.Need-returns
+returns c =
+    cut-printed _ _ _ _ _ _ _ _ _ _ _ _ _ _ _ _ _ (c .before .before .before .before .before .before .before .before .before .before .before .before .before .before .smaller .ensures) (c .before .before .before .before .before .before .before .before .before .before .before .before .before .smaller2 .ensures) (c .before .before .before .before .before .before .before .before .before .before .before .before .smaller3 .ensures) (c .before .before .before .before .before .before .before .before .before .before .before .smaller4 .ensures) (c .before .before .before .before .before .before .before .before .before .before .lane-ceilings .ensures)
+    (c .before .before .print-case .ensures)
+
+pub print-stored-spec : {M : Type 1} → statement M
+print-stored-spec =
+    tie.close
+    (tie.spec
+    smaller-requires
+    smaller-requires-2
+    smaller-requires-3
+    smaller-requires-4
+    mul-lanes
+    lane-ceilings-requires
+    slice-aggregate-print-case
+    slice-aggregate-print-case-2
+    slice-aggregate-print-case-3
+    array-share-prefix-ceilings
+    slice-aggregate-print-case-4
+    slice-aggregate-print-case-5
+    slice-aggregate-print-case-6
+    print-case-requires
+    same-length
+    returns)

@@ -1,4 +1,0 @@
-// Entering and editing a working case in a store that is known to be open. `workcase` alone calls these functions, and meets what they ask.
-pub mod costs;
-pub mod edits;
-pub mod entry;

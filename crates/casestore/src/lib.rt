@@ -1,5 +1,0 @@
-// A working case with marks in one lent store: its definitions, their laws, where its parts stand, and marks in a store that is known to be open.
-// `workcase` and `caseedits` alone call these functions, and meet what they ask.
-pub mod layout;
-pub mod marks;
-pub mod opened;

@@ -1,0 +1,19 @@
+-- `csv_form::after::after_all` meets its contract. Assumes nothing.
+use borrow.Author.Needs.{needs}
+use Rattle.csv_form.proofs.after.after_all.Statement.{statement}
+use Rattle.csv_form.proofs.after.after_all.Tie as tie
+
+enum-told : tie.Need-enum-told
+enum-told c = search needs
+
+enum-told-2 : tie.Need-enum-told-2
+enum-told-2 c = search needs
+
+returns : tie.Need-returns
+returns c = rw (c .enum-told .given .1)
+
+returns-2 : tie.Need-returns-2
+returns-2 c = search needs
+
+pub after-all-spec : {M : Type 1} → statement M
+after-all-spec = tie.close (tie.spec enum-told enum-told-2 returns returns-2)

@@ -1,0 +1,46 @@
+-- `csv_form::field::read_quoted` meets its contract. Assumes nothing.
+use mathlib.Core.Path.{sym, _∙_}
+use Rattle.csv_form.proofs.Fields.{opened-minus, opened-plain}
+use denote.Ref.{now}
+use native.Mathlib.Omega.{arith}
+use Rattle.csv_form.proofs.ByteMarks.{minus-inside}
+use borrow.Author.Needs.{needs}
+use Rattle.csv_form.proofs.field.read_quoted.Statement.{statement}
+use Rattle.csv_form.proofs.field.read_quoted.Tie as tie
+
+minus-at-requires : tie.Need-minus-at-requires
+minus-at-requires c κs = search needs
+
+add-read-number : tie.Need-add-read-number
+add-read-number c = search needs
+
+read-number-requires : tie.Need-read-number-requires
+read-number-requires c κs = let a = c .before .before .before .args in omega (arith, minus-inside (a .kind) (now (a .s)) (a .at) (sym (c .before .minus-at .ensures) ∙ c .if1 .taken))
+
+close-quote-requires : tie.Need-close-quote-requires
+close-quote-requires c κs = search needs
+
+returns : tie.Need-returns
+returns c = let a = c .before .before .before .before .before .args in rw (c .close-quote .ensures) (opened-minus (a .kind) (now (a .s)) (a .at) (c .before .read-number .result) (sym (c .before .before .before .minus-at .ensures) ∙ c .before .before .if1 .taken) (c .before .read-number .ensures))
+
+read-number-requires-2 : tie.Need-read-number-requires-2
+read-number-requires-2 c κs = search needs
+
+close-quote-requires-2 : tie.Need-close-quote-requires-2
+close-quote-requires-2 c κs = search needs
+
+returns-2 : tie.Need-returns-2
+returns-2 c = let a = c .before .before .before .before .before .args in rw (c .close-quote2 .ensures) (opened-plain (a .kind) (now (a .s)) (a .at) (c .before .read-number2 .result) (sym (c .before .before .before .minus-at .ensures) ∙ c .before .before .if1 .left) (c .before .read-number2 .ensures))
+
+pub read-quoted-spec : {M : Type 1} → statement M
+read-quoted-spec =
+    tie.close
+    (tie.spec
+    minus-at-requires
+    add-read-number
+    read-number-requires
+    close-quote-requires
+    returns
+    read-number-requires-2
+    close-quote-requires-2
+    returns-2)

@@ -1,0 +1,27 @@
+-- `csv_print::put_pair` meets its contract. Assumes nothing.
+use Rattle.csv_print.specs.Text.{recordText}
+use Rattle.csv_print.proofs.DecimalTexts.{then}
+use borrow.Author.Needs.{needs}
+use Rattle.csv_print.proofs.put_pair.Statement.{statement}
+use Rattle.csv_print.proofs.put_pair.Tie as tie
+
+put-field-requires : tie.Need-put-field-requires
+put-field-requires c κs = search needs
+
+put-field-requires-2 : tie.Need-put-field-requires-2
+put-field-requires-2 c κs = search needs
+
+put-byte-requires : tie.Need-put-byte-requires
+put-byte-requires c κs = search needs
+
+same-length : tie.Need-same-length
+same-length c = search needs
+
+returns : tie.Need-returns
+unfolding recordText
+returns c = then (c .before .before .before .before .before .before .before .before .before .before .put-field .ensures) (then (c .before .before .before .before .before .before .put-field2 .ensures) (c .before .before .put-byte .ensures))
+
+pub put-pair-spec : {M : Type 1} → statement M
+put-pair-spec =
+    tie.close
+    (tie.spec put-field-requires put-field-requires-2 put-byte-requires same-length returns)

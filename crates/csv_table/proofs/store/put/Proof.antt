@@ -1,0 +1,25 @@
+-- `csv_table::store::put` meets its contract. Assumes nothing.
+use mathlib.Core.Path.{sym}
+use denote.Ref.{now}
+use lib.Seq.{set-out}
+use borrow.Author.Needs.{needs}
+use Rattle.csv_table.proofs.store.put.Statement.{statement}
+use Rattle.csv_table.proofs.store.put.Tie as tie
+
+mul-cells : tie.Need-mul-cells
+mul-cells c = search needs
+
+slice-write-cells : tie.Need-slice-write-cells
+slice-write-cells c = search needs
+
+same-length : tie.Need-same-length
+same-length c = search needs
+
+returns : tie.Need-returns
+returns c = search needs
+
+returns-2 : tie.Need-returns-2
+returns-2 c = sym (set-out (now (c .before .args .cells)) _ _ (c .if1 .left))
+
+pub put-spec : {M : Type 1} → statement M
+put-spec = tie.close (tie.spec mul-cells slice-write-cells same-length returns returns-2)

@@ -1,0 +1,68 @@
+-- `flow_case::build::fill_demands` meets its contract. Assumes nothing.
+use mathlib.Core.Path.{_≡_}
+use Prim.Native.Nat.{_-_, _≤_}
+use native.Mathlib.Omega.{arith}
+use borrow.Author.Needs.{needs}
+use denote.Ref.{now}
+use lib.ListN.{length}
+use Rattle.flow_case.specs.Build.{wantIn, Filled}
+use Rattle.flow_case.proofs.FillLoops.{filled-none, filled-next, filled-all}
+use Rattle.flow_case.proofs.build.fill_demands.Statement.{statement}
+use Rattle.flow_case.proofs.build.fill_demands.Tie as tie
+
+abbrev Inv-loop : tie.InvT-loop
+Inv-loop ceilings named demands₀ j₀ demands j = Filled (wantIn ceilings named) j demands₀ demands × (j ≤ length ceilings)
+
+abbrev μ-loop : tie.MeasureT-loop
+μ-loop ceilings named demands₀ j₀ demands j = length ceilings - j
+
+loop-holds : tie.Need-loop-holds Inv-loop μ-loop
+loop-holds c = let a = c .before .before .args in (filled-none (wantIn (now (a .ceilings)) (a .named)) (now (a .demands)), omega arith)
+
+mul-want : tie.Need-mul-want Inv-loop μ-loop
+mul-want c = omega arith
+
+shared-slice-read-want : tie.Need-shared-slice-read-want Inv-loop μ-loop
+shared-slice-read-want c = omega arith
+
+want-requires : tie.Need-want-requires Inv-loop μ-loop
+want-requires c κs = search needs
+
+mul-demands : tie.Need-mul-demands Inv-loop μ-loop
+mul-demands c = omega (arith, c .before .before .loop-test .taken)
+
+slice-write-demands : tie.Need-slice-write-demands Inv-loop μ-loop
+slice-write-demands c = omega (arith, c .before .before .before .loop .inv .0 .long, c .before .before .before .before .before .before .pre, c .before .before .loop-test .taken)
+
+add-j : tie.Need-add-j Inv-loop μ-loop
+add-j c = omega (arith, c .before .before .loop-test .taken)
+
+loop-less : tie.Need-loop-less Inv-loop μ-loop
+loop-less c = omega (arith, c .before .before .loop-test .taken)
+
+loop-again : tie.Need-loop-again Inv-loop μ-loop
+loop-again c = let a = c .before .before .before .before .before .before .args in (filled-next (wantIn (now (a .ceilings)) (a .named)) (now (a .demands)) (c .before .before .before .loop .j) _ _ (omega (arith, c .before .before .before .before .before .before .pre, c .before .before .loop-test .taken)) (c .want .ensures) (c .before .before .before .loop .inv .0), omega (arith, c .before .before .loop-test .taken))
+
+same-length : tie.Need-same-length Inv-loop μ-loop
+same-length c = c .before .loop .inv .0 .long
+
+returns : tie.Need-returns Inv-loop μ-loop
+returns c = let a = c .before .before .before .before .args in filled-all _ _ (let q : c .before .loop .j ≡ length (now (a .ceilings)) = omega (arith, c .before .loop .inv .1, c .loop-test .left) in q) (c .before .loop .inv .0)
+
+pub fill-demands-spec : {M : Type 1} → statement M
+fill-demands-spec =
+    tie.close
+    (tie.spec
+    Inv-loop
+    μ-loop
+    loop-holds
+    mul-want
+    shared-slice-read-want
+    want-requires
+    mul-demands
+    slice-write-demands
+    add-j
+    loop-less
+    loop-again
+    same-length
+    returns)

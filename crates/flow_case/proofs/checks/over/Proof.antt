@@ -1,0 +1,71 @@
+-- `flow_case::checks::over` meets its contract. Assumes nothing.
+use mathlib.Core.Path.{_≡_, sym, ap, _∙_}
+use Prim.Native.Nat.{ℕ, _-_, _≤_}
+use native.Mathlib.Omega.{arith}
+use borrow.Author.Needs.{needs}
+use borrow.Author.Tests.{lt-ltb, le-ltb}
+use denote.Ref.{now}
+use lib.ListN.{length}
+use mathlib.Core.Bool.{false}
+use Rattle.flow_problem.specs.Answer.{anyBelow}
+use Rattle.flow_case.specs.Build.{overAt}
+use Rattle.flow_case.proofs.RowLoops.{none-yet, none-next, one-there}
+use Rattle.flow_case.proofs.checks.over.Statement.{statement}
+use Rattle.flow_case.proofs.checks.over.Tie as tie
+
+abbrev Inv-loop : tie.InvT-loop
+Inv-loop haves takes i₀ i = (i ≤ length haves) × (anyBelow i (overAt haves takes) ≡ false)
+
+abbrev μ-loop : tie.MeasureT-loop
+μ-loop haves takes i₀ i = length haves - i
+
+loop-holds : tie.Need-loop-holds Inv-loop μ-loop
+loop-holds c = (omega arith, none-yet (overAt (now (c .args .haves)) (now (c .args .takes))))
+
+mul-if1 : tie.Need-mul-if1 Inv-loop μ-loop
+mul-if1 c = search needs
+
+shared-slice-read-if1 : tie.Need-shared-slice-read-if1 Inv-loop μ-loop
+shared-slice-read-if1 c = omega (arith, c .before .loop-test .taken, c .before .before .before .pre .0)
+
+add-if1 : tie.Need-add-if1 Inv-loop μ-loop
+add-if1 c = omega (arith, c .before .before .before .pre .1 (c .before .before .loop .i) (omega (arith, c .before .loop-test .taken, c .before .before .before .pre .0)))
+
+mul-if1-2 : tie.Need-mul-if1-2 Inv-loop μ-loop
+mul-if1-2 c = omega (arith, c .before .loop-test .taken)
+
+shared-slice-read-if1-2 : tie.Need-shared-slice-read-if1-2 Inv-loop μ-loop
+shared-slice-read-if1-2 c = omega (arith, c .before .before .loop-test .taken)
+
+returns : tie.Need-returns Inv-loop μ-loop
+returns c = one-there (overAt (now (c .before .before .before .before .before .args .haves)) (now (c .before .before .before .before .before .args .takes))) _ (c .before .before .before .before .loop .i) (c .before .before .before .loop-test .taken) (lt-ltb _ _ (c .if1 .taken))
+
+add-i : tie.Need-add-i Inv-loop μ-loop
+add-i c = omega (arith, c .before .before .before .loop-test .taken)
+
+loop-less : tie.Need-loop-less Inv-loop μ-loop
+loop-less c = omega (arith, c .before .before .before .loop-test .taken)
+
+loop-again : tie.Need-loop-again Inv-loop μ-loop
+loop-again c = (omega (arith, c .before .before .before .loop-test .taken), none-next (overAt (now (c .before .before .before .before .before .args .haves)) (now (c .before .before .before .before .before .args .takes))) _ (c .before .before .before .before .loop .inv .1) (le-ltb _ _ (c .if1 .left)))
+
+returns-2 : tie.Need-returns-2 Inv-loop μ-loop
+returns-2 c = sym (ap (λ (k : ℕ). anyBelow k (overAt (now (c .before .before .args .haves)) (now (c .before .before .args .takes)))) (let q : length (now (c .before .before .args .haves)) ≡ c .before .loop .i = omega (arith, c .before .loop .inv .0, c .loop-test .left) in q) ∙ c .before .loop .inv .1)
+
+pub over-spec : {M : Type 1} → statement M
+over-spec =
+    tie.close
+    (tie.spec
+    Inv-loop
+    μ-loop
+    loop-holds
+    mul-if1
+    shared-slice-read-if1
+    add-if1
+    mul-if1-2
+    shared-slice-read-if1-2
+    returns
+    add-i
+    loop-less
+    loop-again
+    returns-2)

@@ -1,0 +1,50 @@
+-- `flow_case::rows::lane_rows` meets its contract. Assumes nothing.
+use mathlib.Core.Path.{_≡_, refl, sym, ap, _∙_}
+use Prim.Native.Nat.{ℕ, _+_, _-_, _*_, _≤_}
+use native.Mathlib.Nat.{zero-mul, suc-mul}
+use native.Mathlib.Numerals.{add-one}
+use native.Mathlib.Omega.{arith}
+use borrow.Author.Needs.{needs}
+use denote.Ref.{now}
+use lib.ListN.{length}
+use Rattle.flow_problem.specs.Reduce.{nodeOf}
+use Rattle.flow_case.specs.Build.{RowsAre, laneIn}
+use Rattle.flow_case.proofs.RowLoops.{rows-none, rows-next, put-ext, at-mul}
+use Rattle.flow_case.proofs.rows.lane_rows.Statement.{statement}
+use Rattle.flow_case.proofs.rows.lane_rows.Tie as tie
+
+abbrev Inv-loop : tie.InvT-loop
+Inv-loop m w v starts ends to₀ at₀ s₀ to at s = RowsAre 0 (λ s j. laneIn starts ends (nodeOf w v s + 1) j) s (length starts) to × (length to ≡ 2048) × (s ≤ m) × (at ≡ s * length starts)
+
+abbrev μ-loop : tie.MeasureT-loop
+μ-loop m w v starts ends to₀ at₀ s₀ to at s = m - s
+
+loop-holds : tie.Need-loop-holds Inv-loop μ-loop
+loop-holds c = (rows-none 0 (λ s j. laneIn (now (c .before .before .args .starts)) (now (c .before .before .args .ends)) (nodeOf (c .before .before .args .w) (c .before .before .args .v) s + 1) j) (length (now (c .before .before .args .starts))) (now (c .before .before .args .to)), c .before .before .pre .0 .3, omega arith, sym (zero-mul (length (now (c .before .before .args .starts)))))
+
+node-of-requires : tie.Need-node-of-requires Inv-loop μ-loop
+node-of-requires c κs = search needs
+
+add-lanes-into : tie.Need-add-lanes-into Inv-loop μ-loop
+add-lanes-into c = omega (arith, c .node-of .ensures, c .before .before .before .before .before .pre .1 (c .before .before .loop .s) (c .before .loop-test .taken), c .before .before .before .before .before .pre .0 .0)
+
+lanes-into-requires : tie.Need-lanes-into-requires Inv-loop μ-loop
+lanes-into-requires c κs = (c .before .before .before .before .before .before .pre .0 .2, omega (arith, c .before .before .before .before .before .before .pre .0 .1, at-mul (c .before .before .before .loop .s) (c .before .before .before .loop .s) (length (now (c .before .before .before .before .before .before .args .starts))) refl (omega (arith, c .before .before .loop-test .taken, c .before .before .before .before .before .before .pre .0 .0)) (c .before .before .before .before .before .before .pre .0 .1), c .before .before .before .loop .inv .3), c .before .before .before .loop .inv .1)
+
+add-at : tie.Need-add-at Inv-loop μ-loop
+add-at c = omega (arith, c .before .before .before .before .before .before .before .pre .0 .1, at-mul (c .before .before .before .before .loop .s) (c .before .before .before .before .loop .s) (length (now (c .before .before .before .before .before .before .before .args .starts))) refl (omega (arith, c .before .before .before .loop-test .taken, c .before .before .before .before .before .before .before .pre .0 .0)) (c .before .before .before .before .before .before .before .pre .0 .1), c .before .before .before .before .loop .inv .3)
+
+add-s : tie.Need-add-s Inv-loop μ-loop
+add-s c = omega (arith, c .before .before .before .loop-test .taken, c .before .before .before .before .before .before .before .pre .0 .0)
+
+loop-less : tie.Need-loop-less Inv-loop μ-loop
+loop-less c = omega (arith, c .before .before .before .loop-test .taken)
+
+loop-again : tie.Need-loop-again Inv-loop μ-loop
+loop-again c = let a = c .before .before .before .before .before .before .before .args in let n = length (now (a .starts)) in let s = c .before .before .before .before .loop .s in (rows-next 0 (λ s j. laneIn (now (c .before .before .before .before .before .before .before .args .starts)) (now (c .before .before .before .before .before .before .before .args .ends)) (nodeOf (c .before .before .before .before .before .before .before .args .w) (c .before .before .before .before .before .before .before .args .v) s + 1) j) n s (c .before .before .before .before .loop .at) _ _ (c .before .before .before .before .loop .inv .3) (c .before .before .before .before .loop .inv .0) (put-ext (λ j. ap (λ (i : ℕ). laneIn (now (a .starts)) (now (a .ends)) (i + 1) j) (c .before .before .node-of .ensures)) (c .lanes-into .ensures)), c .lanes-into .ensures .long ∙ c .before .before .before .before .loop .inv .1, omega (arith, c .before .before .before .loop-test .taken), omega (arith, suc-mul s n, ap (λ (k : ℕ). k * n) (add-one s), c .before .before .before .before .loop .inv .3))
+
+returns : tie.Need-returns Inv-loop μ-loop
+returns c = (λ i j h q. c .before .loop .inv .0 i j (omega (arith, h, c .loop-test .left)) q, c .before .loop .inv .1)
+
+pub lane-rows-spec : {M : Type 1} → statement M
+lane-rows-spec = tie.close (tie.spec Inv-loop μ-loop loop-holds node-of-requires add-lanes-into lanes-into-requires add-at add-s loop-less loop-again returns)

@@ -1,0 +1,85 @@
+-- `flow_files::print_network` meets its contract. Assumes nothing.
+use mathlib.Core.Path.{refl, ap}
+use Rattle.flow_network.specs.Answer.{outcome}
+use Rattle.csv_print.proofs.PrintedSigns.{read-back}
+use Rattle.flow_files.proofs.FlowLaws.{network-refused, network-cut, network-flow}
+use borrow.Author.Needs.{needs}
+use Rattle.flow_files.proofs.print_network.Statement.{statement}
+use Rattle.flow_files.proofs.print_network.Tie as tie
+
+slice-aggregate-cheapest-flow : tie.Need-slice-aggregate-cheapest-flow
+slice-aggregate-cheapest-flow c = search needs
+
+slice-aggregate-cheapest-flow-2 : tie.Need-slice-aggregate-cheapest-flow-2
+slice-aggregate-cheapest-flow-2 c = search needs
+
+slice-aggregate-cheapest-flow-3 : tie.Need-slice-aggregate-cheapest-flow-3
+slice-aggregate-cheapest-flow-3 c = search needs
+
+slice-aggregate-cheapest-flow-4 : tie.Need-slice-aggregate-cheapest-flow-4
+slice-aggregate-cheapest-flow-4 c = search needs
+
+slice-aggregate-cheapest-flow-5 : tie.Need-slice-aggregate-cheapest-flow-5
+slice-aggregate-cheapest-flow-5 c = search needs
+
+cheapest-flow-requires : tie.Need-cheapest-flow-requires
+cheapest-flow-requires c κs = search needs
+
+enum-known-answer : tie.Need-enum-known-answer
+enum-known-answer c = search needs
+
+print-refusal-requires : tie.Need-print-refusal-requires
+print-refusal-requires c κs = search needs
+
+enum-known-answer-2 : tie.Need-enum-known-answer-2
+enum-known-answer-2 c = search needs
+
+slice-aggregate-print-flow : tie.Need-slice-aggregate-print-flow
+slice-aggregate-print-flow c = search needs
+
+slice-aggregate-print-flow-2 : tie.Need-slice-aggregate-print-flow-2
+slice-aggregate-print-flow-2 c = search needs
+
+slice-aggregate-print-flow-3 : tie.Need-slice-aggregate-print-flow-3
+slice-aggregate-print-flow-3 c = search needs
+
+slice-aggregate-print-flow-4 : tie.Need-slice-aggregate-print-flow-4
+slice-aggregate-print-flow-4 c = search needs
+
+print-flow-requires : tie.Need-print-flow-requires
+print-flow-requires c κs = network-cut _ _ _ _ _ _ (c .before .before .before .before .before .before .before .before .before .before .before .before .before .before .before .before .before .before .before .before .before .before .pre) refl refl refl refl refl (c .before .before .before .before .before .before .before .before .before .before .before .before .before .cheapest-flow .ensures) _ (ap outcome (c .before .before .before .before .before .before .answer2 .given .1))
+
+same-length : tie.Need-same-length
+same-length c = search needs
+
+returns : tie.Need-returns
+returns c = network-refused _ _ _ _ _ _ (c .before .before .before .before .before .before .before .before .before .before .before .before .before .before .before .before .before .before .before .before .before .pre) refl refl refl refl refl (c .before .before .before .before .before .before .before .before .before .before .before .before .cheapest-flow .ensures) (ap outcome (c .before .before .before .before .before .answer .given .1)) (c .before .before .print-refusal .ensures)
+
+same-length-2 : tie.Need-same-length-2
+same-length-2 c = search needs
+
+returns-2 : tie.Need-returns-2
+returns-2 c = network-flow _ _ _ _ _ _ (c .before .before .before .before .before .before .before .before .before .before .before .before .before .before .before .before .before .before .before .before .before .before .before .before .before .pre) refl refl refl refl refl (c .before .before .before .before .before .before .before .before .before .before .before .before .before .before .before .before .cheapest-flow .ensures) _ (ap outcome (c .before .before .before .before .before .before .before .before .before .answer2 .given .1)) (rw (read-back (c .before .before .before .before .before .before .before .before .before .answer2 .given .0 .0) (c .before .before .before .before .before .before .before .before .known-told2 .given .0 .1)) at (c .before .before .print-flow .ensures))
+
+pub print-network-spec : {M : Type 1} → statement M
+print-network-spec =
+    tie.close
+    (tie.spec
+    slice-aggregate-cheapest-flow
+    slice-aggregate-cheapest-flow-2
+    slice-aggregate-cheapest-flow-3
+    slice-aggregate-cheapest-flow-4
+    slice-aggregate-cheapest-flow-5
+    cheapest-flow-requires
+    enum-known-answer
+    print-refusal-requires
+    enum-known-answer-2
+    slice-aggregate-print-flow
+    slice-aggregate-print-flow-2
+    slice-aggregate-print-flow-3
+    slice-aggregate-print-flow-4
+    print-flow-requires
+    same-length
+    returns
+    same-length-2
+    returns-2)

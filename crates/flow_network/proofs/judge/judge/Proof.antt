@@ -1,0 +1,49 @@
+-- `flow_network::judge::judge` meets its contract. Assumes nothing.
+use mathlib.Core.Path.{sym, _∙_}
+use Prim.Native.Nat.{ℕ}
+use native.Mathlib.Omega.{arith}
+use borrow.Author.Needs.{needs}
+use denote.Ref.{now}
+use lib.ListN.{length-replicate}
+use Rattle.flow_network.proofs.JudgeLaws.{holding-of}
+use Rattle.flow_network.proofs.judge.judge.Statement.{statement}
+use Rattle.flow_network.proofs.judge.judge.Tie as tie
+
+slice-aggregate-fill-haves : tie.Need-slice-aggregate-fill-haves
+slice-aggregate-fill-haves c = search needs
+
+fill-haves-requires : tie.Need-fill-haves-requires
+fill-haves-requires c κs = ((c .before .before .before .before .before .before .before .before .before .before .before .pre .0 .ends-long ∙ sym (c .before .before .before .before .before .before .before .before .before .before .before .pre .0 .ceilings-long), omega (arith, c .before .before .before .before .before .before .before .before .before .before .before .pre .1 .few, length-replicate {A = ℕ} 32 0), c .before .before .before .before .before .before .before .before .before .before .before .pre .1 .few), (record { few = omega (arith, c .before .before .before .before .before .before .before .before .before .before .before .pre .0 .ceilings-long, c .before .before .before .before .before .before .before .before .before .before .before .pre .0 .few); small = λ k l. c .before .before .before .before .before .before .before .before .before .before .before .pre .0 .ceiling-most k (omega (arith, l, c .before .before .before .before .before .before .before .before .before .before .before .pre .0 .ceilings-long)) }, c .before .before .before .before .before .before .before .before .before .before .before .pre .1 .gives-small))
+
+sub-judge-by : tie.Need-sub-judge-by
+sub-judge-by c = search needs
+
+part-judge-by-start : tie.Need-part-judge-by-start
+part-judge-by-start c = search needs
+
+part-judge-by-end : tie.Need-part-judge-by-end
+part-judge-by-end c = omega (arith, c .before .before .before .before .before .before .before .before .before .before .before .before .before .before .pre .1 .few, c .before .before .fill-haves .ensures .long, length-replicate {A = ℕ} 32 0)
+
+judge-by-requires : tie.Need-judge-by-requires
+judge-by-requires c κs = (c .before .before .before .before .before .before .before .before .before .before .before .before .before .before .before .before .before .before .before .before .pre .0, (c .before .before .before .before .before .before .before .before .before .before .before .before .before .before .before .before .before .before .before .before .pre .1, holding-of (now (c .before .before .before .before .before .before .before .before .before .before .before .before .before .before .before .before .before .before .before .before .args .gives)) (now (c .before .before .before .before .before .before .before .before .before .before .before .before .before .before .before .before .before .before .before .before .args .heads)) (now (c .before .before .before .before .before .before .before .before .before .before .before .before .before .before .before .before .before .before .before .before .args .capacities)) _ _ (omega (arith, c .before .before .before .before .before .before .before .before .before .before .before .before .before .before .before .before .before .before .before .before .pre .1 .few, length-replicate {A = ℕ} 32 0)) (c .before .before .before .before .before .before .before .before .fill-haves .ensures)))
+
+same-length : tie.Need-same-length
+same-length c = search needs
+
+same-length-2 : tie.Need-same-length-2
+same-length-2 c = search needs
+
+same-length-3 : tie.Need-same-length-3
+same-length-3 c = search needs
+
+same-length-4 : tie.Need-same-length-4
+same-length-4 c = search needs
+
+same-length-5 : tie.Need-same-length-5
+same-length-5 c = search needs
+
+returns : tie.Need-returns
+returns c = c .before .before .before .before .before .before .before .before .before .judge-by .ensures
+
+pub judge-spec : {M : Type 1} → statement M
+judge-spec = tie.close (tie.spec slice-aggregate-fill-haves fill-haves-requires sub-judge-by part-judge-by-start part-judge-by-end judge-by-requires same-length same-length-2 same-length-3 same-length-4 same-length-5 returns)

@@ -1,0 +1,137 @@
+// The command `tidy`: two files written again in the one form of their case.
+use crate::file::answer;
+use file_io::file::file_room;
+use file_io::file::first;
+use file_io::file::read_file;
+use file_io::message::say;
+use write_case::Texts;
+use write_case::rewrite::rewrite_files;
+
+// Writes the usage text to standard error.
+pub fn tidy_usage() {
+    say(b"usage: tidy TARIFF PRODUCTION NEW_TARIFF NEW_PRODUCTION\n");
+    say(
+        b"Reads a case from two CSV files and writes it as two new ones, in one form. It writes over no file.\n",
+    );
+}
+
+// Makes a file and writes it; false where its name is taken or it cannot be written, and then nothing is left of it.
+fn write_new(path: &[u8], text: &[u8]) -> bool {
+    let fd = os::create(path);
+    if fd < 0 {
+        return false;
+    }
+    let written = io::write_all(fd, text);
+    libc::close(fd);
+    if !written {
+        os::unlink(path);
+    }
+    written
+}
+
+// Says that a file was not written.
+fn not_written(path: &[u8]) {
+    say(path);
+    say(b" was not written: there is a file of that name, or it cannot be made.\n");
+}
+
+// Says a new file and its length on standard output.
+fn tell(path: &[u8], length: usize) {
+    io::write_all(libc::STDOUT_FILENO, path);
+    io::write_all(libc::STDOUT_FILENO, b",");
+    io::print_decimal(libc::STDOUT_FILENO, length as u64);
+    io::write_all(libc::STDOUT_FILENO, b"\r\n");
+}
+
+// Writes the two new files, both or none.
+fn write_both(tariff_path: &[u8], tariff: &[u8], production_path: &[u8], production: &[u8]) {
+    if !write_new(tariff_path, tariff) {
+        not_written(tariff_path);
+        return;
+    }
+    if !write_new(production_path, production) {
+        os::unlink(tariff_path);
+        not_written(production_path);
+        return;
+    }
+    io::write_all(libc::STDOUT_FILENO, b"file,bytes\r\n");
+    tell(tariff_path, tariff.len());
+    tell(production_path, production.len());
+}
+
+// Writes the case of two files' bytes as two new files, or prints its refusal as `plan` does.
+fn rewrite(
+    tariff: &[u8],
+    production: &[u8],
+    tariff_path: &[u8],
+    production_path: &[u8],
+    new_tariff_path: &[u8],
+    new_production_path: &[u8],
+) {
+    let mut new_tariff = file_room();
+    let mut new_production = file_room();
+    let texts = rewrite_files(tariff, production, &mut new_tariff, &mut new_production);
+    match texts {
+        Texts::Refused {
+            number: _,
+            place: _,
+        } => answer(tariff, production, tariff_path, production_path),
+        Texts::Written {
+            tariff: t,
+            production: p,
+        } => write_both(
+            new_tariff_path,
+            first(&new_tariff, t),
+            new_production_path,
+            first(&new_production, p),
+        ),
+    }
+}
+
+// Writes the case of the files of two paths as new files of two others.
+pub fn tidy_paths(
+    tariff_path: &[u8],
+    production_path: &[u8],
+    new_tariff_path: &[u8],
+    new_production_path: &[u8],
+) {
+    let mut tariff = file_room();
+    let mut production = file_room();
+    let t = read_file(tariff_path, &mut tariff);
+    let p = read_file(production_path, &mut production);
+    rewrite(
+        first(&tariff, t),
+        first(&production, p),
+        tariff_path,
+        production_path,
+        new_tariff_path,
+        new_production_path,
+    );
+}
+
+// The four paths. An argument longer than any path is empty here, and no file has that name.
+pub fn tidy_with_arguments() {
+    let mut tariff = io::buffer();
+    let mut production = io::buffer();
+    let mut new_tariff = io::buffer();
+    let mut new_production = io::buffer();
+    let a = os::arg(1, &mut tariff);
+    let b = os::arg(2, &mut production);
+    let c = os::arg(3, &mut new_tariff);
+    let d = os::arg(4, &mut new_production);
+    tidy_paths(
+        first(&tariff, a),
+        first(&production, b),
+        first(&new_tariff, c),
+        first(&new_production, d),
+    );
+}
+
+// Writes the file of a path to standard output; nothing where it is not read.
+pub fn show_path(path: &[u8]) {
+    let mut room = file_room();
+    let length = read_file(path, &mut room);
+    if length < 65537 {
+        io::write_all(libc::STDOUT_FILENO, first(&room, length));
+    }
+}

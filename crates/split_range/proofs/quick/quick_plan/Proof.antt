@@ -1,0 +1,41 @@
+-- `split_range::quick::quick_plan` meets its contract. Assumes nothing.
+use mathlib.Core.Path.{sym}
+use mathlib.Core.Bool.{true≢false}
+use Rattle.slackcheck.proofs.Checking.{not-false}
+use Rattle.split_range.proofs.CheckedPlan.{checked-first}
+use borrow.Author.Needs.{needs}
+use Rattle.split_range.proofs.quick.quick_plan.Statement.{statement}
+use Rattle.split_range.proofs.quick.quick_plan.Tie as tie
+
+element-copy-out-first-split : tie.Need-element-copy-out-first-split
+element-copy-out-first-split c = search needs
+
+first-split-requires : tie.Need-first-split-requires
+first-split-requires c κs = search needs
+
+simplex-at-requires : tie.Need-simplex-at-requires
+simplex-at-requires c κs = search needs
+
+good-requires : tie.Need-good-requires
+good-requires c κs = search needs
+
+returns : tie.Need-returns
+returns c = record { plan = λ e. absurd (true≢false (sym e)); covers = λ e. absurd (true≢false (sym e)) }
+
+all-servers-requires : tie.Need-all-servers-requires
+all-servers-requires c κs = search needs
+
+returns-2 : tie.Need-returns-2
+returns-2 c = record { plan = λ e run1 r. checked-first r (c .before .before .before .before .before .before .before .before .before .before .before .before .before .before .first-split .ensures) (c .before .before .before .before .before .before .before .before .simplex-at .ensures .0) (c .before .before .before .before .before .before .before .before .simplex-at .ensures .1) (c .before .before .before .before .before .good2 .ensures (not-false _ (c .before .before .before .before .if1 .left))) _; covers = λ e. c .all-servers .ensures }
+
+pub quick-plan-spec : {M : Type 1} → statement M
+quick-plan-spec =
+    tie.close
+    (tie.spec
+    element-copy-out-first-split
+    first-split-requires
+    simplex-at-requires
+    good-requires
+    returns
+    all-servers-requires
+    returns-2)

@@ -1,0 +1,71 @@
+// The first and the last split that have a plan within the ceilings.
+ghost use Rattle.split_range.specs.Range.{BeginReady, Ranged};
+use super::quick::cheapest_first;
+use lastsplit::reach::last;
+use paths::search::smaller;
+
+// Whether there is a plan, and the first and the last split.
+pub struct Range {
+    pub found: bool,
+    pub lo: u64,
+    pub hi: u64,
+}
+
+// The first and the last split of a prepared case that have a plan within the ceilings; a cheapest plan at the first goes into x, with its
+// potentials and the lanes in use, and the simplex's tree, of which nothing is promised, into up, rows and cols. Whether the simplex is tried does
+// not show in what is promised.
+pub fn begin(
+    quick: bool,
+    m: usize,
+    n: usize,
+    cost: &[u32; 2048],
+    cap: &[u32; 2048],
+    supply: &[u32; 32],
+    demand: &[u32; 96],
+    run0: u32,
+    run1: u32,
+    made: u32,
+    x: &mut [u32; 2048],
+    serves: &mut [u32; 64],
+    pot: &mut [u32; 96],
+    up: &mut [u32; 128],
+    rows: &mut [u32; 128],
+    cols: &mut [u64; 128],
+) -> Range
+    requires { ⌜ BeginReady m n (now cost) (now cap) (now supply) (now demand) run0 run1 made ⌝ }
+    ensures { λ r. ⌜ Ranged m n (now (cost .entry)) (now (cap .entry)) (now (supply .entry)) (now (demand .entry)) run0 run1 made (now (x .exit)) (now (serves .exit)) (now (pot .exit)) (r .found) (r .lo) (r .hi) ⌝ }
+{
+    let first = cheapest_first(
+        quick,
+        m,
+        n,
+        cost,
+        cap,
+        supply,
+        demand,
+        run0,
+        run1,
+        made,
+        x,
+        serves,
+        pot,
+        up,
+        rows,
+        cols,
+    );
+    if first.found {
+        let split = first.split;
+        let top = smaller(supply[0], made - run1);
+        let gone = last(m, n, cap, top - split, demand, x, serves);
+        return Range {
+            found: true,
+            lo: split as u64,
+            hi: (split + gone) as u64,
+        };
+    }
+    Range {
+        found: false,
+        lo: 0,
+        hi: 0,
+    }
+}

@@ -1,0 +1,164 @@
+// Step 1 by network simplex. Its plan is believed where it passes the check.
+ghost use mathlib.Core.Path.{_≡_};
+ghost use Prim.Native.Nat.{_-_, _≤_, max};
+ghost use lib.ListN.{length};
+ghost use Rattle.residual.specs.Cells.{cells};
+ghost use Rattle.residual.specs.Network.{net, get};
+ghost use Rattle.residual.specs.LanesInUse.{Covers};
+ghost use Rattle.slackcheck.specs.Checked.{CheckReady};
+ghost use Rattle.firstsplit.specs.FirstPlan.{FirstPlan};
+ghost use Rattle.split_range.specs.QuickPlan.{Quick};
+ghost use Rattle.split_range.specs.Range.{BeginReady};
+use firstsplit::base::First;
+use firstsplit::base::first_plan;
+use simplex::solve::solve;
+use slackcheck::check::good;
+use slackcheck::serving::all_servers;
+
+// The first split within the supplies and the least runs.
+fn first_split(run0: u32, supply1: u32, made: u32) -> u32
+    ensures { λ r. ⌜ r ≡ max run0 (made - supply1) ⌝ }
+{
+    if made <= supply1 {
+        return run0;
+    }
+    if made - supply1 < run0 {
+        return run0;
+    }
+    made - supply1
+}
+
+// The plan of the simplex at a split with its tree, for whoever checks it.
+fn simplex_at(
+    m: usize,
+    n: usize,
+    cost: &[u32; 2048],
+    supply: &[u32; 32],
+    demand: &[u32; 96],
+    split: u32,
+    made: u32,
+    x: &mut [u32; 2048],
+    pot: &mut [u32; 96],
+    up: &mut [u32; 128],
+    rows: &mut [u32; 128],
+    cols: &mut [u64; 128],
+)
+    requires { ⌜ split ≤ made ⌝ }
+    ensures { λ _. ⌜ (length (now (x .exit)) ≡ 2048) × (length (now (pot .exit)) ≡ 96) ⌝ }
+{
+    let mut amounts = *supply;
+    amounts[0] = split;
+    amounts[1] = made - split;
+    solve(m, n, cost, &amounts, demand, x, pot, up, rows, cols);
+}
+
+// A cheapest plan at the first split within the supplies and the least runs, where the simplex finds one that passes the check.
+fn quick_plan(
+    m: usize,
+    n: usize,
+    cost: &[u32; 2048],
+    cap: &[u32; 2048],
+    supply: &[u32; 32],
+    demand: &[u32; 96],
+    run0: u32,
+    made: u32,
+    x: &mut [u32; 2048],
+    serves: &mut [u32; 64],
+    pot: &mut [u32; 96],
+    up: &mut [u32; 128],
+    rows: &mut [u32; 128],
+    cols: &mut [u64; 128],
+) -> First
+    requires { ⌜ CheckReady m n (cells (now cost)) ⌝ }
+    requires { ⌜ run0 ≤ made ⌝ }
+    ensures { λ r. ⌜ Quick m n (now (cost .entry)) (now (cap .entry)) (now (x .entry)) (now (supply .entry)) (now (demand .entry)) run0 made (now (pot .exit)) (now (x .exit)) (now (serves .exit)) (r .found) (r .split) ⌝ }
+{
+    let split = first_split(run0, supply[1], made);
+    simplex_at(
+        m,
+        n,
+        cost,
+        supply,
+        demand,
+        split,
+        made,
+        x,
+        pot,
+        up,
+        rows,
+        cols,
+    );
+    if !good(m, n, split, made, supply, demand, cost, cap, x, pot) {
+        return First {
+            found: false,
+            split: 0,
+        };
+    }
+    *serves = [0u32; 64];
+    all_servers(m, n, x, serves);
+    First { found: true, split }
+}
+
+// A cheapest plan at the first split that has one: by the simplex, where that is wanted and its plan passes the check; else by cheapest paths,
+// and there is no tree: no node is above plant 1.
+pub fn cheapest_first(
+    quick: bool,
+    m: usize,
+    n: usize,
+    cost: &[u32; 2048],
+    cap: &[u32; 2048],
+    supply: &[u32; 32],
+    demand: &[u32; 96],
+    run0: u32,
+    run1: u32,
+    made: u32,
+    x: &mut [u32; 2048],
+    serves: &mut [u32; 64],
+    pot: &mut [u32; 96],
+    up: &mut [u32; 128],
+    rows: &mut [u32; 128],
+    cols: &mut [u64; 128],
+) -> First
+    requires { ⌜ BeginReady m n (now cost) (now cap) (now supply) (now demand) run0 run1 made ⌝ }
+    ensures { λ r. ⌜ FirstPlan (net m n (now (cost .entry)) (now (cap .entry)) (now (x .entry))) (λ i. get (now (supply .entry)) i) (now (demand .entry)) run0 run1 made (now (pot .exit)) (now (x .exit)) (r .found) (r .split) ⌝ }
+    ensures { λ r. ⌜ Covers m n (now (x .exit)) (now (serves .exit)) ⌝ }
+{
+    if quick {
+        let first = quick_plan(
+            m,
+            n,
+            cost,
+            cap,
+            supply,
+            demand,
+            run0,
+            made,
+            x,
+            serves,
+            pot,
+            up,
+            rows,
+            cols,
+        );
+        if first.found {
+            return first;
+        }
+    }
+    up[1] = 96;
+    *x = [0u32; 2048];
+    *serves = [0u32; 64];
+    first_plan(
+        m,
+        n,
+        cost,
+        cap,
+        supply,
+        demand,
+        run0,
+        run1,
+        made,
+        x,
+        serves,
+        pot,
+    )
+}

@@ -1,0 +1,49 @@
+// Further stored runs of the command `tidy`, one after the other, each with its two new files written to standard output behind it.
+use plan_command::rewriting::show_path;
+use plan_command::rewriting::tidy_paths;
+
+// Runs `tidy` on a case, and shows the new files.
+fn tidy_and_show(tariff: &[u8], production: &[u8], new_tariff: &[u8], new_production: &[u8]) {
+    tidy_paths(tariff, production, new_tariff, new_production);
+    show_path(new_tariff);
+    show_path(new_production);
+}
+
+// A case whose entry at split 2 is too high: no file is made.
+fn refused() {
+    tidy_and_show(
+        b"refused/tariff.csv",
+        b"refused/production.csv",
+        b"new_tariff.csv",
+        b"new_production.csv",
+    );
+}
+
+// An input as the second new file: no file is written over, and the first is not left.
+fn taken() {
+    tidy_and_show(
+        b"taken/tariff.csv",
+        b"taken/production.csv",
+        b"new_tariff.csv",
+        b"taken/production.csv",
+    );
+}
+
+// A case with a rebate and with 0.
+fn shown() {
+    tidy_and_show(
+        b"shown/tariff.csv",
+        b"shown/production.csv",
+        b"new_tariff.csv",
+        b"new_production.csv",
+    );
+}
+
+// The one argument asks both commands for help: they write nothing to standard output.
+fn main() {
+    plan_command::run();
+    plan_command::tidy();
+    refused();
+    taken();
+    shown();
+}

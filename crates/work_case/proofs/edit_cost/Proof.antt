@@ -1,0 +1,51 @@
+-- `work_case::edit_cost` meets its contract. Assumes nothing.
+use mathlib.Core.Path.{sym, _∙_}
+use borrow.Author.Needs.{needs}
+use mir.Syntax.{w64}
+use mir.ValLaws.{toZ-ofZ}
+use Rattle.work_store.proofs.OpenStore.{opened}
+use Rattle.work_store.proofs.CallPromise.{by-closed, by-work, same-cost}
+use Rattle.work_store.proofs.EditLaws.{cost-faithful}
+use Rattle.work_case.proofs.edit_cost.Statement.{statement}
+use Rattle.work_case.proofs.edit_cost.Tie as tie
+
+open-store-requires : tie.Need-open-store-requires
+open-store-requires c κs = search needs
+
+enum-told : tie.Need-enum-told
+enum-told c = search needs
+
+enum-known-m : tie.Need-enum-known-m
+enum-known-m c = search needs
+
+put-cost-requires : tie.Need-put-cost-requires
+put-cost-requires c κs = opened _ _ _ (sym (c .before .before .before .before .open-store .ensures) ∙ c .before .before .m .given .1)
+
+same-length : tie.Need-same-length
+same-length c = search needs
+
+returns : tie.Need-returns
+returns c = by-closed _ _ (sym (c .before .before .open-store .ensures) ∙ c .enum-told .given .1)
+
+same-length-2 : tie.Need-same-length-2
+same-length-2 c = search needs
+
+returns-2 : tie.Need-returns-2
+returns-2 c =
+    let s = c .before .before .before .before .before .before .before .before .before .before in
+    same-cost _ _ _ _ _ _ _ (toZ-ofZ w64 (s .args .value) (s .fits .value))
+    (by-work _ (cost-faithful _ _ _) _ _ _ _ _ (sym (c .before .before .before .before .before .before .before .open-store .ensures) ∙ c .before .before .before .before .before .m .given .1)
+    (c .before .before .put-cost .ensures))
+
+pub edit-cost-spec : {M : Type 1} → statement M
+edit-cost-spec =
+    tie.close
+    (tie.spec
+    open-store-requires
+    enum-told
+    enum-known-m
+    put-cost-requires
+    same-length
+    returns
+    same-length-2
+    returns-2)

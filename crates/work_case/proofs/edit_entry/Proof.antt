@@ -1,0 +1,47 @@
+-- `work_case::edit_entry` meets its contract. Assumes nothing.
+use mathlib.Core.Path.{sym, _∙_}
+use borrow.Author.Needs.{needs}
+use Rattle.work_store.proofs.OpenStore.{opened}
+use Rattle.work_store.proofs.CallPromise.{by-closed, by-work}
+use Rattle.work_store.proofs.EditLaws.{entry-faithful}
+use Rattle.work_case.proofs.edit_entry.Statement.{statement}
+use Rattle.work_case.proofs.edit_entry.Tie as tie
+
+open-store-requires : tie.Need-open-store-requires
+open-store-requires c κs = search needs
+
+enum-told : tie.Need-enum-told
+enum-told c = search needs
+
+enum-known-m : tie.Need-enum-known-m
+enum-known-m c = search needs
+
+put-entry-requires : tie.Need-put-entry-requires
+put-entry-requires c κs = opened _ _ _ (sym (c .before .before .before .before .open-store .ensures) ∙ c .before .before .m .given .1)
+
+same-length : tie.Need-same-length
+same-length c = search needs
+
+returns : tie.Need-returns
+returns c = by-closed _ _ (sym (c .before .before .open-store .ensures) ∙ c .enum-told .given .1)
+
+same-length-2 : tie.Need-same-length-2
+same-length-2 c = search needs
+
+returns-2 : tie.Need-returns-2
+returns-2 c =
+    by-work _ (entry-faithful _ _) _ _ _ _ _ (sym (c .before .before .before .before .before .before .before .open-store .ensures) ∙ c .before .before .before .before .before .m .given .1)
+    (c .before .before .put-entry .ensures)
+
+pub edit-entry-spec : {M : Type 1} → statement M
+edit-entry-spec =
+    tie.close
+    (tie.spec
+    open-store-requires
+    enum-told
+    enum-known-m
+    put-entry-requires
+    same-length
+    returns
+    same-length-2
+    returns-2)

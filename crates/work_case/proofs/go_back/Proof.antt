@@ -1,0 +1,46 @@
+-- `work_case::go_back` meets its contract. Assumes nothing.
+use mathlib.Core.Path.{sym, _∙_}
+use borrow.Author.Needs.{needs}
+use Rattle.work_store.proofs.OpenStore.{opened}
+use Rattle.work_store.proofs.CallPromise.{back-faithful, by-closed, by-work}
+use Rattle.work_case.proofs.go_back.Statement.{statement}
+use Rattle.work_case.proofs.go_back.Tie as tie
+
+open-store-requires : tie.Need-open-store-requires
+open-store-requires c κs = search needs
+
+enum-told : tie.Need-enum-told
+enum-told c = search needs
+
+enum-known-m : tie.Need-enum-known-m
+enum-known-m c = search needs
+
+put-back-requires : tie.Need-put-back-requires
+put-back-requires c κs = opened _ _ _ (sym (c .before .before .before .before .open-store .ensures) ∙ c .before .before .m .given .1)
+
+same-length : tie.Need-same-length
+same-length c = search needs
+
+returns : tie.Need-returns
+returns c = by-closed _ _ (sym (c .before .before .open-store .ensures) ∙ c .enum-told .given .1)
+
+same-length-2 : tie.Need-same-length-2
+same-length-2 c = search needs
+
+returns-2 : tie.Need-returns-2
+returns-2 c =
+    by-work _ (back-faithful _) _ _ _ _ _ (sym (c .before .before .before .before .before .before .before .open-store .ensures) ∙ c .before .before .before .before .before .m .given .1)
+    (c .before .before .put-back .ensures)
+
+pub go-back-spec : {M : Type 1} → statement M
+go-back-spec =
+    tie.close
+    (tie.spec
+    open-store-requires
+    enum-told
+    enum-known-m
+    put-back-requires
+    same-length
+    returns
+    same-length-2
+    returns-2)

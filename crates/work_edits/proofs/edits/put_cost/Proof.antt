@@ -1,0 +1,93 @@
+-- `work_edits::edits::put_cost` meets its contract. Assumes nothing.
+use mathlib.Core.Path.{_≡_, sym, ap, _∙_}
+use native.Mathlib.Omega.{arith}
+use mir.Syntax.{w64}
+use mir.Val.{toZ, ofZ}
+use mir.ValLaws.{toZ-ofZ}
+use Rattle.problem.specs.Range.{outside, raisedOf}
+use denote.Ref.{now}
+use Prim.Native.Nat.{_+_, _-_, _*_}
+use Rattle.work_store.specs.Store.{costsAt, writes}
+use Rattle.work_store.proofs.StateAfterWrites.{within}
+use Rattle.work_store.proofs.CallRefusals.{refuses, works, out-low, out-high}
+use Rattle.work_store.proofs.CaseCells.{room-0, lanes-few}
+use Rattle.work_store.proofs.CostLaws.{cost-placed}
+use Rattle.work_store.proofs.EditLaws.{row-few, lane-in}
+use Rattle.work_store.proofs.EditRefusals.{cost-24-source, cost-24-terminal, cost-5, cost-none}
+use borrow.Author.Needs.{needs}
+use Rattle.work_edits.proofs.edits.put_cost.Statement.{statement}
+use Rattle.work_edits.proofs.edits.put_cost.Tie as tie
+
+-- a signed number, as it is handed on
+same : (s : tie.Start) → toZ w64 (ofZ w64 (s .args .value)) ≡ s .args .value
+same s = toZ-ofZ w64 (s .args .value) (s .fits .value)
+
+returns : tie.Need-returns
+returns c = refuses _ _ _ _ _ (cost-24-source _ _ _ _ _ _ (out-low _ _ (c .if1 .taken)))
+
+returns-2 : tie.Need-returns-2
+returns-2 c = refuses _ _ _ _ _ (cost-24-source _ _ _ _ _ _ (out-high _ _ (c .if2 .taken)))
+
+returns-3 : tie.Need-returns-3
+returns-3 c = refuses _ _ _ _ _ (cost-24-terminal _ _ _ _ _ _ (out-low _ _ (c .if3 .taken)))
+
+returns-4 : tie.Need-returns-4
+returns-4 c = refuses _ _ _ _ _ (cost-24-terminal _ _ _ _ _ _ (out-high _ _ (c .if4 .taken)))
+
+mul-row : tie.Need-mul-row
+mul-row c = omega (arith, room-0 _ _ _ (c .before .before .before .before .before .pre), lanes-few _ _ _ (c .before .before .before .before .before .pre), c .before .before .before .before .before .pre .few, c .before .before .before .before .before .pre .many, row-few _ _ _ (c .before .before .before .before .before .pre) (c .before .before .before .before .before .args .i) (c .before .before .if2 .left))
+
+out-of-range-requires : tie.Need-out-of-range-requires
+out-of-range-requires c κs = search needs
+
+add-t13 : tie.Need-add-t13
+add-t13 c = omega (arith, room-0 _ _ _ (c .before .before .before .before .before .before .before .pre), lanes-few _ _ _ (c .before .before .before .before .before .before .before .pre), c .before .before .before .before .before .before .before .pre .few, c .before .before .before .before .before .before .before .pre .many, row-few _ _ _ (c .before .before .before .before .before .before .before .pre) (c .before .before .before .before .before .before .before .args .i) (c .before .before .before .before .if2 .left))
+
+returns-5 : tie.Need-returns-5
+returns-5 c = refuses _ _ _ _ _ (cost-5 _ _ _ _ _ _ (within _ _ (c .before .before .before .before .before .if1 .left) (c .before .before .before .before .if2 .left)) (within _ _ (c .before .before .before .if3 .left) (c .before .before .if4 .left)) (ap outside (sym (same (c .before .before .before .before .before .before .before))) ∙ sym (c .before .out-of-range .ensures) ∙ c .if5 .taken))
+
+costs-at-requires : tie.Need-costs-at-requires
+costs-at-requires c κs = search needs
+
+add-at : tie.Need-add-at
+add-at c = omega (arith, room-0 _ _ _ (c .before .before .before .before .before .before .before .before .pre), lanes-few _ _ _ (c .before .before .before .before .before .before .before .before .pre), c .before .before .before .before .before .before .before .before .pre .few, c .before .before .before .before .before .before .before .before .pre .many, row-few _ _ _ (c .before .before .before .before .before .before .before .before .pre) (c .before .before .before .before .before .before .before .before .args .i) (c .before .before .before .before .before .if2 .left), c .costs-at .ensures)
+
+add-at-2 : tie.Need-add-at-2
+add-at-2 c = omega (arith, room-0 _ _ _ (c .before .before .before .before .before .before .before .before .pre), lanes-few _ _ _ (c .before .before .before .before .before .before .before .before .pre), c .before .before .before .before .before .before .before .before .pre .few, c .before .before .before .before .before .before .before .before .pre .many, row-few _ _ _ (c .before .before .before .before .before .before .before .before .pre) (c .before .before .before .before .before .before .before .before .args .i) (c .before .before .before .before .before .if2 .left), c .costs-at .ensures)
+
+raised-requires : tie.Need-raised-requires
+raised-requires c κs = sym (c .before .before .out-of-range .ensures) ∙ c .before .if5 .left
+
+mul-store : tie.Need-mul-store
+mul-store c = omega (arith, room-0 _ _ _ (c .before .before .before .before .before .before .before .before .before .pre), lanes-few _ _ _ (c .before .before .before .before .before .before .before .before .before .pre), c .before .before .before .before .before .before .before .before .before .pre .few, c .before .before .before .before .before .before .before .before .before .pre .many, row-few _ _ _ (c .before .before .before .before .before .before .before .before .before .pre) (c .before .before .before .before .before .before .before .before .before .args .i) (c .before .before .before .before .before .before .if2 .left), c .before .costs-at .ensures)
+
+slice-write-store : tie.Need-slice-write-store
+slice-write-store c = omega (arith, room-0 _ _ _ (c .before .before .before .before .before .before .before .before .before .pre), lanes-few _ _ _ (c .before .before .before .before .before .before .before .before .before .pre), c .before .costs-at .ensures, lane-in (c .before .before .before .before .before .before .before .before .before .args .m) (c .before .before .before .before .before .before .before .before .before .args .n) (c .before .before .before .before .before .before .before .before .before .args .i) (c .before .before .before .before .before .before .before .before .before .args .j) (c .before .before .before .before .before .before .before .if1 .left) (c .before .before .before .before .before .before .if2 .left) (c .before .before .before .before .before .if3 .left) (c .before .before .before .before .if4 .left))
+
+same-length : tie.Need-same-length
+same-length c = search needs
+
+returns-6 : tie.Need-returns-6
+unfolding writes
+returns-6 c = works _ _ _ _ _ (cost-none _ _ _ _ _ _ (within _ _ (c .before .before .before .before .before .before .before .if1 .left) (c .before .before .before .before .before .before .if2 .left)) (within _ _ (c .before .before .before .before .before .if3 .left) (c .before .before .before .before .if4 .left)) (ap outside (sym (same (c .before .before .before .before .before .before .before .before .before))) ∙ sym (c .before .before .before .out-of-range .ensures) ∙ c .before .before .if5 .left)) (cost-placed (now (c .before .before .before .before .before .before .before .before .before .args .store)) (c .before .costs-at .result) ((c .before .before .before .before .before .before .before .before .before .args .i - 1) * c .before .before .before .before .before .before .before .before .before .args .n + (c .before .before .before .before .before .before .before .before .before .args .j - 1)) (costsAt (c .before .before .before .before .before .before .before .before .before .args .m) (c .before .before .before .before .before .before .before .before .before .args .n)) _ (c .before .before .before .before .before .before .before .before .before .args .value) (c .before .costs-at .ensures) (c .raised .ensures ∙ ap raisedOf (same (c .before .before .before .before .before .before .before .before .before))))
+
+pub put-cost-spec : {M : Type 1} → statement M
+put-cost-spec =
+    tie.close
+    (tie.spec
+    returns
+    returns-2
+    returns-3
+    returns-4
+    mul-row
+    out-of-range-requires
+    add-t13
+    returns-5
+    costs-at-requires
+    add-at
+    add-at-2
+    raised-requires
+    mul-store
+    slice-write-store
+    same-length
+    returns-6)

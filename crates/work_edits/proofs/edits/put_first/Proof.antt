@@ -1,0 +1,49 @@
+-- `work_edits::edits::put_first` meets its contract. Assumes nothing.
+use denote.Ref.{now}
+use native.Mathlib.Omega.{arith}
+use Rattle.work_store.proofs.CaseCells.{room-0, lanes-few, few-entries}
+use Rattle.work_store.proofs.EditLaws.{first-set}
+use borrow.Author.Needs.{needs}
+use Rattle.work_edits.proofs.edits.put_first.Statement.{statement}
+use Rattle.work_edits.proofs.edits.put_first.Tie as tie
+
+entries-requires : tie.Need-entries-requires
+entries-requires c κs = omega (arith, room-0 _ _ _ (c .before .before .pre .0), lanes-few _ _ _ (c .before .before .pre .0), c .before .before .pre .0 .few, c .before .before .pre .0 .many, c .before .before .pre .1, few-entries (now (c .before .before .args .store)))
+
+table-at-requires : tie.Need-table-at-requires
+table-at-requires c κs = search needs
+
+add-zero-cells : tie.Need-add-zero-cells
+add-zero-cells c = omega (arith, room-0 _ _ _ (c .before .before .before .before .pre .0), lanes-few _ _ _ (c .before .before .before .before .pre .0), c .before .before .before .before .pre .0 .few, c .before .before .before .before .pre .0 .many, c .before .before .before .before .pre .1, few-entries (now (c .before .before .before .before .args .store)), c .before .entries .ensures, c .table-at .ensures)
+
+add-excess : tie.Need-add-excess
+add-excess c = search needs
+
+excess-requires : tie.Need-excess-requires
+excess-requires c κs = search needs
+
+zero-cells-requires : tie.Need-zero-cells-requires
+zero-cells-requires c κs = omega (arith, room-0 _ _ _ (c .before .before .before .before .before .before .pre .0), lanes-few _ _ _ (c .before .before .before .before .before .before .pre .0), c .before .before .before .before .before .before .pre .0 .few, c .before .before .before .before .before .before .pre .0 .many, c .before .before .before .before .before .before .pre .1, few-entries (now (c .before .before .before .before .before .before .args .store)), c .before .before .before .entries .ensures, c .before .before .table-at .ensures, c .before .excess .ensures)
+
+slice-write-store : tie.Need-slice-write-store
+slice-write-store c = omega (arith, room-0 _ _ _ (c .before .before .before .before .before .before .before .before .before .pre .0), lanes-few _ _ _ (c .before .before .before .before .before .before .before .before .before .pre .0), c .before .before .before .before .before .before .before .before .before .pre .0 .few, c .before .before .before .before .before .before .before .before .before .pre .0 .many, c .before .before .before .before .before .before .before .before .before .pre .1, few-entries (now (c .before .before .before .before .before .before .before .before .before .args .store)), c .before .before .zero-cells .kept)
+
+same-length : tie.Need-same-length
+same-length c = search needs
+
+returns : tie.Need-returns
+returns c = first-set _ _ _ _ _ _ _ _ (c .before .before .zero-cells .ensures) (c .before .before .before .before .before .table-at .ensures) (c .before .before .before .before .before .before .entries .ensures) (c .before .before .before .before .excess .ensures)
+
+pub put-first-spec : {M : Type 1} → statement M
+put-first-spec =
+    tie.close
+    (tie.spec
+    entries-requires
+    table-at-requires
+    add-zero-cells
+    add-excess
+    excess-requires
+    zero-cells-requires
+    slice-write-store
+    same-length
+    returns)

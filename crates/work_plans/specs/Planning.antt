@@ -1,0 +1,18 @@
+-- What is promised of planning from a store. Assumes nothing.
+use mathlib.Core.Path.{_≡_}
+use mathlib.Core.Option.{Option, none, some}
+use Prim.Native.Nat.{ℕ}
+use Rattle.problem.specs.Outcome.{Outcome, refused, outcomeOf}
+use Rattle.planner.specs.Answer.{Slices, Answered}
+use Rattle.work_store.specs.State.{State, lentWith}
+
+-- the outcome of the working case; a store that holds none is refused by 11
+abbrev pub outcomeIn : Option State → ℕ → ℕ → ℕ → Outcome
+outcomeIn none p q f = refused 11 0
+outcomeIn (some s) p q f = outcomeOf (lentWith (s .case) p q f)
+
+pub record PlannedFrom (held : Option State) (p q f : ℕ) (r : Outcome) (before after : Slices) : Type 0 where
+  pub answer : r ≡ outcomeIn held p q f
+  -- all that the planner promises of the working case
+  pub work : (s : State) → held ≡ some s → Answered (lentWith (s .case) p q f) r before after
+  pub kept : (k l : ℕ) → r ≡ refused k l → after ≡ before

@@ -1,0 +1,87 @@
+-- What a caller outside Rattle is told of a call on a working case: a number, and a refusal's place in a lent slice. Assumes nothing.
+use mathlib.Core.Path.{_≡_}
+use mathlib.Core.Bool.{cond, _||_}
+use mathlib.Core.Option.{Option, none, some}
+use mathlib.Core.List.{List, []}
+use Prim.Native.Nat.{ℕ}
+use lib.Dec.{ltb}
+use lib.IntN.{ℤ}
+use lib.ListN.{length}
+use Rattle.transport.specs.Curve.{written}
+use Rattle.problem.specs.Outcome.{Outcome, _orElse_}
+use Rattle.planner.specs.Answer.{Slices}
+use Rattle.work_store.specs.State.{Draft, State}
+use Rattle.work_store.specs.Calls.{Call}
+use Rattle.work_store.specs.Store.{heldIn}
+use Rattle.work_store.specs.Promise.{entryRefusal, Entered}
+use Rattle.work_plans.specs.Planning.{outcomeIn}
+use Rattle.work_store.specs.Seeing.{tariffAnswer, tableAnswer}
+use Rattle.roletable.specs.Deeds.{seeTariff, seeTable, plan, test31}
+use Rattle.roletable.specs.Promise.{answerBy, PerformedBy, outcomeUnless, PlannedBy, TariffSeen, TableSeen}
+use Rattle.export_reports.specs.Report.{numberOf, reportOf, worthOf, shortReport, Untold}
+
+-- 0 where a call is done, else the refusal's number
+abbrev pub verdictNumber : Option Outcome → ℕ
+verdictNumber none = 0
+verdictNumber (some o) = numberOf o
+
+-- the place of a refusal; nothing of a call that is done
+abbrev pub verdictReport : Option Outcome → List ℕ
+verdictReport none = []
+verdictReport (some o) = reportOf o
+
+-- ---- a call that has a refusal or none for its answer
+
+-- the report is long enough: number and place are those of the answer, and what is promised of it is done
+pub record CallTold (answer : Option Outcome) (Done : Option Outcome → Type 0) (report reported : List ℕ) (r : ℕ) : Type 0 where
+  pub number : r ≡ verdictNumber answer
+  pub cells : reported ≡ written (verdictReport answer) report
+  pub done : Done answer
+
+-- it is too short: nothing is done
+pub record CallUntold (Kept : Type 0) (report reported : List ℕ) (r : ℕ) : Type 0 where
+  pub number : r ≡ shortReport
+  pub cells : reported ≡ report
+  pub kept : Kept
+
+unfoldable pub CallExported : Option Outcome → (Option Outcome → Type 0) → Type 0 → List ℕ → List ℕ → ℕ → Type 0
+CallExported answer Done Kept report reported r = cond (ltb (length report) 2) (CallUntold Kept report reported r) (CallTold answer Done report reported r)
+
+-- entering a case, which takes no role
+abbrev pub EnterExported : Draft → List ℕ → List ℕ → List ℕ → List ℕ → ℕ → Type 0
+EnterExported d before after report reported r = CallExported (entryRefusal d (length before)) (Entered d before after) (after ≡ before) report reported r
+
+-- an edit, a mark or a return
+abbrev pub WorkExported : ℕ → Call → List ℕ → List ℕ → List ℕ → List ℕ → ℕ → Type 0
+WorkExported role call before after report reported r =
+    CallExported (answerBy role call (heldIn before)) (PerformedBy role call before after) (after ≡ before) report reported r
+
+-- the three lent slices of the tariff, before and after
+abbrev pub TariffExported : ℕ → Option State → List ℤ → List ℕ → List ℕ → List ℤ → List ℕ → List ℕ → List ℕ → List ℕ → ℕ → Type 0
+TariffExported role held c s d c' s' d' report reported r =
+    CallExported (test31 role seeTariff orElse tariffAnswer (length c) (length s) (length d) held) (TariffSeen role held c s d c' s' d')
+    ((c' ≡ c) × (s' ≡ s) × (d' ≡ d)) report reported r
+
+abbrev pub TableExported : ℕ → Option State → List ℕ → List ℕ → List ℕ → List ℕ → ℕ → Type 0
+TableExported role held t t' report reported r =
+    CallExported (test31 role seeTable orElse tableAnswer (length t) held) (TableSeen role held t t') (t' ≡ t) report reported r
+
+-- ---- planning
+
+-- the outcome by the role: 31 first of all
+abbrev pub outcomeBy : ℕ → Option State → Slices → Outcome
+outcomeBy role held s = outcomeUnless (test31 role plan) (outcomeIn held (length (s .plan)) (length (s .splits)) (length (s .freights)))
+
+-- report and worth are long enough: the number, the report and the worth are those of the outcome, the lent slices are as promised
+pub record PlanTold (role : ℕ) (held : Option State) (before after : Slices) (report reported : List ℕ) (worth valued : List ℤ) (r : ℕ) : Type 0 where
+  pub number : r ≡ numberOf (outcomeBy role held before)
+  pub cells : reported ≡ written (reportOf (outcomeBy role held before)) report
+  pub values : valued ≡ written (worthOf (outcomeBy role held before)) worth
+  pub planned :
+      PlannedBy role held (length (before .plan)) (length (before .splits)) (length (before .freights)) (outcomeBy role held before) before after
+
+-- all that is promised, by the two lengths
+unfoldable pub PlanExported : ℕ → Option State → Slices → Slices → List ℕ → List ℕ → List ℤ → List ℤ → ℕ → Type 0
+PlanExported role held before after report reported worth valued r =
+    cond (ltb (length report) 2 || ltb (length worth) 2) (Untold before after report reported worth valued r)
+    (PlanTold role held before after report reported worth valued r)
