@@ -72,12 +72,16 @@ same-dot : (k : ℕ) (v r s : ℕ → ℕ) → ((i : ℕ) → i < k → r i ≡ 
 unfolding dot
 same-dot k v r s h = sum-ext k _ _ (λ i l. ap (λ (a : ℕ). v i * a) (h i l))
 
-module _ (m n : ℕ) (c : Rates) (k : Table) (p q : ℕ → ℤ) where
-  -- the two naturals of a table of signed multiples
-  signed : (v : Rates) (x : Table) → Above (freight m n (λ i j. down (v i j)) x) (freightℤ m n v x) (freight m n (λ i j. up (v i j)) x)
-  unfolding freight freightℤ total
-  signed v x = sum-above m _ _ _ (λ i h. sum-above n _ _ _ (λ j l. above-scale (x i j) (above (v i j))))
+-- the two naturals of a signed freight
+pub signed-by : (m n : ℕ) (v : Rates) (low high x : Table) → ((i j : ℕ) → Above (low i j) (v i j) (high i j))
+    → Above (freight m n low x) (freightℤ m n v x) (freight m n high x)
+unfolding freight freightℤ total
+signed-by m n v low high x h = sum-above m _ _ _ (λ i g. sum-above n _ _ _ (λ j l. above-scale (x i j) (h i j)))
 
+pub signed : (m n : ℕ) (v : Rates) (x : Table) → Above (freight m n (λ i j. down (v i j)) x) (freightℤ m n v x) (freight m n (λ i j. up (v i j)) x)
+signed m n v x = signed-by m n v _ _ x (λ i j. above (v i j))
+
+module _ (m n : ℕ) (c : Rates) (k : Table) (p q : ℕ → ℤ) where
   prices : (k : ℕ) (v : ℕ → ℤ) (r : ℕ → ℕ) → Above (dot k (λ i. down (v i)) r) (sumℤ k (λ i. v i *ℤ pos (r i))) (dot k (λ i. up (v i)) r)
   unfolding dot
   prices k v r = sum-above k _ _ _ (λ i h. above-scale (r i) (above (v i)))
@@ -99,10 +103,10 @@ module _ (m n : ℕ) (c : Rates) (k : Table) (p q : ℕ → ℤ) where
         total-add m n (λ i j. up (gains i j) * k i j) (λ i j. down (c i j) * x i j + down (p i) * x i j + up (q j) * x i j),
         total-add m n (λ i j. up (c i j) * x i j + up (p i) * x i j + down (q j) * x i j) (λ i j. down (gains i j) * k i j),
         total-mono m n
-        (λ i j. up (gains i j) * k i j + (down (c i j) * x i j + down (p i) * x i j + up (q j) * x i j))
-        (λ i j. up (c i j) * x i j + up (p i) * x i j + down (q j) * x i j + down (gains i j) * k i j)
-        (λ i j a b. lane (up (gains i j)) (down (gains i j)) (up (c i j)) (down (c i j)) (up (p i)) (down (p i)) (up (q j)) (down (q j)) (x i j) (k i j)
-        (gain-low (c i j) (p i) (q j)) (gain-most (c i j) (p i) (q j)) (h i j a b)),
+            (λ i j. up (gains i j) * k i j + (down (c i j) * x i j + down (p i) * x i j + up (q j) * x i j))
+            (λ i j. up (c i j) * x i j + up (p i) * x i j + down (q j) * x i j + down (gains i j) * k i j)
+            (λ i j a b. lane (up (gains i j)) (down (gains i j)) (up (c i j)) (down (c i j)) (up (p i)) (down (p i)) (up (q j)) (down (q j)) (x i j) (k i j)
+            (gain-low (c i j) (p i) (q j)) (gain-most (c i j) (p i) (q j)) (h i j a b)),
       )
 
   -- the bound as a difference of two naturals
@@ -110,12 +114,12 @@ module _ (m n : ℕ) (c : Rates) (k : Table) (p q : ℕ → ℤ) where
       → Above (dot n (λ j. down (q j)) b + dot m (λ i. up (p i)) r + freight m n (λ i j. down (gains i j)) k) (bound m n c k r b p q)
       (dot n (λ j. up (q j)) b + dot m (λ i. down (p i)) r + freight m n (λ i j. up (gains i j)) k)
   unfolding bound freightℤ gains
-  bound-above r b = above-add (above-less (prices n q b) (prices m p r)) (signed gains k)
+  bound-above r b = above-add (above-less (prices n q b) (prices m p r)) (signed m n gains k)
 
   -- the theorem for any unit costs
   pub duality : (r b : ℕ → ℕ) (x : List ℕ) → Fits m n k r b x → bound m n c k r b p q ≤ℤ freightℤ m n c (byRow n x)
   duality r b x f =
-      at-most (bound-above r b) (signed c (byRow n x))
+      at-most (bound-above r b) (signed m n c (byRow n x))
       (omega (
         arith,
         all-lanes (byRow n x) (f .under),
