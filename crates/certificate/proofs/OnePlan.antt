@@ -23,7 +23,7 @@ use Rattle.certificate.specs.Bound.{boundWith}
 use Rattle.certificate.proofs.WeakDuality.{up, down, above, at-most, signed, signed-by, duality}
 use Rattle.transport.specs.Canonical.{Before}
 use Rattle.transport.proofs.Sums.{sum-ext, sum-front, sum-zero, sum-scale-r, total-ext, total-add}
-use Rattle.certificate.specs.Finer.{power, finer, OneShown, Due}
+use Rattle.certificate.specs.Finer.{power, digit, finer, OneShown, Due}
 
 -- ---- the number whose digits a list holds
 
@@ -126,13 +126,13 @@ module _ (a : Case) where
   less x = freight (a .m) (a .n) (λ i j. down (ratesByRow (a .n) (a .costs) i j)) (byRow (a .n) x)
 
   finer-more : (x : List ℕ) → length x ≡ a .m * a .n
-      → freight (a .m) (a .n) (λ i j. up (ratesByRow (a .n) (a .costs) i j) * top + power (a .m * a .n - suc (i * a .n + j))) (byRow (a .n) x) ≡ more x * top + number x
-  unfolding freight
+      → freight (a .m) (a .n) (λ i j. up (ratesByRow (a .n) (a .costs) i j) * top + digit a i j) (byRow (a .n) x) ≡ more x * top + number x
+  unfolding freight digit
   finer-more x e =
       let c = ratesByRow (a .n) (a .costs) in
       let y = byRow (a .n) x in
-      total-ext (a .m) (a .n) _ (λ i j. up (c i j) * y i j * top + power (a .m * a .n - suc (i * a .n + j)) * y i j) (λ i j h l. omega arith)
-      ∙ total-add (a .m) (a .n) (λ i j. up (c i j) * y i j * top) (λ i j. power (a .m * a .n - suc (i * a .n + j)) * y i j)
+      total-ext (a .m) (a .n) _ (λ i j. up (c i j) * y i j * top + digit a i j * y i j) (λ i j h l. omega arith)
+      ∙ total-add (a .m) (a .n) (λ i j. up (c i j) * y i j * top) (λ i j. digit a i j * y i j)
       ∙ ap₂ (λ (v w : ℕ). v + w) (scaled (a .m) (a .n) top (λ i j. up (c i j) * y i j)) (number-lanes (a .m) (a .n) x e)
 
   finer-less : (x : List ℕ) → freight (a .m) (a .n) (λ i j. down (ratesByRow (a .n) (a .costs) i j) * top) (byRow (a .n) x) ≡ less x * top
@@ -144,7 +144,7 @@ module _ (a : Case) where
 
   finer-above : (x : List ℕ) → Above (freight (a .m) (a .n) (λ i j. down (ratesByRow (a .n) (a .costs) i j) * top) (byRow (a .n) x))
       (freightℤ (a .m) (a .n) (finer a) (byRow (a .n) x))
-      (freight (a .m) (a .n) (λ i j. up (ratesByRow (a .n) (a .costs) i j) * top + power (a .m * a .n - suc (i * a .n + j))) (byRow (a .n) x))
+      (freight (a .m) (a .n) (λ i j. up (ratesByRow (a .n) (a .costs) i j) * top + digit a i j) (byRow (a .n) x))
   unfolding finer
   finer-above x = signed-by (a .m) (a .n) (finer a) _ _ (byRow (a .n) x) (λ i j. above-pos _ (above-scale top (above (ratesByRow (a .n) (a .costs) i j))))
 

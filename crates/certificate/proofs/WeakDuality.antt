@@ -51,7 +51,7 @@ gain-low : (c p q : ℤ) → up (gain c p q) ≤ down (gain c p q)
 unfolding gain
 gain-low c p q =
     let nought : Difference (pos 0) = record { more = 0; less = 0; is = pos-sub 0 } in
-    omega (arith, as-naturals (difference (gain c p q)) nought (min-left (pos 0) (c +ℤ p -ℤ q)))
+    omega (arith, as-naturals (difference (gain c p q)) nought (min-left (pos 0) _))
 
 gain-most : (c p q : ℤ) → up (gain c p q) + (down c + down p + up q) ≤ up c + up p + down q + down (gain c p q)
 unfolding gain

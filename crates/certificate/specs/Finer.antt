@@ -18,10 +18,13 @@ unfoldable pub power : ℕ → ℕ
 power zero = 1
 power (suc k) = 4001 * power k
 
--- the unit cost times 4,001^(m n), and 4,001^(m n - 1 - e) for the lane at place e of the m n lanes
+-- the digit of lane (i, j), at place e of the m n lanes: 4,001^(m n - 1 - e)
+unfoldable pub digit : Case → ℕ → ℕ → ℕ
+digit a i j = power (a .m * a .n - suc (i * a .n + j))
+
+-- the unit cost times 4,001^(m n), and the lane's digit
 unfoldable pub finer : Case → Rates
-finer a i j =
-    ratesByRow (a .n) (a .costs) i j *ℤ pos (power (a .m * a .n)) +ℤ pos (power (a .m * a .n - suc (i * a .n + j)))
+finer a i j = ratesByRow (a .n) (a .costs) i j *ℤ pos (power (a .m * a .n)) +ℤ pos (digit a i j)
 
 -- at the finer costs prices show of the plan x at split y that none is cheaper
 abbrev pub OneShown : Case → ℕ → List ℕ → (ℕ → ℤ) → (ℕ → ℤ) → Type 0
