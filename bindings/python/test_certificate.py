@@ -1,4 +1,4 @@
-"""Tests of certificates: random cases, false claims of thirteen kinds, the checker alone, the second checker in Rust, page and formulas."""
+"""Tests of certificates: random cases, false claims of fifteen kinds, the checker alone, the second checker in Rust, page and formulas."""
 
 import ast
 import copy
@@ -164,6 +164,24 @@ def run_raised(case, cert, draw):
     return in_case(cert, runs=[cert["split"] + 1, cert["case"]["runs"][1]])
 
 
+def split_altered(case, cert, draw):
+    return None if cert["plan"] is None else {**cert, "split": cert["split"] + draw.choice([-1, 1])}
+
+
+def stock_kept(case, cert, draw):
+    """A depot keeps a drum, a plant sends it; split and total are those of these amounts."""
+    x, k, m = cert["plan"], cert["case"]["ceilings"], len(case.supplies)
+    places = [(i, g, j) for i in range(2, m) for g in (0, 1) for j in range(len(case.demands))]
+    draw.shuffle(places)
+    for i, g, j in places if x else []:
+        if x[i][j] and x[g][j] < k[g][j] and sum(x[g]) < case.supplies[g]:
+            y = copy.deepcopy(x)
+            y[i][j], y[g][j] = x[i][j] - 1, x[g][j] + 1
+            entries = case.table[sum(y[0])] - case.table[sum(x[0])]
+            return {**cert, "plan": y, "split": sum(y[0]), "total": cert["total"] + case.costs[g][j] - case.costs[i][j] + entries}
+    return None
+
+
 def no_cut(case, cert, draw):
     """Prices 0 show nothing of splits without a plan."""
     false = copy.deepcopy(cert)
@@ -175,7 +193,7 @@ def no_cut(case, cert, draw):
 
 KINDS = [
     another_split, total_too_low, lanes_moved, demand_altered, prices_altered, piece_left_out, ceiling_below, cost_altered, cheaper_entry,
-    said_to_be_empty, refused_wrongly, run_raised, no_cut,
+    said_to_be_empty, refused_wrongly, run_raised, split_altered, stock_kept, no_cut,
 ]  # fmt: skip
 
 
