@@ -7,6 +7,7 @@ checker, which knows nothing of this file, tells whether a certificate is right.
 `why` and the formulas at the end are for whoever shows a certificate: the page, a workbook.
 """
 
+import base64
 import json
 from typing import Dict, List, NamedTuple, Optional
 
@@ -218,6 +219,7 @@ class Piece(NamedTuple):
     base: int  # the bound at split y is base + rise * y
     rise: int
     bounds: List[Bound]
+    least: int  # the least bound of its splits
     nearest: Optional[Bound]  # the split that comes nearest to the total given, that one left out
 
 
@@ -229,8 +231,11 @@ class Why(NamedTuple):
     sources: List[int]  # the prices at the split given
     terminals: List[int]
     pieces: List[Piece]
+    bounds: List[Bound]  # at every split, rising, each once
+    earlier: bool  # there are splits below the one given
     right: bool  # what `check_certificate.py` says of the certificate
     sentence: str
+    href: str  # the certificate itself, as a link that holds it
 
 
 def _shown(made: Dict, piece: Dict) -> Piece:
@@ -245,15 +250,28 @@ def _shown(made: Dict, piece: Dict) -> Piece:
         bounds.append(Bound(y, none, bound, entry, least, None if none else least - total))
     others = [bound for bound in bounds if not none and bound.split != split]
     nearest = min(others, key=lambda bound: (bound.more, bound.split), default=None)
-    return Piece(piece["from"], piece["to"], none, piece["sources"], piece["terminals"], base, rise, bounds, nearest)
+    least = min(bound.bound for bound in bounds)
+    return Piece(piece["from"], piece["to"], none, piece["sources"], piece["terminals"], base, rise, bounds, least, nearest)
 
 
 def why(made: Dict) -> Why:
     """What a certificate of a plan says, piece by piece, and what the checker says of it."""
-    right, sentence = check_certificate.told(text(made))
+    written = text(made)
+    right, sentence = check_certificate.told(written)
     pieces = [_shown(made, piece) for piece in made["pieces"]]
     at = next(piece for piece in pieces if not piece.none and piece.first <= made["split"] <= piece.last)
-    return Why(made["split"], made["total"], at.sources, at.terminals, pieces, right, sentence)
+    bounds = list({bound.split: bound for piece in pieces for bound in piece.bounds}.values())
+    href = "data:application/json;base64," + base64.b64encode(written.encode()).decode()
+    earlier = bounds[0].split < made["split"]
+    return Why(made["split"], made["total"], at.sources, at.terminals, pieces, bounds, earlier, right, sentence, href)
+
+
+def why_cheapest(case: Case, answer: Plan) -> Why:
+    """The same of a case and its plan; stops where the checker does not agree."""
+    found = why(certificate(case, answer))
+    if not found.right:
+        raise ValueError(f"the certificate does not show the plan: {found.sentence}")
+    return found
 
 
 # ---- formulas for a workbook, without the sign = before them; each range is a text such as Tariff!$B$2:$D$5

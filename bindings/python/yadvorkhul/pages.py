@@ -168,6 +168,7 @@ def plan_page(case: Case, plan: Plan, read_from=()) -> str:
     """The page of a plan; `read_from` names the files that the case was read from."""
     environment = _environment()
     _needed("matplotlib")
+    from .certificate import why_cheapest
     from .picture import svg
 
     curve = curve_of(plan, case.table)
@@ -175,6 +176,7 @@ def plan_page(case: Case, plan: Plan, read_from=()) -> str:
     beside = _beside(rows)
     return environment.get_template("plan.html").render(
         case=case,
+        why=why_cheapest(case, plan),
         title=case.title or "Production and freight plan",
         read_from=list(read_from),
         plan=plan,
