@@ -59,8 +59,9 @@ import array
 import ctypes
 import itertools
 import operator
-import os
 from typing import Any, Iterable, List, Mapping, MutableSequence, NamedTuple, Optional, SupportsIndex, Tuple, Union
+
+from .archive import load
 
 __all__ = ["bounds", "bounds_into", "plan", "plan_into", "rates", "rates_into", "Bounds", "Plan", "Refusal", "SHORT_REPORT"]
 __all__ += ["Case", "page", "offers"]
@@ -174,14 +175,12 @@ def page(case: Union[Case, Mapping[str, Any]]) -> str:
 
 def offers(symbol: str) -> bool:
     """Whether the archive that the shared object was made of has this C function."""
-    return hasattr(_library, symbol)
+    return _library.offers(symbol)
 
 
-def _load():
-    path = os.environ.get("YADVORKHUL_SO") or os.path.join(os.path.dirname(os.path.abspath(__file__)), "libyadvorkhul.so")
-    if not os.path.exists(path):
-        raise ImportError("libyadvorkhul.so is not there: run bindings/python/build, or name it in YADVORKHUL_SO")
-    return ctypes.CDLL(path)
+def archive_missing() -> str:
+    """Why there is no shared object to call, in a sentence; empty where it is there."""
+    return _library.missing
 
 
 def _declared(function, kinds):
@@ -196,7 +195,7 @@ _READ = [ctypes.c_int64] + [ctypes.c_uint64] * 4  # costs; supplies, demands, ce
 _WRITTEN = [ctypes.c_uint64] * 2 + [ctypes.c_int64, ctypes.c_uint64, ctypes.c_int64]  # plan, splits; freights; report; worth
 _BOUNDS_READ = _READ + [ctypes.c_uint64]  # the high table too
 _BOUNDS_WRITTEN = [ctypes.c_uint64] * 2 + [ctypes.c_int64]  # answers, report; worth
-_library = _load()
+_library = load()
 _plan = _declared(_library.yadvorkhul_plan, _READ + _WRITTEN)
 _bounds = _declared(_library.yadvorkhul_bounds, _BOUNDS_READ + _BOUNDS_WRITTEN)
 _rates = _library.yadvorkhul_rates
