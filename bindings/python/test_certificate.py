@@ -1,6 +1,7 @@
 """Tests of certificates: random cases, false claims of fifteen kinds, the checker alone, the second checker in Rust, page and formulas."""
 
 import ast
+import base64
 import copy
 import json
 import os
@@ -355,6 +356,93 @@ class Checker(unittest.TestCase):
         self.assertEqual({word for word, _ in stored}, {"right", "wrong"})
         for word, cert in stored:
             self.assertEqual(check_certificate.told(cert)[0], word == "right", cert)
+
+
+class Command(unittest.TestCase):
+    """`certify` and `plan --certify`."""
+
+    def setUp(self):
+        self.folder = tempfile.mkdtemp()
+        self.addCleanup(shutil.rmtree, self.folder)
+        self.case, self.cert = (os.path.join(self.folder, name) for name in ("case.json", "cert.json"))
+
+    def run_on(self, *words, **change):
+        with open(self.case, "w", encoding="utf-8") as out:
+            json.dump({**CASE_A, **change}, out)
+        done = subprocess.run([sys.executable, "-m", "yadvorkhul", *words], cwd=HERE, capture_output=True, text=True)
+        return done.returncode, done.stdout, done.stderr
+
+    def written(self):
+        with open(self.cert, encoding="utf-8") as file:
+            return json.load(file)
+
+    def test_certify(self):
+        status, printed, said = self.run_on("certify", self.case, "-o", self.cert)
+        self.assertEqual((status, printed), (0, ""))
+        self.assertIn("checked: right: 3 sources, 2 terminals, 5 drums demanded: plant 1 makes 3, total 33", said)
+        self.assertEqual(self.written(), made_of(Case(**CASE_A)))
+        done = subprocess.run([sys.executable, CHECKER, self.cert], capture_output=True, text=True)
+        self.assertEqual((done.returncode, done.stdout[:6]), (0, "right:"))
+
+    def test_two_files(self):
+        files = [os.path.join(HERE, "..", "..", "examples", "case_a", name) for name in ("tariff.csv", "production.csv")]
+        self.assertEqual(self.run_on("certify", *files, "-o", self.cert)[0], 0)
+        self.assertEqual(self.written(), made_of(Case(**CASE_A)))
+
+    def test_plan_and_certify(self):
+        alone = self.run_on("plan", self.case)
+        status, printed, said = self.run_on("plan", self.case, "--certify", self.cert)
+        self.assertEqual((status, printed), alone[:2])
+        self.assertIn("checked: right:", said)
+        self.assertEqual(self.written()["total"], 33)
+
+    def test_no_plan(self):
+        for change, number in ((dict(supplies=[3, 3, 6]), 7), (dict(supplies=[1, 2, 1], table=[0, 0]), 8), (dict(ceilings=[[1, 1]] * 3, demands=[4, 2]), 27)):
+            status, printed, said = self.run_on("certify", self.case, "-o", self.cert, **change)
+            self.assertEqual((status, printed, self.written()["refusal"]), (0, "", number))
+            os.remove(self.cert)
+            status, printed, said = self.run_on("plan", self.case, "--certify", self.cert, **change)
+            self.assertEqual((status, printed, self.written()["refusal"]), (1, f"refusal,place\n{number},0\n", number))
+            self.assertIn(f"no plan, refusal {number}", said)
+
+    def test_other_refusals(self):
+        for words in (("certify", self.case, "-o", self.cert), ("plan", self.case, "--certify", self.cert)):
+            status, _, said = self.run_on(*words, demands=[3, 4001])
+            self.assertEqual((status, os.path.exists(self.cert)), (1, False))
+            self.assertIn("no certificate is written", said)
+
+    def test_wrong_use(self):
+        for path in (self.case, self.folder, os.path.join(self.folder, "none", "cert.json")):
+            for words in (("certify", self.case, "-o", path), ("plan", self.case, "--certify", path)):
+                status, _, said = self.run_on(*words)
+                self.assertEqual((status, said.count("\n")), (2, 1), said)
+        self.assertEqual(sorted(os.listdir(self.folder)), ["case.json"])
+
+
+class Page(unittest.TestCase):
+    def test_why(self):
+        """The page has the bound at every split, and the certificate itself."""
+        try:
+            import jinja2, matplotlib  # noqa: E401, F401
+        except ImportError:
+            self.skipTest("needs Jinja2 and Matplotlib")
+        from yadvorkhul import page
+
+        text = page({**CASE_A, "ceilings": [[4, 4], [4, 4], [4, 4]], "supplies": [4, 3, 1], "table": [99, 20, 24, 20, 50]})
+        rows = re.findall(r"<tr>(.*?)</tr>", text.split('<table id="bounds">')[1].split("</tbody>")[0], re.S)[1:]
+        found = [[int(cell) for cell in re.findall(r"<td>(-?\d+)</td>", row)] for row in rows]
+        self.assertEqual(found, [[1, 14, 20, 34, 1], [2, 11, 24, 35, 2], [3, 13, 20, 33, 0], [4, 16, 50, 66, 33]])
+        link = re.search(r'href="data:application/json;base64,([^"]*)"', text).group(1)
+        cert = json.loads(base64.b64decode(link))
+        self.assertEqual((cert["total"], check_certificate.check(cert)), (33, None))
+        prices = re.findall(r"</b>(.*?)</li>", text.split('id="source-prices"')[1].split("</ul>")[0])
+        self.assertEqual(prices, [str(price).replace("-", "\u2212") for price in cert["pieces"][1]["sources"]])
+
+    def test_stops(self):
+        """A certificate that does not show the plan makes no page."""
+        case = Case(**CASE_A)
+        with self.assertRaises(ValueError):
+            certificate.why_cheapest(case, case.plan()._replace(total=32))
 
 
 class Workbook(unittest.TestCase):

@@ -2,8 +2,9 @@
 
 from .. import Refusal, check_certificate
 from ..certificate import NO_PLAN, certificate, text
-from ..console import DONE, Broken, say
+from ..console import DONE, Broken, WrongUse, say
 from ..files import read_case
+from ..outputs import BadOutput, check_outputs, write_whole
 from ..refusals import explain
 from ._given import files_of, given
 from ._say import told
@@ -18,11 +19,17 @@ def add(parser):
     parser.add_argument("-o", "--output", default="certificate.json", metavar="CERT", help="where it is written (default: certificate.json)")
 
 
+def writable(arguments, path: str):
+    """A certificate is not written over what is read."""
+    try:
+        check_outputs([path], arguments.files or ["tariff.csv", "production.csv"])
+    except BadOutput as error:
+        raise WrongUse(str(error)) from error
+
+
 def certified(case, path: str):
     """Writes the certificate of a plan, or of refusal 7, 8 or 27, reads it again and checks it; says both. Any other refusal is raised."""
-    made = text(certificate(case))
-    with open(path, "w", encoding="utf-8", newline="\n") as out:
-        out.write(made)
+    write_whole(path, text(certificate(case)))
     with open(path, encoding="utf-8") as back:
         right, sentence = check_certificate.told(back.read())
     if not right:
@@ -39,6 +46,7 @@ def certified_refusal(refusal: Refusal, case, path: str):
 
 
 def run(arguments) -> int:
+    writable(arguments, arguments.output)
     case, tariff, production = given(arguments)
     try:
         case = case or read_case(tariff, production)

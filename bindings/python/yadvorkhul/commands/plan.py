@@ -6,7 +6,7 @@ from ..files import plan_text, read_case, refusal_text
 from ..refusals import explain
 from ._given import files_of, given
 from ._say import told
-from .certify import certified, certified_refusal
+from .certify import certified, certified_refusal, writable
 
 ORDER = 10
 SUMMARY = "print the plan, as the program plan does"
@@ -19,6 +19,8 @@ def add(parser):
 
 
 def run(arguments) -> int:
+    if arguments.certify is not None:
+        writable(arguments, arguments.certify)
     case, tariff, production = given(arguments)
     try:
         case = case or read_case(tariff, production)
