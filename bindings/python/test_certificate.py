@@ -3,6 +3,7 @@
 import ast
 import base64
 import copy
+import csv
 import json
 import os
 import random
@@ -286,6 +287,16 @@ class Answers(unittest.TestCase):
         self.assertEqual((cert["plan"], check_certificate.check(cert)), ([[0, 1], [1, 0]], None))
         self.assertEqual(check_certificate.check({**cert, "plan": [[1, 0], [0, 1]]}), "another plan of this split may be due")
 
+    def test_other_kinds_of_numbers(self):
+        """Rows and numbers of other kinds, which the planner takes, come out as plain ones."""
+
+        class Drums(int):
+            pass
+
+        odd = {**CASE_A, "costs": tuple((Drums(a), b) for a, b in CASE_A["costs"]), "table": range(99, 103), "runs": (False + 0, 0)}
+        cert = made_of(Case(**odd))
+        self.assertEqual((cert["case"]["costs"], cert["case"]["table"], check_certificate.check(cert)), (CASE_A["costs"], [99, 100, 101, 102], None))
+
     def test_no_plan(self):
         for change, number in ((dict(supplies=[3, 3, 6]), 7), (dict(supplies=[1, 2, 1], table=[0, 0]), 8), (dict(ceilings=[[1, 1]] * 3, demands=[4, 2]), 27)):
             cert = made_of(Case(**{**CASE_A, **change}))
@@ -478,6 +489,60 @@ class Workbook(unittest.TestCase):
                 self.assertEqual(there, bound.bound)
                 formula = certificate.shown_formula("BOUND", "ENTRY", "TOTAL", "Y", "GIVEN", piece.none)
                 self.assertTrue(eval(formula, dict(BOUND=there, ENTRY=bound.entry, TOTAL=cert["total"], Y=bound.split, GIVEN=cert["split"])))
+
+    @unittest.skipUnless(shutil.which("ssconvert"), "needs Gnumeric (Debian: gnumeric)")
+    def test_in_a_spreadsheet(self):
+        """Gnumeric reckons the formulas of a workbook: base, rise, bound and whether it shows the split, for the first split of each piece."""
+        try:
+            import openpyxl
+        except ImportError:
+            self.skipTest("needs openpyxl (Debian: python3-openpyxl)")
+        book, draw, expected = openpyxl.Workbook(), random.Random(77), []
+        book.active.append(["a case, a set of prices, and what is to be shown"])
+        for _ in range(60):
+            cert = made_of(random_case(draw))
+            for piece in certificate.why(cert).pieces if cert["plan"] else []:
+                expected.append((book.active.max_row + len(cert["case"]["supplies"]) + 5, piece))
+                self.laid_out(book.active, cert, piece)
+        with tempfile.TemporaryDirectory() as folder:
+            path, values = os.path.join(folder, "book.xlsx"), os.path.join(folder, "book.csv")
+            book.save(path)
+            subprocess.run(["ssconvert", "--recalc", path, values], check=True, capture_output=True)
+            with open(values, encoding="utf-8", newline="") as file:
+                rows = list(csv.reader(file))
+        for row, piece in expected:
+            base, rise, bound, shown = rows[row - 1][:4]
+            self.assertEqual([int(base), int(rise), int(bound), shown], [piece.base, piece.rise, piece.bounds[0].bound, "TRUE"])
+
+    def laid_out(self, sheet, cert, piece):
+        """A case and a set of prices below what the sheet has, then a row of formulas."""
+        case, top = cert["case"], sheet.max_row + 1
+        m, n = len(case["supplies"]), len(case["demands"])
+
+        def cell(row, column):
+            return f"${openpyxl_letter(column + 1)}${top + row}"
+
+        for i in range(m):
+            sheet.append(case["costs"][i] + case["ceilings"][i] + [piece.sources[i], case["supplies"][i]])
+        sheet.append(case["demands"])
+        sheet.append(piece.terminals)
+        sheet.append([sum(case["demands"]) - sum(case["supplies"][2:]), piece.first, piece.bounds[0].entry, cert["total"], cert["split"]])
+        sheet.append(["base", "rise", "bound", "shown"])
+        made, split, entry, total, given = (cell(m + 2, k) for k in range(5))
+        depots = [f"{cell(2, 2 * n + k)}:{cell(m - 1, 2 * n + k)}" if m > 2 else "" for k in (0, 1)]
+        cells = certificate.Cells(
+            f"{cell(0, 0)}:{cell(m - 1, n - 1)}", f"{cell(0, n)}:{cell(m - 1, 2 * n - 1)}", f"{cell(m, 0)}:{cell(m, n - 1)}", depots[1], made,
+            cell(0, 2 * n), cell(1, 2 * n), f"{cell(0, 2 * n)}:{cell(m - 1, 2 * n)}", depots[0], f"{cell(m + 1, 0)}:{cell(m + 1, n - 1)}",
+        )  # fmt: skip
+        base, rise, bound = (cell(m + 4, k) for k in range(3))
+        formulas = [certificate.base_formula(cells, piece.none), certificate.rise_formula(cells), certificate.bound_formula(base, rise, split)]
+        sheet.append(["=" + formula for formula in formulas + [certificate.shown_formula(bound, entry, total, split, given, piece.none)]])
+
+
+def openpyxl_letter(column):
+    from openpyxl.utils import get_column_letter
+
+    return get_column_letter(column)
 
 
 if __name__ == "__main__":

@@ -9,6 +9,7 @@ checker, which knows nothing of this file, tells whether a certificate is right.
 
 import base64
 import json
+from operator import index
 from typing import Dict, List, NamedTuple, Optional
 
 from . import MOST_AMOUNT, Case, Plan, Refusal, check_certificate, plan
@@ -23,10 +24,11 @@ def _made(case: Case) -> int:
 
 
 def _bounded(case: Case) -> Case:
-    """The case with a ceiling on every lane."""
-    if case.ceilings is not None:
-        return case
-    return case._replace(ceilings=[[MOST_AMOUNT] * len(case.demands) for _ in case.supplies])
+    """The case in plain lists of plain numbers, with a ceiling on every lane."""
+    ceilings = [[MOST_AMOUNT] * len(case.demands) for _ in case.supplies] if case.ceilings is None else case.ceilings
+    costs, ceilings = ([[index(number) for number in row] for row in rows] for rows in (case.costs, ceilings))
+    supplies, demands, table, runs = ([index(number) for number in row] for row in (case.supplies, case.demands, case.table, case.runs))
+    return Case(costs, supplies, demands, table, (runs[0], runs[1]), ceilings)
 
 
 def _arcs(case: Case, amounts):

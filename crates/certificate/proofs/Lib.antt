@@ -1,3 +1,4 @@
 pub mod WeakDuality
 pub mod Certified
 pub mod OnePlan
+pub mod Example

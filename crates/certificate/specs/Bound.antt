@@ -11,7 +11,7 @@ use Rattle.problem.specs.Freight.{Rates, ratesByRow}
 use Rattle.problem.specs.Case.{Case, supply, demand, ceiling, entry, made, lowestSplit, highestSplit}
 use Rattle.problem.specs.Plans.{rowSum, MeetsTP, planTotal}
 
--- what the prices make of a lane that carries its ceiling k where its unit cost c is below the rise of the price from p to q, and nothing where it is not
+-- what a lane of unit cost c can lower the freight by, for each drum, where the price rises from p to q: nothing, or c + p - q below 0
 unfoldable pub gain : ℤ → ℤ → ℤ → ℤ
 gain c p q = minℤ (pos 0) (c +ℤ p -ℤ q)
 
