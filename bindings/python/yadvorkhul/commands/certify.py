@@ -6,7 +6,7 @@ from ..console import DONE, Broken, WrongUse, say
 from ..files import read_case
 from ..outputs import BadOutput, check_outputs, write_whole
 from ..refusals import explain
-from ._given import files_of, given
+from ._given import files_of, given, named
 from ._say import told
 
 ORDER = 15
@@ -22,7 +22,7 @@ def add(parser):
 def writable(arguments, path: str):
     """A certificate is not written over what is read."""
     try:
-        check_outputs([path], arguments.files or ["tariff.csv", "production.csv"])
+        check_outputs([path], named(arguments))
     except BadOutput as error:
         raise WrongUse(str(error)) from error
 
