@@ -1,15 +1,15 @@
 -- What an accepted certificate shows: its plan is the one promised (`Cheapest`), or no plan meets (TP), the runs and the ceilings. Assumes nothing.
-use mathlib.Core.Path.{_≡_, refl}
+use mathlib.Core.Path.{refl}
 use mathlib.Core.List.{List}
 use Prim.Native.Nat.{ℕ, _+_, _≤_, _<_}
 use native.Mathlib.Omega.{arith}
 use lib.IntN.{ℤ, pos, _+ℤ_}
 use lib.Signed.{_≤ℤ_, _<ℤ_, <ℤ-≤ℤ-trans}
 use Rattle.problem.specs.Case.{Case, supply, entry, allDemand, depotStock, lowestSplit, highestSplit}
-use Rattle.problem.specs.Plans.{rowSum, freightOf, MeetsTP, PlanAt, planTotal}
+use Rattle.problem.specs.Plans.{rowSum, MeetsTP, PlanAt, planTotal}
 use Rattle.problem.specs.Promise.{Cheapest, NoPlan}
 use Rattle.problem.proofs.Integers.{above-pos}
-use Rattle.problem.proofs.Splits.{SplitOf, split-of, split-within, balance}
+use Rattle.problem.proofs.Splits.{split-of, split-within, balance}
 use Rattle.bounds_problem.proofs.IntegerOrder.{difference, as-naturals, ≤ℤ-trans}
 use Rattle.certificate.specs.Bound.{boundAt, Shown, none, dearer, Accepted, NoneShown}
 use Rattle.certificate.proofs.WeakDuality.{above, at-most, weak-duality, no-plan-at}

@@ -1,4 +1,5 @@
 pub mod WeakDuality
 pub mod Certified
 pub mod OnePlan
+pub mod SameAnswer
 pub mod Example

@@ -6,7 +6,7 @@ use Prim.Native.Nat.{ℕ, zero, suc, _+_, _-_, _*_, _≤_, _<_}
 use native.Mathlib.Decide.{decLt}
 use native.Mathlib.Nat.{mul-le-mul-right, le-of-suc-le-suc}
 use native.Mathlib.Omega.{arith}
-use lib.IntN.{ℤ, pos, _+ℤ_, _*ℤ_}
+use lib.IntN.{ℤ}
 use lib.ListN.{length, getD}
 use lib.Signed.{_≤ℤ_, ≤ℤ-refl}
 use Rattle.transport.specs.Sum.{sum}

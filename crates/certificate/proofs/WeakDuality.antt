@@ -5,19 +5,18 @@ use mathlib.Core.List.{List}
 use Prim.Native.Nat.{ℕ, zero, suc, _+_, _*_, _≤_, _<_}
 use native.Mathlib.Nat.{mul-le-mul-right, le-dest}
 use native.Mathlib.Omega.{arith}
-use lib.IntN.{ℤ, pos, subℕ, _+ℤ_, _-ℤ_, _*ℤ_, zero-*ℤ}
+use lib.IntN.{ℤ, pos, _+ℤ_, _-ℤ_, _*ℤ_, zero-*ℤ}
 use lib.Signed.{_≤ℤ_, _<ℤ_, clashℤ}
-use Rattle.transport.specs.Sum.{sum}
 use Rattle.transport.specs.Plan.{Table, byRow, row, col, total, freight, Fits, Under}
 use Rattle.transport.specs.theory.Slackness.{dot}
 use Rattle.transport.proofs.Sums.{sum-ext, total-mono, total-add}
 use Rattle.transport.proofs.Certificate.{cert-total}
 use Rattle.transport.proofs.Differences.{pos-sub, sub-add, sub-sub, sub-at-most}
-use Rattle.problem.specs.Integer.{minℤ, sumℤ, Above}
+use Rattle.problem.specs.Integer.{sumℤ, Above}
 use Rattle.problem.specs.Freight.{Rates, freightℤ}
 use Rattle.problem.specs.Case.{Case}
 use Rattle.problem.specs.Plans.{freightOf, PlanAt}
-use Rattle.problem.proofs.Integers.{above-add, above-zero, above-scale}
+use Rattle.problem.proofs.Integers.{above-add, above-scale}
 use Rattle.problem.proofs.RaisedFreight.{sum-above}
 use Rattle.bounds_problem.proofs.IntegerOrder.{Difference, difference, as-naturals, min-left, min-right}
 use Rattle.certificate.specs.Bound.{gain, bound, boundWith, boundAt, cutAt}

@@ -3,13 +3,13 @@
 use mathlib.Core.Path.{_≡_}
 use mathlib.Core.Logic.{_⊎_}
 use mathlib.Core.List.{List}
-use Prim.Native.Nat.{ℕ, zero, suc, _+_, _-_, _*_, _≤_, _<_}
+use Prim.Native.Nat.{ℕ, zero, suc, _+_, _-_, _*_}
 use lib.IntN.{ℤ, pos, _+ℤ_, _*ℤ_}
 use lib.Signed.{_≤ℤ_}
 use Rattle.transport.specs.Plan.{byRow}
 use Rattle.transport.specs.Canonical.{Before}
 use Rattle.problem.specs.Freight.{Rates, ratesByRow, freightℤ}
-use Rattle.problem.specs.Case.{Case, ceiling}
+use Rattle.problem.specs.Case.{Case}
 use Rattle.problem.specs.Plans.{freightOf, PlanAt}
 use Rattle.certificate.specs.Bound.{boundWith}
 
