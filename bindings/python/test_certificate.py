@@ -302,6 +302,9 @@ class Answers(unittest.TestCase):
             cert = made_of(Case(**{**CASE_A, **change}))
             self.assertEqual((cert["refusal"], cert["plan"], check_certificate.check(cert)), (number, None, None))
             self.assertLessEqual(len(cert["pieces"]), 1)  # one cut for all splits
+            found = certificate.why(cert)
+            self.assertEqual((found.right, found.split, len(found.sources) > 0), (True, None, number == 27))
+            self.assertTrue(all(bound.none and bound.bound > 0 for bound in found.bounds))
 
     def test_other_refusals_are_raised(self):
         with self.assertRaises(Refusal) as found:

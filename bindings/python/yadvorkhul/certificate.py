@@ -226,11 +226,11 @@ class Piece(NamedTuple):
 
 
 class Why(NamedTuple):
-    """Why no plan is cheaper, for a page or a workbook."""
+    """Why no plan is cheaper, or why there is none (split and total are None then), for a page or a workbook."""
 
-    split: int
-    total: int
-    sources: List[int]  # the prices at the split given
+    split: Optional[int]
+    total: Optional[int]
+    sources: List[int]  # the prices at the split given, or of the cut; empty for refusals 7 and 8, which are sums
     terminals: List[int]
     pieces: List[Piece]
     bounds: List[Bound]  # at every split, rising, each once
@@ -257,15 +257,16 @@ def _shown(made: Dict, piece: Dict) -> Piece:
 
 
 def why(made: Dict) -> Why:
-    """What a certificate of a plan says, piece by piece, and what the checker says of it."""
+    """What a certificate says, piece by piece, and what the checker says of it."""
     written = text(made)
     right, sentence = check_certificate.told(written)
-    pieces = [_shown(made, piece) for piece in made["pieces"]]
-    at = next(piece for piece in pieces if not piece.none and piece.first <= made["split"] <= piece.last)
+    split, pieces = made["split"], [_shown(made, piece) for piece in made["pieces"]]
+    here = [piece for piece in pieces if split is None or not piece.none and piece.first <= split <= piece.last]
+    sources, terminals = (here[0].sources, here[0].terminals) if here else ([], [])
     bounds = list({bound.split: bound for piece in pieces for bound in piece.bounds}.values())
     href = "data:application/json;base64," + base64.b64encode(written.encode()).decode()
-    earlier = bounds[0].split < made["split"]
-    return Why(made["split"], made["total"], at.sources, at.terminals, pieces, bounds, earlier, right, sentence, href)
+    earlier = split is not None and bounds[0].split < split
+    return Why(split, made["total"], sources, terminals, pieces, bounds, earlier, right, sentence, href)
 
 
 def why_cheapest(case: Case, answer: Plan) -> Why:
