@@ -33,12 +33,12 @@ def _bounded(case: Case) -> Case:
 
 def _arcs(case: Case, amounts):
     """The residual network of a plan: (from, to, unit cost, lane); source i is node i, terminal j node m + j."""
-    m, n = len(case.supplies), len(case.demands)
+    m, n, ceilings = len(case.supplies), len(case.demands), case.ceilings or []
     found = []
     for i in range(m):
         for j in range(n):
             cost, x = case.costs[i][j], amounts[i][j]
-            if x < case.ceilings[i][j]:
+            if x < ceilings[i][j]:
                 found.append((i, m + j, cost, i * n + j))
             if x > 0:
                 found.append((m + j, i, -cost, i * n + j))
@@ -115,7 +115,7 @@ def _largest_flow(room, source: int, sink: int):
 
 def _cut(case: Case, low: int, high: int) -> List[int]:
     """Prices 0 and 1 that show at each split from low to high that there is no plan (Hoffman's cut), where that is so."""
-    m, n, d = len(case.supplies), len(case.demands), _made(case)
+    m, n, d, ceilings = len(case.supplies), len(case.demands), _made(case), case.ceilings or []
     source, spare, sink = m + n, m + n + 1, m + n + 2
     room = [[0] * (m + n + 3) for _ in range(m + n + 3)]
     sent = [low, d - high] + list(case.supplies[2:])
@@ -123,11 +123,11 @@ def _cut(case: Case, low: int, high: int) -> List[int]:
     for i in range(m):
         room[source][i] = sent[i]
         for j in range(n):  # a first flow, lane by lane
-            first = min(room[source][i], left[j], case.ceilings[i][j])
+            first = min(room[source][i], left[j], ceilings[i][j])
             room[source][i] -= first
             room[i][source] += first
             left[j] -= first
-            room[i][m + j], room[m + j][i] = case.ceilings[i][j] - first, first
+            room[i][m + j], room[m + j][i] = ceilings[i][j] - first, first
     for j in range(n):
         room[m + j][sink], room[sink][m + j] = left[j], case.demands[j] - left[j]
     room[source][spare] = room[spare][0] = room[spare][1] = high - low
