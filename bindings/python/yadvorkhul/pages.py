@@ -193,6 +193,7 @@ def plan_page(case: Case, plan: Plan, read_from: Iterable[str] = ()) -> str:
     """The page of a plan; `read_from` names the files that the case was read from."""
     environment = _environment()
     _needed("matplotlib")
+    from .certificate import why_cheapest
     from .picture import svg
 
     curve = curve_of(plan, case.table)
@@ -201,6 +202,7 @@ def plan_page(case: Case, plan: Plan, read_from: Iterable[str] = ()) -> str:
     script, script_source = _script()
     return environment.get_template("plan.html").render(
         case=case,
+        why=why_cheapest(case, plan),
         title=case.title or "Production and freight plan",
         read_from=list(read_from),
         plan=plan,

@@ -1,0 +1,3 @@
+pub mod WeakDuality
+pub mod Certified
+pub mod OnePlan
