@@ -15,6 +15,7 @@ import yadvorkhul
 from . import Case, Refusal
 from .files import LONGEST, NETWORK, PRODUCTION, TARIFF, FileRefusal, flow_text, open_file, plan_text, read_case, read_records, refusal_text
 from .refusals import Explained, explain, explain_bounds, explain_network
+from .serve.command import add_serve, add_user, run_serve, run_user
 
 REFUSED, WRONG_USE, LACKING = 1, 2, 3
 
@@ -200,12 +201,14 @@ SUBCOMMANDS = [
     Subcommand("bounds", "yadvorkhul_bounds", "tell which splits can be the cheapest, from two production tables", _add_bounds, _run_bounds),
     Subcommand("rates", "yadvorkhul_rates", "print a production table of square-root rates", _add_rates, _run_rates),
     Subcommand("flow", "yadvorkhul_flow", "print the least-cost flow of a network in DIMACS form, as the program flow does", _add_flow, _run_flow),
+    Subcommand("serve", "yadvorkhul_enter", "serve a working case to browsers, for people with roles", add_serve, run_serve),
+    Subcommand("user", "yadvorkhul_enter", "add, remove or list the people who may sign in", add_user, run_user),
 ]
 
 
 def available(subcommand: Subcommand) -> bool:
     """Whether the archive has the C function and this package a use for it."""
-    needed = subcommand.name in ("plan", "page") or hasattr(yadvorkhul, subcommand.name)
+    needed = subcommand.name in ("plan", "page", "serve", "user") or hasattr(yadvorkhul, subcommand.name)
     return subcommand.run is not None and needed and yadvorkhul.offers(subcommand.symbol)
 
 
