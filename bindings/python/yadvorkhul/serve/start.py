@@ -4,15 +4,14 @@ import json
 import os
 from typing import List
 
-from .. import Refusal
+from .. import Refusal, Role
 from ..files import PRODUCTION, TARIFF, open_file, read_case
 from ..refusals import explain
 from .app import ADDRESS, make_app, make_server
 from .cases import WrongCase, case_of
 from .journal import JournalError, Opened, create, open_journal
-from .people import People
+from .people import People, PeopleError
 from .shared import SharedCase, _entered
-from .. import Role
 
 
 class CannotStart(Exception):
@@ -98,13 +97,13 @@ def start(files: List[str], journal: str, users: str, port: int, proxy: str, say
     people = People(users)
     try:
         shared = SharedCase(found.journal, found.records)
+        for sentence in found.told + first_planner(people):
+            say(sentence)
         server = make_server(make_app(shared, people, port, proxy), port, proxy)
-    except JournalError as error:
+    except (JournalError, PeopleError) as error:
         raise CannotStart(str(error)) from error
     except OSError as error:
         raise CannotStart(f"port {port} of {ADDRESS}: {error.strerror}") from error
-    for sentence in found.told + first_planner(people):
-        say(sentence)
     say(f"https://{proxy}/ by way of {ADDRESS}:{port}" if proxy else f"http://{ADDRESS}:{port}/")
     try:
         server.run()
