@@ -410,7 +410,7 @@ impl Case {
 }
 
 impl Plan {
-    /// Drums from source i to terminal j, both counted from 0.
+    /// Drums from source i to terminal j, both counted from 0. Panics where the case lacks the source or the terminal.
     ///
     /// ```
     /// # let case = yadvorkhul::Case {
@@ -421,7 +421,9 @@ impl Plan {
     /// ```
     pub fn amount(&self, source: usize, terminal: usize) -> u64 {
         assert!(terminal < self.terminals, "terminal {terminal} of {}", self.terminals);
-        self.amounts[source * self.terminals + terminal]
+        // not by source × terminals + terminal: of a huge source that product wraps where overflow is not checked
+        let row = self.rows().nth(source);
+        row.unwrap_or_else(|| panic!("source {source} of {}", self.amounts.len() / self.terminals))[terminal]
     }
 
     /// The amounts of each source in turn.

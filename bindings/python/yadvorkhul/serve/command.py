@@ -5,6 +5,8 @@ import os
 import re
 import sys
 
+from ..console import DONE, WRONG_USE, say
+
 USERS = "yadvorkhul-users.json"
 PORT = 8421
 
@@ -26,7 +28,7 @@ def add_serve(parser):
 
 
 def _say(sentence: str):
-    print(f"yadvorkhul serve: {sentence}", file=sys.stderr, flush=True)
+    say(f"yadvorkhul serve: {sentence}")
 
 
 def run_serve(arguments) -> int:
@@ -45,12 +47,12 @@ def run_serve(arguments) -> int:
         return _wrong("serve", str(error))
     except KeyboardInterrupt:
         _say("stopped")
-    return 0
+    return DONE
 
 
 def _wrong(subcommand: str, sentence: str) -> int:
-    print(f"yadvorkhul {subcommand}: {sentence}", file=sys.stderr)
-    return 2
+    say(f"yadvorkhul {subcommand}: {sentence}")
+    return WRONG_USE
 
 
 def add_user(parser):
@@ -93,6 +95,6 @@ def run_user(arguments) -> int:
         else:
             for entry in people.entries().values():
                 print(f"{entry.name}\t{entry.role.name.lower()}\tadded {entry.added}" + ("\tone-time word not used yet" if entry.once else ""))
-        return 0
+        return DONE
     except module.PeopleError as error:
         return _wrong("user", str(error))

@@ -8,10 +8,11 @@ import math
 from flask import Blueprint, Response, abort, g, redirect, render_template, request
 
 from .. import Refusal, Role, bounds, rates
+from ..cases import NotACase
 from ..files import FileRefusal
 from ..refusals import explain
 from . import asked, out, views
-from .cases import WrongCase, case_of, case_of_files
+from .cases import case_of, case_of_files
 from .guard import _equal, server, who
 from .people import PeopleError
 from .shared import Refused
@@ -246,8 +247,8 @@ def import_case():
             tariff, production = (asked.text(body, field).encode("utf-8", "surrogateescape") for field in ("tariff", "production"))
             case = case_of_files(tariff, production)
         shared().enter(who(), case, asked.identity(body))
-    except WrongCase as error:
-        abort(422, f"{str(error)[0].upper()}{str(error)[1:]}.")
+    except NotACase as error:
+        abort(422, f"This is no case: {error}.")
     except FileRefusal as refusal:
         return refused(refusal, sentence=_sentence(explain(refusal)))
     except Refusal as refusal:

@@ -1,14 +1,13 @@
 """From the arguments of the command to a running server."""
 
-import json
 import os
 from typing import List
 
-from .. import Refusal, Role
+from .. import Refusal, Role, cases
 from ..files import PRODUCTION, TARIFF, open_file, read_case
 from ..refusals import explain
 from .app import ADDRESS, make_app, make_server
-from .cases import WrongCase, case_of
+from .cases import fields
 from .journal import JournalError, Opened, create, open_journal
 from .people import People, PeopleError
 from .shared import SharedCase, _entered
@@ -20,22 +19,18 @@ class CannotStart(Exception):
 
 def _read_json(path: str) -> dict:
     try:
-        with open(path, encoding="utf-8") as stream:
-            return case_of(json.load(stream))
-    except OSError as error:
-        raise CannotStart(f"{path} cannot be read: {error.strerror}") from error
-    except (ValueError, WrongCase) as error:
-        raise CannotStart(f"{path} is not a case in JSON: {error}") from error
+        return fields(cases.read_case(path))
+    except cases.NotACase as error:
+        raise CannotStart(str(error)) from error
 
 
 def _read_files(tariff_path: str, production_path: str) -> dict:
     tariff, production = open_file(TARIFF, tariff_path), open_file(PRODUCTION, production_path)
     try:
-        case = read_case(tariff, production)
+        return fields(read_case(tariff, production))
     except Refusal as refusal:
         told = explain(refusal, None, tariff, production)
         raise CannotStart(f"refusal {told.number}: {told.sentence} {told.advice}") from refusal
-    return case_of({"costs": case.costs, "supplies": case.supplies, "demands": case.demands, "table": case.table})
 
 
 def read_given(files: List[str]) -> dict:

@@ -1,0 +1,40 @@
+"""Writes the page of a case."""
+
+from .. import Refusal
+from ..console import DONE, say
+from ..files import read_case
+from ..refusals import explain
+from ._given import files_of, given
+from ._say import told
+
+ORDER = 20
+SUMMARY = "write a page with the plan and the curve, or with the refusal"
+NEEDS = ["yadvorkhul_plan"]
+
+
+def add(parser):
+    files_of(parser)
+    parser.add_argument("-o", "--output", default="plan.html", metavar="PAGE", help="where the page is written (default: plan.html)")
+    parser.add_argument("--picture", metavar="SVG", help="where the picture alone is written too")
+
+
+def run(arguments) -> int:
+    from ..pages import picture, plan_page, refusal_page
+
+    case, tariff, production = given(arguments)
+    try:
+        case = case or read_case(tariff, production)
+        plan = case.plan()
+    except Refusal as refusal:
+        _write(arguments.output, refusal_page(refusal, case, tariff, production))
+        return told(explain(refusal, case, tariff, production))
+    _write(arguments.output, plan_page(case, plan, [file.path for file in (tariff, production) if file]))
+    if arguments.picture:
+        _write(arguments.picture, picture(case, plan))
+    return DONE
+
+
+def _write(path: str, text: str):
+    with open(path, "w", encoding="utf-8", newline="\n") as out:
+        out.write(text)
+    say(f"written: {path}")
