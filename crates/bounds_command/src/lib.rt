@@ -17,10 +17,10 @@ ghost use mathlib.Core.Path.{_≡_};
 ghost use lib.ListN.{length};
 
 // Room for the longest text: two headers, the totals and 4,001 records.
-fn text_room() -> [u8; 172120]
-    ensures { λ r. ⌜ 172120 ≡ length r ⌝ }
+fn text_room() -> [u8; 172286]
+    ensures { λ r. ⌜ 172286 ≡ length r ⌝ }
 {
-    [0; 172120]
+    [0; 172286]
 }
 
 // Writes the usage text to standard error.
@@ -123,7 +123,7 @@ fn answer(
 }
 
 // Answers the files of three paths.
-fn answer_paths(tariff_path: &[u8], low_path: &[u8], high_path: &[u8]) {
+pub fn answer_paths(tariff_path: &[u8], low_path: &[u8], high_path: &[u8]) {
     let mut tariff = file_room();
     let mut low = file_room();
     let mut high = file_room();
@@ -140,9 +140,17 @@ fn answer_paths(tariff_path: &[u8], low_path: &[u8], high_path: &[u8]) {
     );
 }
 
-// Answers the files of three paths, unless the first is the word for help.
+// Answers the files of three paths, unless one is the word for help.
 fn answer_or_help(tariff: &[u8], low: &[u8], high: &[u8]) {
     if same(tariff, b"--help") {
+        usage();
+        return;
+    }
+    if same(low, b"--help") {
+        usage();
+        return;
+    }
+    if same(high, b"--help") {
         usage();
         return;
     }

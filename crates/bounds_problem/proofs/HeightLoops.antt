@@ -6,11 +6,11 @@ use mathlib.Core.List.{List, _++_}
 use Prim.Native.Nat.{ℕ, zero, suc, min, _+_, _-_, _*_, _/_, _≤_, _<_}
 use native.Mathlib.Nat.{mul-le-mul, div-eq-of-eq-mul-right}
 use native.Mathlib.Numerals.{add-one}
-use native.Mathlib.Decide.{ℕ-discrete}
+use native.Mathlib.Decide.{ℕ-discrete, decLt}
 use native.Mathlib.Omega.{arith}
 use lib.Dec.{leb, ltb}
 use lib.IntN.{ℤ, pos, subℕ, _+ℤ_, _-ℤ_}
-use lib.ListN.{length, getD, set, take, drop, length-map, List·getD-map}
+use lib.ListN.{length, getD, set, take, drop, length-map, length-set, List·getD-map}
 use lib.Seq.{getD-set-same, getD-set-other, paste, paste-zero, paste-suc, length-paste, take-all}
 use borrow.Author.Tests.{lt-ltb, le-ltb}
 use mir.Syntax.{w64}
@@ -22,7 +22,7 @@ use Rattle.transport.proofs.ListMembers.{upFrom-length, upFrom-getD}
 use Rattle.problem.proofs.FirstFailing.{first-none, first-some}
 use Rattle.transport.proofs.Differences.{sub-add, sub-sub, sub-pos, pos-sub}
 use Rattle.problem.proofs.MachineIntegers.{sub-fits}
-use Rattle.bounds_problem.specs.Heights.{height, Moderate, Line, Drawn, Stretch, Drawing, Summed, leastUpTo, leastSum, marksBy, firstBad}
+use Rattle.bounds_problem.specs.Heights.{height, Moderate, Line, Drawn, pointAt, Stretch, StretchDrawn, Drawing, Summed, leastUpTo, leastSum, marksBy, firstBad}
 
 -- ---- heights as the machine has them
 
@@ -56,12 +56,36 @@ product-small n a h l = omega (arith, mul-le-mul h l)
 pub on-line : {g : ℕ → ℕ} {p q a b : ℕ} → Line g p q a b → (y : ℕ) → p ≤ y → y ≤ q → ((q - y) * a + (y - p) * b) / (q - p) ≡ g y
 on-line {g} {p} {q} {a} {b} l y h k = div-eq-of-eq-mul-right (omega (arith, l .rises)) (sym (l .straight y h k))
 
--- one cell more
-pub drawn-next : (g : ℕ → ℕ) (lo y : ℕ) (cells : List ℕ) (v : ℕ) → Drawn g lo y cells → lo ≤ y → y + 1 - lo < length cells → v ≡ g (y + 1)
-    → Drawn g lo (y + 1) (set cells (y + 1 - lo) v)
-drawn-next g lo y cells v d h l e z a b = elim (ℕ-discrete z (y + 1)) [
-  | yes q ↦ subst (λ (w : ℕ). getD (set cells (y + 1 - lo) v) (w - lo) 0 ≡ g w) (sym q) (getD-set-same cells (y + 1 - lo) v 0 l ∙ e)
-  | no q ↦ getD-set-other cells (y + 1 - lo) (z - lo) v 0 (λ s. q (omega arith)) ∙ d z a (omega arith)
+-- the cells after p up to y hold the line to q, and all others are as they were
+pub record StretchSoFar (lo p q a b y : ℕ) (cells cells′ : List ℕ) : Type 0 where
+  pub long : length cells′ ≡ length cells
+  pub points : (z : ℕ) → p < z → z ≤ y → getD cells′ (z - lo) 0 ≡ pointAt p q a b z
+  pub kept : (k : ℕ) → (p < k + lo → k + lo ≤ y → ⊥) → getD cells′ k 0 ≡ getD cells k 0
+
+module _ {lo p q a b : ℕ} where
+  pub stretch-start : (cells : List ℕ) → StretchSoFar lo p q a b p cells cells
+  stretch-start cells = record { long = refl; points = λ z h l. absurd (omega arith); kept = λ k no. refl }
+
+  -- one cell more
+  pub stretch-next :
+      (y : ℕ) (cells cells′ : List ℕ) (v : ℕ) → StretchSoFar lo p q a b y cells cells′ → lo ≤ p → p ≤ y → y + 1 - lo < length cells → v ≡ pointAt p q a b (y + 1) →
+      StretchSoFar lo p q a b (y + 1) cells (set cells′ (y + 1 - lo) v)
+  stretch-next y cells cells′ v s from up room e = record {
+    long = length-set cells′ (y + 1 - lo) v ∙ s .long;
+    points = λ z h l. elim (ℕ-discrete z (y + 1)) [
+      | yes same ↦ subst (λ (w : ℕ). getD (set cells′ (y + 1 - lo) v) (w - lo) 0 ≡ pointAt p q a b w) (sym same) (getD-set-same cells′ (y + 1 - lo) v 0 (omega (arith, s .long)) ∙ e)
+      | no other ↦ getD-set-other cells′ (y + 1 - lo) (z - lo) v 0 (λ same. other (omega arith)) ∙ s .points z h (omega arith)
+    ];
+    kept = λ k no.
+        getD-set-other cells′ (y + 1 - lo) k v 0 (λ same. no (omega arith) (omega arith)) ∙ s .kept k (λ h l. no h (omega arith));
+  }
+
+-- a curve that is straight there is drawn on
+pub drawn-on :
+    (g : ℕ → ℕ) {lo p q a b : ℕ} (cells cells′ : List ℕ) → StretchDrawn lo p q a b cells cells′ → lo ≤ p → Line g p q a b → Drawn g lo p cells → Drawn g lo q cells′
+drawn-on g {lo} {p} {q} {a} {b} cells cells′ s from l d z h k = elim (decLt p z) [
+  | yes past ↦ s .points z past k ∙ on-line l z (omega arith) k
+  | no before ↦ s .kept (z - lo) (λ u w. before (omega arith)) ∙ d z h (omega arith)
 ]
 
 -- the first cell

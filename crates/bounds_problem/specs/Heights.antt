@@ -3,7 +3,7 @@ use mathlib.Core.Path.{_≡_}
 use mathlib.Core.Bool.{cond, _||_}
 use mathlib.Core.Option.{Option, none, some}
 use mathlib.Core.List.{List, map}
-use Prim.Native.Nat.{ℕ, zero, suc, min, _+_, _-_, _*_, _≤_, _<_}
+use Prim.Native.Nat.{ℕ, zero, suc, min, _+_, _-_, _*_, _/_, _≤_, _<_}
 use lib.Dec.{leb, ltb}
 use Rattle.transport.specs.Listing.{upFrom}
 use lib.IntN.{ℤ, pos, natAbs, _+ℤ_}
@@ -33,6 +33,16 @@ pub record Line (g : ℕ → ℕ) (p q a b : ℕ) : Type 0 where
 abbrev pub Drawn : (ℕ → ℕ) → ℕ → ℕ → List ℕ → Type 0
 Drawn g lo y cells = (z : ℕ) → lo ≤ z → z ≤ y → getD cells (z - lo) 0 ≡ g z
 
+-- the height at y on the line from a at p to b at q
+abbrev pub pointAt : ℕ → ℕ → ℕ → ℕ → ℕ → ℕ
+pointAt p q a b y = ((q - y) * a + (y - p) * b) / (q - p)
+
+-- the cells of the splits after p up to q, counted from lo, hold the line, and all others keep their contents
+pub record StretchDrawn (lo p q a b : ℕ) (cells cells′ : List ℕ) : Type 0 where
+  pub long : length cells′ ≡ length cells
+  pub points : (y : ℕ) → p < y → y ≤ q → getD cells′ (y - lo) 0 ≡ pointAt p q a b y
+  pub kept : (k : ℕ) → (p < k + lo → k + lo ≤ q → ⊥) → getD cells′ k 0 ≡ getD cells k 0
+
 -- the first count splits and freights are the stops of a curve that is straight between neighbouring ones
 pub record Drawing (splits : List ℕ) (freights : List ℤ) (count : ℕ) : Type 0 where
   pub curve : ℕ → ℕ
@@ -45,6 +55,12 @@ pub record Drawing (splits : List ℕ) (freights : List ℤ) (count : ℕ) : Typ
   pub first : height (getD freights 0 (pos 0)) ≡ curve (getD splits 0 0)
   pub lines : (k : ℕ) → suc k < count
       → Line curve (getD splits k 0) (getD splits (suc k) 0) (height (getD freights k (pos 0))) (height (getD freights (suc k) (pos 0)))
+
+-- the cells of the splits from the first stop to the last hold the curve, and all later ones keep their contents
+pub record CurveDrawn (splits : List ℕ) (freights : List ℤ) (count : ℕ) (cells cells′ : List ℕ) : Type 0 where
+  pub long : length cells′ ≡ length cells
+  pub drawn : (d : Drawing splits freights count) → Drawn (d .curve) (getD splits 0 0) (getD splits (count - 1) 0) cells′
+  pub kept : (k : ℕ) → getD splits (count - 1) 0 < k + getD splits 0 0 → getD cells′ k 0 ≡ getD cells k 0
 
 -- the line from p to q has its cells, counted from lo
 pub record Stretch (lo p q a b cells : ℕ) : Type 0 where

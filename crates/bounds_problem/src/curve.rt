@@ -1,12 +1,12 @@
 // The freight curve at every split, from its stops, and the two passes over it. Freights stand as heights above -128,000,000,000.
 ghost use mathlib.Core.Path.{_≡_};
-ghost use Prim.Native.Nat.{ℕ, min, _+_, _-_, _*_, _/_, _≤_, _<_};
+ghost use Prim.Native.Nat.{min, _≤_, _<_};
 ghost use mathlib.Core.Bool.{cond};
 ghost use lib.Dec.{leb};
 ghost use lib.IntN.{subℕ};
-ghost use lib.ListN.{length, getD};
+ghost use lib.ListN.{length};
 ghost use Rattle.transport.specs.Curve.{written};
-ghost use Rattle.bounds_problem.specs.Heights.{height, Moderate, Line, Drawn, Stretch, Drawing, Summed, leastSum, marksBy, found, firstBad};
+ghost use Rattle.bounds_problem.specs.Heights.{height, Moderate, pointAt, Stretch, StretchDrawn, Drawing, CurveDrawn, Summed, leastSum, marksBy, found, firstBad};
 
 // How far a freight stands above -128,000,000,000.
 pub fn height_of(freight: i64) -> u64
@@ -27,7 +27,7 @@ pub fn signed(v: u64) -> i64
 // The height at y on the line from a at p to b at q.
 pub fn between(p: u64, q: u64, a: u64, b: u64, y: u64) -> u64
     requires { ⌜ (p < q) × (p ≤ y) × (y ≤ q) × (q ≤ 4000) × (a ≤ 256000000000) × (b ≤ 256000000000) ⌝ }
-    ensures { λ r. ⌜ r ≡ ((q - y) * a + (y - p) * b) / (q - p) ⌝ }
+    ensures { λ r. ⌜ r ≡ pointAt p q a b y ⌝ }
 {
     ((q - y) * a + (y - p) * b) / (q - p)
 }
@@ -35,7 +35,7 @@ pub fn between(p: u64, q: u64, a: u64, b: u64, y: u64) -> u64
 // Draws the line from a at p to b at q, after p; the cell of split lo is the first.
 pub fn draw_stretch(lo: u64, p: u64, q: u64, a: u64, b: u64, to: &mut [u64])
     requires { ⌜ Stretch lo p q a b (length (now to)) ⌝ }
-    ensures { λ _. ⌜ (length (now (to .exit)) ≡ length (now (to .entry))) × ((g : ℕ → ℕ) → Line g p q a b → Drawn g lo p (now (to .entry)) → Drawn g lo q (now (to .exit))) ⌝ }
+    ensures { λ _. ⌜ StretchDrawn lo p q a b (now (to .entry)) (now (to .exit)) ⌝ }
 {
     let mut y = p;
     while y < q {
@@ -47,7 +47,7 @@ pub fn draw_stretch(lo: u64, p: u64, q: u64, a: u64, b: u64, to: &mut [u64])
 // Draws the curve from its stops.
 pub fn draw(splits: &[u64], freights: &[i64], count: usize, to: &mut [u64])
     requires { ⌜ Drawing (now splits) (now freights) count × (4001 ≤ length (now to)) ⌝ }
-    ensures { λ _. ⌜ (length (now (to .exit)) ≡ length (now (to .entry))) × ((d : Drawing (now (splits .entry)) (now (freights .entry)) count) → Drawn (d .curve) (getD (now (splits .entry)) 0 0) (getD (now (splits .entry)) (count - 1) 0) (now (to .exit))) ⌝ }
+    ensures { λ _. ⌜ CurveDrawn (now (splits .entry)) (now (freights .entry)) count (now (to .entry)) (now (to .exit)) ⌝ }
 {
     let lo = splits[0];
     let mut last = lo;

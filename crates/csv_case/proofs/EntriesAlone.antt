@@ -14,7 +14,7 @@ use Rattle.csv_table.specs.Files.{wanted, tableOf, inOrder}
 use Rattle.csv_table.specs.Tallies.{TableRead}
 use Rattle.csv_case.specs.CaseFiles.{entriesIn}
 use Rattle.csv_case.specs.Entries.{entriesOf, EntriesStored}
-use Rattle.csv_case.proofs.TariffCase.{Accepted, accepted, even-length, stored-entries}
+use Rattle.csv_case.proofs.TariffCase.{Accepted, accepted, even-length, fields-read, stored-entries}
 
 -- one field in each record: as many fields as records
 fields-long : (p : List ℕ) (records one : ℕ) (a : Accepted Production p records one) → length (inOrder (a .rows)) ≡ records
@@ -36,7 +36,7 @@ entries-read p table table′ held held′ records one t long e read shared =
     let told : tableOf Production p ≡ tables.Whole records one = sym (read .answered) ∙ e in
     let a = accepted Production p records one told in
     let same = entries-are p records one a in
-    let kept = read .stored (a .rows) (a .short) (a .form) in
+    let kept : held′ ≡ sets held 0 (inOrder (a .rows)) = fields-read read told (a .form) in
     record {
       answered = rw told refl;
       counted = λ count w. let k : records ≡ count = cc in sym k ∙ sym (entries-long p records one a) ∙ sym (ap length same);

@@ -19,7 +19,7 @@ use Rattle.csv_form.specs.Records.{Form, whole, broken, formOf}
 use Rattle.csv_table.specs.Files.{pick, wanted, oddFrom, judge, tableOf, pickTable, inOrder}
 use Rattle.csv_case.specs.declared.case.CaseAnswer.the-variants as answers
 use Rattle.csv_table.specs.Tallies.{TableRead}
-use Rattle.csv_case.specs.CaseFiles.{sourcesIn, terminalsIn, sourceRecords, costsIn, suppliesIn, demandsIn, entriesIn, costRows, supplyRows, onRefused, caseAnswer, Shared, CaseStored}
+use Rattle.csv_case.specs.CaseFiles.{sourcesIn, terminalsIn, sourceRecords, costsIn, suppliesIn, demandsIn, entriesIn, costRows, supplyRows, onRefused, caseAnswer, TariffKept, Shared, CaseStored}
 use Rattle.csv_table.proofs.FieldCounts.{judged-whole}
 use Rattle.csv_print.proofs.Stores.{stored-part}
 
@@ -66,6 +66,12 @@ accepted kind s records fields e = by-size (ltb 65536 (length s)) refl e
     by-size : (b : Bool) → ltb 65536 (length s) ≡ b → pickTable b (Refused 20 0) (judge kind (formOf kind s)) ≡ Whole records fields → Accepted kind s records fields
     by-size true k w = absurd (let z : _≡_ {A = ℕ} 0 1 = cc in omega arith)
     by-size false k w = by-form (ltb-false 65536 (length s) k) (formOf kind s) refl w
+
+-- what an accepted file leaves in the cells
+pub fields-read :
+    {kind : Kind} {s : List ℕ} {cells cells′ : List ℤ} {answer : Table} {records fields : ℕ} {rs : List (List ℤ)} → TableRead kind s cells cells′ answer →
+    tableOf kind s ≡ Whole records fields → formOf kind s ≡ whole rs → cells′ ≡ sets cells 0 (inOrder rs)
+fields-read {kind} {s} {cells} {cells′} {answer} {records} {fields} {rs} read e f = read .stored ∙ rw (e, f) refl
 
 -- all fields of records of w fields each
 pub even-length : (w : ℕ) (rs : List (List ℤ)) → Even w rs → length (inOrder rs) ≡ length rs * w
@@ -180,41 +186,49 @@ stored-entries cells cells′ qs entries long count kept =
           rw (k, sets-eq l cells 0 (omega arith)) (take-at l (drop (0 + length l) cells) entries count ∙ sym (take-all 4002 l (omega arith)))
     ]
 
+-- cells that are not written
+pub untouched : (costs : List ℤ) (supplies demands : List ℕ) → TariffKept costs supplies demands costs supplies demands
+untouched costs supplies demands = record { costs-kept = refl; supplies-kept = refl; demands-kept = refl }
+
 -- nothing of a larger tariff is shared out
-pub too-large : (m n : ℕ) (cells costs : List ℤ) (supplies demands : List ℕ) (costs′ : List ℤ) (supplies′ demands′ : List ℕ) → (m ≤ 32 → n ≤ 64 → ⊥) → Shared m n cells costs supplies demands costs′ supplies′ demands′
-too-large m n cells costs supplies demands costs′ supplies′ demands′ no-room = record {
+pub too-large : (m n : ℕ) (cells costs : List ℤ) (supplies demands : List ℕ) → (m ≤ 32 → n ≤ 64 → ⊥) → Shared m n cells costs supplies demands costs supplies demands
+too-large m n cells costs supplies demands no-room = record {
   costs-shared = λ few narrow. absurd (no-room few narrow);
   supplies-shared = λ few narrow. absurd (no-room few narrow);
   demands-shared = λ few narrow. absurd (no-room few narrow);
+  large-kept = λ _. untouched costs supplies demands;
 }
 
-module _ (t p : List ℕ) (costs : List ℤ) (supplies demands table : List ℕ) (costs′ : List ℤ) (supplies′ demands′ table′ : List ℕ) where
-  refused-case : (number place : ℕ) → answers.Refused number place ≡ caseAnswer t p → CaseStored t p costs supplies demands table costs′ supplies′ demands′ table′ (answers.Refused number place)
+module _ (t p : List ℕ) (costs : List ℤ) (supplies demands table : List ℕ) where
+  refused-case : (number place : ℕ) → answers.Refused number place ≡ caseAnswer t p → CaseStored t p costs supplies demands table costs supplies demands table (answers.Refused number place)
   refused-case number place e = record {
     answered = e;
     tariff-stored = λ rs m n entries f w. absurd (let z : _≡_ {A = ℕ} 0 1 = cc in omega arith);
+    large-kept = λ m n entries w. absurd (let z : _≡_ {A = ℕ} 0 1 = cc in omega arith);
     table-stored = λ qs m n entries f w. absurd (let z : _≡_ {A = ℕ} 0 1 = cc in omega arith);
+    refused-kept = λ _ _ _. untouched costs supplies demands;
+    table-kept = λ _ _ _. refl;
   }
 
-  pub tariff-refused : (a : Table) (number place : ℕ) → a ≡ Refused number place → a ≡ tableOf Tariff t → CaseStored t p costs supplies demands table costs′ supplies′ demands′ table′ (onRefused a)
+  pub tariff-refused : (a : Table) (number place : ℕ) → a ≡ Refused number place → a ≡ tableOf Tariff t → CaseStored t p costs supplies demands table costs supplies demands table (onRefused a)
   unfolding caseAnswer
   tariff-refused a number place e k = rw e (refused-case number place (let w : tableOf Tariff t ≡ Refused number place = sym k ∙ e in rw w refl))
 
   pub production-refused :
       (records fields : ℕ) (b : Table) (number place : ℕ) → Whole records fields ≡ tableOf Tariff t → b ≡ Refused number place → b ≡ tableOf Production p →
-      CaseStored t p costs supplies demands table costs′ supplies′ demands′ table′ (onRefused b)
+      CaseStored t p costs supplies demands table costs supplies demands table (onRefused b)
   unfolding caseAnswer
   production-refused records fields b number place a e k =
       rw e (refused-case number place (let w : tableOf Production p ≡ Refused number place = sym k ∙ e in rw (← a, w) refl))
 
   pub both-accepted :
-      (cells cells′ held₀ held : List ℤ) (records fields entries one : ℕ) (whole-a whole-b : Table) → length cells ≡ 2145 → length held₀ ≡ 4002 → whole-a ≡ Whole records fields →
+      (costs′ : List ℤ) (supplies′ demands′ table′ : List ℕ) (cells cells′ held₀ held : List ℤ) (records fields entries one : ℕ) (whole-a whole-b : Table) → length cells ≡ 2145 → length held₀ ≡ 4002 → whole-a ≡ Whole records fields →
       TableRead Tariff t cells cells′ whole-a → whole-b ≡ Whole entries one → TableRead Production p held₀ held whole-b →
       Shared (records - 1) (fields - 1) cells′ costs supplies demands costs′ supplies′ demands′ →
       table′ ≡ sets table 0 (map natAbs (take (min entries 4002) held)) →
       CaseStored t p costs supplies demands table costs′ supplies′ demands′ table′ (answers.Case (records - 1) (fields - 1) entries)
   unfolding caseAnswer wanted
-  both-accepted cells cells′ held₀ held records fields entries one whole-a whole-b long long-held ea a′ eb b′ share shared-entries =
+  both-accepted costs′ supplies′ demands′ table′ cells cells′ held₀ held records fields entries one whole-a whole-b long long-held ea a′ eb b′ share shared-entries =
       let a : TableRead Tariff t cells cells′ (Whole records fields) = subst (λ (x : Table). TableRead Tariff t cells cells′ x) ea a′ in
       let b : TableRead Production p held₀ held (Whole entries one) = subst (λ (x : Table). TableRead Production p held₀ held x) eb b′ in
       let m = records - 1 in
@@ -234,16 +248,22 @@ module _ (t p : List ℕ) (costs : List ℤ) (supplies demands table : List ℕ)
             let ef : fields ≡ n + 1 = omega arith in
             let even-rows : Even (n + 1) rs = subst (λ (k : ℕ). Even k rs) ef (subst (λ (l : List (List ℤ)). Even fields l) same (wa .all)) in
             let width : wanted Tariff rs ≡ n + 1 = (sym (ap (λ (l : List (List ℤ)). wanted Tariff l) same) ∙ sym (wa .width)) ∙ ef in
-            let kept : cells′ ≡ sets cells 0 (inOrder rs) = a .stored rs (wa .short) f in
+            let kept : cells′ ≡ sets cells 0 (inOrder rs) = fields-read a (sym (a .answered)) f in
             record {
               costs-stored = share .costs-shared few narrow ∙ ap (λ (l : List ℤ). sets costs 0 l) (ap (λ (l : List ℤ). costRows m n l) kept ∙ stored-costs cells rs m n long count even-rows few narrow width);
               supplies-stored = share .supplies-shared few narrow ∙ ap (λ (l : List ℕ). sets supplies 0 l) (ap (λ (l : List ℤ). supplyRows m n l) kept ∙ stored-supplies cells rs m n long count even-rows few narrow width);
               demands-stored = share .demands-shared few narrow ∙ ap (λ (l : List ℕ). sets demands 0 l) (ap (λ (l : List ℤ). map natAbs (take n (drop (m * (n + 1)) l))) kept ∙ stored-demands cells rs m n long count even-rows few narrow width);
             };
+        large-kept = λ m′ n′ entries′ w no-room.
+            let em : m ≡ m′ = cc in
+            let en : n ≡ n′ = cc in
+            share .large-kept (λ few narrow. no-room (omega arith) (omega arith));
+        refused-kept = λ number place w. absurd (let z : _≡_ {A = ℕ} 0 1 = cc in omega arith);
+        table-kept = λ number place w. absurd (let z : _≡_ {A = ℕ} 0 1 = cc in omega arith);
         table-stored = λ qs m′ n′ entries′ f w.
             let same : wb .rows ≡ qs = (let k = wb .form in cc) in
             let count : length (inOrder qs) ≡ entries =
             ap (λ (l : List (List ℤ)). length (inOrder l)) (sym same) ∙ even-length one (wb .rows) (wb .all)
             ∙ omega (arith, ap (λ (x : ℕ). length (wb .rows) * x) (wb .width), wb .counted) in
-            shared-entries ∙ ap (λ (l : List ℕ). sets table 0 l) (stored-entries held₀ held qs entries long-held count (b .stored qs (wb .short) f));
+            shared-entries ∙ ap (λ (l : List ℕ). sets table 0 l) (stored-entries held₀ held qs entries long-held count (fields-read b (sym (b .answered)) f));
       }

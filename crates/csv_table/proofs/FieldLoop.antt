@@ -19,7 +19,7 @@ use Rattle.csv_form.specs.Form.{field}
 use Rattle.csv_form.specs.Records.{reading, run, signed, rowWith, rowsWith, whole, broken, formOf}
 use Rattle.csv_table.specs.Files.{tableOf, judge, judged, inOrder}
 use Rattle.csv_form.specs.Reader.{closedAs, FieldRead, AfterRead, atField, Known}
-use Rattle.csv_table.specs.Tallies.{startTally, fieldTally, recordTally, sourceTally, Countable, handedOn, TableRead}
+use Rattle.csv_table.specs.Tallies.{startTally, fieldTally, recordTally, sourceTally, Countable, handedOn, Scanned}
 use Rattle.csv_table.proofs.FieldCounts.{Tallied, tally-start, tally-field, tally-record, tally-source, inOrder-snoc, judged-whole}
 use Rattle.csv_print.proofs.Stores.{sets-snoc}
 
@@ -78,7 +78,7 @@ valued-length {cells₀ = cells₀} {m = m} {v = v} valued = ap length (valued .
 
 -- a file of the wrong form
 broken-table :
-    (kind : Kind) (s : List ℕ) (cells cells′ : List ℤ) (place : ℕ) → length s ≤ 65536 → formOf kind s ≡ broken place → TableRead kind s cells cells′ (Refused 21 place)
+    (kind : Kind) (s : List ℕ) (cells cells′ : List ℤ) (place : ℕ) → length s ≤ 65536 → formOf kind s ≡ broken place → Scanned kind s cells cells′ (Refused 21 place)
 unfolding tableOf judge
 broken-table kind s cells cells′ place short e = record {
   answered = rw (le-ltb 65536 (length s) short, e) refl;
@@ -89,7 +89,7 @@ broken-table kind s cells cells′ place short e = record {
 -- a file of the right form
 whole-table :
     (kind : Kind) (s : List ℕ) (cells cells′ : List ℤ) (rs : List (List ℤ)) (t : Tally) → length s ≤ 65536 → formOf kind s ≡ whole rs →
-    0 < length rs → Tallied kind false rs [] t → cells′ ≡ sets cells 0 (inOrder rs) → TableRead kind s cells cells′ (judged (t .odd) (t .records) (t .width))
+    0 < length rs → Tallied kind false rs [] t → cells′ ≡ sets cells 0 (inOrder rs) → Scanned kind s cells cells′ (judged (t .odd) (t .records) (t .width))
 unfolding tableOf judge
 whole-table kind s cells cells′ rs t short e h k c = record {
   answered = rw (le-ltb 65536 (length s) short, e, k .odd, k .records, k .width) refl;
@@ -99,7 +99,7 @@ whole-table kind s cells cells′ rs t short e h k c = record {
   stored = λ rs′ _ w. c ∙ ap (λ (l : List (List ℤ)). sets cells 0 (inOrder l)) (let z : rs ≡ rs′ = cc in z);
 }
 
-pub long-table : (kind : Kind) (s : List ℕ) (cells : List ℤ) → 65536 < length s → TableRead kind s cells cells (Refused 20 0)
+pub long-table : (kind : Kind) (s : List ℕ) (cells : List ℤ) → 65536 < length s → Scanned kind s cells cells (Refused 20 0)
 unfolding tableOf
 long-table kind s cells h = record {
   answered = rw (lt-ltb 65536 (length s) h) refl;
@@ -112,7 +112,7 @@ module _ (kind : Kind) (s : List ℕ) (cells₀ : List ℤ) where
     same : (a : Field) → f ≡ a → FieldRead kind field s at a
     same a e = subst (λ (x : Field). FieldRead kind field s at x) e read
 
-    pub field-refused : (place : ℕ) (cells′ : List ℤ) → length s ≤ 65536 → f ≡ field-answers.Refused place → TableRead kind s cells₀ cells′ (handedOn f)
+    pub field-refused : (place : ℕ) (cells′ : List ℤ) → length s ≤ 65536 → f ≡ field-answers.Refused place → Scanned kind s cells₀ cells′ (handedOn f)
     field-refused place cells′ short e =
         rw e (broken-table kind s cells₀ cells′ place short (along .so-far ∙ same (field-answers.Refused place) e .meaning (along .rebate) (along .row) (along .rows)))
 
@@ -201,7 +201,7 @@ module _ (kind : Kind) (s : List ℕ) (cells₀ : List ℤ) where
               (record { values = omega (arith, valued .few, known .ends .0); parts = omega (arith, valued .few, valued .tally .fields, row-some) });
         }
 
-    pub on-end : (t′ : Tally) → length s ≤ 65536 → a ≡ after-answers.End → t′ ≡ recordTally t → TableRead kind s cells₀ cells (judged (t′ .odd) (t′ .records) (t′ .width))
+    pub on-end : (t′ : Tally) → length s ≤ 65536 → a ≡ after-answers.End → t′ ≡ recordTally t → Scanned kind s cells₀ cells (judged (t′ .odd) (t′ .records) (t′ .width))
     on-end t′ short e et =
         let known = onward′ after-answers.End e in
         whole-table kind s cells₀ cells (rowsWith (signed m v) (valued .row) (valued .rows)) t′ short
@@ -212,7 +212,7 @@ module _ (kind : Kind) (s : List ℕ) (cells₀ : List ℤ) where
 
     pub on-empty :
         (t′ : Tally) (cells′ : List ℤ) → length s ≤ 65536 → a ≡ after-answers.Empty → t′ ≡ recordTally (fieldTally false t) → cells′ ≡ set cells (t .values) (pos 0) →
-        TableRead kind s cells₀ cells′ (judged (t′ .odd) (t′ .records) (t′ .width))
+        Scanned kind s cells₀ cells′ (judged (t′ .odd) (t′ .records) (t′ .width))
     on-empty t′ cells′ short e et ec =
         let known = onward′ after-answers.Empty e in
         let whole-row = rowWith (signed m v) (valued .row) in
@@ -226,7 +226,7 @@ module _ (kind : Kind) (s : List ℕ) (cells₀ : List ℤ) where
         (ec ∙ rw (valued .stored, count) (sym (sets-snoc cells₀ 0 (inOrder (valued .rows) ++ whole-row) (pos 0)))
         ∙ ap (λ (l : List ℤ). sets cells₀ 0 l) (append-assoc (inOrder (valued .rows)) whole-row (pos 0 ∷ []) ∙ sym (inOrder-snoc (valued .rows) (rowWith (pos 0) whole-row))))
 
-    pub on-refused : (place : ℕ) → length s ≤ 65536 → a ≡ after-answers.Refused place → TableRead kind s cells₀ cells (Refused 21 place)
+    pub on-refused : (place : ℕ) → length s ≤ 65536 → a ≡ after-answers.Refused place → Scanned kind s cells₀ cells (Refused 21 place)
     on-refused place short e =
         let known = onward′ (after-answers.Refused place) e in
         broken-table kind s cells₀ cells place short

@@ -1,3 +1,4 @@
+pub mod TableReading
 pub mod FieldSizes
 pub mod FieldCounts
 pub mod FieldLoop

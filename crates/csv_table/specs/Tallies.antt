@@ -14,7 +14,7 @@ use Rattle.csv_table.specs.declared.table.Table.{Table}
 use Rattle.csv_table.specs.declared.table.Table.the-variants.{Whole, Refused}
 use Rattle.csv_table.specs.declared.table.Tally.{Tally}
 use Rattle.csv_form.specs.Records.{whole, formOf}
-use Rattle.csv_table.specs.Files.{pick, wanted, tableOf, inOrder}
+use Rattle.csv_table.specs.Files.{pick, wanted, tableOf, inOrder, fieldsStored}
 
 abbrev pub startTally : Kind → Tally
 startTally kind = record { records = 0; fields = 0; width = wanted kind []; odd = 0; values = 0; rebate = false }
@@ -52,8 +52,14 @@ abbrev pub handedOn : Field → Table
 handedOn (answers.Value value m next) = Refused 21 next
 handedOn (answers.Refused place) = Refused 21 place
 
--- a file is read: the answer, and the fields in file order in the cells, where the file has the form
-pub record TableRead (kind : Kind) (s : List ℕ) (cells cells′ : List ℤ) (answer : Table) : Type 0 where
+-- a file is gone through: the answer, and the fields in file order in the cells, where the file has the form
+pub record Scanned (kind : Kind) (s : List ℕ) (cells cells′ : List ℤ) (answer : Table) : Type 0 where
   pub answered : answer ≡ tableOf kind s
   pub some : (records fields : ℕ) → answer ≡ Whole records fields → (0 < records) × (0 < fields)
   pub stored : (rs : List (List ℤ)) → length s ≤ 65536 → formOf kind s ≡ whole rs → cells′ ≡ sets cells 0 (inOrder rs)
+
+-- a file is read: the answer, and each cell; `some` follows from the answer
+pub record TableRead (kind : Kind) (s : List ℕ) (cells cells′ : List ℤ) (answer : Table) : Type 0 where
+  pub answered : answer ≡ tableOf kind s
+  pub some : (records fields : ℕ) → answer ≡ Whole records fields → (0 < records) × (0 < fields)
+  pub stored : cells′ ≡ fieldsStored (tableOf kind s) (formOf kind s) cells

@@ -10,7 +10,7 @@ ghost use mathlib.Core.Path.{_≡_};
 ghost use mathlib.Core.Bool.{_||_};
 ghost use Rattle.csv_table.specs.Files.{judged, tableOf, stands};
 ghost use Rattle.csv_form.specs.declared.Kind.the-variants as kinds;
-ghost use Rattle.csv_table.specs.Tallies.{startTally, fieldTally, recordTally, sourceTally, widthOr, oddOr, Countable, handedOn, TableRead};
+ghost use Rattle.csv_table.specs.Tallies.{startTally, fieldTally, recordTally, sourceTally, widthOr, oddOr, Countable, handedOn, Scanned, TableRead};
 
 // The whole file's count of records and of each record's fields, or a refusal.
 pub enum Table {
@@ -144,9 +144,9 @@ fn handed_on(f: Field) -> Table
     }
 }
 
-// Reads a file, and stores its fields in file order as far as there are cells.
-pub fn read_table(kind: Kind, s: &[u8], cells: &mut [i64]) -> Table
-    ensures { λ r. ⌜ TableRead kind (now (s .entry)) (now (cells .entry)) (now (cells .exit)) r ⌝ }
+// Goes through a file, and stores its fields in file order as far as there are cells, also those before a fault.
+fn scan(kind: Kind, s: &[u8], cells: &mut [i64]) -> Table
+    ensures { λ r. ⌜ Scanned kind (now (s .entry)) (now (cells .entry)) (now (cells .exit)) r ⌝ }
 {
     if 65_536 < s.len() {
         return Table::Refused {
@@ -188,12 +188,28 @@ pub fn read_table(kind: Kind, s: &[u8], cells: &mut [i64]) -> Table
     }
 }
 
+// Reads a file, and stores its fields in file order as far as there are cells. A refusal changes no cell: the file is judged first.
+pub fn read_table(kind: Kind, s: &[u8], cells: &mut [i64]) -> Table
+    ensures { λ r. ⌜ TableRead kind (now (s .entry)) (now (cells .entry)) (now (cells .exit)) r ⌝ }
+{
+    let mut none = [0i64; 1];
+    let t = scan(kind, s, &mut none);
+    let Table::Whole {
+        records: _,
+        fields: _,
+    } = t
+    else {
+        return t;
+    };
+    scan(kind, s, cells)
+}
+
 // Whether the tariff is accepted by 20 to 22: a refusal by these is then about the production file.
 pub fn tariff_stands(tariff: &[u8]) -> bool
     ensures { λ r. ⌜ r ≡ stands (tableOf kinds.Tariff (now (tariff .entry))) ⌝ }
 {
     let mut cells = [0i64; 1];
-    let t = read_table(Kind::Tariff, tariff, &mut cells);
+    let t = scan(Kind::Tariff, tariff, &mut cells);
     match t {
         Table::Whole {
             records: _,

@@ -1,5 +1,6 @@
 // The command `tidy`: two files written again in the one form of their case.
 use crate::file::answer;
+use check::same;
 use file_io::file::file_room;
 use file_io::file::first;
 use file_io::file::read_file;
@@ -35,12 +36,62 @@ fn not_written(path: &[u8]) {
     say(b" was not written: there is a file of that name, or it cannot be made.\n");
 }
 
-// Says a new file and its length on standard output.
-fn tell(path: &[u8], length: usize) {
-    io::write_all(libc::STDOUT_FILENO, path);
-    io::write_all(libc::STDOUT_FILENO, b",");
-    io::print_decimal(libc::STDOUT_FILENO, length as u64);
-    io::write_all(libc::STDOUT_FILENO, b"\r\n");
+// Writes to standard output, unless an earlier text could not be written.
+fn put(good: bool, text: &[u8]) -> bool {
+    if good {
+        return io::write_all(libc::STDOUT_FILENO, text);
+    }
+    false
+}
+
+// Does a name need quotes as a field of RFC 4180? It has a comma, a quote or a line end.
+fn needs_quotes(name: &[u8]) -> bool {
+    for k in 0..name.len() {
+        match name[k] {
+            10 | 13 | 34 | 44 => return true,
+            _ => (),
+        }
+    }
+    false
+}
+
+// Writes a name as a field in quotes, each quote in it twice.
+fn put_quoted(good: bool, name: &[u8]) -> bool {
+    let mut so_far = put(good, b"\"");
+    for k in 0..name.len() {
+        if name[k] == 34 {
+            so_far = put(so_far, b"\"");
+        }
+        so_far = put(so_far, &name[k..k + 1]);
+    }
+    put(so_far, b"\"")
+}
+
+// Writes a name as a field.
+fn put_name(good: bool, name: &[u8]) -> bool {
+    if needs_quotes(name) {
+        return put_quoted(good, name);
+    }
+    put(good, name)
+}
+
+// Writes a record of a new file and its length.
+fn tell(good: bool, path: &[u8], length: usize) -> bool {
+    let named = put(put_name(good, path), b",");
+    if !named {
+        return false;
+    }
+    let counted = io::print_decimal(libc::STDOUT_FILENO, length as u64);
+    put(counted, b"\r\n")
+}
+
+// Says both new files and their lengths on standard output.
+fn tell_both(tariff_path: &[u8], tariff: usize, production_path: &[u8], production: usize) {
+    let head = put(true, b"file,bytes\r\n");
+    let first_told = tell(head, tariff_path, tariff);
+    if !tell(first_told, production_path, production) {
+        say(b"Both files are written; standard output could not be.\n");
+    }
 }
 
 // Writes the two new files, both or none.
@@ -54,9 +105,7 @@ fn write_both(tariff_path: &[u8], tariff: &[u8], production_path: &[u8], product
         not_written(production_path);
         return;
     }
-    io::write_all(libc::STDOUT_FILENO, b"file,bytes\r\n");
-    tell(tariff_path, tariff.len());
-    tell(production_path, production.len());
+    tell_both(tariff_path, tariff.len(), production_path, production.len());
 }
 
 // Writes the case of two files' bytes as two new files, or prints its refusal as `plan` does.
@@ -109,6 +158,20 @@ pub fn tidy_paths(
     );
 }
 
+// Writes the case of two paths as two others, unless one is the word for help.
+fn tidy_or_help(tariff: &[u8], production: &[u8], new_tariff: &[u8], new_production: &[u8]) {
+    let help = b"--help";
+    if same(tariff, help) || same(production, help) {
+        tidy_usage();
+        return;
+    }
+    if same(new_tariff, help) || same(new_production, help) {
+        tidy_usage();
+        return;
+    }
+    tidy_paths(tariff, production, new_tariff, new_production);
+}
+
 // The four paths. An argument longer than any path is empty here, and no file has that name.
 pub fn tidy_with_arguments() {
     let mut tariff = io::buffer();
@@ -119,7 +182,7 @@ pub fn tidy_with_arguments() {
     let b = os::arg(2, &mut production);
     let c = os::arg(3, &mut new_tariff);
     let d = os::arg(4, &mut new_production);
-    tidy_paths(
+    tidy_or_help(
         first(&tariff, a),
         first(&production, b),
         first(&new_tariff, c),

@@ -3,4 +3,5 @@ pub mod PathLanes
 pub mod PathArcs
 pub mod HeldPlan
 pub mod StretchLine
+pub mod AfterCuts
 pub mod ShiftPath

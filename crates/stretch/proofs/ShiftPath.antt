@@ -1,5 +1,5 @@
 -- The path of a stretch, from plant 0 to plant 1: it is found, drums can go along it, and the potentials are lowered by it. Assumes nothing.
-use mathlib.Core.Path.{_≡_, refl, sym}
+use mathlib.Core.Path.{_≡_, refl, sym, _∙_}
 use mathlib.Core.List.{List}
 use Prim.Native.Nat.{ℕ, _-_, _≤_, _<_}
 use native.Mathlib.Decide.{ℕ-discrete, decLt}
@@ -7,13 +7,14 @@ use native.Mathlib.Omega.{arith}
 use lib.ListN.{set, replicate}
 use Rattle.residual.specs.Cells.{cells}
 use Rattle.residual.specs.Network.{Net, get}
-use Rattle.residual.specs.Labels.{Book, book, far}
+use Rattle.residual.specs.Labels.{Book, book, far, Low}
 use Rattle.paths.specs.Search.{Sound, Near, Label, Stuck, Searched, Labelled}
-use Rattle.augment.specs.Potentials.{LowerReady, Lowered}
+use Rattle.augment.specs.Potentials.{Lowered}
 use Rattle.augment.specs.Send.{SendReady}
 use Rattle.augment.specs.PathWalk.{WalkReady}
 use Rattle.treepath.specs.Follow.{Followed}
-use Rattle.stretch.specs.Stretch.{ShiftReady, Reached, PathDone, PathFound, LowerDone}
+use Rattle.stretch.specs.Stretch.{ShiftReady, Reached, PathDone, PathAhead, LowerDone}
+use Rattle.transport.proofs.Differences.{diff-same}
 use Rattle.paths.proofs.SearchCut.{cut-greatest}
 use Rattle.augment.proofs.Delivery.{lower-ready, stroll-ready, push-ready, mark-ready, pushed, delivered, after}
 use Rattle.treepath.proofs.TreePath.{tree-path}
@@ -92,37 +93,54 @@ reached-by {limit = limit} k q = record { hops = q .hops; widths = q .widths; se
 
 pub search-found : {N : Net} {p x T P H W : List ℕ} {limit D d h : ℕ} → ShiftReady N p x limit
     → Searched N p (set (replicate 96 0) 1 limit) 0 limit (book T P H W) 1 → N .x ≡ cells x → D ≡ get T 1 - get p 1 → h ≡ get H 1 → d ≡ get W 1
-    → PathFound N p x limit T P h D d
-search-found {T = T} {limit = limit} k q e eD eh ed = record {
-  labels = T;
-  done = path-done k (only limit) q e eD eh ed;
-  low = q .low;
-  lent = λ h. refl;
-}
+    → PathAhead N p x limit T P h D d
+search-found {limit = limit} k q e eD eh ed = record { ready = k; done = path-done k (only limit) q e eD eh ed; low = q .low }
 
--- the path of a tree has no reduced cost
-pub tree-found : {N : Net} {p x P : List ℕ} {limit count amount : ℕ} (dist : List ℕ) → ShiftReady N p x limit → N .x ≡ cells x
-    → Followed N p limit P count amount → PathFound N p x limit dist P count 0 amount
-tree-found {limit = limit} dist k e q =
+-- ---- the path of a tree: it has no reduced cost, and its distances are those of the potentials
+
+module _ {N : Net} {p x T P : List ℕ} {limit count d : ℕ} (s : PathDone N p x limit T P count 0 d) (low : Low p T) where
+  -- the potentials stay, by these labels as by the others
+  lowered-too : {p' : List ℕ} → Lowered 0 p p 96 p' → Lowered 0 T p 96 p'
+  lowered-too l = record { long = l .long; down = λ v h. omega (arith, l .down v h, low v h); rest = l .rest }
+
+  even-done : PathDone N p x limit p P count 0 d
+  even-done = record {
+    some = s .some;
+    route = record {
+      path = s .route .path;
+      arcs = s .route .arcs;
+      drums = s .route .drums;
+      cost = s .route .cost ∙ diff-same (get T 1) (get T 0) (get p 1) (get p 0) (omega (arith, s .ends, s .starts));
+      amounts = s .route .amounts;
+    };
+    ends = omega arith;
+    starts = refl;
+    ready = record { long = s .ready .long; above = λ v h. omega arith };
+    able = s .able;
+    trail = s .trail;
+    lanes = s .lanes;
+    part = λ p' l. s .part p' (lowered-too l);
+    over = λ p' l. s .over p' (lowered-too l);
+  }
+
+pub tree-found : {N : Net} {p x P : List ℕ} {limit count amount : ℕ} → ShiftReady N p x limit → N .x ≡ cells x
+    → Followed N p limit P count amount → PathAhead N p x limit p P count 0 amount
+tree-found {limit = limit} k e q =
     let t = tree-path (k .swinging .sound) (k .swinging .plants) (k .some) q (set (replicate 96 0) 1 limit) (omega (arith, only limit .one, k .some)) in
     record {
-      labels = t .dist;
-      done = path-done k (only limit) (t .searched) e (omega (arith, t .goal)) (t .arcs) (t .drums);
-      low = t .searched .low;
-      lent = λ h. absurd (omega arith);
+      ready = k;
+      done = even-done (path-done k (only limit) (t .searched) e (omega (arith, t .goal)) (t .arcs) (t .drums)) (t .searched .low);
+      low = λ v h. omega arith;
     }
 
 -- ---- the potentials after it
 
-module _ {N : Net} {p x : List ℕ} {limit : ℕ} {dist prev : List ℕ} {count gap d : ℕ} (f : PathFound N p x limit dist prev count gap d) where
-  pub found-ready : 0 < gap → LowerReady gap dist p
-  found-ready h = rw (f .lent h) at (f .done .ready)
-
-  -- where the path has no reduced cost, the potentials are as low as they are to be
-  pub found-lowered : {p' : List ℕ} → LowerDone gap dist p p' → Lowered gap (f .labels) p 96 p'
-  found-lowered {p'} w = elim (decLt 0 gap) [
-    | yes h ↦ rw (f .lent h) (w .lowered h)
-    | no h ↦
-        rw (w .same (omega arith))
-        (record { long = f .done .ready .long; down = λ v o. omega (arith, f .low v o); rest = λ v o. refl })
-  ]
+-- where the path has no reduced cost, the potentials are as low as they are to be
+pub found-lowered : {N : Net} {p x : List ℕ} {limit : ℕ} {dist prev : List ℕ} {count gap d : ℕ} {p' : List ℕ}
+    → PathAhead N p x limit dist prev count gap d → LowerDone gap dist p p' → Lowered gap dist p 96 p'
+found-lowered {gap = gap} f w = elim (decLt 0 gap) [
+  | yes h ↦ w .lowered h
+  | no h ↦
+      rw (w .same (omega arith))
+      (record { long = f .done .ready .long; down = λ v o. omega (arith, f .low v o); rest = λ v o. refl })
+]

@@ -293,7 +293,7 @@ module _ {N : Net} {p x table : List ℕ} {y v limit : ℕ} {best : Incumbent} {
             ready = subst (λ (l : List ℕ). CanonReady (again N after) l) (sym (new-prices h)) (part-ready x' lo w after (held .split - y) t);
           }
 
-      pub stretch-done : StretchDone N p table y v limit best (heldAt (best .split) y x kept) (heldAt (best .split) y p' pots) p' x'
+      pub stretch-done : StretchDone N table y v limit best (heldAt (best .split) y x kept) (heldAt (best .split) y p' pots) p' x'
           (heldAt (held .split) (y + d) x' kept') (heldAt (held .split) (y + d) p' pots') d (y + d) (v + get p 1 * d - (get p 0 - gap) * d) (get p 1)
           (get p 0 - gap) held
       unfolding along stretch-path
@@ -303,7 +303,7 @@ module _ {N : Net} {p x table : List ℕ} {y v limit : ℕ} {best : Incumbent} {
         split = refl;
         reached = refl;
         moves = s .route .amounts d x' w;
-        over = over x' lo w;
+        over = subst (λ (P : ℕ). Over N P limit p' x' d) (up x' lo w) (over x' lo w);
         up = up x' lo w;
         down = down x' lo w;
         line = on-stretch x' lo w;

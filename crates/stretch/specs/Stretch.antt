@@ -58,12 +58,11 @@ pub record PathDone (N : Net) (p x : List ℕ) (limit : ℕ) (dist prev : List �
   pub part : (p' : List ℕ) → Lowered gap dist p 96 p' → (t : ℕ) → t ≤ d → (z : List ℕ) → Walked prev t count 1 x z → Part N p' z t
   pub over : (p' : List ℕ) → Lowered gap dist p 96 p' → (x' : List ℕ) → Walked prev d count 1 x x' → Over N (get p 1) limit p' x' d
 
--- the same of a path by its labels, which dist has where the path has a reduced cost
-pub record PathFound (N : Net) (p x : List ℕ) (limit : ℕ) (dist prev : List ℕ) (count gap d : ℕ) : Type 0 where
-  pub labels : List ℕ
-  pub done : PathDone N p x limit labels prev count gap d
-  pub low : Low p labels
-  pub lent : 0 < gap → labels ≡ dist
+-- 1° the potentials p, under which the plan is slack, and such a path, of distances no less than p
+pub record PathAhead (N : Net) (p x : List ℕ) (limit : ℕ) (dist prev : List ℕ) (count gap d : ℕ) : Type 0 where
+  pub ready : ShiftReady N p x limit
+  pub done : PathDone N p x limit dist prev count gap d
+  pub low : Low p dist
 
 -- the potentials p become p': lowered where the path has a reduced cost, else as they are
 pub record LowerDone (gap : ℕ) (dist p p' : List ℕ) : Type 0 where
@@ -113,14 +112,14 @@ pub record Kept (N : Net) (y : ℕ) (best : Incumbent) (kept held : List ℕ) : 
 
 -- report 4.1: (1°) a cheapest path, along which δ = d drums go, each of which adds gain and takes off loss; (2°) the next split y', its freight v'
 -- and its plan x'; (3°) the incumbent best' in place of best, with its plan kept' and its potentials held'; (4°) the potentials p'
-pub record StretchDone (N : Net) (p table : List ℕ) (y v limit : ℕ) (best : Incumbent) (kept held p' x' kept' held' : List ℕ) (d y' v' gain loss : ℕ)
+pub record StretchDone (N : Net) (table : List ℕ) (y v limit : ℕ) (best : Incumbent) (kept held p' x' kept' held' : List ℕ) (d y' v' gain loss : ℕ)
     (best' : Incumbent) : Type 0 where
   pub some : 0 < d
   pub path : StretchPath N v limit d gain loss
   pub split : y' ≡ y + d
   pub reached : v' ≡ along v gain loss d
   pub moves : Amounts N d (path .path) x'
-  pub over : Over N (get p 1) limit p' x' d
+  pub over : Over N (get p' 1) limit p' x' d
   pub up : gain ≡ get p' 1
   pub down : loss ≡ get p' 0
   pub line : (a b : ℕ → ℕ) (z : ℕ) → At (N .m) (N .n) a b y z (N .x) → (t : ℕ) → t ≤ d

@@ -3,26 +3,31 @@ ghost use Prim.Native.Nat.{_<_};
 ghost use Rattle.residual.specs.Network.{net};
 ghost use Rattle.residual.specs.LanesInUse.{Covers};
 ghost use Rattle.paths.specs.Search.{Wanted};
+ghost use Rattle.cuts.specs.Columns.{Transposed};
 ghost use Rattle.augment.specs.Potentials.{LowerReady};
-ghost use Rattle.stretch.specs.Stretch.{ShiftReady, Reached, PathFound, LowerDone, KeepReady, KeepDone, HoldDone, heldAt, StretchReady, StretchDone};
+ghost use Rattle.stretch.specs.Stretch.{ShiftReady, Reached, PathAhead, LowerDone, KeepReady, KeepDone, HoldDone, heldAt, StretchReady, StretchDone};
 use super::undo::undo;
 use augment::send::lower;
 use augment::send::measure;
 use augment::send::push;
+use cuts::advance::advance;
 use incumbent::Incumbent;
 use incumbent::scan::scan;
+use paths::search::Paths;
 use paths::search::search;
 use treepath::follow::follow;
 
-// A path from plant 1 to plant 2: δ, how many drums can go along it, its arcs, its reduced cost.
+// A path from plant 1 to plant 2. For each node on it dist has the distance, counted from the potential of plant 1 on, and prev the node before it;
+// of other nodes nothing is said. The arcs on it, its reduced cost, and δ, how many drums can go along it.
 pub struct Path {
-    pub delta: u32,
+    pub dist: [u32; 96],
+    pub prev: [u32; 96],
     pub count: u32,
     pub gap: u32,
+    pub delta: u32,
 }
 
-// A cheapest path from plant 1 to plant 2 in the residual network, as a search finds it; the tree has none any more. For each node of it dist has the
-// distance, prev the node before it.
+// Cheapest paths in the residual network, up to one from plant 1 to plant 2, as a search finds them; the tree has none any more.
 fn reach(
     m: usize,
     n: usize,
@@ -34,73 +39,68 @@ fn reach(
     serves: &[u32; 64],
     pot: &[u32; 96],
     up: &mut [u32; 128],
-    dist: &mut [u32; 96],
-    prev: &mut [u32; 96],
-)
+) -> Paths
     requires { ⌜ ShiftReady (net m n (now cost) (now cap) (now x)) (now pot) (now x) limit ⌝ }
     requires { ⌜ Wanted (net m n (now cost) (now cap) (now x)) (now demand) ⌝ }
     requires { ⌜ Covers m n (now x) (now serves) ⌝ }
-    ensures { λ _. ⌜ Reached (net m n (now (cost .entry)) (now (cap .entry)) (now (x .entry))) (now (pot .entry)) limit (now (dist .exit)) (now (prev .exit)) ⌝ }
+    ensures { λ r. ⌜ Reached (net m n (now (cost .entry)) (now (cap .entry)) (now (x .entry))) (now (pot .entry)) limit (r .dist) (r .prev) ⌝ }
 {
     up[1] = 96;
     let mut room = [0u32; 96];
     room[1] = limit;
-    let found = search(m, n, cost, x, cap, serves, pot, &room, demand, 0);
-    let labels = found.dist;
-    let nodes = found.prev;
-    *dist = labels;
-    *prev = nodes;
+    search(m, n, cost, x, cap, serves, pot, &room, demand, 0)
 }
 
-// A cheapest path from plant 1 to plant 2 in the residual network, and δ: its smallest ceiling, or limit if that is less. It is that of the tree, where
-// it leads there over open and tight arcs, else one that is searched for: only then dist has the distances.
+// A cheapest path from plant 1 to plant 2 in the residual network, and δ: its smallest ceiling, or limit if that is less. The tree is cut until its path
+// has room. The path is that of the tree, where it leads there over open and tight arcs: distances on it are those of the potentials. Else one is
+// searched for.
 fn find_path(
     m: usize,
     n: usize,
     cost: &[u32; 2048],
+    columns: &[u32; 2048],
     cap: &[u32; 2048],
     limit: u32,
     demand: &[u32; 96],
+    drained: u32,
     x: &[u32; 2048],
-    serves: &[u32; 64],
-    pot: &[u32; 96],
+    serves: &mut [u32; 64],
+    pot: &mut [u32; 96],
     up: &mut [u32; 128],
-    dist: &mut [u32; 96],
-    prev: &mut [u32; 96],
+    rows: &mut [u32; 128],
+    cols: &mut [u64; 128],
 ) -> Path
     requires { ⌜ ShiftReady (net m n (now cost) (now cap) (now x)) (now pot) (now x) limit ⌝ }
     requires { ⌜ Wanted (net m n (now cost) (now cap) (now x)) (now demand) ⌝ }
     requires { ⌜ Covers m n (now x) (now serves) ⌝ }
-    ensures { λ r. ⌜ PathFound (net m n (now (cost .entry)) (now (cap .entry)) (now (x .entry))) (now (pot .entry)) (now (x .entry)) limit (now (dist .exit)) (now (prev .exit)) (r .count) (r .gap) (r .delta) ⌝ }
+    requires { ⌜ Transposed m n (now cost) (now columns) ⌝ }
+    ensures { λ r. ⌜ PathAhead (net m n (now (cost .entry)) (now (cap .entry)) (now (x .entry))) (now (pot .exit)) (now (x .entry)) limit (r .dist) (r .prev) (r .count) (r .gap) (r .delta) ⌝ }
+    ensures { λ r. ⌜ Covers m n (now (x .entry)) (now (serves .exit)) ⌝ }
 {
-    let traced = follow(m, n, cost, cap, x, pot, up, limit, prev);
+    advance(m, n, drained, cost, columns, x, serves, pot, up, rows, cols);
+    let traced = follow(m, n, cost, cap, x, pot, up, limit);
     if 0 < traced.count {
+        let dist = *pot;
+        let prev = traced.prev;
         return Path {
-            delta: traced.amount,
+            dist,
+            prev,
             count: traced.count,
             gap: 0,
+            delta: traced.amount,
         };
     }
-    reach(
-        m,
-        n,
-        cost,
-        cap,
-        limit,
-        demand,
-        x,
-        serves,
-        pot,
-        up,
-        dist,
-        prev,
-    );
-    let way = measure(prev, 0, 1, limit, x, cap);
+    let found = reach(m, n, cost, cap, limit, demand, x, serves, pot, up);
+    let dist = found.dist;
+    let prev = found.prev;
+    let way = measure(&prev, 0, 1, limit, x, cap);
     let gap = dist[1] - pot[1];
     Path {
-        delta: way.amount,
+        dist,
+        prev,
         count: way.count,
         gap,
+        delta: way.amount,
     }
 }
 
@@ -162,12 +162,12 @@ pub struct Moved {
 }
 
 // One stretch from split y, whose plan x has the given freight, at most limit drums further, which are left to u. The incumbent's plan is x, where
-// its split is that of x; when the climb leaves it, it is kept, with its potentials. The path is that of the tree, where it has one.
-// It is written into prev, and its distances into dist where it was searched for; nothing is asked of what they hold before.
+// its split is that of x; when the climb leaves it, it is kept, with its potentials. Nothing is asked of the tree in up, rows and cols, nor of drained.
 pub fn stretch(
     m: usize,
     n: usize,
     cost: &[u32; 2048],
+    columns: &[u32; 2048],
     cap: &[u32; 2048],
     table: &[u64],
     y: u64,
@@ -175,55 +175,61 @@ pub fn stretch(
     limit: u32,
     best: Incumbent,
     demand: &[u32; 96],
+    drained: u32,
     x: &mut [u32; 2048],
     serves: &mut [u32; 64],
     pot: &mut [u32; 96],
     kept: &mut [u32; 2048],
     prices: &mut [u32; 96],
     up: &mut [u32; 128],
-    dist: &mut [u32; 96],
-    prev: &mut [u32; 96],
+    rows: &mut [u32; 128],
+    cols: &mut [u64; 128],
 ) -> Moved
     requires { ⌜ StretchReady (net m n (now cost) (now cap) (now x)) (now pot) (now x) (now table) y freight limit best ⌝ }
     requires { ⌜ Wanted (net m n (now cost) (now cap) (now x)) (now demand) ⌝ }
     requires { ⌜ Covers m n (now x) (now serves) ⌝ }
-    ensures { λ r. ⌜ StretchDone (net m n (now (cost .entry)) (now (cap .entry)) (now (x .entry))) (now (pot .entry)) (now (table .entry)) y freight limit best (heldAt (best .split) y (now (x .entry)) (now (kept .entry))) (heldAt (best .split) y (now (pot .exit)) (now (prices .entry))) (now (pot .exit)) (now (x .exit)) (heldAt (r .best .split) (r .split) (now (x .exit)) (now (kept .exit))) (heldAt (r .best .split) (r .split) (now (pot .exit)) (now (prices .exit))) (r .delta) (r .split) (r .freight) (r .gain) (r .loss) (r .best) ⌝ }
+    requires { ⌜ Transposed m n (now cost) (now columns) ⌝ }
+    ensures { λ r. ⌜ StretchDone (net m n (now (cost .entry)) (now (cap .entry)) (now (x .entry))) (now (table .entry)) y freight limit best (heldAt (best .split) y (now (x .entry)) (now (kept .entry))) (heldAt (best .split) y (now (pot .exit)) (now (prices .entry))) (now (pot .exit)) (now (x .exit)) (heldAt (r .best .split) (r .split) (now (x .exit)) (now (kept .exit))) (heldAt (r .best .split) (r .split) (now (pot .exit)) (now (prices .exit))) (r .delta) (r .split) (r .freight) (r .gain) (r .loss) (r .best) ⌝ }
     ensures { λ r. ⌜ Covers m n (now (x .exit)) (now (serves .exit)) ⌝ }
 {
     // 1° A cheapest path from plant 1 to plant 2 in the residual network, and δ: the smallest ceiling on it, or what is left to u if that is less.
-    // The cost of the path is what the potentials say: gain less loss.
+    // The potentials change until the path of the tree has room. The cost of the path is what they say then: gain less loss.
     let path = find_path(
         m,
         n,
         cost,
+        columns,
         cap,
         limit,
         demand,
+        drained,
         x,
         serves,
         pot,
         up,
-        dist,
-        prev,
+        rows,
+        cols,
     );
-    let delta = path.delta;
+    let dist = path.dist;
+    let prev = path.prev;
     let count = path.count;
     let gap = path.gap;
+    let delta = path.delta;
     let gain = pot[1] as u64;
     let loss = (pot[0] - gap) as u64;
     // 2° The next split y + δ, the amounts after moving δ along the path, and f there: f + δ · (cost of the path).
     let drums = delta as u64;
     let next = y + drums;
-    let drained = push(prev, count, 1, delta, x, serves);
+    let last = push(&prev, count, 1, delta, x, serves);
     let value = freight + gain * drums - loss * drums;
     // 3° The incumbent, revised where a total on the way is smaller: every split of the stretch is looked at. Its plan is that of the next split
     // with the drums beyond its own taken back; it is copied only where the climb leaves it.
     let held = scan(table, y, drums, freight, gain, loss, best);
     let split = held.split;
-    keep(prev, count, split, y, next, x, kept);
+    keep(&prev, count, split, y, next, x, kept);
     // 4° The end, where the split is u, is the test of the loop around this. The residual network and the potentials for the next stretch: the
     // potentials are lowered at the end too, since the plan that is kept needs them.
-    lower_by(gap, dist, pot);
+    lower_by(gap, &dist, pot);
     hold(split, y, next, pot, prices);
     Moved {
         delta: drums,
@@ -232,6 +238,6 @@ pub fn stretch(
         gain,
         loss,
         best: held,
-        drained,
+        drained: last,
     }
 }

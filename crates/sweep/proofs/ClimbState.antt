@@ -10,9 +10,7 @@ use Rattle.transport.specs.Plan.{Table, row, col, freight, Under}
 use Rattle.transport.specs.theory.AtSplit.{At}
 use Rattle.residual.specs.Cells.{cells}
 use Rattle.residual.specs.Network.{net, get}
-use Rattle.residual.specs.LanesInUse.{Covers}
 use Rattle.canonical.specs.Canonize.{CanonReady}
-use Rattle.cuts.specs.Advance.{Advanced}
 use Rattle.lastsplit.specs.PlantShift.{Swinging}
 use Rattle.incumbent.specs.Scan.{along}
 use Rattle.stretch.specs.Stretch.{heldAt, StretchReady, StretchDone}
@@ -35,21 +33,6 @@ plan-at {m} {n} {c} {u} {d} {a} {b} {y} {v} {x} z two t e long under worth = rec
   columns = λ j h. t .demands j (omega arith) h;
   under = under;
   worth = worth;
-}
-
--- the potentials after cuts
-swing-on : {m n : ℕ} {cost x p serves serves' p' : List ℕ} {P : ℕ} (cap : List ℕ) → Swinging (net m n cost cap x) P p x → Covers m n x serves
-    → Advanced m n cost x serves p serves' p' → Swinging (net m n cost cap x) (get p' 1) p' x
-swing-on cap k c a = record {
-  sound = a .sound cap c (k .sound);
-  under = k .under;
-  ceilings = k .ceilings;
-  long-x = k .long-x;
-  long-p = a .long;
-  plants = k .plants;
-  one = refl;
-  high = omega (arith, k .one, k .high, a .floor 1 (omega arith));
-  floor = λ v h. omega (arith, k .floor v h, a .floor v h);
 }
 
 -- what the plan for everybody asks of the plan where the climb stands
@@ -102,17 +85,6 @@ module _ {m n : ℕ} {cost cap x₀ p₀ : List ℕ} {lo hi v : ℕ} {table : Li
       }
 
   module _ {x p kept held : List ℕ} {y value : ℕ} {b : Incumbent} (s : Standing m n cost cap x₀ x p kept held y value b) where
-    -- with the potentials after cuts
-    pub stand-on : {serves serves' p' : List ℕ} → Covers m n x serves → Advanced m n cost x serves p serves' p' → Standing m n cost cap x₀ x p' kept held y value b
-    stand-on c a = record {
-      swinging = swing-on cap (s .swinging) c a;
-      at = s .at;
-      worth = s .worth;
-      plan = s .plan;
-      ready = held-ready m n cost cap x kept p held (b .split) y (swing-ready m n cost cap (swing-on cap (s .swinging) c a)) (s .ready);
-      behind = s .behind;
-    }
-
     -- the least freight at y
     pub here : y ≤ hi → curveFrom m n cost cap x₀ y ≡ value
     here h =
@@ -170,7 +142,7 @@ module _ {m n : ℕ} {cost cap x₀ p₀ : List ℕ} {lo hi v : ℕ} {table : Li
 
     -- the stretch is a straight line of the curve
     module _ {k h k' h' p' x' : List ℕ} {d y' v' gain loss : ℕ} {b' : Incumbent} (low : lo ≤ y) (top : y < hi)
-        (q : StretchDone (net m n cost cap x) p table y value (hi - y) b k h p' x' k' h' d y' v' gain loss b') where
+        (q : StretchDone (net m n cost cap x) table y value (hi - y) b k h p' x' k' h' d y' v' gain loss b') where
       pub most : y + d ≤ hi
       most = omega (arith, q .over .most)
 
@@ -243,10 +215,9 @@ module _ {m n : ℕ} {cost cap x₀ p₀ : List ℕ} {lo hi v : ℕ} {table : Li
       pub stand-next : {kept' held' : List ℕ} → k ≡ heldAt (b .split) y x kept → h ≡ heldAt (b .split) y p' held → k' ≡ heldAt (b' .split) y' x' kept'
           → h' ≡ heldAt (b' .split) y' p' held' → Standing m n cost cap x₀ x' p' kept' held' y' v' b'
       stand-next {kept'} {held'} e f e' f' =
-          let sw = q .over .swinging in
           let z : bothIn n x₀ - y - d ≡ bothIn n x₀ - (y + d) = omega arith in
           record {
-            swinging = subst (λ (P : ℕ). Swinging (net m n cost cap x') P p' x') (sym (sw .one)) sw;
+            swinging = q .over .swinging;
             at =
                 subst (λ (w : ℕ). At m n (row n (cells x₀)) (col m (cells x₀)) w (bothIn n x₀ - w) (cells x')) (sym (q .split))
                 (subst (λ (w : ℕ). At m n (row n (cells x₀)) (col m (cells x₀)) (y + d) w (cells x')) z next-at);

@@ -40,7 +40,7 @@ module _ {m n : ℕ} {cost cap x₀ p₀ : List ℕ} {lo hi v : ℕ} {table : Li
     ascend-freights = climb-freights (curveFrom m n cost cap x₀) table added splits freights lo hi c (r .splits-room) (r .freights-room)
 
     pub ascend-next : {k h k' h' p' x' splits'' : List ℕ} {freights'' : List ℤ} {d y' v' gain loss count' : ℕ} {b' : Incumbent} {stop : Bool} → y < hi
-        → StretchDone (net m n cost cap x) p table y value (hi - y) b k h p' x' k' h' d y' v' gain loss b' → stop ≡ turned y lo gain loss rise fall
+        → StretchDone (net m n cost cap x) table y value (hi - y) b k h p' x' k' h' d y' v' gain loss b' → stop ≡ turned y lo gain loss rise fall
         → Marked stop count y value added splits' freights' splits'' freights'' count'
         → Climbing (curveFrom m n cost cap x₀) table added splits freights lo hi splits'' freights'' y' v' count' gain loss b'
     ascend-next {d = d} {gain = gain} {loss = loss} h q e k =

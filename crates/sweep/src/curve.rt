@@ -16,7 +16,6 @@ ghost use Rattle.sweep.specs.engine.Climb.{bothIn, ClimbReady};
 use super::freight::freight_of;
 use super::freight::lowered;
 use canonical::canon::canonize;
-use cuts::advance::advance;
 use cuts::columns::by_terminal;
 use incumbent::Incumbent;
 use stretch::stretch::stretch;
@@ -128,23 +127,20 @@ fn climb(
         freight,
     };
     let mut prices = *pot;
-    // The path of a stretch: each writes its own.
-    let mut dist = [0u32; 96];
-    let mut prev = [0u32; 96];
     let mut y = lo;
     let mut value = freight;
     let mut count: usize = 0;
     let mut rise: u64 = 0;
     let mut fall: u64 = 0;
     let mut drained: u32 = 96;
-    // Step 3, which ends where the split is hi. Before each stretch the tree is cut until its path has room.
+    // Step 3, which ends where the split is hi.
     while y < hi {
-        advance(m, n, drained, cost, columns, x, serves, pot, up, rows, cols);
         let left = (hi - y) as u32;
         let moved = stretch(
             m,
             n,
             cost,
+            columns,
             cap,
             table,
             y,
@@ -152,14 +148,15 @@ fn climb(
             left,
             best,
             demand,
+            drained,
             x,
             serves,
             pot,
             kept,
             &mut prices,
             up,
-            &mut dist,
-            &mut prev,
+            rows,
+            cols,
         );
         let stop = turn(y, lo, moved.gain, moved.loss, rise, fall);
         count = mark(stop, count, y, value, added, splits, freights);

@@ -14,4 +14,12 @@ fn main() {
     plan_paths(b"rounded/tariff.csv", b"rounded/production.csv");
     // Files of which the second is missing: refusal 20.
     plan_paths(b"missing/tariff.csv", b"missing/production.csv");
+    // A production file of 65,536 bytes, the longest that is read, with more than 4,001 records: refusal 6.
+    plan_paths(b"rebate/tariff.csv", b"long/fits.csv");
+    // One of 65,537 bytes, in the place of each file: refusal 20.
+    plan_paths(b"rebate/tariff.csv", b"long/longer.csv");
+    plan_paths(b"long/longer.csv", b"rebate/production.csv");
+    // A directory in the place of each file, which opens and cannot be read: refusal 20.
+    plan_paths(b"folder", b"rebate/production.csv");
+    plan_paths(b"rebate/tariff.csv", b"folder");
 }

@@ -39,6 +39,38 @@ fn shown() {
     );
 }
 
+// A production file of 65,536 bytes, one of 65,537 and a directory: refusals 6, 20 and 20, and no file is made.
+fn long() {
+    tidy_and_show(
+        b"shown/tariff.csv",
+        b"long/fits.csv",
+        b"long_tariff.csv",
+        b"long_production.csv",
+    );
+    tidy_and_show(
+        b"long/longer.csv",
+        b"shown/production.csv",
+        b"long_tariff.csv",
+        b"long_production.csv",
+    );
+    tidy_and_show(
+        b"shown/tariff.csv",
+        b"folder",
+        b"long_tariff.csv",
+        b"long_production.csv",
+    );
+}
+
+// New files whose names have a comma and a quote: they are told as fields of RFC 4180.
+fn quoted() {
+    tidy_paths(
+        b"shown/tariff.csv",
+        b"shown/production.csv",
+        b"new,tariff.csv",
+        b"new\"production.csv",
+    );
+}
+
 // The one argument asks both commands for help: they write nothing to standard output.
 fn main() {
     plan_command::run();
@@ -46,4 +78,6 @@ fn main() {
     refused();
     taken();
     shown();
+    long();
+    quoted();
 }

@@ -1,13 +1,14 @@
 -- `bounds_problem::curve::draw` meets its contract. The invariant: the curve is drawn up to stop k - 1. Assumes nothing.
 use mathlib.Core.Path.{_≡_, refl, sym, ap, _∙_, subst}
-use Prim.Native.Nat.{ℕ, _+_, _-_, _≤_}
+use Prim.Native.Nat.{ℕ, _+_, _-_, _≤_, _<_}
 use native.Mathlib.Omega.{arith}
 use lib.IntN.{ℤ, pos}
 use lib.ListN.{length, getD, length-set}
+use lib.Seq.{getD-set-other}
 use denote.Ref.{now}
 use Rattle.problem.proofs.MachineIntegers.{read-back}
 use Rattle.bounds_problem.specs.Heights.{height, Moderate, Drawn, Drawing}
-use Rattle.bounds_problem.proofs.HeightLoops.{drawn-first, line-at, stretch-at}
+use Rattle.bounds_problem.proofs.HeightLoops.{drawn-first, drawn-on, line-at, stretch-at}
 use Rattle.bounds_problem.proofs.curve.draw.Statement.{statement}
 use Rattle.bounds_problem.proofs.curve.draw.Tie as tie
 
@@ -15,6 +16,7 @@ abbrev Inv-loop : tie.InvT-loop
 Inv-loop splits freights count to₀ lo last₀ level₀ k₀ to last level k =
     (1 ≤ k) × (k ≤ count) × (last ≡ getD splits (k - 1) 0) × (level ≡ height (getD freights (k - 1) (pos 0))) × (length to ≡ length to₀)
     × ((d : Drawing splits freights count) → Drawn (d .curve) (getD splits 0 0) last to)
+    × ((j : ℕ) → last < j + getD splits 0 0 → getD to j 0 ≡ getD to₀ j 0)
 
 abbrev μ-loop : tie.MeasureT-loop
 μ-loop splits freights count to₀ lo last₀ level₀ k₀ to last level k = count - k
@@ -41,6 +43,7 @@ loop-holds c =
       e,
       refl,
       λ d. drawn-first (d .curve) (getD (now (s .args .splits)) 0 0) (now (s .args .to)) (c .height-of .result) (omega (arith, s .pre .1)) (e ∙ d .first),
+      λ j h. refl,
     )
 
 mul-next : tie.Need-mul-next Inv-loop μ-loop
@@ -82,13 +85,15 @@ loop-again c =
     let q : k ≡ k + 1 - 1 = omega arith in
     let w = c .before .before .draw-stretch .ensures in
     let e : c .before .before .before .before .height-of2 .result ≡ height (getD (now (s .args .freights)) k (pos 0)) =
-    c .before .before .before .before .height-of2 .ensures ∙ ap height (read-back _ (c .before .before .before .before .before .height-of-arg2 .given)) in (
+    c .before .before .before .before .height-of2 .ensures ∙ ap height (read-back _ (c .before .before .before .before .before .height-of-arg2 .given)) in
+    let st = stretch-at (s .pre .0) k (c .before .before .before .before .before .before .before .before .loop .last) (c .before .before .before .before .before .before .before .before .loop .level) (c .before .before .before .before .height-of2 .result) (i .0) t (i .2) (i .3) e 4001 (omega arith) in (
       omega arith,
       omega arith,
       ap (λ (j : ℕ). getD (now (s .args .splits)) j 0) q,
       e ∙ ap (λ (j : ℕ). height (getD (now (s .args .freights)) j (pos 0))) q,
-      w .0 ∙ i .4,
-      λ d. w .1 (d .curve) (line-at d k (c .before .before .before .before .before .before .before .before .loop .last) (c .before .before .before .before .before .before .before .before .loop .level) (c .before .before .before .before .height-of2 .result) (i .0) t (i .2) (i .3) e) (i .5 d),
+      w .long ∙ i .4,
+      λ d. drawn-on (d .curve) _ _ w (st .from) (line-at d k (c .before .before .before .before .before .before .before .before .loop .last) (c .before .before .before .before .before .before .before .before .loop .level) (c .before .before .before .before .height-of2 .result) (i .0) t (i .2) (i .3) e) (i .5 d),
+      λ j h. w .kept j (λ a b. omega arith) ∙ i .6 j (omega (arith, st .rises)),
     )
 
 same-length : tie.Need-same-length Inv-loop μ-loop
@@ -100,7 +105,13 @@ returns c =
     let i = c .before .loop .inv in
     let e : c .before .loop .k - 1 ≡ s .args .count - 1 = omega (arith, i .1, c .loop-test .left) in
     let l : c .before .loop .last ≡ getD (now (s .args .splits)) (s .args .count - 1) 0 = i .2 ∙ ap (λ (j : ℕ). getD (now (s .args .splits)) j 0) e in
-    (i .4 ∙ length-set (now (s .args .to)) 0 (c .before .before .height-of .result), λ d z a h. i .5 d z a (omega arith))
+    record {
+      long = i .4 ∙ length-set (now (s .args .to)) 0 (c .before .before .height-of .result);
+      drawn = λ d z a h. i .5 d z a (omega arith);
+      kept = λ j h.
+          i .6 j (omega arith)
+          ∙ getD-set-other (now (s .args .to)) 0 j (c .before .before .height-of .result) 0 (λ z. omega (arith, s .pre .0 .lowest (s .args .count - 1) (omega (arith, s .pre .0 .some))));
+    }
 
 pub draw-spec : {M : Type 1} → statement M
 draw-spec =

@@ -1,21 +1,19 @@
 -- `bounds_problem::curve::draw_stretch` meets its contract. The invariant: the line is drawn up to y. Assumes nothing.
-use mathlib.Core.Path.{_≡_, refl, _∙_}
-use Prim.Native.Nat.{ℕ, _+_, _-_, _≤_}
+use mathlib.Core.Path.{_≡_}
+use Prim.Native.Nat.{_+_, _-_, _≤_}
 use native.Mathlib.Omega.{arith}
-use lib.ListN.{length, length-set}
-use Rattle.bounds_problem.specs.Heights.{Line, Drawn}
-use Rattle.bounds_problem.proofs.HeightLoops.{on-line, drawn-next}
+use Rattle.bounds_problem.proofs.HeightLoops.{StretchSoFar, stretch-start, stretch-next}
 use Rattle.bounds_problem.proofs.curve.draw_stretch.Statement.{statement}
 use Rattle.bounds_problem.proofs.curve.draw_stretch.Tie as tie
 
 abbrev Inv-loop : tie.InvT-loop
-Inv-loop lo p q a b to₀ y₀ to y = (p ≤ y) × (y ≤ q) × (length to ≡ length to₀) × ((g : ℕ → ℕ) → Line g p q a b → Drawn g lo p to₀ → Drawn g lo y to)
+Inv-loop lo p q a b to₀ y₀ to y = (p ≤ y) × (y ≤ q) × StretchSoFar lo p q a b y to₀ to
 
 abbrev μ-loop : tie.MeasureT-loop
 μ-loop lo p q a b to₀ y₀ to y = q - y
 
 loop-holds : tie.Need-loop-holds Inv-loop μ-loop
-loop-holds c = let p = c .before .pre in (omega arith, omega (arith, p .rises), refl, λ g l d. d)
+loop-holds c = let p = c .before .pre in (omega arith, omega (arith, p .rises), stretch-start _)
 
 add-y : tie.Need-add-y Inv-loop μ-loop
 add-y c = omega (arith, c .before .before .before .pre .limit)
@@ -30,7 +28,7 @@ mul-to : tie.Need-mul-to Inv-loop μ-loop
 mul-to c = omega (arith, c .before .before .before .before .pre .limit, c .before .loop-test .taken)
 
 slice-write-to : tie.Need-slice-write-to Inv-loop μ-loop
-slice-write-to c = omega (arith, c .before .before .before .before .pre .room, c .before .loop-test .taken, c .before .before .loop .inv .2)
+slice-write-to c = omega (arith, c .before .before .before .before .pre .room, c .before .loop-test .taken, c .before .before .loop .inv .2 .long)
 
 loop-less : tie.Need-loop-less Inv-loop μ-loop
 loop-less c = omega (arith, c .before .loop-test .taken)
@@ -44,19 +42,17 @@ loop-again c =
     let y = c .before .before .loop .y in (
       omega arith,
       omega arith,
-      length-set (c .before .before .loop .to) (y + 1 - s .lo) (c .between .result) ∙ i .2,
-      λ g l d. drawn-next g (s .lo) y (c .before .before .loop .to) (c .between .result) (i .3 g l d) (omega (arith, p .from)) (omega (arith, p .room, i .2))
-          (c .between .ensures ∙ on-line l (y + 1) (omega arith) (omega arith)),
+      stretch-next y _ (c .before .before .loop .to) (c .between .result) (i .2) (p .from) (omega arith) (omega (arith, p .room)) (c .between .ensures),
     )
 
 same-length : tie.Need-same-length Inv-loop μ-loop
-same-length c = c .before .loop .inv .2
+same-length c = c .before .loop .inv .2 .long
 
 returns : tie.Need-returns Inv-loop μ-loop
 returns c =
     let i = c .before .loop .inv in
     let e : c .before .loop .y ≡ c .before .before .before .args .q = omega (arith, i .1, c .loop-test .left) in
-    (i .2, λ g l d z a b. i .3 g l d z a (omega arith))
+    record { long = i .2 .long; points = λ z a b. i .2 .points z a (omega arith); kept = λ k no. i .2 .kept k (λ a b. no a (omega arith)) }
 
 pub draw-stretch-spec : {M : Type 1} → statement M
 draw-stretch-spec =

@@ -94,9 +94,9 @@ settle-requires c κs =
     let same = c .before .before .before .before .before .before .before .before .before .before .before .if1 .left in
     let n = sym (c .before .before .before .before .before .before .before .before .first-bad .ensures) ∙ ap found (c .before .before .before .before .before .before .enum-told .given .1) in
     let d = c .before .before .before .draw in
-    let room : 4001 ≤ length (d .last .1 .1 .1 .0) = omega (arith, d .ensures .0) in (
-      low-summed (s .pre .listed) (now (s .args .high)) same n (d .last .1 .1 .1 .0) room (draws (s .pre .listed) (d .last .1 .1 .1 .0) (d .ensures .1)),
-      high-summed (s .pre .listed) (now (s .args .high)) same n (d .last .1 .1 .1 .0) room (draws (s .pre .listed) (d .last .1 .1 .1 .0) (d .ensures .1)),
+    let room : 4001 ≤ length (d .last .1 .1 .1 .0) = omega (arith, d .ensures .long) in (
+      low-summed (s .pre .listed) (now (s .args .high)) same n (d .last .1 .1 .1 .0) room (draws (s .pre .listed) (d .last .1 .1 .1 .0) (d .ensures .drawn)),
+      high-summed (s .pre .listed) (now (s .args .high)) same n (d .last .1 .1 .1 .0) room (draws (s .pre .listed) (d .last .1 .1 .1 .0) (d .ensures .drawn)),
       c .before .before .before .before .before .if2 .left,
     )
 
@@ -109,10 +109,10 @@ returns-4 c =
     let same = c .before .before .before .before .before .before .before .before .before .before .before .before .before .before .if1 .left in
     let n = sym (c .before .before .before .before .before .before .before .before .before .before .before .first-bad .ensures) ∙ ap found (c .before .before .before .before .before .before .before .before .before .enum-told .given .1) in
     let d = c .before .before .before .before .before .before .draw in
-    let room : 4001 ≤ length (d .last .1 .1 .1 .0) = omega (arith, d .ensures .0) in
+    let room : 4001 ≤ length (d .last .1 .1 .1 .0) = omega (arith, d .ensures .long) in
     let w = c .before .before .settle in
     λ q l. subst (λ (o : Outcome). Answered (tabled q (now (s .args .low))) (now (s .args .high)) o (now (s .args .answers)) (w .last .1 .1 .1 .1 .0)) (sym (w .ensures .0))
-    (settled l (now (s .args .high)) same n (d .last .1 .1 .1 .0) room (draws l (d .last .1 .1 .1 .0) (d .ensures .1)) (now (s .args .answers)) (w .last .1 .1 .1 .1 .0) (c .before .before .before .before .before .before .before .before .if2 .left) (w .ensures .1))
+    (settled l (now (s .args .high)) same n (d .last .1 .1 .1 .0) room (draws l (d .last .1 .1 .1 .0) (d .ensures .drawn)) (now (s .args .answers)) (w .last .1 .1 .1 .1 .0) (c .before .before .before .before .before .before .before .before .if2 .left) (w .ensures .1))
 
 pub judge-spec : {M : Type 1} → statement M
 judge-spec =

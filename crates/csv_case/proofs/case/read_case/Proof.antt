@@ -32,7 +32,7 @@ handed-on-requires : tie.Need-handed-on-requires
 handed-on-requires c κs = search needs
 
 returns : tie.Need-returns
-returns c = rw (c .handed-on .ensures) (tariff-refused _ _ _ _ _ _ _ _ _ _ _ _ _ (c .before .enum-told .given .1) (c .before .before .before .before .read-table .ensures .answered))
+returns c = rw (c .handed-on .ensures) (tariff-refused _ _ _ _ _ _ _ _ _ (c .before .enum-told .given .1) (c .before .before .before .before .read-table .ensures .answered))
 
 entry-blank-requires : tie.Need-entry-blank-requires
 entry-blank-requires c κs = search needs
@@ -53,7 +53,7 @@ handed-on-requires-2 : tie.Need-handed-on-requires-2
 handed-on-requires-2 c κs = search needs
 
 returns-2 : tie.Need-returns-2
-returns-2 c = rw (c .handed-on2 .ensures) (production-refused _ _ _ _ _ _ _ _ _ _ _ _ _ _ _ (sym (c .before .before .before .before .before .before .before .before .t .given .1) ∙ c .before .before .before .before .before .before .before .before .before .before .before .read-table .ensures .answered) (c .before .enum-told2 .given .1) (c .before .before .before .before .read-table2 .ensures .answered))
+returns-2 c = rw (c .handed-on2 .ensures) (production-refused _ _ _ _ _ _ _ _ _ _ _ (sym (c .before .before .before .before .before .before .before .before .t .given .1) ∙ c .before .before .before .before .before .before .before .before .before .before .before .read-table .ensures .answered) (c .before .enum-told2 .given .1) (c .before .before .before .before .read-table2 .ensures .answered))
 
 sub-m : tie.Need-sub-m
 sub-m c = c .before .before .before .before .before .before .before .before .before .before .before .read-table .ensures .some _ _ (c .before .before .before .before .before .before .before .before .t .given .1) .0

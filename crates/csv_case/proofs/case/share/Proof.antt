@@ -6,10 +6,10 @@ use Rattle.csv_case.proofs.case.share.Statement.{statement}
 use Rattle.csv_case.proofs.case.share.Tie as tie
 
 returns : tie.Need-returns
-returns c = too-large _ _ _ _ _ _ _ _ _ (λ few narrow. omega (arith, c .if1 .taken))
+returns c = too-large _ _ _ _ _ _ (λ few narrow. omega (arith, c .if1 .taken))
 
 returns-2 : tie.Need-returns-2
-returns-2 c = too-large _ _ _ _ _ _ _ _ _ (λ few narrow. omega (arith, c .if2 .taken))
+returns-2 c = too-large _ _ _ _ _ _ (λ few narrow. omega (arith, c .if2 .taken))
 
 share-sources-requires : tie.Need-share-sources-requires
 share-sources-requires c κs = let a = c .before .before .before .before .before .before .args in (omega (arith, c .before .before .before .before .before .before .pre, share-room (a .m) (a .n) (c .before .before .before .if1 .left) (c .before .before .if2 .left)), c .before .before .if2 .left)
@@ -33,7 +33,12 @@ same-length-3 : tie.Need-same-length-3
 same-length-3 c = search needs
 
 returns-3 : tie.Need-returns-3
-returns-3 c = search needs
+returns-3 c = record {
+  costs-shared = search needs;
+  supplies-shared = search needs;
+  demands-shared = search needs;
+  large-kept = λ no-room. absurd (no-room (c .before .before .before .before .before .before .before .before .before .before .before .if1 .left) (c .before .before .before .before .before .before .before .before .before .before .if2 .left));
+}
 
 pub share-spec : {M : Type 1} → statement M
 share-spec =

@@ -12,10 +12,10 @@ array-write-room : tie.Need-array-write-room
 array-write-room c = search needs
 
 search-requires : tie.Need-search-requires
-search-requires c κs = let r = c .before .pre .0 in (record { sound = r .swinging .sound; ceilings = r .swinging .ceilings; start = omega (arith, r .swinging .plants) }, c .before .pre .1)
+search-requires c κs = let r = c .before .pre in (record { sound = r .0 .swinging .sound; ceilings = r .0 .swinging .ceilings; start = omega (arith, r .0 .swinging .plants) }, (r .1 .0, r .1 .1))
 
 returns : tie.Need-returns
-returns c = let r = c .before .before .before .before .pre .0 in reached-by r (c .before .before .search .ensures _ (r .some))
+returns c = let r = c .before .before .pre .0 in reached-by r (c .search .ensures _ (r .some))
 
 pub reach-spec : {M : Type 1} → statement M
 reach-spec =

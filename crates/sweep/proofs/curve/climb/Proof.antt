@@ -1,7 +1,7 @@
 -- `sweep::curve::climb` meets its contract. Assumes nothing.
 use Prim.Native.Nat.{_-_, _≤_}
 use native.Mathlib.Omega.{arith}
-use Rattle.sweep.proofs.ClimbState.{stand-start, start-most, stand-on, stretch-ready, last-ready, stand-next, most, gain-most, loss-most}
+use Rattle.sweep.proofs.ClimbState.{stand-start, start-most, stretch-ready, last-ready, stand-next, most, gain-most, loss-most}
 use Rattle.sweep.proofs.ClimbTurns.{ascend-start, ascend-splits, ascend-freights, ascend-room, ascend-next, ascend-end}
 use mathlib.Core.Path.{refl, _∙_}
 use borrow.Author.Needs.{needs}
@@ -12,46 +12,43 @@ use Rattle.sweep.proofs.curve.climb.Statement.{statement}
 use Rattle.sweep.proofs.curve.climb.Tie as tie
 
 abbrev Inv-loop : tie.InvT-loop
-Inv-loop m n cost cap lo hi freight demand table added splits₀ freights₀ x₀ serves₀ pot₀ kept₀ up₀ rows₀ cols₀ columns at best₀ prices₀ dist₀ prev₀ y₀ value₀ count₀ rise₀ fall₀ drained₀ splits freights x serves pot kept up rows cols best prices dist prev y value count rise fall drained = Standing m n cost cap x₀ x pot kept prices y value best × Climbing (curveFrom m n cost cap x₀) table added splits₀ freights₀ lo hi splits freights y value count rise fall best × (rise ≤ 800000000) × (fall ≤ 800000000) × Covers m n x serves
+Inv-loop m n cost cap lo hi freight demand table added splits₀ freights₀ x₀ serves₀ pot₀ kept₀ up₀ rows₀ cols₀ columns at best₀ prices₀ y₀ value₀ count₀ rise₀ fall₀ drained₀ splits freights x serves pot kept up rows cols best prices y value count rise fall drained = Standing m n cost cap x₀ x pot kept prices y value best × Climbing (curveFrom m n cost cap x₀) table added splits₀ freights₀ lo hi splits freights y value count rise fall best × (rise ≤ 800000000) × (fall ≤ 800000000) × Covers m n x serves
 
 abbrev μ-loop : tie.MeasureT-loop
-μ-loop m n cost cap lo hi freight demand table added splits₀ freights₀ x₀ serves₀ pot₀ kept₀ up₀ rows₀ cols₀ columns at best₀ prices₀ dist₀ prev₀ y₀ value₀ count₀ rise₀ fall₀ drained₀ splits freights x serves pot kept up rows cols best prices dist prev y value count rise fall drained = hi - y
+μ-loop m n cost cap lo hi freight demand table added splits₀ freights₀ x₀ serves₀ pot₀ kept₀ up₀ rows₀ cols₀ columns at best₀ prices₀ y₀ value₀ count₀ rise₀ fall₀ drained₀ splits freights x serves pot kept up rows cols best prices y value count rise fall drained = hi - y
 
-mul-t35 : tie.Need-mul-t35 Inv-loop μ-loop
-mul-t35 c = omega (arith, c .before .before .pre .0 .entries, c .before .before .pre .0 .order, c .before .before .good)
+mul-t33 : tie.Need-mul-t33 Inv-loop μ-loop
+mul-t33 c = omega (arith, c .before .before .pre .0 .entries, c .before .before .pre .0 .order, c .before .before .good)
 
-shared-slice-read-t37 : tie.Need-shared-slice-read-t37 Inv-loop μ-loop
-shared-slice-read-t37 c = omega (arith, c .before .before .before .pre .0 .entries, c .before .before .before .pre .0 .order)
+shared-slice-read-t35 : tie.Need-shared-slice-read-t35 Inv-loop μ-loop
+shared-slice-read-t35 c = omega (arith, c .before .before .before .pre .0 .entries, c .before .before .before .pre .0 .order)
 
-add-t38 : tie.Need-add-t38 Inv-loop μ-loop
-add-t38 c = let r = c .before .before .before .pre .0 in omega (arith, start-most r, r .small (c .before .before .before .args .lo) (omega arith) (r .order))
+add-t36 : tie.Need-add-t36 Inv-loop μ-loop
+add-t36 c = let r = c .before .before .before .pre .0 in omega (arith, start-most r, r .small (c .before .before .before .args .lo) (omega arith) (r .order))
 
 loop-holds : tie.Need-loop-holds Inv-loop μ-loop
 loop-holds c = let r = c .before .before .before .before .pre .0 in (stand-start r _ _, ascend-start r, omega arith, omega arith, c .before .before .before .before .pre .1 .1 .0)
 
-advance-requires : tie.Need-advance-requires Inv-loop μ-loop
-advance-requires c κs = let s = c .before .before .before .before .before .before .before .loop .inv .0 .swinging in record { sources = s .sound .sources; terminals = s .sound .terminals; costs = s .sound .costs; turned = c .before .before .before .before .before .before .before .before .before .before .before .before .pre .1 .1 .1; high = s .sound .high; long = s .long-p }
-
 sub-left : tie.Need-sub-left Inv-loop μ-loop
-sub-left c = omega (arith, c .before .before .before .before .before .before .before .loop-test .taken)
+sub-left c = omega (arith, c .loop-test .taken)
 
 cast-left : tie.Need-cast-left Inv-loop μ-loop
-cast-left c = omega (arith, c .before .before .before .before .before .before .before .before .before .before .before .before .before .pre .0 .short, c .before .before .before .before .before .before .before .before .loop .inv .1 .low)
+cast-left c = omega (arith, c .before .before .before .before .before .before .pre .0 .short, c .before .loop .inv .1 .low)
 
 stretch-requires : tie.Need-stretch-requires Inv-loop μ-loop
-stretch-requires c κs = let i = c .before .before .before .before .before .before .before .before .before .before .before .before .before .before .before .before .loop .inv in let r = c .before .before .before .before .before .before .before .before .before .before .before .before .before .before .before .before .before .before .before .before .before .pre .0 in (stretch-ready r (stand-on r (i .0) (i .4) (c .before .before .before .before .before .before .before .before .advance .ensures)) (i .1 .low) (c .before .before .before .before .before .before .before .before .before .before .before .before .before .before .before .loop-test .taken), (λ j h. omega (arith, i .0 .at .demands j (omega arith) h, c .before .before .before .before .before .before .before .before .before .before .before .before .before .before .before .before .before .before .before .before .before .pre .1 .0 j h), c .before .before .before .before .before .before .before .before .advance .ensures .covers (i .4)))
+stretch-requires c κs = let i = c .before .before .before .before .before .before .before .before .before .loop .inv in let r = c .before .before .before .before .before .before .before .before .before .before .before .before .before .before .pre .0 in (stretch-ready r (i .0) (i .1 .low) (c .before .before .before .before .before .before .before .before .loop-test .taken), (λ j h. omega (arith, i .0 .at .demands j (omega arith) h, c .before .before .before .before .before .before .before .before .before .before .before .before .before .before .pre .1 .0 j h), (i .4, c .before .before .before .before .before .before .before .before .before .before .before .before .before .before .pre .1 .1 .1)))
 
 turn-requires : tie.Need-turn-requires Inv-loop μ-loop
-turn-requires c κs = let i = c .before .before .before .before .before .before .before .before .before .before .before .before .before .before .before .before .before .loop .inv in let r = c .before .before .before .before .before .before .before .before .before .before .before .before .before .before .before .before .before .before .before .before .before .before .pre .0 in let s = stand-on r (i .0) (i .4) (c .before .before .before .before .before .before .before .before .before .advance .ensures) in let l = c .before .before .before .before .before .before .before .before .before .before .before .before .before .before .before .before .loop-test .taken in (omega (arith, gain-most r s (i .1 .low) l (c .stretch .ensures .0), i .3), omega (arith, loss-most r s (i .1 .low) l (c .stretch .ensures .0), i .2))
+turn-requires c κs = let i = c .before .before .before .before .before .before .before .before .before .before .loop .inv in let r = c .before .before .before .before .before .before .before .before .before .before .before .before .before .before .before .pre .0 in let l = c .before .before .before .before .before .before .before .before .before .loop-test .taken in (omega (arith, gain-most r (i .0) (i .1 .low) l (c .stretch .ensures .0), i .3), omega (arith, loss-most r (i .0) (i .1 .low) l (c .stretch .ensures .0), i .2))
 
 mark-requires : tie.Need-mark-requires Inv-loop μ-loop
-mark-requires c κs = let i = c .before .before .before .before .before .before .before .before .before .before .before .before .before .before .before .before .before .before .before .before .loop .inv in let r = c .before .before .before .before .before .before .before .before .before .before .before .before .before .before .before .before .before .before .before .before .before .before .before .before .before .pre .0 in ascend-room r (i .0) (i .1)
+mark-requires c κs = let i = c .before .before .before .before .before .before .before .before .before .before .before .before .before .loop .inv in let r = c .before .before .before .before .before .before .before .before .before .before .before .before .before .before .before .before .before .before .pre .0 in ascend-room r (i .0) (i .1)
 
 loop-less : tie.Need-loop-less Inv-loop μ-loop
-loop-less c = let i = c .before .before .before .before .before .before .before .before .before .before .before .before .before .before .before .before .before .before .before .before .before .before .before .before .before .loop .inv in let r = c .before .before .before .before .before .before .before .before .before .before .before .before .before .before .before .before .before .before .before .before .before .before .before .before .before .before .before .before .before .before .pre .0 in let s = stand-on r (i .0) (i .4) (c .before .before .before .before .before .before .before .before .before .before .before .before .before .before .before .before .before .advance .ensures) in let q = c .before .before .before .before .before .before .before .before .stretch .ensures .0 in omega (arith, most r s (i .1 .low) (c .before .before .before .before .before .before .before .before .before .before .before .before .before .before .before .before .before .before .before .before .before .before .before .before .loop-test .taken) q, q .some, q .split, c .before .before .before .before .before .before .before .before .before .before .before .before .before .before .before .before .before .before .before .before .before .before .before .before .loop-test .taken)
+loop-less c = let i = c .before .before .before .before .before .before .before .before .before .before .before .before .before .before .before .before .before .before .loop .inv in let r = c .before .before .before .before .before .before .before .before .before .before .before .before .before .before .before .before .before .before .before .before .before .before .before .pre .0 in let q = c .before .before .before .before .before .before .before .before .stretch .ensures .0 in omega (arith, most r (i .0) (i .1 .low) (c .before .before .before .before .before .before .before .before .before .before .before .before .before .before .before .before .before .loop-test .taken) q, q .some, q .split, c .before .before .before .before .before .before .before .before .before .before .before .before .before .before .before .before .before .loop-test .taken)
 
 loop-again : tie.Need-loop-again Inv-loop μ-loop
-loop-again c = let i = c .before .before .before .before .before .before .before .before .before .before .before .before .before .before .before .before .before .before .before .before .before .before .before .before .before .loop .inv in let r = c .before .before .before .before .before .before .before .before .before .before .before .before .before .before .before .before .before .before .before .before .before .before .before .before .before .before .before .before .before .before .pre .0 in let s = stand-on r (i .0) (i .4) (c .before .before .before .before .before .before .before .before .before .before .before .before .before .before .before .before .before .advance .ensures) in let l = c .before .before .before .before .before .before .before .before .before .before .before .before .before .before .before .before .before .before .before .before .before .before .before .before .loop-test .taken in let q = c .before .before .before .before .before .before .before .before .stretch .ensures .0 in (stand-next r s (i .1 .low) l q refl refl refl refl, ascend-next r s (i .1) l q (c .before .before .before .before .before .before .before .turn .ensures) (c .before .before .before .before .mark .ensures), gain-most r s (i .1 .low) l q, loss-most r s (i .1 .low) l q, c .before .before .before .before .before .before .before .before .stretch .ensures .1)
+loop-again c = let i = c .before .before .before .before .before .before .before .before .before .before .before .before .before .before .before .before .before .before .loop .inv in let r = c .before .before .before .before .before .before .before .before .before .before .before .before .before .before .before .before .before .before .before .before .before .before .before .pre .0 in let l = c .before .before .before .before .before .before .before .before .before .before .before .before .before .before .before .before .before .loop-test .taken in let q = c .before .before .before .before .before .before .before .before .stretch .ensures .0 in (stand-next r (i .0) (i .1 .low) l q refl refl refl refl, ascend-next r (i .0) (i .1) l q (c .before .before .before .before .before .before .before .turn .ensures) (c .before .before .before .before .mark .ensures), gain-most r (i .0) (i .1 .low) l q, loss-most r (i .0) (i .1 .low) l q, c .before .before .before .before .before .before .before .before .stretch .ensures .1)
 
 note-requires : tie.Need-note-requires Inv-loop μ-loop
 note-requires c κs = let i = c .before .before .before .loop .inv in ascend-room (c .before .before .before .before .before .before .before .before .pre .0) (i .0) (i .1)
@@ -77,11 +74,10 @@ climb-spec =
     (tie.spec
     Inv-loop
     μ-loop
-    mul-t35
-    shared-slice-read-t37
-    add-t38
+    mul-t33
+    shared-slice-read-t35
+    add-t36
     loop-holds
-    advance-requires
     sub-left
     cast-left
     stretch-requires

@@ -1,0 +1,77 @@
+"""What a journal says: the steps that stand, those undone, the names of marks, and what is published.
+
+A step is one entering of a case, or the calls of one write, which stand or fall together. Undo takes the last step away, redo brings it
+back; a new step forgets those undone.
+"""
+
+from typing import Dict, List, NamedTuple, Optional, Tuple
+
+
+class Step(NamedTuple):
+    seq: int  # the number of its record; equal prefixes of steps have equal last numbers
+    time: str
+    user: str
+    role: int
+    calls: List[list]  # each the name of a call and its numbers
+    names: Dict[int, str]  # of marks
+    case: Optional[dict]  # of an entering
+
+
+class History:
+    def __init__(self):
+        self.steps: List[Step] = []
+        self.undone: List[Step] = []
+        self.published: Optional[dict] = None
+        self.ids = set()  # user and identity of each write that was answered
+
+    def add(self, record: dict):
+        kind = record["do"]
+        if record.get("id"):
+            self.ids.add((record["user"], record["id"]))
+        if kind in ("enter", "calls"):
+            self.steps.append(_step(record))
+            self.undone.clear()
+        elif kind == "undo":
+            self.undone.append(self.steps.pop())
+        elif kind == "redo":
+            self.steps.append(self.undone.pop())
+        elif kind == "publish":
+            self.published = {"time": record["time"], "user": record["user"], **record["lanes"]}
+        elif kind == "withdraw":
+            self.published = None
+        else:
+            raise ValueError(f"a record of an unknown kind, {kind}")
+
+    def since_entry(self, count: Optional[int] = None) -> Tuple[dict, List[Step]]:
+        """Of the first steps the case that was entered last, and the steps after it."""
+        steps = self.steps[:count]
+        start = max(k for k, step in enumerate(steps) if step.case is not None)
+        return steps[start].case, steps[start + 1 :]
+
+    @property
+    def last(self) -> Step:
+        return self.steps[-1]
+
+    def may_undo(self) -> bool:
+        """The first step, which entered the case, stays."""
+        return len(self.steps) > 1
+
+    def marks(self) -> Dict[int, Tuple[str, int]]:
+        """The name of each mark that was set since the case was entered, and the number of the step that set it last."""
+        found, names = {}, {}
+        for step in self.since_entry()[1]:
+            names.update(step.names)
+            found.update({call[1]: step.seq for call in step.calls if call[0] == "mark"})
+        return {mark: (names.get(mark, f"Mark {mark}"), seq) for mark, seq in sorted(found.items())}
+
+
+def _step(record: dict) -> Step:
+    names = {int(mark): name for mark, name in record.get("names", {}).items()}
+    return Step(record["seq"], record["time"], record["user"], record.get("role", 0), record.get("calls", []), names, record.get("case"))
+
+
+def folded(records: List[dict]) -> History:
+    history = History()
+    for record in records:
+        history.add(record)
+    return history
