@@ -151,7 +151,7 @@ module _ {c : Case} {all : ℕ} (s : OnBalance c all) {cost cap amounts wants : 
   lane-cap : (i j : ℕ) → i < c .m → j < c .n → getD cap (i * 64 + j) 0 ≤ 4000
   lane-cap i j h l = omega (arith, p .ceilings .cells i j h l, form-of s .ceiling-most (i * c .n + j) (lane-in (c .m) (c .n) i j h l))
 
-  sends : (y i : ℕ) → i < c .m → amountsAt all (amountIn amounts) y i ≡ amountsAt (made c) (λ i. supply c i) y i
+  pub sends : (y i : ℕ) → i < c .m → amountsAt all (amountIn amounts) y i ≡ amountsAt (made c) (λ i. supply c i) y i
   sends y i h = amounts-same all (made c) (amountIn amounts) (λ i. supply c i) (c .m) (s .whole) (λ i a l. p .sources i l) y i h
 
   sent : sum (c .m) (amountsAt all (amountIn amounts) 0) ≡ allDemand c

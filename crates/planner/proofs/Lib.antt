@@ -1,5 +1,6 @@
 pub mod BendsListed
 pub mod EngineAnswer
+pub mod CaseStretches
 pub mod LaterTests
 pub mod OnePlan
 pub mod Judging

@@ -1,3 +1,4 @@
 pub mod Answer
 pub mod Ready
 pub mod Judge
+pub mod CaseCurve

@@ -16,9 +16,10 @@ use Rattle.stretch.specs.Stretch.{heldAt, StretchDone}
 use Rattle.incumbent.specs.declared.Incumbent.{Incumbent}
 use Rattle.sweep.specs.Sweep.{Swept}
 use Rattle.sweep.specs.engine.StopsPassed.{turned, NoteReady, Noted, Marked, Climbing}
-use Rattle.sweep.specs.engine.Climb.{bothIn, curveFrom, ClimbReady, Standing}
+use Rattle.sweep.specs.engine.Climb.{bothIn, curveFrom, StretchedTo, ClimbReady, Standing}
 use Rattle.canonical.proofs.CanonicalPlan.{settled-least, settled-cells}
 use Rattle.sweep.proofs.SweptCurve.{climb-start, climb-splits, climb-freights, climb-room, climb-next, climb-end}
+use Rattle.sweep.proofs.StretchTurns.{stretched-end}
 use Rattle.sweep.proofs.ClimbState.{stand-start, here, value-most, stretch-line, most, value-next}
 
 module _ {m n : ℕ} {cost cap x₀ p₀ : List ℕ} {lo hi v : ℕ} {table : List ℕ} {added : ℕ} {splits : List ℕ} {freights : List ℤ} (r : ClimbReady m n cost cap x₀ p₀ lo hi v table added splits freights) where
@@ -54,19 +55,19 @@ module _ {m n : ℕ} {cost cap x₀ p₀ : List ℕ} {lo hi v : ℕ} {table : Li
     kept-least = s .plan .worth ∙ c .best .freight
 
     pub ascend-end : {splits'' k kept' : List ℕ} {freights'' : List ℤ} {count' : ℕ} → hi ≤ y → Noted count y value added splits' freights' splits'' freights'' count'
-        → k ≡ heldAt (b .split) y x kept → Canonized (net m n cost cap k) kept'
+        → k ≡ heldAt (b .split) y x kept → Canonized (net m n cost cap k) kept' → StretchedTo m n cost cap x₀ lo hi y x
         → Swept m n (cells cost) (cells cap) (bothIn n x₀) (row n (cells x₀)) (col m (cells x₀)) lo hi table added splits freights splits'' freights'' kept' (b .split) (b .total) (b .freight) count'
-    ascend-end {kept' = kept'} h k f held =
+    ascend-end {kept' = kept'} h k f held w =
         let e : y ≡ hi = omega (arith, c .high) in
         let o = subst (λ (l : List ℕ). Canonized (net m n cost cap l) kept') f held in
-        let w = climb-end (curveFrom m n cost cap x₀) table added splits freights lo hi c (r .splits-room) (r .freights-room) e k in
+        let o' = climb-end (curveFrom m n cost cap x₀) table added splits freights lo hi c (r .splits-room) (r .freights-room) e k in
         record {
           split = c .best .split ∙ ap (λ z. bestFrom (λ z. curveFrom m n cost cap x₀ z + getD table z 0) lo (z - lo)) e;
           least = c .best .freight;
           total = omega (arith, c .best .total, c .best .freight);
-          count = w .2;
-          stops-written = w .0;
-          freights-written = w .1;
+          count = o' .2;
+          stops-written = o' .0;
+          freights-written = o' .1;
           plan = record {
             long = o .long;
             rows = λ i l. o .settled .rival .rows i l ∙ s .plan .rows i l;
@@ -75,4 +76,5 @@ module _ {m n : ℕ} {cost cap x₀ p₀ : List ℕ} {lo hi v : ℕ} {table : Li
             worth = settled-least (s .ready .terminals) (o .settled) (s .plan .rows) (s .plan .columns) kept-least ∙ sym kept-least ∙ s .plan .worth;
           };
           first = settled-cells (s .ready .terminals) (o .settled) (s .plan .rows) (s .plan .columns) kept-least;
+          stretches = stretched-end r x e w;
         }

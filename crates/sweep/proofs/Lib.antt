@@ -3,5 +3,7 @@ pub mod IncumbentBest
 pub mod FreightSum
 pub mod SweptCurve
 pub mod ClimbState
+pub mod OwnCosts
+pub mod StretchTurns
 pub mod ClimbTurns
 pub mod SweepEnds

@@ -1,16 +1,18 @@
 -- The start of the sweep from step 1's plan, and the answer in the case's own terms. Assumes nothing.
 use mathlib.Core.Path.{_≡_, refl, sym, ap, _∙_, fun-ext}
 use mathlib.Core.List.{List, map}
-use Prim.Native.Nat.{ℕ, zero, suc, _+_, _-_, _≤_, _<_}
+use Prim.Native.Nat.{ℕ, zero, suc, _+_, _-_, _*_, _≤_, _<_}
 use native.Mathlib.Omega.{arith}
-use lib.IntN.{ℤ}
+use lib.IntN.{ℤ, pos}
 use lib.ListN.{length, getD}
+use Rattle.transport.specs.Sum.{sum}
 use Rattle.transport.specs.Plan.{Table, byRow, col, freight}
 use Rattle.transport.specs.Curve.{amountsAt, leastIn, bestFrom, stopsOf, written}
 use Rattle.residual.specs.Cells.{cells}
 use Rattle.problem.specs.Range.{lower}
 use Rattle.split_range.specs.Begun.{Begun}
 use Rattle.split_range.specs.Range.{demandIn}
+use Rattle.sweep.specs.Stretches.{raisedCurve, Stretches}
 use Rattle.sweep.specs.Sweep.{SweepReady, Swept}
 use Rattle.sweep.specs.engine.FreightSum.{FreightReady}
 use Rattle.sweep.specs.engine.Climb.{bothIn, ClimbReady}
@@ -18,6 +20,9 @@ use Rattle.transport.proofs.Sums.{sum-ext}
 use Rattle.transport.proofs.Tables.{rows-cols, Below}
 use Rattle.transport.proofs.WithinCeilings.{leastFreightIn-ext}
 use Rattle.transport.proofs.Canonical.{canonical-ext}
+use Rattle.transport.proofs.Differences.{sub-pos}
+use Rattle.problem.proofs.Integers.{above-zero}
+use Rattle.sweep.proofs.OwnCosts.{own-stretches}
 
 -- ---- two ways to say what the sources send and what the terminals get
 
@@ -33,10 +38,21 @@ module _ {m n : ℕ} (c u : Table) {d d' : ℕ} {a a' b b' : ℕ → ℕ} (e : d
   same-curve =
       fun-ext (λ y. leastFreightIn-ext m n c c u u (amountsAt d a y) (amountsAt d' a' y) b b' (λ i j p q. refl) (λ i j p q. refl) (sends y) l)
 
+  -- the same stretches: the costs are raised by 0
+  same-stretches : {lo hi : ℕ} → m ≤ 32 → Stretches (raisedCurve m n c u d a b hi) lo → Stretches (raisedCurve m n c u d' a' b' hi) lo
+  same-stretches few =
+      own-stretches {k = 0} {c = c} {rates = λ i j. pos (c i j)} few (λ i j p q. above-zero (c i j)) (λ i j p q. refl) sends l
+      {g = leastIn m n c u d a b} {f = λ y. pos (leastIn m n c u d' a' b' y)}
+      (λ y p q. record {
+        is =
+            ap (λ (f : ℕ → ℕ). pos (f y)) (sym same-curve)
+            ∙ sym (sub-pos (leastIn m n c u d a b y) (0 * sum n b') (leastIn m n c u d a b y) (omega arith));
+      })
+
   pub swept-same : {lo hi added : ℕ} {table splits splits' kept : List ℕ} {freights freights' : List ℤ} {y t v stops : ℕ}
-      → Swept m n c u d a b lo hi table added splits freights splits' freights' kept y t v stops
+      → m ≤ 32 → Swept m n c u d a b lo hi table added splits freights splits' freights' kept y t v stops
       → Swept m n c u d' a' b' lo hi table added splits freights splits' freights' kept y t v stops
-  swept-same {lo} {hi} {added} {table} {splits} {freights = freights} {y = y} s = record {
+  swept-same {lo} {hi} {added} {table} {splits} {freights = freights} {y = y} few s = record {
     split = s .split ∙ ap (λ f. bestFrom (λ z. f z + getD table z 0) lo (hi - lo)) same-curve;
     least = s .least ∙ ap (λ f. f y) same-curve;
     total = s .total;
@@ -53,6 +69,7 @@ module _ {m n : ℕ} (c u : Table) {d d' : ℕ} {a a' b b' : ℕ → ℕ} (e : d
     first = λ i j p q.
         s .first i j p q
         ∙ ap (λ w. byRow n w i j) (canonical-ext m n c c u u (amountsAt d a y) (amountsAt d' a' y) b b' (λ i j p q. refl) (λ i j p q. refl) (sends y) l);
+    stretches = same-stretches few (s .stretches);
   }
 
 -- ---- the sweep

@@ -15,6 +15,7 @@ use Rattle.lastsplit.specs.PlantShift.{Swinging}
 use Rattle.lastsplit.specs.LastSplit.{Some}
 use Rattle.stretch.specs.Stretch.{heldAt}
 use Rattle.incumbent.specs.declared.Incumbent.{Incumbent}
+use Rattle.sweep.specs.Stretches.{raisedCurve, StretchesTo}
 use Rattle.sweep.specs.Sweep.{PlanAt}
 
 -- what both plants make in a plan
@@ -24,6 +25,11 @@ bothIn n x = row n (cells x) 0 + row n (cells x) 1
 -- the freight curve of the row and column sums of a plan
 abbrev pub curveFrom : ℕ → ℕ → List ℕ → List ℕ → List ℕ → ℕ → ℕ
 curveFrom m n cost cap x = leastIn m n (cells cost) (cells cap) (bothIn n x) (row n (cells x)) (col m (cells x))
+
+-- from lo the climb has come to y and plan x, stretch by stretch
+abbrev pub StretchedTo : ℕ → ℕ → List ℕ → List ℕ → List ℕ → ℕ → ℕ → ℕ → List ℕ → Type 0
+StretchedTo m n cost cap x₀ lo hi y x =
+    StretchesTo (raisedCurve m n (cells cost) (cells cap) (bothIn n x₀) (row n (cells x₀)) (col m (cells x₀)) hi) lo y (cells x)
 
 -- a slack plan x at split lo of freight v, potentials p, a plan at split hi, and a table and slices that are long enough
 pub record ClimbReady (m n : ℕ) (cost cap x p : List ℕ) (lo hi v : ℕ) (table : List ℕ) (added : ℕ) (splits : List ℕ) (freights : List ℤ) : Type 0 where

@@ -14,6 +14,7 @@ use Rattle.problem.proofs.TestsPassed.{Formed, Roomy, roomy}
 use Rattle.problem.proofs.RaisedCurve.{added}
 use Rattle.problem.proofs.MachineIntegers.{read-back}
 use Rattle.planner.proofs.EngineAnswer.{Prepared, prepare, ready, OnSplits, Accepts, form-of, whole-most, runs-most, drums-most, costs-inside, narrow-ceilings, narrow-supplies, narrow-demands, demand-sum, refused-27, on-splits, sweep-ready, answered, refuses, told, freight-moderate, total-moderate}
+use Rattle.planner.proofs.CaseStretches.{case-stretches, climbed, not-climbed}
 use Rattle.planner.proofs.LaterTests.{within, by-splits, accepts}
 use Rattle.planner.proofs.solve.solve.Statement.{statement}
 use Rattle.planner.proofs.solve.solve.Tie as tie
@@ -81,7 +82,7 @@ begin-requires : tie.Need-begin-requires
 begin-requires c κs = ready (c .before .before .before .before .before .before .before .before .before .before .before .before .before .before .before .before .before .before .before .before .before .before .before .pre) (prepared (c .before .before .before .before .before .before .before .before .before .before .before))
 
 returns : tie.Need-returns
-returns c = refuses _ _ _ _ (refused-27 (c .before .before .before .before .before .before .before .before .before .before .before .before .before .before .before .before .before .before .before .before .before .before .before .before .before .before .pre) (prepared (c .before .before .before .before .before .before .before .before .before .before .before .before .before .before)) (c .before .before .begin .ensures) (not-true _ (c .if1 .taken)))
+returns c = (refuses _ _ _ _ (refused-27 (c .before .before .before .before .before .before .before .before .before .before .before .before .before .before .before .before .before .before .before .before .before .before .before .before .before .before .pre) (prepared (c .before .before .before .before .before .before .before .before .before .before .before .before .before .before)) (c .before .before .begin .ensures) (not-true _ (c .if1 .taken))), not-climbed _ _ _)
 
 mul-splits-test : tie.Need-mul-splits-test
 mul-splits-test c = let f = form (c .before .before .before .before .before .before .before .before .before .before .before .before .before .before .before .before .before .before .before .before .before .before .before .before .before .before) in omega (arith, mul-le-mul (f .few-sources) (f .few-terminals))
@@ -93,7 +94,7 @@ enum-known-number : tie.Need-enum-known-number
 enum-known-number c = search needs
 
 returns-2 : tie.Need-returns-2
-returns-2 c = refuses _ _ _ _ (by-splits (on (c .before .before .before .before)) _ (sym (c .before .before .before .splits-test .ensures) ∙ ap verdict (c .before .number .given .1)))
+returns-2 c = (refuses _ _ _ _ (by-splits (on (c .before .before .before .before)) _ (sym (c .before .before .before .splits-test .ensures) ∙ ap verdict (c .before .number .given .1))), not-climbed _ _ _)
 
 enum-told : tie.Need-enum-told
 enum-told c = search needs
@@ -124,10 +125,15 @@ returns-3 c =
     let w = c .before .before .before .before .before .before .before .before .before .before .sweep in
     let g = c .before .before .before .before .gather-rows .ensures in
     let e = sum-is (c .before .before .before .before .before .before .before .before .before .before .before .before .before .before .before .before .before .before .before .before .before .before .before .before .before .before .before .before .before .before .before .before .before .before .before .before .before .before .before) in
-    told
-    (read-back (c .before .lowered .result) (c .before .lowered .ok) ∙ c .before .lowered .ensures ∙ ap (λ (v : ℕ). subℕ (w .result .total) v) e)
-    (read-back (c .lowered2 .result) (c .lowered2 .ok) ∙ c .lowered2 .ensures ∙ ap (λ (v : ℕ). subℕ (w .result .freight) v) e)
-    (answered (passed (c .before .before .before .before .before .before .before .before .before .before .before .before .before .before .before .before .before .before .before .before .before .before .before)) (prepared (c .before .before .before .before .before .before .before .before .before .before .before .before .before .before .before .before .before .before .before .before .before .before .before .before .before .before .before .before .before .before .before .before .before .before .before .before .before .before .before .before)) (w .ensures _ _ (c .before .before .before .before .before .before .before .before .before .before .before .before .before .before .before .before .before .before .before .before .before .before .before .before .before .before .before .before .begin .ensures .begun (not-false _ (c .before .before .before .before .before .before .before .before .before .before .before .before .before .before .before .before .before .before .before .before .before .before .before .before .before .before .if1 .left)))) _ _ (g .0) (g .1) (g .2) refl e)
+    let o = w .ensures _ _ (c .before .before .before .before .before .before .before .before .before .before .before .before .before .before .before .before .before .before .before .before .before .before .before .before .before .before .before .before .begin .ensures .begun (not-false _ (c .before .before .before .before .before .before .before .before .before .before .before .before .before .before .before .before .before .before .before .before .before .before .before .before .before .before .if1 .left))) in
+    let ok = passed (c .before .before .before .before .before .before .before .before .before .before .before .before .before .before .before .before .before .before .before .before .before .before .before) in
+    let arrays = prepared (c .before .before .before .before .before .before .before .before .before .before .before .before .before .before .before .before .before .before .before .before .before .before .before .before .before .before .before .before .before .before .before .before .before .before .before .before .before .before .before .before) in (
+      told
+          (read-back (c .before .lowered .result) (c .before .lowered .ok) ∙ c .before .lowered .ensures ∙ ap (λ (v : ℕ). subℕ (w .result .total) v) e)
+          (read-back (c .lowered2 .result) (c .lowered2 .ok) ∙ c .lowered2 .ensures ∙ ap (λ (v : ℕ). subℕ (w .result .freight) v) e)
+          (answered ok arrays o _ _ (g .0) (g .1) (g .2) refl e),
+      climbed _ (case-stretches ok arrays o),
+    )
 
 pub solve-spec : {M : Type 1} → statement M
 solve-spec =

@@ -2,17 +2,18 @@
 use Prim.Native.Nat.{_-_, _≤_}
 use native.Mathlib.Omega.{arith}
 use Rattle.sweep.proofs.ClimbState.{stand-start, start-most, stretch-ready, last-ready, stand-next, most, gain-most, loss-most}
+use Rattle.sweep.proofs.StretchTurns.{stretched-start, stretched-next}
 use Rattle.sweep.proofs.ClimbTurns.{ascend-start, ascend-splits, ascend-freights, ascend-room, ascend-next, ascend-end}
 use mathlib.Core.Path.{refl, _∙_}
 use borrow.Author.Needs.{needs}
 use Rattle.sweep.specs.engine.StopsPassed.{Climbing}
-use Rattle.sweep.specs.engine.Climb.{curveFrom, Standing}
+use Rattle.sweep.specs.engine.Climb.{curveFrom, StretchedTo, Standing}
 use Rattle.residual.specs.LanesInUse.{Covers}
 use Rattle.sweep.proofs.curve.climb.Statement.{statement}
 use Rattle.sweep.proofs.curve.climb.Tie as tie
 
 abbrev Inv-loop : tie.InvT-loop
-Inv-loop m n cost cap lo hi freight demand table added splits₀ freights₀ x₀ serves₀ pot₀ kept₀ up₀ rows₀ cols₀ columns at best₀ prices₀ y₀ value₀ count₀ rise₀ fall₀ drained₀ splits freights x serves pot kept up rows cols best prices y value count rise fall drained = Standing m n cost cap x₀ x pot kept prices y value best × Climbing (curveFrom m n cost cap x₀) table added splits₀ freights₀ lo hi splits freights y value count rise fall best × (rise ≤ 800000000) × (fall ≤ 800000000) × Covers m n x serves
+Inv-loop m n cost cap lo hi freight demand table added splits₀ freights₀ x₀ serves₀ pot₀ kept₀ up₀ rows₀ cols₀ columns at best₀ prices₀ y₀ value₀ count₀ rise₀ fall₀ drained₀ splits freights x serves pot kept up rows cols best prices y value count rise fall drained = Standing m n cost cap x₀ x pot kept prices y value best × Climbing (curveFrom m n cost cap x₀) table added splits₀ freights₀ lo hi splits freights y value count rise fall best × (rise ≤ 800000000) × (fall ≤ 800000000) × Covers m n x serves × StretchedTo m n cost cap x₀ lo hi y x
 
 abbrev μ-loop : tie.MeasureT-loop
 μ-loop m n cost cap lo hi freight demand table added splits₀ freights₀ x₀ serves₀ pot₀ kept₀ up₀ rows₀ cols₀ columns at best₀ prices₀ y₀ value₀ count₀ rise₀ fall₀ drained₀ splits freights x serves pot kept up rows cols best prices y value count rise fall drained = hi - y
@@ -27,7 +28,7 @@ add-t36 : tie.Need-add-t36 Inv-loop μ-loop
 add-t36 c = let r = c .before .before .before .pre .0 in omega (arith, start-most r, r .small (c .before .before .before .args .lo) (omega arith) (r .order))
 
 loop-holds : tie.Need-loop-holds Inv-loop μ-loop
-loop-holds c = let r = c .before .before .before .before .pre .0 in (stand-start r _ _, ascend-start r, omega arith, omega arith, c .before .before .before .before .pre .1 .1 .0)
+loop-holds c = let r = c .before .before .before .before .pre .0 in (stand-start r _ _, ascend-start r, omega arith, omega arith, c .before .before .before .before .pre .1 .1 .0, stretched-start r)
 
 sub-left : tie.Need-sub-left Inv-loop μ-loop
 sub-left c = omega (arith, c .loop-test .taken)
@@ -48,7 +49,7 @@ loop-less : tie.Need-loop-less Inv-loop μ-loop
 loop-less c = let i = c .before .before .before .before .before .before .before .before .before .before .before .before .before .before .before .before .before .before .loop .inv in let r = c .before .before .before .before .before .before .before .before .before .before .before .before .before .before .before .before .before .before .before .before .before .before .before .pre .0 in let q = c .before .before .before .before .before .before .before .before .stretch .ensures .0 in omega (arith, most r (i .0) (i .1 .low) (c .before .before .before .before .before .before .before .before .before .before .before .before .before .before .before .before .before .loop-test .taken) q, q .some, q .split, c .before .before .before .before .before .before .before .before .before .before .before .before .before .before .before .before .before .loop-test .taken)
 
 loop-again : tie.Need-loop-again Inv-loop μ-loop
-loop-again c = let i = c .before .before .before .before .before .before .before .before .before .before .before .before .before .before .before .before .before .before .loop .inv in let r = c .before .before .before .before .before .before .before .before .before .before .before .before .before .before .before .before .before .before .before .before .before .before .before .pre .0 in let l = c .before .before .before .before .before .before .before .before .before .before .before .before .before .before .before .before .before .loop-test .taken in let q = c .before .before .before .before .before .before .before .before .stretch .ensures .0 in (stand-next r (i .0) (i .1 .low) l q refl refl refl refl, ascend-next r (i .0) (i .1) l q (c .before .before .before .before .before .before .before .turn .ensures) (c .before .before .before .before .mark .ensures), gain-most r (i .0) (i .1 .low) l q, loss-most r (i .0) (i .1 .low) l q, c .before .before .before .before .before .before .before .before .stretch .ensures .1)
+loop-again c = let i = c .before .before .before .before .before .before .before .before .before .before .before .before .before .before .before .before .before .before .loop .inv in let r = c .before .before .before .before .before .before .before .before .before .before .before .before .before .before .before .before .before .before .before .before .before .before .before .pre .0 in let l = c .before .before .before .before .before .before .before .before .before .before .before .before .before .before .before .before .before .loop-test .taken in let q = c .before .before .before .before .before .before .before .before .stretch .ensures .0 in (stand-next r (i .0) (i .1 .low) l q refl refl refl refl, ascend-next r (i .0) (i .1) l q (c .before .before .before .before .before .before .before .turn .ensures) (c .before .before .before .before .mark .ensures), gain-most r (i .0) (i .1 .low) l q, loss-most r (i .0) (i .1 .low) l q, c .before .before .before .before .before .before .before .before .stretch .ensures .1, stretched-next r (i .0) (i .1 .low) l q (i .5))
 
 note-requires : tie.Need-note-requires Inv-loop μ-loop
 note-requires c κs = let i = c .before .before .before .loop .inv in ascend-room (c .before .before .before .before .before .before .before .before .pre .0) (i .0) (i .1)
@@ -66,7 +67,7 @@ same-length-2 : tie.Need-same-length-2 Inv-loop μ-loop
 same-length-2 c = let i = c .before .before .before .before .before .before .before .before .before .before .before .before .before .before .before .loop .inv in c .before .before .before .before .before .before .before .before .before .before .before .note .kept .1 .1 .1 .1 .1 .0 ∙ ascend-freights (c .before .before .before .before .before .before .before .before .before .before .before .before .before .before .before .before .before .before .before .before .pre .0) (i .0) (i .1)
 
 returns : tie.Need-returns Inv-loop μ-loop
-returns c = let i = c .before .before .before .before .before .before .before .before .before .before .before .before .before .before .before .loop .inv in ascend-end (c .before .before .before .before .before .before .before .before .before .before .before .before .before .before .before .before .before .before .before .before .pre .0) (i .0) (i .1) (c .before .before .before .before .before .before .before .before .before .before .before .before .before .before .loop-test .left) (c .before .before .before .before .before .before .before .before .before .before .before .note .ensures) (c .before .before .before .keep-last .ensures .0) (c .canonize .ensures)
+returns c = let i = c .before .before .before .before .before .before .before .before .before .before .before .before .before .before .before .loop .inv in ascend-end (c .before .before .before .before .before .before .before .before .before .before .before .before .before .before .before .before .before .before .before .before .pre .0) (i .0) (i .1) (c .before .before .before .before .before .before .before .before .before .before .before .before .before .before .loop-test .left) (c .before .before .before .before .before .before .before .before .before .before .before .note .ensures) (c .before .before .before .keep-last .ensures .0) (c .canonize .ensures) (i .5)
 
 pub climb-spec : {M : Type 1} → statement M
 climb-spec =

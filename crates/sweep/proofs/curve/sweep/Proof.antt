@@ -22,7 +22,7 @@ same-length-2 : tie.Need-same-length-2
 same-length-2 c = search needs
 
 returns : tie.Need-returns
-returns c = let r = c .before .before .before .before .before .before .before .before .before .before .before .before .before .before .before .before .before .before .before .before .pre .1 in λ made a b. swept-same _ _ (both-made b r) (λ i h l. b .at .depots i h l) (cols-met b r) (c .before .before .before .climb .ensures)
+returns c = let r = c .before .before .before .before .before .before .before .before .before .before .before .before .before .before .before .before .before .before .before .before .pre .1 in λ made a b. swept-same _ _ (both-made b r) (λ i h l. b .at .depots i h l) (cols-met b r) (b .swinging .sound .sources) (c .before .before .before .climb .ensures)
 
 pub sweep-spec : {M : Type 1} → statement M
 sweep-spec =
