@@ -89,7 +89,7 @@ class Desk {
       const { status, told } = await post(path, body, () => this.say("The server does not answer; trying again."));
       if (status === 200) {
         this.right();
-        this.take(told, true);
+        await this.take(told, true);
         return true;
       }
       this.wrong(told.refused?.sentence ?? told.sentence ?? `The server answered ${status}.`);
@@ -128,7 +128,7 @@ class Desk {
       const { status, told } = await get("/state" + have);
       if (status === 200) {
         const first = !this.view.state;
-        this.take(told, false);
+        await this.take(told, false);
         if (!first && told.undo) this.say(`Changed by ${told.undo.user}: ${told.undo.what}.`);
       } else if (status >= 400) this.wrong(told.sentence ?? `The server answered ${status}.`);
       part("line").hidden = true;
@@ -165,8 +165,8 @@ class Desk {
     const { state } = this.view;
     if (!state.undo || !state.before) return "";
     const [was, is] = [state.before.total, state.plan?.total ?? null];
-    const change = was === null || is === null ? (is === null ? "no plan now" : "a plan again") : is === was ? "the total stays" : `total ${signed(is - was)} (${percent(is - was, was)})`;
-    return `${state.undo.what}: ${change}`;
+    if (was === null || is === null) return is === null ? "No plan now." : "There is a plan again.";
+    return is === was ? "The total stays." : `Total ${signed(is - was)} (${percent(is - was, was)}).`;
   }
 
   draw() {
@@ -187,7 +187,7 @@ class Desk {
       button.setAttribute("aria-disabled", step ? "false" : "true");
       button.title = step ? `${word}: ${step.what}${step.user ? ` (${step.user})` : ""}` : `Nothing to ${word.toLowerCase()}`;
     }
-    part("effect").textContent = state.undo ? `Last: ${this.effect() || state.undo.what}${state.undo.user ? `, by ${state.undo.user}` : ""}.` : "";
+    part("effect").textContent = state.undo ? `Last change${state.undo.user ? `, by ${state.undo.user}` : ""}: ${state.undo.what}. ${this.effect()}` : "";
   }
 
   drawResult() {

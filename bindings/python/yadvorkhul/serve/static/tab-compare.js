@@ -12,14 +12,14 @@ function make(panel, desk) {
 
   const made = (one) => one.tariff.demands.reduce((a, b) => a + b, 0) - one.tariff.supplies.slice(2).reduce((a, b) => a + b, 0);
 
-  function row(name, values, number = true) {
+  function row(name, values, kind = "") {
     const now = values[0];
     const cells = values.map((value, k) => {
       const td = element("td", { class: k && value !== now ? "differs" : "" }, value === null || value === undefined ? "–" : group(value));
-      if (k && number && typeof value === "number" && typeof now === "number" && value !== now) td.append(element("span", { class: "was" }, signed(value - now)));
+      if (k && typeof value === "number" && typeof now === "number" && value !== now) td.prepend(element("span", { class: "was" }, signed(value - now)));
       return td;
     });
-    return element("tr", {}, element("th", { scope: "row" }, element("bdi", {}, name)), ...cells);
+    return element("tr", { class: kind }, element("th", { scope: "row" }, element("bdi", {}, name)), ...cells);
   }
 
   function heading(text, count) {
@@ -47,7 +47,7 @@ function make(panel, desk) {
       row(`${desk.source(1)} makes`, all.map((one) => one.plan && made(one) - one.plan.split)),
       row("production", all.map((one) => one.plan?.production)),
       row("freight", all.map((one) => one.plan?.freight)),
-      row("total", all.map((one) => one.plan?.total)),
+      row("total", all.map((one) => one.plan?.total), "strong"),
       ...(all.some((one) => one.refused) ? [element("tr", {}, element("th", { scope: "row" }, "no plan"), ...all.map((one) => element("td", { class: "words" }, one.refused?.sentence ?? "")))] : []),
     ];
   }

@@ -55,8 +55,7 @@ function make(panel, desk) {
     const basis = desk.basis();
     const was = basis?.tariff?.[kind]?.[k];
     const altered = was !== undefined && was !== value;
-    const parts = [["amount", group(value)]];
-    if (altered) parts.push(["was", signed(value - was)]);
+    const parts = altered ? [["was", signed(value - was)], ["amount", group(value)]] : [["amount", group(value)]];
     if (kind === "supplies" && view().plan && k < 2) parts.push(["most", `makes ${group(view().plan.amounts[k].reduce((a, b) => a + b, 0))}`]);
     return { parts, value, editable, label: `${what}: ${group(value)}${altered ? `, was ${group(was)}` : ""}`, class: `edge${altered ? " altered" : ""}` };
   }
@@ -101,6 +100,8 @@ function make(panel, desk) {
 
   function drawGrid() {
     const { tariff } = view();
+    table.classList.toggle("plain", !view().plan);
+    scroll.classList.toggle("tall", !view().plan);
     const now = JSON.stringify([tariff.supplies.length, tariff.demands.length, view().sources, view().terminals]);
     if (now === size) return grid.refresh();
     size = now;
@@ -141,7 +142,7 @@ function make(panel, desk) {
     points.push({ x: plan.split, y: plan.total, glyph: "★", class: "given", text: `${group(plan.split)}: ${group(plan.total)}` });
     for (const [first, , total, more] of plan.rivals) points.push({ x: first, y: total, glyph: "◆", class: "rival", text: more ? signed(more) : "equal" });
     chart ??= new Chart(holder);
-    chart.draw({ label: `Total over what ${desk.source(0)} makes`, axis: `${desk.source(0)} makes →`, series, points, at: plan.split, read: reading(now, plan, basis) });
+    chart.draw({ label: `Total over what ${desk.source(0)} makes`, axis: `${desk.source(0)} makes →`, height: 230, series, points, at: plan.split, read: reading(now, plan, basis) });
     drawRivals(plan, now);
   }
 

@@ -13,7 +13,7 @@ function make(panel, desk) {
   const fill = element("form", { class: "tools" }, field("from", "From split"), field("to", "to"), field("value", "entry"), field("step", "and for each drum more", "0"), element("button", { class: "strong" }, "Fill"));
   const rates = element("button", { type: "button" }, "Square-root rates");
   const tools = element("div", { class: "tools-row" }, fill, rates);
-  panel.append(element("p", { class: "legend" }, "Entry y is the cost of both plants together when the first one makes y. A column can be pasted."), tools, holder, scroll);
+  panel.append(element("p", { class: "legend" }, "Entry y is the cost of both plants together when the first one makes y. A column can be pasted."), tools, element("div", { class: "beside" }, scroll, holder));
   let grid = null, length = 0, chart = null;
 
   const state = () => desk.view.state;
@@ -23,7 +23,7 @@ function make(panel, desk) {
     const value = state().table[r], was = basisTable()?.[r];
     const altered = was !== undefined && was !== value;
     const parts = [["amount", group(value)]];
-    if (altered && typeof was === "number" && typeof value === "number") parts.push(["was", signed(value - was)]);
+    if (altered && typeof was === "number" && typeof value === "number") parts.unshift(["was", signed(value - was)]);
     const refused = state().refused?.number === 9 && state().refused.place === r;
     return { parts, value, editable: desk.may("edit_entry"), label: `Entry of split ${group(r)}: ${group(value)}`, class: `edge${altered ? " altered" : ""}${refused ? " wrong" : ""}` };
   }
@@ -55,7 +55,7 @@ function make(panel, desk) {
     const points = state().plan ? [{ x: state().plan.split, y: state().plan.production, glyph: "★", class: "given", text: "" }] : [];
     chart ??= new Chart(holder);
     const read = (y) => (state().table[y] === undefined ? `${group(y)}: no entry now` : `${desk.source(0)} ${group(y)} · entry ${group(state().table[y])}`);
-    chart.draw({ label: "Entries over what plant 1 makes", axis: `${desk.source(0)} makes →`, height: 170, series, points, at: state().plan?.split ?? 0, read });
+    chart.draw({ label: "Entries over what plant 1 makes", axis: `${desk.source(0)} makes →`, height: 230, series, points, at: state().plan?.split ?? 0, read });
   }
 
   fill.addEventListener("submit", (event) => {
