@@ -135,7 +135,7 @@ class Screen(unittest.TestCase):
         self.focus(12, 0)
         self.keys("230", Keys.ENTER)
         self.until(lambda: self.total() == "165,460")
-        self.assertIn("Total +2,730 (1.68\u00a0%)", self.one("#effect").text)
+        self.assertIn("Total +2,730 (1.68 %)", self.one("#effect").text)
         self.assertEqual(self.state()["tariff"]["demands"][0], 230)
         self.assertTrue(self.all(".lanes td.changed"))
         self.assertEqual(self.focused(), "12,0")  # the last row: there is none below

@@ -84,9 +84,12 @@ class Desk {
   // requests ----------------------------------------------------------------------------------------------------------------------
 
   // Sends a write, one after the other. True where it was taken; where it was refused the sentence stands on the page.
+  // A body that depends on what comes before it is a function.
   send(path, body, refused) {
     const turn = this.queue.then(async () => {
-      const { status, told } = await post(path, body, () => this.say("The server does not answer; trying again."));
+      const whole = typeof body === "function" ? body() : body;
+      if (!whole) return false;
+      const { status, told } = await post(path, whole, () => this.say("The server does not answer; trying again."));
       if (status === 200) {
         this.right();
         await this.take(told, true);
@@ -116,8 +119,9 @@ class Desk {
     return this.ask({ title: "Cut the production table?", text, yes: "Cut it" });
   }
 
-  turn(path, step) {
-    return step ? this.send(path, { of: step.of }) : Promise.resolve(false);
+  // Undo and redo: of the step that is the last one when all that was typed before has been sent.
+  turn(kind) {
+    return this.send("/" + kind, () => this.view.state[kind] && { of: this.view.state[kind].of });
   }
 
   async look() {
@@ -313,18 +317,18 @@ class Desk {
 }
 
 const desk = new Desk();
-part("undo").addEventListener("click", () => desk.turn("/undo", desk.view.state.undo));
-part("redo").addEventListener("click", () => desk.turn("/redo", desk.view.state.redo));
+part("undo").addEventListener("click", () => desk.turn("undo"));
+part("redo").addEventListener("click", () => desk.turn("redo"));
 part("mark-new").addEventListener("click", () => desk.newMark());
 for (const button of document.querySelectorAll("[data-act]")) button.addEventListener("click", () => desk.markAct(button.dataset.act));
 part("tabs").addEventListener("keydown", (event) => desk.tabKey(event));
 document.addEventListener("keydown", (event) => {
   if (!(event.ctrlKey || event.metaKey) || event.target.closest("input, textarea, dialog[open]")) return;
   const key = event.key.toLowerCase();
-  const path = key === "z" && !event.shiftKey ? "undo" : key === "y" || (key === "z" && event.shiftKey) ? "redo" : "";
-  if (!path || desk.view.state?.undo === undefined) return;
+  const kind = key === "z" && !event.shiftKey ? "undo" : key === "y" || (key === "z" && event.shiftKey) ? "redo" : "";
+  if (!kind || desk.view.state?.undo === undefined) return;
   event.preventDefault();
-  desk.turn("/" + path, desk.view.state[path]);
+  desk.turn(kind);
 });
 document.addEventListener("visibilitychange", () => desk.look());
 window.addEventListener("beforeprint", () => desk.tabs.get("plan")?.paper?.());
