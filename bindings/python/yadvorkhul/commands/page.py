@@ -1,10 +1,11 @@
 """Writes the page of a case."""
 
 from .. import Refusal
-from ..console import DONE, say
+from ..console import DONE, WrongUse, say
 from ..files import read_case
+from ..outputs import BadOutput, check_outputs, write_whole
 from ..refusals import explain
-from ._given import files_of, given
+from ._given import files_of, given, named
 from ._say import told
 
 ORDER = 20
@@ -19,6 +20,14 @@ def add(parser):
 
 
 def run(arguments) -> int:
+    try:
+        check_outputs([arguments.output, arguments.picture], named(arguments))
+        return _run(arguments)
+    except BadOutput as error:
+        raise WrongUse(str(error)) from error
+
+
+def _run(arguments) -> int:
     from ..pages import picture, plan_page, refusal_page
 
     case, tariff, production = given(arguments)
@@ -26,15 +35,17 @@ def run(arguments) -> int:
         case = case or read_case(tariff, production)
         plan = case.plan()
     except Refusal as refusal:
-        _write(arguments.output, refusal_page(refusal, case, tariff, production))
+        _write([(arguments.output, refusal_page(refusal, case, tariff, production))])
         return told(explain(refusal, case, tariff, production))
-    _write(arguments.output, plan_page(case, plan, [file.path for file in (tariff, production) if file]))
+    texts = [(arguments.output, plan_page(case, plan, [file.path for file in (tariff, production) if file]))]
     if arguments.picture:
-        _write(arguments.picture, picture(case, plan))
+        texts.append((arguments.picture, picture(case, plan)))
+    _write(texts)
     return DONE
 
 
-def _write(path: str, text: str):
-    with open(path, "w", encoding="utf-8", newline="\n") as out:
-        out.write(text)
-    say(f"written: {path}")
+def _write(texts):
+    """Writes what is made; nothing where one of them could not be made."""
+    for path, text in texts:
+        write_whole(path, text)
+        say(f"written: {path}")
