@@ -111,10 +111,13 @@ export class Chart {
 
   // The signs of chosen splits; their words where there is room.
   marks() {
-    const placed = [];
-    for (const point of this.told.points || []) {
-      const x = this.x(point.x), y = this.y(point.y);
-      this.svg.append(shape("text", { class: `sign ${point.class}`, x, y: y + 6, "text-anchor": "middle", "aria-hidden": "true" }, point.glyph));
+    const points = (this.told.points || []).map((point) => ({ ...point, x: this.x(point.x), y: this.y(point.y) }));
+    for (const { x, y, glyph, class: kind } of points) {
+      this.svg.append(shape("text", { class: `sign ${kind}`, x, y: y + 6, "text-anchor": "middle", "aria-hidden": "true" }, glyph));
+    }
+    const placed = points.map(({ x, y }) => ({ x, y: y + 4, half: 8 }));
+    for (const point of points) {
+      const { x, y } = point;
       if (!point.text) continue;
       const half = point.text.length * 3.4;
       const middle = Math.max(SPACE.left + half, Math.min(this.width - SPACE.right - half, x));

@@ -1,0 +1,48 @@
+// Files out, per role what it may see, and another case in.
+
+import { element } from "./grid.js";
+
+const OUT = [
+  ["/out/plan.html", "plan.html", "the page of the plan, for keeping and printing", (state) => state.plan || state.refused],
+  ["/out/plan.csv", "plan.csv", "every lane, as the program plan prints it", (state) => state.plan],
+  ["/out/tariff.csv", "tariff.csv", "unit costs, supplies and demands", (state) => state.tariff],
+  ["/out/production.csv", "production.csv", "the production table", (state) => state.table],
+  ["/out/case.json", "case.json", "the case with names, as far as you may see it", (state) => state.tariff],
+];
+
+function make(panel, desk) {
+  const list = element("ul", { class: "files" });
+  const picker = element("input", { type: "file", multiple: true, accept: ".json,.csv,application/json,text/csv", id: "import-files" });
+  const take = element("button", { type: "button", class: "strong" }, "Enter this case");
+  const entering = element("section", {}, element("h2", {}, "Another case"), element("p", { class: "legend" }, "One .json file, or the tariff and the production table as two .csv files. It takes the place of this case and its marks; undo brings both back."),
+    element("div", { class: "tools-row" }, element("label", { for: "import-files" }, "Files "), picker, take));
+  panel.append(element("h2", {}, "Save"), list, entering);
+
+  async function bodyOf(files) {
+    if (files.length === 1 && files[0].name.endsWith(".json")) return { case: JSON.parse(await files[0].text()) };
+    const one = (word) => files.find((file) => file.name.toLowerCase().includes(word));
+    const [tariff, production] = [one("tariff") ?? files[0], one("production") ?? files[1]];
+    if (files.length !== 2 || tariff === production) throw new Error("Choose one .json file, or a tariff and a production table.");
+    return { tariff: await tariff.text(), production: await production.text() };
+  }
+
+  take.addEventListener("click", async () => {
+    let body;
+    try {
+      body = await bodyOf([...picker.files]);
+    } catch (error) {
+      return desk.wrong(error instanceof SyntaxError ? "The file is not JSON." : error.message);
+    }
+    const sure = await desk.ask({ title: "Enter this case?", text: "It takes the place of the present case for everybody. Undo brings the present one back.", yes: "Enter" });
+    if (sure && (await desk.send("/import", body))) picker.value = "";
+  });
+
+  function update({ state }) {
+    const shown = OUT.filter(([, , , shows]) => shows(state));
+    list.replaceChildren(...shown.map(([path, name, words]) => element("li", {}, element("a", { href: path, download: name }, name), ` ${words}`)));
+    entering.hidden = state.undo === undefined;
+  }
+  return { update };
+}
+
+export default { id: "files", label: "Files", shows: (state) => Boolean(state.tariff), make };
