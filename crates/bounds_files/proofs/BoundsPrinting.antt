@@ -1,16 +1,16 @@
 -- From what `possible_splits` answers of a lent case to what is printed of it, and from the stored case to that of the files. Assumes nothing.
-use mathlib.Core.Path.{_≡_, refl, sym, ap, _∙_, subst}
+use mathlib.Core.Path.{_≡_, refl, sym, ap, _∙_, subst, subst₂}
 use mathlib.Core.Bool.{Bool, true, false, cond}
 use mathlib.Core.Option.{Option, none, some}
 use mathlib.Core.List.{List}
-use Prim.Native.Nat.{ℕ, min, _+_, _*_, _≤_, _<_}
+use Prim.Native.Nat.{ℕ, min, _+_, _-_, _*_, _≤_, _<_}
 use native.Mathlib.Nat.{min-eq-left}
 use native.Mathlib.Decide.{decLt}
 use native.Mathlib.Omega.{arith}
 use borrow.Author.Tests.{ne-eqb}
 use lib.Dec.{ltb}
 use lib.IntN.{ℤ}
-use lib.ListN.{length, take, drop, replicate, length-map, length-append}
+use lib.ListN.{length, getD, take, drop, replicate, length-map, length-append, List·getD-append}
 use lib.Seq.{sets, take-at, take-all, sets-eq, length-sets, length-take-le}
 use Rattle.transport.specs.Listing.{upFrom}
 use Rattle.transport.proofs.ListMembers.{upFrom-length}
@@ -30,10 +30,10 @@ use Rattle.csv_case.proofs.CaseLengths.{both-stand}
 use Rattle.plan_files.proofs.FileRefusals.{Alike}
 use Rattle.planner.proofs.Judging.{cut-ceilings}
 use Rattle.plan_files.proofs.StoredCase.{few-lanes, cut-alike}
-use Rattle.bounds_problem.specs.Tables.{after, leastTotal, mark, marks}
+use Rattle.bounds_problem.specs.Tables.{Split, after, leastTotal, mark, marks}
 use Rattle.bounds_problem.specs.Answers.{Outcome, known, refused, badEntry, place28, laterOf, outcomeOf, Answered}
 use Rattle.bounds_problem.proofs.PlannedCase.{Ready, ready}
-use Rattle.bounds_files.specs.Bounded.{caseOutcome, filesThen, filesOutcome, OutcomePrinted, CasePrinted, HighPrinted, FilesPrinted}
+use Rattle.bounds_files.specs.Bounded.{caseOutcome, filesThen, filesOutcome, BoundsHold, OutcomePrinted, CasePrinted, HighPrinted, FilesPrinted}
 
 -- ---- an outcome
 
@@ -48,13 +48,14 @@ printed-refusal c high o {number} {place} {sources} {terminals} {out} {out′} {
       subst (λ (x : ℕ). Told x place′ sources terminals (refusalText x place′) out out′ answer) en
       (subst (λ (y : ℕ). Told number y sources terminals (refusalText number y) out out′ answer) ep told);
   splits = λ i n s l h. absurd (let z : _≡_ {A = ℕ} 0 1 = cc in omega arith);
+  holds = λ i n s l h. absurd (let z : _≡_ {A = ℕ} 0 1 = cc in omega arith);
 }
 
 -- the two totals and the marks
 printed-known : (c : Case) (high : List ℕ) (o : Outcome) (i n : ℕ) (s l : ℤ) {sources terminals : ℕ} {out out′ : List ℕ} {answer : Printed}
-    → o ≡ known i n s l → Told 0 0 sources terminals (boundsText s l i (marks c high)) out out′ answer
+    → o ≡ known i n s l → Told 0 0 sources terminals (boundsText s l i (marks c high)) out out′ answer → BoundsHold c high s l
     → OutcomePrinted c high o sources terminals out out′ answer
-printed-known c high o i n s l {sources} {terminals} {out} {out′} {answer} e told = record {
+printed-known c high o i n s l {sources} {terminals} {out} {out′} {answer} e told hold = record {
   refusal = λ number place h. absurd (let z : _≡_ {A = ℕ} 0 1 = cc in omega arith);
   splits = λ i′ n′ s′ l′ h.
       let ei : i ≡ i′ = cc in
@@ -63,6 +64,10 @@ printed-known c high o i n s l {sources} {terminals} {out} {out′} {answer} e t
       subst (λ (x : ℕ). Told 0 0 sources terminals (boundsText s′ l′ x (marks c high)) out out′ answer) ei
       (subst (λ (x : ℤ). Told 0 0 sources terminals (boundsText x l′ i (marks c high)) out out′ answer) es
       (subst (λ (x : ℤ). Told 0 0 sources terminals (boundsText s x i (marks c high)) out out′ answer) el told));
+  holds = λ i′ n′ s′ l′ h.
+      let es : s ≡ s′ = cc in
+      let el : l ≡ l′ = cc in
+      subst (λ (x : ℤ). BoundsHold c high x l′) es (subst (λ (x : ℤ). BoundsHold c high s x) el hold);
 }
 
 -- ---- what a case that is answered has
@@ -115,10 +120,26 @@ module _ {c : Case} {high before cells : List ℕ} {o : Outcome} (a : Answered c
       },
     )
 
+    -- a split's cell is its mark
+    marked : (y : ℕ) → Split c y → getD cells (y - leastSplit c) 0 ≡ getD (marks c high) (y - leastSplit c) 0
+    marked y k =
+        ap (λ (l : List ℕ). getD l (y - leastSplit c) 0) (a .given i n s l e .marked)
+        ∙ List·getD-append (marks c high) (drop (length (marks c high)) before) 0 (y - leastSplit c) (omega (arith, marks-long c high, k .from, k .to))
+
+    hold : BoundsHold c high s l
+    hold =
+        let g = a .given i n s l e in
+        record {
+          yes = λ y k m. g .yes y k (marked y k ∙ m);
+          no = λ y k m. g .no y k (marked y k ∙ m);
+          smallest = g .smallest;
+          largest = g .largest;
+        }
+
     pub by-known : length before ≡ 4001 → {out out′ : List ℕ} {answer : Printed}
         → Told 0 0 (c .m) (c .n) (boundsText s l i (take n cells)) out out′ answer → CasePrinted c high out out′ answer
     by-known r told =
-        printed-known c high (caseOutcome c high) i n s l (sym (ap (outcomeOf c high) r) ∙ (sym (a .answer) ∙ e)) (rw cut at told)
+        printed-known c high (caseOutcome c high) i n s l (sym (ap (outcomeOf c high) r) ∙ (sym (a .answer) ∙ e)) (rw cut at told) hold
 
   pub by-refusal : {number place : ℕ} → o ≡ refused number place → length before ≡ 4001 → {out out′ : List ℕ} {answer : Printed}
       → Told number place (c .m) (c .n) (refusalText number place) out out′ answer → CasePrinted c high out out′ answer
@@ -126,10 +147,10 @@ module _ {c : Case} {high before cells : List ℕ} {o : Outcome} (a : Answered c
 
 -- ---- two cases that the planner answers alike, and two high tables that are both too long
 
--- the outcome is the same, and where it is an answer so are the marks
+-- the outcome is the same, and where it is an answer so are the case and the table
 record Same (c c′ : Case) (h h′ : List ℕ) : Type 0 where
   outcomes : caseOutcome c h ≡ caseOutcome c′ h′
-  markings : (i n : ℕ) (s l : ℤ) → caseOutcome c′ h′ ≡ known i n s l → marks c h ≡ marks c′ h′
+  one : (i n : ℕ) (s l : ℤ) → caseOutcome c′ h′ ≡ known i n s l → (c ≡ c′) × (h ≡ h′)
 
 -- the planner's refusal is handed on
 handed-on : (c : Case) (h : List ℕ) (k p : ℕ) → planner.outcomeOf c ≡ planner.refused k p → caseOutcome c h ≡ refused k p
@@ -140,10 +161,10 @@ same-case : {c c′ : Case} (h : List ℕ) → Alike c c′ → Same c c′ h h
 same-case {c} {c′} h a = step (planner.outcomeOf c′) refl
   where
     step : (o : planner.Outcome) → planner.outcomeOf c′ ≡ o → Same c c′ h h
-    step (planner.planned y t f k) q = let e = a .one y t f k q in record { outcomes = ap (λ (x : Case). caseOutcome x h) e; markings = λ i n s l z. ap (λ (x : Case). marks x h) e }
+    step (planner.planned y t f k) q = let e = a .one y t f k q in record { outcomes = ap (λ (x : Case). caseOutcome x h) e; one = λ i n s l z. (e, refl) }
     step (planner.refused k p) q =
         let e′ = handed-on c′ h k p q in
-        record { outcomes = handed-on c h k p (a .same ∙ q) ∙ sym e′; markings = λ i n s l z. absurd (let w : _≡_ {A = ℕ} 0 1 = cc in omega arith) }
+        record { outcomes = handed-on c h k p (a .same ∙ q) ∙ sym e′; one = λ i n s l z. absurd (let w : _≡_ {A = ℕ} 0 1 = cc in omega arith) }
 
 -- past the planner's tests a_1 is at most 4,000, so such a table has not a_1 + 1 entries
 no-place : (c : Case) (h : List ℕ) → supply c 0 ≤ 4000 → 4001 < length h → place28 c h ≡ some 0
@@ -169,17 +190,20 @@ same-long c h h′ l l′ = step (planner.outcomeOf c) refl
     step (planner.planned y t f k) q =
         let e = too-long c h y t f k q l in
         let e′ = too-long c h′ y t f k q l′ in
-        record { outcomes = e ∙ sym e′; markings = λ i n s l z. absurd (let w : _≡_ {A = ℕ} 0 1 = cc in omega arith) }
+        record { outcomes = e ∙ sym e′; one = λ i n s l z. absurd (let w : _≡_ {A = ℕ} 0 1 = cc in omega arith) }
     step (planner.refused k p) q =
         let e = handed-on c h k p q in
         let e′ = handed-on c h′ k p q in
-        record { outcomes = e ∙ sym e′; markings = λ i n s l z. absurd (let w : _≡_ {A = ℕ} 0 1 = cc in omega arith) }
+        record { outcomes = e ∙ sym e′; one = λ i n s l z. absurd (let w : _≡_ {A = ℕ} 0 1 = cc in omega arith) }
 
 carry : (c c′ : Case) (h h′ : List ℕ) {m n : ℕ} {out out′ : List ℕ} {answer : Printed} → Same c c′ h h′
     → OutcomePrinted c h (caseOutcome c h) m n out out′ answer → OutcomePrinted c′ h′ (caseOutcome c′ h′) m n out out′ answer
 carry c c′ h h′ {m} {n} {out} {out′} {answer} a p = record {
   refusal = λ number place e. p .refusal number place (a .outcomes ∙ e);
-  splits = λ i k s l e. subst (λ (x : List ℕ). Told 0 0 m n (boundsText s l i x) out out′ answer) (a .markings i k s l e) (p .splits i k s l (a .outcomes ∙ e));
+  splits = λ i k s l e.
+      let o = a .one i k s l e in
+      subst₂ (λ (x : Case) (y : List ℕ). Told 0 0 m n (boundsText s l i (marks x y)) out out′ answer) (o .0) (o .1) (p .splits i k s l (a .outcomes ∙ e));
+  holds = λ i k s l e. let o = a .one i k s l e in subst₂ (λ (x : Case) (y : List ℕ). BoundsHold x y s l) (o .0) (o .1) (p .holds i k s l (a .outcomes ∙ e));
 }
 
 -- ---- the lent parts are the cut case
@@ -222,7 +246,7 @@ module _ (t h : List ℕ) (spare : List ℤ) (sources terminals highs : List ℕ
               let e : take (min more 4002) highs′ ≡ entriesOf h =
               rw (min-eq-left {n = more} {m = 4002} (omega arith), held, all, is, sets-eq (entriesIn (b .qs)) highs 0 (omega (arith, b .table-long)))
               (take-at (entriesIn (b .qs)) (drop (0 + length (entriesIn (b .qs))) highs) more (b .table-long)) in
-              record { outcomes = ap (λ (x : List ℕ). caseOutcome c x) e; markings = λ i n s l z. ap (λ (x : List ℕ). marks c x) e }
+              record { outcomes = ap (λ (x : List ℕ). caseOutcome c x) e; one = λ i n s l z. (refl, e) }
         ]
 
     pub high-stored : (c : Case) {out out′ : List ℕ} {r : Printed} → CasePrinted c (take (min more 4002) highs′) out out′ r → HighPrinted t h c out out′ r

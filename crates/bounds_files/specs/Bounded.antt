@@ -3,8 +3,9 @@
 use mathlib.Core.Path.{_≡_}
 use mathlib.Core.Bool.{Bool, true, false}
 use mathlib.Core.List.{List}
-use Prim.Native.Nat.{ℕ}
+use Prim.Native.Nat.{ℕ, _-_}
 use lib.IntN.{ℤ}
+use lib.ListN.{getD}
 use Rattle.csv_print.specs.Text.{refusalText}
 use Rattle.csv_answers.specs.Bounds.{boundsText}
 use Rattle.problem.specs.Case as planner-case
@@ -14,7 +15,8 @@ use Rattle.plan_files.specs.declared.planned.Printed.{Printed}
 use Rattle.csv_case.specs.CaseFiles.{caseAnswer}
 use Rattle.csv_case.specs.Entries.{entriesOf}
 use Rattle.plan_files.specs.Printed.{fileCase, sourcesTold, terminalsTold, Told}
-use Rattle.bounds_problem.specs.Tables.{marks}
+use Rattle.problem.specs.Case.{leastSplit}
+use Rattle.bounds_problem.specs.Tables.{Split, Possible, Smallest, Largest, marks}
 use Rattle.bounds_problem.specs.Answers.{Outcome, known, refused, outcomeOf}
 
 -- the outcome of a case with a high table; there is a cell for each split of the longest table
@@ -30,10 +32,19 @@ filesThen (Case m n entries) o = o
 unfoldable pub filesOutcome : List ℕ → List ℕ → List ℕ → Outcome
 filesOutcome t l h = filesThen (caseAnswer t l) (filesThen (caseAnswer t h) (caseOutcome (fileCase t l) (entriesOf h)))
 
--- what is printed of a case with the outcome o: the refusal's two numbers, or the two totals and the marks of the splits
+-- what the marks and the two totals say: a split has the mark 1 if and only if some table between the bounds makes it the cheapest, and the totals
+-- are the smallest and the largest that the least total can be with such a table
+pub record BoundsHold (c : planner-case.Case) (high : List ℕ) (s l : ℤ) : Type 0 where
+  pub yes : (y : ℕ) → Split c y → getD (marks c high) (y - leastSplit c) 0 ≡ 1 → Possible c high y
+  pub no : (y : ℕ) → Split c y → getD (marks c high) (y - leastSplit c) 0 ≡ 0 → Possible c high y → ⊥
+  pub smallest : Smallest c high s
+  pub largest : Largest c high l
+
+-- what is printed of a case with the outcome o: the refusal's two numbers, or the two totals and the marks of the splits, with what holds of them
 pub record OutcomePrinted (c : planner-case.Case) (high : List ℕ) (o : Outcome) (sources terminals : ℕ) (out out′ : List ℕ) (answer : Printed) : Type 0 where
   pub refusal : (number place : ℕ) → o ≡ refused number place → Told number place sources terminals (refusalText number place) out out′ answer
   pub splits : (first count : ℕ) (s l : ℤ) → o ≡ known first count s l → Told 0 0 sources terminals (boundsText s l first (marks c high)) out out′ answer
+  pub holds : (first count : ℕ) (s l : ℤ) → o ≡ known first count s l → BoundsHold c high s l
 
 -- what is printed of a case with a high table
 abbrev pub CasePrinted : planner-case.Case → List ℕ → List ℕ → List ℕ → Printed → Type 0

@@ -3,6 +3,8 @@ pub mod FormRuns
 pub mod Digits
 pub mod Fields
 pub mod AfterField
+pub mod AfterAnswers
+pub mod FieldAnswers
 pub mod NoMinus
 pub mod Viable
 pub mod Places

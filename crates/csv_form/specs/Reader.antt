@@ -1,13 +1,14 @@
--- What the parts of the reader answer, by what it means for the rest of the run: contracts of private functions. Assumes nothing.
+-- What the reader answers at a field (`fieldAt`) and after one (`afterAt`), and what that means for the rest of the run. Assumes nothing.
 use mathlib.Core.Path.{_≡_}
 use mathlib.Core.Bool.{Bool, true, false, _||_}
 use mathlib.Core.List.{List, []}
-use Prim.Native.Nat.{ℕ, _+_, _≤_, _<_, _^_}
+use Prim.Native.Nat.{ℕ, zero, suc, _+_, _*_, _≤_, _<_, _^_}
 use lib.Dec.{eqb, ltb}
 use lib.IntN.{ℤ, pos}
 use lib.ListN.{length, getD, drop}
 use Rattle.csv_form.specs.declared.Kind.{Kind}
 use Rattle.csv_form.specs.declared.Kind.the-variants.{Tariff, Production}
+use Rattle.csv_form.specs.declared.field.Digits.{Digits}
 use Rattle.csv_form.specs.declared.field.Field as field-answer
 use Rattle.csv_form.specs.declared.field.Field.the-variants as field-answers
 use Rattle.csv_form.specs.declared.after.After as after-answer
@@ -106,6 +107,34 @@ abbrev pub closeQuote : List ℕ → field-answer.Field → field-answer.Field
 closeQuote s (field-answers.Value value m next) = pickField (eqb (getD s next 0) 34) (field-answers.Value value m (next + 1)) (field-answers.Refused next)
 closeQuote s (field-answers.Refused place) = field-answers.Refused place
 
+-- the digits from an offset on, so many at most, after digits that make the value
+abbrev pub digitsTo : ℕ → ℕ → Digits
+digitsTo value′ next′ = record { value = value′; next = next′ }
+
+abbrev pub pickDigits : Bool → Digits → Digits → Digits
+pickDigits true a b = a
+pickDigits false a b = b
+
+unfoldable pub digitsFrom : ℕ → List ℕ → ℕ → ℕ → Digits
+digitsFrom zero s value next = digitsTo value next
+digitsFrom (suc left) s value next =
+    pickDigits (ltb 9 (digitOr10 (mark (getD s next 0)))) (digitsTo value next) (digitsFrom left s (value * 10 + digitOr10 (mark (getD s next 0))) (next + 1))
+
+abbrev pub valued : Bool → Digits → field-answer.Field
+valued m d = field-answers.Value (d .value) m (d .next)
+
+-- the number at an offset, after a minus or not
+unfoldable pub numberOf : Bool → List ℕ → ℕ → field-answer.Field
+numberOf m s at = pickField (numberAt m s at) (valued m (digitsFrom 10 s 0 at)) (field-answers.Refused at)
+
+-- the number at an offset with the minus before it, if there is one
+unfoldable pub signedAt : Kind → List ℕ → ℕ → field-answer.Field
+signedAt kind s at = pickField (isMinus kind (mark (getD s at 0))) (numberOf true s (at + 1)) (numberOf false s at)
+
+-- the answer at a field: its value, whether it has a minus, and the next offset, or the place of refusal 21
+unfoldable pub fieldAt : Kind → List ℕ → ℕ → field-answer.Field
+fieldAt kind s at = pickField (eqb (getD s at 0) 34) (closeQuote s (signedAt kind s (at + 1))) (signedAt kind s at)
+
 -- a field's answer: a value is read, and the run goes on after it; or it is broken
 abbrev pub onField : Kind → Bool → List ℤ → List (List ℤ) → List ℕ → field-answer.Field → Form
 onField kind b r rs s (field-answers.Value value m next) = run kind next (reading (closedAs m) value m (m || b) r rs) (drop next s)
@@ -178,3 +207,47 @@ pub record AfterRead (from : From) (Before : Bool → Bool → List (List ℤ) �
 abbrev pub atLast : Kind → ℕ → after-answer.After
 atLast Tariff at = after-answers.Refused at
 atLast Production at = after-answers.End
+
+abbrev pub pickAfter : Bool → after-answer.After → after-answer.After → after-answer.After
+pickAfter true a b = a
+pickAfter false a b = b
+
+-- whether the byte at an offset is b
+abbrev pub byteIs : List ℕ → ℕ → ℕ → Bool
+byteIs s at b = eqb (getD s at 0) b
+
+-- after a field with a minus; after the CR of the demands; after a comma in a record that may be the demands'
+unfoldable pub costAt : List ℕ → ℕ → after-answer.After
+costAt s at = pickAfter (byteIs s at 44) (after-answers.Field (at + 1)) (after-answers.Refused at)
+
+unfoldable pub lastAt : List ℕ → ℕ → after-answer.After
+lastAt s at = pickAfter (byteIs s at 10) (pickAfter (ltb (at + 1) (length s)) (after-answers.Refused (at + 1)) after-answers.Empty) (after-answers.Refused at)
+
+unfoldable pub demandAt : List ℕ → ℕ → after-answer.After
+demandAt s at = pickAfter (ltb at (length s)) (pickAfter (byteIs s at 13) (lastAt s (at + 1)) (after-answers.Field at)) after-answers.Empty
+
+-- after a comma, in a record that is known to be a source's or not
+unfoldable pub commaAt : Kind → Bool → List ℕ → ℕ → after-answer.After
+commaAt Production source s at = after-answers.Field at
+commaAt Tariff true s at = after-answers.Field at
+commaAt Tariff false s at = demandAt s at
+
+-- after the line end of a record, after its CR
+unfoldable pub lineAt : Kind → List ℕ → ℕ → after-answer.After
+lineAt Tariff s at = after-answers.Record at
+lineAt Production s at = pickAfter (ltb at (length s)) (after-answers.Record at) after-answers.End
+
+unfoldable pub recordAt : Kind → List ℕ → ℕ → after-answer.After
+recordAt kind s at = pickAfter (byteIs s at 10) (lineAt kind s (at + 1)) (after-answers.Refused at)
+
+-- after a field without a minus
+unfoldable pub plainAt : Kind → Bool → List ℕ → ℕ → after-answer.After
+plainAt kind source s at =
+    pickAfter (ltb at (length s))
+    (pickAfter (byteIs s at 44) (commaAt kind source s (at + 1)) (pickAfter (byteIs s at 13) (recordAt kind s (at + 1)) (after-answers.Refused at)))
+    (atLast kind at)
+
+-- the answer after a field: with a minus or not, in a record that is known to be a source's or not
+unfoldable pub afterAt : Kind → Bool → Bool → List ℕ → ℕ → after-answer.After
+afterAt kind true source s at = costAt s at
+afterAt kind false source s at = plainAt kind source s at

@@ -3,9 +3,7 @@ use crate::Kind;
 ghost use mathlib.Core.Path.{_≡_};
 ghost use Prim.Native.Nat.{_≤_};
 ghost use lib.ListN.{length};
-ghost use Rattle.csv_form.specs.declared.Kind as declared;
-ghost use Rattle.csv_form.specs.declared.Kind.the-variants as kinds;
-ghost use Rattle.csv_form.specs.Reader.{AfterRead, atField, atCost, atComma, atDemand, atCr, atLastCr, atLast, Any, Source, Known};
+ghost use Rattle.csv_form.specs.Reader.{costAt, lastAt, demandAt, commaAt, recordAt, afterAt, atLast};
 
 pub enum After {
     // A further field of the record begins at next.
@@ -22,7 +20,7 @@ pub enum After {
 // After the CR of the demands: LF, and the file ends.
 fn after_demands(s: &[u8], at: usize) -> After
     requires { ⌜ at ≤ length (now s) ⌝ }
-    ensures { λ r. ⌜ AfterRead atLastCr Any kinds.Tariff (now (s .entry)) at r ⌝ }
+    ensures { λ r. ⌜ r ≡ lastAt (now (s .entry)) at ⌝ }
 {
     if s.len() <= at {
         return After::Refused { place: at };
@@ -40,7 +38,7 @@ fn after_demands(s: &[u8], at: usize) -> After
 // After a comma in a record of the tariff that may be the demands': a field, or the empty last field of the demands.
 fn after_demand(s: &[u8], at: usize) -> After
     requires { ⌜ at ≤ length (now s) ⌝ }
-    ensures { λ r. ⌜ AfterRead atDemand Any kinds.Tariff (now (s .entry)) at r ⌝ }
+    ensures { λ r. ⌜ r ≡ demandAt (now (s .entry)) at ⌝ }
 {
     if s.len() <= at {
         return After::Empty;
@@ -54,7 +52,7 @@ fn after_demand(s: &[u8], at: usize) -> After
 // After a comma, in a record that is known to be a source's or not.
 fn after_comma(kind: Kind, source: bool, s: &[u8], at: usize) -> After
     requires { ⌜ at ≤ length (now s) ⌝ }
-    ensures { λ r. ⌜ AfterRead atComma (Source source) kind (now (s .entry)) at r ⌝ }
+    ensures { λ r. ⌜ r ≡ commaAt kind source (now (s .entry)) at ⌝ }
 {
     match kind {
         Kind::Production => After::Field { next: at },
@@ -71,7 +69,7 @@ fn after_comma(kind: Kind, source: bool, s: &[u8], at: usize) -> After
 // After the CR of a record: LF, and a further record, or, in the production file, the end.
 fn after_record(kind: Kind, s: &[u8], at: usize) -> After
     requires { ⌜ at ≤ length (now s) ⌝ }
-    ensures { λ r. ⌜ AfterRead atCr Any kind (now (s .entry)) at r ⌝ }
+    ensures { λ r. ⌜ r ≡ recordAt kind (now (s .entry)) at ⌝ }
 {
     if s.len() <= at {
         return After::Refused { place: at };
@@ -105,7 +103,7 @@ fn after_all(kind: Kind, at: usize) -> After
 // After a field with a minus, which is a unit cost: a comma, and a further field.
 fn after_cost(s: &[u8], at: usize) -> After
     requires { ⌜ at ≤ length (now s) ⌝ }
-    ensures { λ r. ⌜ ((kind : declared.Kind) → AfterRead atCost Any kind (now (s .entry)) at r) ⌝ }
+    ensures { λ r. ⌜ r ≡ costAt (now (s .entry)) at ⌝ }
 {
     if s.len() <= at {
         return After::Refused { place: at };
@@ -119,7 +117,7 @@ fn after_cost(s: &[u8], at: usize) -> After
 // What stands after a field, with a minus or not, that ends at an offset, in a record that is known to be a source's or not.
 pub fn read_after(kind: Kind, minus: bool, source: bool, s: &[u8], at: usize) -> After
     requires { ⌜ at ≤ length (now s) ⌝ }
-    ensures { λ r. ⌜ AfterRead atField (Known minus source) kind (now (s .entry)) at r ⌝ }
+    ensures { λ r. ⌜ r ≡ afterAt kind minus source (now (s .entry)) at ⌝ }
 {
     if minus {
         return after_cost(s, at);

@@ -3,9 +3,9 @@ use crate::Kind;
 ghost use mathlib.Core.Path.{_≡_};
 ghost use Prim.Native.Nat.{_+_, _≤_, _<_, _^_};
 ghost use lib.ListN.{length, getD};
-ghost use Rattle.csv_form.specs.Form.{mark, field, opened};
+ghost use Rattle.csv_form.specs.Form.{mark};
 ghost use Rattle.csv_form.specs.Records.{signed};
-ghost use Rattle.csv_form.specs.Reader.{digitOr10, isMinus, numberAt, DigitsRead, NumberRead, closeQuote, FieldRead};
+ghost use Rattle.csv_form.specs.Reader.{digitOr10, isMinus, numberAt, digitsFrom, numberOf, closeQuote, signedAt, fieldAt};
 
 // What is read at a field: its value, and whether a minus stands before it, with the next offset; or a refusal with its place.
 pub enum Field {
@@ -59,7 +59,7 @@ fn minus_at(kind: Kind, s: &[u8], at: usize) -> bool
 // The digits from an offset on, ten at most.
 fn read_digits(s: &[u8], at: usize) -> Digits
     requires { ⌜ at ≤ length (now s) ⌝ }
-    ensures { λ r. ⌜ DigitsRead (now (s .entry)) at (r .value) (r .next) ⌝ }
+    ensures { λ r. ⌜ r ≡ digitsFrom 10 (now (s .entry)) 0 at ⌝ }
 {
     let mut value: u64 = 0;
     let mut next = at;
@@ -96,7 +96,7 @@ fn number_at(minus: bool, s: &[u8], at: usize) -> bool
 // The number whose digits begin at an offset, after a minus or not.
 fn read_number(minus: bool, s: &[u8], at: usize) -> Field
     requires { ⌜ at ≤ length (now s) ⌝ }
-    ensures { λ r. ⌜ NumberRead minus (now (s .entry)) at r ⌝ }
+    ensures { λ r. ⌜ r ≡ numberOf minus (now (s .entry)) at ⌝ }
 {
     if number_at(minus, s, at) {
         let d = read_digits(s, at);
@@ -132,7 +132,7 @@ fn close_quote(s: &[u8], f: Field) -> Field
 // The rest of a field after the quote that opens it.
 fn read_quoted(kind: Kind, s: &[u8], at: usize) -> Field
     requires { ⌜ at ≤ length (now s) ⌝ }
-    ensures { λ r. ⌜ FieldRead kind opened (now (s .entry)) at r ⌝ }
+    ensures { λ r. ⌜ r ≡ closeQuote (now (s .entry)) (signedAt kind (now (s .entry)) at) ⌝ }
 {
     if minus_at(kind, s, at) {
         let f = read_number(true, s, at + 1);
@@ -145,7 +145,7 @@ fn read_quoted(kind: Kind, s: &[u8], at: usize) -> Field
 // The field at an offset.
 pub fn read_field(kind: Kind, s: &[u8], at: usize) -> Field
     requires { ⌜ at ≤ length (now s) ⌝ }
-    ensures { λ r. ⌜ FieldRead kind field (now (s .entry)) at r ⌝ }
+    ensures { λ r. ⌜ r ≡ fieldAt kind (now (s .entry)) at ⌝ }
 {
     if s.len() <= at {
         return Field::Refused { place: at };

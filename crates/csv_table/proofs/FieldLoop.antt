@@ -18,9 +18,11 @@ use Rattle.csv_table.specs.declared.table.Tally.{Tally}
 use Rattle.csv_form.specs.Form.{field}
 use Rattle.csv_form.specs.Records.{reading, run, signed, rowWith, rowsWith, whole, broken, formOf}
 use Rattle.csv_table.specs.Files.{tableOf, judge, judged, inOrder}
-use Rattle.csv_form.specs.Reader.{closedAs, FieldRead, AfterRead, atField, Known}
+use Rattle.csv_form.specs.Reader.{closedAs, fieldAt, afterAt, FieldRead, AfterRead, atField, Known}
 use Rattle.csv_table.specs.Tallies.{startTally, fieldTally, recordTally, sourceTally, Countable, handedOn, Scanned}
 use Rattle.csv_table.proofs.FieldCounts.{Tallied, tally-start, tally-field, tally-record, tally-source, inOrder-snoc, judged-whole}
+use Rattle.csv_form.proofs.FieldAnswers.{means-field}
+use Rattle.csv_form.proofs.AfterAnswers.{means-after}
 use Rattle.csv_print.proofs.Stores.{sets-snoc}
 
 -- the counts do not outgrow the offset
@@ -108,9 +110,9 @@ long-table kind s cells h = record {
 }
 
 module _ (kind : Kind) (s : List ℕ) (cells₀ : List ℤ) where
-  module _ (cells : List ℤ) (t : Tally) (at : ℕ) (along : Along kind s cells₀ cells t at) (f : Field) (read : FieldRead kind field s at f) where
+  module _ (cells : List ℤ) (t : Tally) (at : ℕ) (along : Along kind s cells₀ cells t at) (f : Field) (answered : f ≡ fieldAt kind s at) where
     same : (a : Field) → f ≡ a → FieldRead kind field s at a
-    same a e = subst (λ (x : Field). FieldRead kind field s at x) e read
+    same a e = subst (λ (x : Field). FieldRead kind field s at x) (sym answered ∙ e) (means-field s kind at (along .upto))
 
     pub field-refused : (place : ℕ) (cells′ : List ℤ) → length s ≤ 65536 → f ≡ field-answers.Refused place → Scanned kind s cells₀ cells′ (handedOn f)
     field-refused place cells′ short e =
@@ -144,9 +146,9 @@ module _ (kind : Kind) (s : List ℕ) (cells₀ : List ℤ) where
         }
 
   module _ (cells : List ℤ) (t : Tally) (m : Bool) (v next : ℕ) (valued : Valued kind s cells₀ cells t m v next) (source : Bool) (told : source ≡ sourceTally t) (a : After)
-      (read : AfterRead atField (Known m source) kind s next a) where
+      (answered : a ≡ afterAt kind m source s next) where
     onward′ : (b : After) → a ≡ b → AfterRead atField (Known m source) kind s next b
-    onward′ b e = subst (λ (x : After). AfterRead atField (Known m source) kind s next x) e read
+    onward′ b e = subst (λ (x : After). AfterRead atField (Known m source) kind s next x) (sym answered ∙ e) (means-after s kind m source next)
 
     -- what is known of this field and this record
     held : Known m source m (valued .rebate) (valued .rows)

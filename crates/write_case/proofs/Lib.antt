@@ -4,5 +4,6 @@ pub mod WriterParts
 pub mod Rewrites
 pub mod TestsOneToNine
 pub mod OneForm
+pub mod AcceptedFiles
 pub mod TextsStored
 pub mod Examples

@@ -1,37 +1,39 @@
 -- `csv_form::field::read_digits` meets its contract. Assumes nothing.
+use mathlib.Core.Path.{_≡_, refl, sym, _∙_}
 use Prim.Native.Nat.{_+_, _*_, _≤_, _<_, _^_}
 use native.Mathlib.Omega.{arith}
 use borrow.Author.Needs.{needs}
 use denote.Ref.{now}
 use lib.ListN.{length, getD}
 use Rattle.csv_form.specs.Form.{mark}
-use Rattle.csv_form.specs.Reader.{digitOr10}
-use Rattle.csv_form.proofs.Digits.{DigitsSoFar, none-yet, one-more, no-more, all-ten, fits}
+use Rattle.csv_form.specs.Reader.{digitOr10, digitsFrom}
+use Rattle.csv_form.proofs.Digits.{DigitsSoFar, none-yet, one-more, fits}
+use Rattle.csv_form.proofs.FieldAnswers.{digits-stop, digits-spent, digits-step}
 use Rattle.csv_form.proofs.ByteMarks.{inside}
 use Rattle.csv_form.proofs.field.read_digits.Statement.{statement}
 use Rattle.csv_form.proofs.field.read_digits.Tie as tie
 
 abbrev Inv-loop : tie.InvT-loop
-Inv-loop s at value₀ next₀ left₀ value next left = DigitsSoFar s at value next left
+Inv-loop s at value₀ next₀ left₀ value next left = DigitsSoFar s at value next left × (digitsFrom 10 s 0 at ≡ digitsFrom left s value next)
 
 abbrev μ-loop : tie.MeasureT-loop
 μ-loop s at value₀ next₀ left₀ value next left = left
 
 loop-holds : tie.Need-loop-holds Inv-loop μ-loop
-loop-holds c = none-yet _ _ (c .before .pre)
+loop-holds c = (none-yet _ _ (c .before .pre), refl)
 
 digit-at-requires : tie.Need-digit-at-requires Inv-loop μ-loop
 digit-at-requires c κs = tt
 
 returns : tie.Need-returns Inv-loop μ-loop
-returns c = no-more _ _ _ _ _ (c .before .before .before .loop .inv) (omega (arith, c .before .digit-at .ensures, c .if1 .taken))
+returns c = sym (c .before .before .before .loop .inv .1 ∙ digits-stop _ _ _ _ (omega (arith, c .before .digit-at .ensures, c .if1 .taken)))
 
 -- the digit that was found
 found : (c : tie.Else1 Inv-loop μ-loop) → digitOr10 (mark (getD (now (c .before .before .before .before .before .args .s)) (c .before .before .before .loop .next) 0)) ≤ 9
 found c = omega (arith, c .before .digit-at .ensures, c .if1 .left)
 
 fits-at : (c : tie.Else1 Inv-loop μ-loop) → c .before .before .before .loop .value * 10 + c .before .digit-at .result < 10 ^ 10
-fits-at c = fits _ _ _ _ _ (c .before .before .before .loop .inv) _ (c .if1 .left) (c .before .before .loop-test .taken)
+fits-at c = fits _ _ _ _ _ (c .before .before .before .loop .inv .0) _ (c .if1 .left) (c .before .before .loop-test .taken)
 
 inside-at : (c : tie.Else1 Inv-loop μ-loop) → c .before .before .before .loop .next < length (now (c .before .before .before .before .before .args .s))
 inside-at c = inside (now (c .before .before .before .before .before .args .s)) _ (found c)
@@ -53,10 +55,13 @@ loop-less c = search needs
 
 loop-again : tie.Need-loop-again Inv-loop μ-loop
 loop-again c =
-    rw (c .before .digit-at .ensures) (one-more _ _ _ _ _ (c .before .before .before .loop .inv) (found c) (c .before .before .loop-test .taken))
+    rw (c .before .digit-at .ensures) (
+      one-more _ _ _ _ _ (c .before .before .before .loop .inv .0) (found c) (c .before .before .loop-test .taken),
+      c .before .before .before .loop .inv .1 ∙ digits-step _ _ _ _ (c .before .before .loop-test .taken) (found c),
+    )
 
 returns-2 : tie.Need-returns-2 Inv-loop μ-loop
-returns-2 c = all-ten _ _ _ _ _ (c .before .loop .inv) (c .loop-test .left)
+returns-2 c = sym (c .before .loop .inv .1 ∙ digits-spent _ _ _ _ (c .loop-test .left))
 
 pub read-digits-spec : {M : Type 1} → statement M
 read-digits-spec =

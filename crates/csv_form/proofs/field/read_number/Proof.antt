@@ -1,5 +1,6 @@
 -- `csv_form::field::read_number` meets its contract. Assumes nothing.
-use mathlib.Core.Path.{refl, sym, _∙_}
+use mathlib.Core.Path.{refl, sym, ap, _∙_}
+use Rattle.csv_form.specs.Reader.{numberOf, valued}
 use borrow.Author.Needs.{needs}
 use Rattle.csv_form.proofs.field.read_number.Statement.{statement}
 use Rattle.csv_form.proofs.field.read_number.Tie as tie
@@ -11,10 +12,12 @@ read-digits-requires : tie.Need-read-digits-requires
 read-digits-requires c κs = search needs
 
 returns : tie.Need-returns
-returns c = (refl, sym (c .before .before .number-at .ensures) ∙ c .before .if1 .taken, c .read-digits .ensures)
+unfolding numberOf
+returns c = rw (sym (c .before .before .number-at .ensures) ∙ c .before .if1 .taken) (ap (valued _) (c .read-digits .ensures))
 
 returns-2 : tie.Need-returns-2
-returns-2 c = (refl, sym (c .before .number-at .ensures) ∙ c .if1 .left)
+unfolding numberOf
+returns-2 c = rw (sym (c .before .number-at .ensures) ∙ c .if1 .left) refl
 
 pub read-number-spec : {M : Type 1} → statement M
 read-number-spec = tie.close (tie.spec number-at-requires read-digits-requires returns returns-2)

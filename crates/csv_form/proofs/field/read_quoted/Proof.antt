@@ -1,6 +1,7 @@
 -- `csv_form::field::read_quoted` meets its contract. Assumes nothing.
-use mathlib.Core.Path.{sym, _∙_}
-use Rattle.csv_form.proofs.Fields.{opened-minus, opened-plain}
+use mathlib.Core.Path.{sym, ap, _∙_}
+use Rattle.csv_form.specs.Reader.{closeQuote}
+use Rattle.csv_form.proofs.FieldAnswers.{signed-minus, signed-plain}
 use denote.Ref.{now}
 use native.Mathlib.Omega.{arith}
 use Rattle.csv_form.proofs.ByteMarks.{minus-inside}
@@ -21,7 +22,7 @@ close-quote-requires : tie.Need-close-quote-requires
 close-quote-requires c κs = search needs
 
 returns : tie.Need-returns
-returns c = let a = c .before .before .before .before .before .args in rw (c .close-quote .ensures) (opened-minus (a .kind) (now (a .s)) (a .at) (c .before .read-number .result) (sym (c .before .before .before .minus-at .ensures) ∙ c .before .before .if1 .taken) (c .before .read-number .ensures))
+returns c = let a = c .before .before .before .before .before .args in c .close-quote .ensures ∙ ap (closeQuote (now (a .s))) (c .before .read-number .ensures ∙ signed-minus (now (a .s)) (a .kind) (a .at) (sym (c .before .before .before .minus-at .ensures) ∙ c .before .before .if1 .taken))
 
 read-number-requires-2 : tie.Need-read-number-requires-2
 read-number-requires-2 c κs = search needs
@@ -30,7 +31,7 @@ close-quote-requires-2 : tie.Need-close-quote-requires-2
 close-quote-requires-2 c κs = search needs
 
 returns-2 : tie.Need-returns-2
-returns-2 c = let a = c .before .before .before .before .before .args in rw (c .close-quote2 .ensures) (opened-plain (a .kind) (now (a .s)) (a .at) (c .before .read-number2 .result) (sym (c .before .before .before .minus-at .ensures) ∙ c .before .before .if1 .left) (c .before .read-number2 .ensures))
+returns-2 c = let a = c .before .before .before .before .before .args in c .close-quote2 .ensures ∙ ap (closeQuote (now (a .s))) (c .before .read-number2 .ensures ∙ signed-plain (now (a .s)) (a .kind) (a .at) (sym (c .before .before .before .minus-at .ensures) ∙ c .before .before .if1 .left))
 
 pub read-quoted-spec : {M : Type 1} → statement M
 read-quoted-spec =
