@@ -70,6 +70,7 @@
 //! rate with its rule, the bounds with all tables between them, random histories of a working case with whole copies, and the flow with all
 //! flows and with another method.
 
+pub mod files;
 mod flow;
 mod rates;
 mod refusal;
