@@ -9,7 +9,9 @@
 
 #define CELLS(a) (sizeof(a) / sizeof((a)[0]))
 #define READERS 4
+#ifndef ROUNDS
 #define ROUNDS 40000
+#endif
 
 static struct yadvorkhul_case work = YADVORKHUL_CASE_NONE;
 static pthread_rwlock_t lock = PTHREAD_RWLOCK_INITIALIZER;

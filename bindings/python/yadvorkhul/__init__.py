@@ -51,8 +51,10 @@ A network in DIMACS form, one of whose arcs has a table of costs, is planned by 
 
 `page(case)` gives a page for a browser and for paper, `python3 -m yadvorkhul --help` shows the same functions as a command.
 
-The shared object is made from the proved archive by `bindings/python/build`. Nothing checks the declarations here against
-the Rattle source.
+The shared object is made from the proved archive by `bindings/python/build`. `tools/check-declarations` compares the declarations
+here with the Rattle source.
+
+Threads may call all of this: the functions keep no state, and each call lends arrays of its own.
 """
 
 import array
