@@ -1,27 +1,41 @@
-"""Prints the plan of a case."""
+"""Prints the plan of a case. Of two files it prints what the proved function wrote."""
 
 from .. import Refusal
 from ..console import DONE, emit
-from ..files import plan_text, read_case, refusal_text
+from ..files import handed, plan_files, plan_text, read_case, refusal_text
 from ..refusals import explain
-from ._given import files_of, given
-from ._say import told
+from ._given import files_of, given, json_of
+from ._say import emit_json, emit_refusal, told
 
 ORDER = 10
 SUMMARY = "print the plan, as the program plan does"
-NEEDS = ["yadvorkhul_plan"]
+NEEDS = ["yadvorkhul_plan", "yadvorkhul_plan_files", "yadvorkhul_read_case"]
 
 
 def add(parser):
     files_of(parser)
+    json_of(parser)
+
+
+def _emit(arguments, case, plan, tariff, production):
+    """The plan or the refusal that was found."""
+    if arguments.json and isinstance(plan, Refusal):
+        emit_refusal(plan)
+    elif arguments.json:
+        emit_json(plan._asdict())
+    elif tariff:
+        emit(plan_files(handed(tariff), handed(production)).text)
+    else:
+        emit((refusal_text(plan) if isinstance(plan, Refusal) else plan_text(case, plan)).encode())
 
 
 def run(arguments) -> int:
     case, tariff, production = given(arguments)
     try:
         case = case or read_case(tariff, production)
-        emit(plan_text(case, case.plan()).encode())
-        return DONE
+        plan = case.plan()
     except Refusal as refusal:
-        emit(refusal_text(refusal).encode())
+        _emit(arguments, case, refusal, tariff, production)
         return told(explain(refusal, case, tariff, production))
+    _emit(arguments, case, plan, tariff, production)
+    return DONE
