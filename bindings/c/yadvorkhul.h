@@ -16,6 +16,7 @@
 extern "C" {
 #endif
 
+#define YADVORKHUL_VERSION 10000     /* 1.0.0, see yadvorkhul_version */
 #define YADVORKHUL_MOST_SOURCES 32   /* m is 2 to 32 */
 #define YADVORKHUL_MOST_TERMINALS 64 /* n is 1 to 64 */
 #define YADVORKHUL_MOST_COST 1000000 /* a unit cost is -1,000,000 to 1,000,000 */
@@ -26,6 +27,12 @@ extern "C" {
 #define YADVORKHUL_SHORT_REPORT 34
 #define YADVORKHUL_MOST_NODES 32     /* of a network */
 #define YADVORKHUL_MOST_ARCS 64
+#define YADVORKHUL_LONGEST_FILE 65536
+#define YADVORKHUL_STORED_ENTRIES 4002 /* of a production file */
+#define YADVORKHUL_READ_CELLS 3      /* of the report of yadvorkhul_read_case */
+#define YADVORKHUL_PLAN_TEXT 174265
+#define YADVORKHUL_BOUNDS_TEXT 172120
+#define YADVORKHUL_FLOW_TEXT 5662
 #define YADVORKHUL_MOST_STORE 73908 /* the cells of the largest store, of 32 sources and 64 terminals */
 
 /* Who calls: the role that is handed to every call on a working case. */
@@ -227,6 +234,94 @@ uint64_t yadvorkhul_flow(const uint8_t *bytes, size_t bytes_cells, size_t place,
                          int64_t *costs, size_t costs_cells,
                          uint64_t *report, size_t report_cells,
                          int64_t *worth, size_t worth_cells);
+
+/* ---- from the bytes of files, as the programs plan, bounds, flow and tidy read and print them
+
+   A file is lent as its bytes, which may lie anywhere; a text is written as bytes. Any bytes and any lengths may be passed. Each
+   function answers 0 or the number of the refusal, and YADVORKHUL_SHORT_REPORT, before all else, where its report is too short;
+   then nothing is done. The refusals of a file are 20 (longer than 65,536 bytes; lend so many where a file cannot be read),
+   21 (a byte that cannot stand there, place its offset from 0) and 22 (another count of fields, place the record from 1). All
+   cells that are not named here keep their contents. What is said above of pointers holds here too; the stack that each needs
+   stands in docs/USING.md. */
+
+/* 10,000 times the major number of the archive's version, 100 times the minor one, and the patch: YADVORKHUL_VERSION, unless
+   header and archive are of two builds. */
+uint64_t yadvorkhul_version(void);
+
+/* Reads the case of a tariff and a production file.
+
+   costs      gets m × n unit costs; give it YADVORKHUL_MOST_SOURCES × YADVORKHUL_MOST_TERMINALS cells
+   supplies   gets m numbers; YADVORKHUL_MOST_SOURCES cells are enough
+   demands    gets n numbers; YADVORKHUL_MOST_TERMINALS cells are enough
+   table      gets the entries, YADVORKHUL_STORED_ENTRIES at most, which is one more than any case that is planned has
+   report     at least YADVORKHUL_READ_CELLS cells; gets in its first cells
+                m, n, count of entries                                 where the answer is 0
+                the place of the refusal, 1 for the tariff or 2 for
+                the production file or 0 for neither                   where it is another
+
+   Refusals: 20 to 22 of the tariff, then of the production file; then 1 or 2 where m is not 2 to 32 or n not 1 to 64, so that
+   no such case is planned; then 11 where a slice is too short. On a refusal no number is stored. */
+uint64_t yadvorkhul_read_case(const uint8_t *tariff, size_t tariff_cells,
+                              const uint8_t *production, size_t production_cells,
+                              int64_t *costs, size_t costs_cells,
+                              uint64_t *supplies, size_t supplies_cells,
+                              uint64_t *demands, size_t demands_cells,
+                              uint64_t *table, size_t table_cells,
+                              uint64_t *report, size_t report_cells);
+
+/* Reads a production file alone: table as above, the count of entries or the refusal's place in the first cell of report, which
+   has at least YADVORKHUL_REPORT_CELLS. Refusals 20 to 22, then 11. */
+uint64_t yadvorkhul_read_table(const uint8_t *production, size_t production_cells,
+                               uint64_t *table, size_t table_cells,
+                               uint64_t *report, size_t report_cells);
+
+/* Prints the plan of a tariff and a production file, or the refusal, as the program plan does: a case of two files has least runs 0
+   and no ceilings. text gets as much of the text as it has room for: YADVORKHUL_PLAN_TEXT cells are always enough. report, of at
+   least YADVORKHUL_REPORT_CELLS cells, gets in its first cells the text's whole length, and the refusal's place or 0. Refusals 20 to 22
+   of the files, then those of yadvorkhul_plan. */
+uint64_t yadvorkhul_plan_files(const uint8_t *tariff, size_t tariff_cells,
+                               const uint8_t *production, size_t production_cells,
+                               uint8_t *text, size_t text_cells,
+                               uint64_t *report, size_t report_cells);
+
+/* Prints which splits can be the cheapest, of a tariff and the production files of the low and the high entries, as the program
+   bounds does; YADVORKHUL_BOUNDS_TEXT cells are always enough. Refusals 20 to 22 of the tariff, the low and the high file, then those
+   of yadvorkhul_bounds. */
+uint64_t yadvorkhul_bounds_files(const uint8_t *tariff, size_t tariff_cells,
+                                 const uint8_t *low, size_t low_cells,
+                                 const uint8_t *high, size_t high_cells,
+                                 uint8_t *text, size_t text_cells,
+                                 uint64_t *report, size_t report_cells);
+
+/* Prints the least-cost flow of a network file, where the entries of a table file replace the cost of the arc that a text of one to
+   four digits names, as the program flow does; YADVORKHUL_FLOW_TEXT cells are always enough. Refusals: 20 and 29 of the network,
+   20 to 22 of the table file, 30, 27. */
+uint64_t yadvorkhul_flow_files(const uint8_t *network, size_t network_cells,
+                               const uint8_t *arc, size_t arc_cells,
+                               const uint8_t *table, size_t table_cells,
+                               uint8_t *text, size_t text_cells,
+                               uint64_t *report, size_t report_cells);
+
+/* Writes a case out as its two files; it has least runs 0 and no ceilings. m .. table as for yadvorkhul_plan. tariff and production
+   get the texts: YADVORKHUL_LONGEST_FILE cells each are always enough. report, of at least YADVORKHUL_REPORT_CELLS cells, gets in its first
+   cells both lengths, or the refusal's place. Refusals 1 to 9 as for yadvorkhul_plan, then 32 for a table entry above
+   9,999,999,999 (place its split), then 33 where a slice is shorter than its text. On a refusal no text is written. */
+uint64_t yadvorkhul_write_case(size_t m, size_t n,
+                               const int64_t *costs, size_t costs_cells,
+                               const uint64_t *supplies, size_t supplies_cells,
+                               const uint64_t *demands, size_t demands_cells,
+                               const uint64_t *table, size_t table_cells,
+                               uint8_t *tariff, size_t tariff_cells,
+                               uint8_t *production, size_t production_cells,
+                               uint64_t *report, size_t report_cells);
+
+/* Writes the case of two files as two new ones, in the one form that depends on the case alone; the rest as for
+   yadvorkhul_write_case, with 20 to 22 of the files before all other refusals. */
+uint64_t yadvorkhul_tidy_files(const uint8_t *tariff, size_t tariff_cells,
+                               const uint8_t *production, size_t production_cells,
+                               uint8_t *new_tariff, size_t new_tariff_cells,
+                               uint8_t *new_production, size_t new_production_cells,
+                               uint64_t *report, size_t report_cells);
 
 #ifdef __cplusplus
 }

@@ -2,6 +2,7 @@
 
 import http.client
 import json
+import logging
 import os
 import re
 import shutil
@@ -63,12 +64,16 @@ class Running:
         self.shared = SharedCase(opened.journal, opened.records)
         self.app = make_app(self.shared, self.people, self.port, proxy)
         self.server = make_server(self.app, self.port, proxy)
-        import logging
-
         logging.getLogger("yadvorkhul").handlers = [logging.NullHandler()]
         self.clients = []
-        self.thread = threading.Thread(target=self.server.run, daemon=True)
+        self.thread = threading.Thread(target=self._serve, daemon=True)
         self.thread.start()
+
+    def _serve(self):
+        try:
+            self.server.run()
+        except OSError:  # it was closed under its hands
+            pass
 
     def close(self):
         for client in self.clients:

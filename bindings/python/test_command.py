@@ -1,6 +1,7 @@
 """Tests of the command `python3 -m yadvorkhul`: each subcommand, refusals, and what a build lacks."""
 
 import contextlib
+import importlib.util
 import io
 import json
 import os
@@ -8,7 +9,6 @@ import shutil
 import subprocess
 import sys
 import tempfile
-import types
 import unittest
 from unittest import mock
 
@@ -93,7 +93,7 @@ class Command(unittest.TestCase):
             self.assertEqual((status, printed), (1, "refusal,place\r\n20,0\r\n"))
 
     def test_help(self):
-        for name in ("plan", "page", "bounds", "rates", "flow"):
+        for name in ("plan", "tidy", "page", "bounds", "rates", "flow"):
             status, printed, _ = run(name, "--help")
             self.assertEqual(status, 0)
             self.assertIn(f"yadvorkhul {name}", printed)
@@ -102,20 +102,129 @@ class Command(unittest.TestCase):
 
     def test_lacking(self):
         with mock.patch.object(yadvorkhul, "offers", lambda symbol: symbol == "yadvorkhul_plan"):
-            for name in ("bounds", "rates", "flow"):
+            for name, symbol in (("plan", "plan_files"), ("tidy", "tidy_files"), ("bounds", "bounds"), ("rates", "rates"), ("flow", "flow")):
                 status, printed, said = run_here(name, "1", "2", "3")
                 self.assertEqual((status, printed), (3, ""))
-                self.assertIn(f"no yadvorkhul_{name}", said)
+                self.assertIn(f"no yadvorkhul_{symbol}", said)
 
-    def test_rates_and_bounds_when_offered(self):
-        found = types.SimpleNamespace(smallest=-3, largest=9, first=1, possible=[True, False])
-        with mock.patch.object(yadvorkhul, "offers", lambda symbol: True), mock.patch.object(
-            yadvorkhul, "rates", lambda supply: list(range(supply + 1)), create=True
-        ), mock.patch.object(yadvorkhul, "bounds", lambda *case: found, create=True):
-            self.assertEqual(run_here("rates", "2"), (0, "0\r\n1\r\n2\r\n", ""))
-            tariff, production = files("case_a")
-            due = "smallest,largest\r\n-3,9\r\nsplit,possible\r\n1,1\r\n2,0\r\n"
-            self.assertEqual(run_here("bounds", tariff, production, production), (0, due, ""))
+    def test_no_shared_object(self):
+        for path in ("/nowhere/lib.so", __file__):
+            done = subprocess.run(
+                [sys.executable, "-m", "yadvorkhul", "plan", *files("case_a")], cwd=HERE, capture_output=True, env={**os.environ, "YADVORKHUL_SO": path}
+            )
+            self.assertEqual((done.returncode, done.stdout), (3, b""))
+            self.assertIn(b"bindings/python/build", done.stderr)
+            self.assertEqual(done.stderr.count(b"\n"), 1)
+
+    def test_closed_output(self):
+        command = f'"{sys.executable}" -m yadvorkhul plan "{files("case_a")[0]}" "{files("case_a")[1]}"'
+        for closed in (command + " >&-", f"({command}; echo $? >&2) | :", command + " > /dev/full"):
+            done = subprocess.run(["sh", "-c", closed], cwd=HERE, stdout=subprocess.PIPE, stderr=subprocess.PIPE)
+            said = done.stderr.decode()
+            self.assertIn("standard output could not be written", said)
+            self.assertNotIn("Traceback", said)
+            self.assertTrue(done.returncode == 4 or said.endswith("4\n"), (closed, said, done.returncode))
+
+    def test_control_characters(self):
+        odd = "no\x1b[31m\u202efile\nRefusal"
+        status, printed, said = run("plan", odd, "b")
+        self.assertEqual((status, printed), (1, "refusal,place\r\n20,0\r\n"))
+        self.assertIn("no\\x1b[31m\\u202efile\\nRefusal", said)
+        self.assertEqual(said.count("\n"), 1)
+        status, printed, said = run("plan", "a", "b", "--\x1b[31m")
+        self.assertEqual((status, printed), (2, ""))
+        self.assertNotIn("\x1b", said)
+        self.assertEqual(run("plan", "b\udcff", "b")[0], 1)
+
+    def test_unforeseen(self):
+        def broken(arguments):
+            raise RuntimeError("odd\x07")
+
+        with mock.patch("yadvorkhul.commands.plan.run", broken):
+            status, printed, said = run_here("plan")
+        self.assertEqual((status, printed), (4, ""))
+        self.assertIn("RuntimeError: odd\\x07", said)
+
+    def test_version(self):
+        self.assertEqual(run("--version"), (0, f"yadvorkhul {yadvorkhul.__version__}\n", ""))
+        self.assertEqual(yadvorkhul.version(), yadvorkhul.__version__)
+        root = os.path.join(HERE, "..", "..")
+        number = "".join(f"{int(part):02d}" for part in yadvorkhul.__version__.split(".")).lstrip("0")
+        for path, line in (
+            ("bindings/python/pyproject.toml", f'version = "{yadvorkhul.__version__}"'),
+            ("bindings/rust/Cargo.toml", f'version = "{yadvorkhul.__version__}"'),
+            ("bindings/c/yadvorkhul.h", f"#define YADVORKHUL_VERSION {number} "),
+        ):
+            with open(os.path.join(root, path), encoding="utf-8") as stream:
+                self.assertIn(line, stream.read())
+
+    @unittest.skipUnless(importlib.util.find_spec("argcomplete"), "python3-argcomplete is not there")
+    def test_completion(self):
+        for line, due in (("yadvorkhul b", "bounds"), ("yadvorkhul plan --j", "--json")):
+            asked = {"COMP_LINE": line, "COMP_POINT": str(len(line)), "_ARGCOMPLETE": "1", "_ARGCOMPLETE_IFS": "\v"}
+            command = f'"{sys.executable}" -m yadvorkhul 8>&1 9>/dev/null >/dev/null'
+            done = subprocess.run(["sh", "-c", command], cwd=HERE, capture_output=True, env={**os.environ, **asked})
+            self.assertEqual((done.returncode, done.stdout.decode().strip()), (0, due))
+
+    def test_endless(self):
+        status, printed, said = run("plan", "/dev/zero")
+        self.assertEqual((status, printed), (2, ""))
+        self.assertIn("longer than", said)
+        self.assertEqual(run("plan", "/dev/zero", "/dev/zero")[:2], (1, "refusal,place\r\n20,0\r\n"))
+        with tempfile.TemporaryDirectory() as folder:
+            path = os.path.join(folder, "case.json")
+            for text in ("[" * 100_000, '{"costs":' * 50_000, '{"sources": 5}', '{"table": [1], "table": [2]}', "5", "1e999"):
+                with open(path, "w", encoding="utf-8") as out:
+                    out.write(text)
+                status, printed, said = run("plan", path)
+                self.assertEqual((status, printed, said.count("\n")), (2, "", 1), text[:40])
+
+    def test_called(self):
+        for called, due in (("/usr/bin/yadvorkhul", "usage: yadvorkhul "), ("/x/__main__.py", "usage: python3 -m yadvorkhul ")):
+            with mock.patch.object(sys, "argv", [called]):
+                self.assertTrue(run_here("--help")[1].startswith(due))
+
+    def test_json(self):
+        case = dict(split=3, total=33, freight=13, amounts=[[3, 0], [0, 1], [0, 1]], stops=[[1, 14], [2, 11], [3, 13]])
+        status, printed, said = run("plan", "--json", *files("case_a"))
+        self.assertEqual((status, json.loads(printed), said), (0, case, ""))
+        tariff, low = files("case_a")
+        status, printed, _ = run("bounds", tariff, low, low, "--json")
+        self.assertEqual((status, json.loads(printed)), (0, dict(first=1, possible=[False, False, True], smallest=33, largest=33)))
+        status, printed, said = run("bounds", tariff, low, tariff, "--json")
+        self.assertEqual((status, json.loads(printed)), (1, dict(refusal=21, place=25)))
+        self.assertIn(f"the production file {tariff} has a byte that cannot stand there", said)
+        network, table = (os.path.join(EXAMPLES, "pipeline", name) for name in ("network.min", "table.csv"))
+        status, printed, _ = run("flow", network, "1", table, "--json")
+        found = json.loads(printed)
+        self.assertEqual((status, found["total"], found["arcs"][0]["flow"]), (0, 773, 30))
+        status, printed, _ = run("flow", network, "0", table, "--json")
+        self.assertEqual((status, json.loads(printed)), (1, dict(refusal=30, place=0)))
+        self.assertEqual(json.loads(run("plan", "--json", "none", "none")[1]), dict(refusal=20, place=0))
+
+    def test_tidy(self):
+        with tempfile.TemporaryDirectory() as folder:
+            paths = [os.path.join(folder, name) for name in ("a.csv", "b.csv", "c.csv", "d.csv")]
+            with open(paths[0], "wb") as out:
+                out.write(b'"2",6,3\r\n5,3,3\r\n1,4,1\r\n3,2,')
+            with open(paths[1], "wb") as out:
+                out.write(b'99\r\n20\r\n24\r\n"20"')
+            status, printed, said = run("tidy", *paths)
+            self.assertEqual((status, said), (0, ""))
+            self.assertEqual(printed, f"file,bytes\r\n{paths[2]},27\r\n{paths[3]},16\r\n")
+            with open(paths[2], "rb") as tariff, open(paths[3], "rb") as production:
+                self.assertEqual((tariff.read(), production.read()), (b"2,6,3\r\n5,3,3\r\n1,4,1\r\n3,2,\r\n", b"99\r\n20\r\n24\r\n20\r\n"))
+            # over no file; both or none
+            status, printed, said = run("tidy", *paths)
+            self.assertEqual((status, printed), (2, ""))
+            self.assertIn("c.csv was not written", said)
+            new = os.path.join(folder, "e.csv")
+            self.assertEqual(run("tidy", paths[0], paths[1], new, paths[3])[:2], (2, ""))
+            self.assertFalse(os.path.exists(new))
+            status, printed, said = run("tidy", paths[1], paths[0], new, new)
+            self.assertEqual((status, printed), (1, "refusal,place\r\n21,16\r\n"))
+            self.assertIn(f"the tariff file {paths[1]} ends too soon: record 4, field 1, offset 16", said)
+            self.assertFalse(os.path.exists(new))
 
     def test_rates(self):
         self.assertEqual(run("rates", "3"), (0, "0\r\n100\r\n141\r\n173\r\n", ""))

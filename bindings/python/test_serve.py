@@ -2,6 +2,7 @@
 
 import json
 import os
+import re
 import subprocess
 import sys
 import tempfile
@@ -208,14 +209,15 @@ class Calls(WithServer):
 
     def test_speed(self):
         self.anna.post("/import", {"case": season()})
-        times = []
+        times, spent = [], time.process_time()
         for k in range(40):
             start = time.perf_counter()
             self.assertEqual(self.anna.do(["edit_demand", 1, 150 + k]).status, 200)
             times.append(time.perf_counter() - start)
+        spent = (time.process_time() - spent) / 40
         times.sort()
-        print(f"\n    edit to curve, 12 x 30: median {times[20] * 1000:.1f} ms, worst of 40 {times[-1] * 1000:.1f} ms", file=sys.stderr)
-        self.assertLess(times[20], 0.2)  # a loaded machine; idle it is some 10 ms
+        print(f"\n    edit to curve, 12 x 30: {spent * 1000:.1f} ms of a processor, median {times[20] * 1000:.1f} ms by the clock", file=sys.stderr)
+        self.assertLess(spent, 0.04)  # server and client together; by the clock a loaded machine may take longer
 
 
 class Files(WithServer):
@@ -327,6 +329,11 @@ class TurnedAway(WithServer):
             if status != 413:
                 self.assertIn("sentence", got.told)
             self.anna.connection.close()
+        try:  # far too long: turned away while it is still being sent
+            self.assertEqual(self.anna.post("/do", b"x" * 5_000_000).status, 413)
+        except OSError:
+            pass
+        self.anna.connection.close()
         self.unchanged()
         for data in (b'{"of": "x"}', b"{}", b'{"of": -1}', b'{"of": 1.5}'):
             self.assertEqual(self.anna.post("/undo", data).status, 400, data)
@@ -406,6 +413,23 @@ class Proxy(unittest.TestCase):
             self.assertIn("Secure", cookie)
             self.assertTrue(cookie.startswith("__Host-"))
             self.assertEqual(client.form("/sign-in", {}, Host="plan.example.org").status, 403)  # Origin http
+        finally:
+            running.close()
+
+
+    def test_waits_by_the_address_that_the_proxy_names(self):
+        running = Running(A, proxy="plan.example.org")
+        try:
+            client = Client(running.port)
+            asked = {"Host": "plan.example.org", "Origin": "https://plan.example.org"}
+
+            def sign_in(name, word, address):
+                body = client.get("/sign-in", **asked).body.decode()
+                token = re.search(r'name="token" value="([^"]+)"', body).group(1)
+                return client.form("/sign-in", {"name": name, "word": word, "token": token}, X_Forwarded_For=address, **asked).status
+
+            self.assertEqual([sign_in(name, "wrong word", "10.0.0.1") for name in ("anna", "paul", "dora", "rita")], [403, 403, 403, 429])
+            self.assertEqual(sign_in("rita", WORD, "10.0.0.2"), 303)
         finally:
             running.close()
 

@@ -66,9 +66,12 @@ from typing import Any, Iterable, List, Mapping, MutableSequence, NamedTuple, Op
 from .archive import load
 
 __all__ = ["bounds", "bounds_into", "plan", "plan_into", "rates", "rates_into", "Bounds", "Plan", "Refusal", "SHORT_REPORT"]
-__all__ += ["Case", "page", "offers"]
+__all__ += ["Case", "page", "offers", "version", "__version__"]
 __all__ += ["Role", "Tariff", "WorkingCase"]
 __all__ += ["flow", "flow_into", "Arc", "Flow", "FlowRefusal"]
+__all__ += ["File", "FileRefusal", "Printed", "bounds_files", "flow_files", "plan_files", "read_table", "tidy_files", "write_case"]
+
+__version__ = "1.0.0"  # of the package; `version` asks the archive
 
 MOST_SOURCES = 32
 MOST_TERMINALS = 64
@@ -99,6 +102,8 @@ _MEANINGS = {
     27: "no plan is within both the ceilings and the least runs",
     28: "the high table is not as long as the low one, or an entry is below its low one or above 1,000,000,000",
     31: "the role may not do this",
+    32: "a table entry is above 9,999,999,999, which no file can hold",
+    33: "a lent slice is too short for its text",
     SHORT_REPORT: "the report or the worth has fewer than two cells",
 }
 
@@ -180,6 +185,12 @@ def offers(symbol: str) -> bool:
     return _library.offers(symbol)
 
 
+def version() -> str:
+    """The version of the archive, as major.minor.patch."""
+    number = _library.yadvorkhul_version()
+    return f"{number // 10_000}.{number // 100 % 100}.{number % 100}"
+
+
 def archive_missing() -> str:
     """Why there is no shared object to call, in a sentence; empty where it is there."""
     return _library.missing
@@ -203,6 +214,8 @@ _bounds = _declared(_library.yadvorkhul_bounds, _BOUNDS_READ + _BOUNDS_WRITTEN)
 _rates = _library.yadvorkhul_rates
 _rates.argtypes = [ctypes.c_uint64, ctypes.POINTER(ctypes.c_uint64), ctypes.c_size_t]
 _rates.restype = ctypes.c_uint64
+_library.yadvorkhul_version.argtypes = []
+_library.yadvorkhul_version.restype = ctypes.c_uint64
 
 
 _CODES = {ctypes.c_uint64: "Q", ctypes.c_int64: "q"}
@@ -392,3 +405,4 @@ def bounds(
 
 from .work import Role, Tariff, WorkingCase  # noqa: E402  (it uses what stands above)
 from .networks import Arc, Flow, FlowRefusal, flow, flow_into  # noqa: E402  it uses what is declared above
+from .files import File, FileRefusal, Printed, bounds_files, flow_files, plan_files, read_table, tidy_files, write_case  # noqa: E402

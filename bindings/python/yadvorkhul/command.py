@@ -12,7 +12,7 @@ import sys
 import yadvorkhul
 
 from . import commands
-from .console import BROKEN, LACKING, WRONG_USE, Broken, WrongUse, emit, escaped, say
+from .console import BROKEN, LACKING, WRONG_USE, Broken, WrongUse, emit, say
 
 
 class _Parser(argparse.ArgumentParser):
@@ -55,9 +55,19 @@ def _called() -> str:
     return name if name.startswith("yadvorkhul") else "python3 -m yadvorkhul"
 
 
+class _Version(argparse.Action):
+    """Prints the version of the package, and that of the archive where it is another."""
+
+    def __call__(self, whole, namespace, values, option_string=None):
+        built = "no archive" if yadvorkhul.archive_missing() else yadvorkhul.version() if yadvorkhul.offers("yadvorkhul_version") else "an older archive"
+        emit(f"yadvorkhul {yadvorkhul.__version__}{'' if built == yadvorkhul.__version__ else f' ({built})'}\n".encode())
+        whole.exit(0)
+
+
 def parser() -> argparse.ArgumentParser:
     """The parser with all subcommands."""
     whole = _Parser(prog=_called(), description="The proved two-plant production and freight planner.")
+    whole.add_argument("--version", action=_Version, nargs=0, help="print the version and exit")
     parsers = whole.add_subparsers(title="subcommands", metavar="SUBCOMMAND", dest="subcommand")
     parsers.required = True
     for name, module in commands.all_of_them():

@@ -1,6 +1,6 @@
 """The total at every split, read off the stops of the freight curve, which is straight between two of them."""
 
-from typing import List, NamedTuple, Optional
+from typing import List, NamedTuple, Optional, Sequence, Tuple
 
 from . import Plan
 
@@ -28,7 +28,7 @@ class Curve(NamedTuple):
     next: Optional[Split]  # the cheapest of the splits that are not given; the smallest of several
 
 
-def freights(stops) -> List[int]:
+def freights(stops: Sequence[Tuple[int, int]]) -> List[int]:
     """The least freight at each split, from the first stop to the last."""
     found = [stops[0][1]]
     for (p, a), (q, b) in zip(stops, stops[1:]):
@@ -54,7 +54,7 @@ def valleys(splits: List[Split]) -> List[Valley]:
     return found
 
 
-def curve_of(plan: Plan, table) -> Curve:
+def curve_of(plan: Plan, table: Sequence[int]) -> Curve:
     low = plan.stops[0][0]
     splits = [Split(y, table[y], f, f + table[y]) for y, f in enumerate(freights(plan.stops), low)]
     given = splits[plan.split - low]

@@ -1,9 +1,9 @@
 """The least-cost flow of a network in DIMACS form, where a table replaces the cost of one arc."""
 
 import ctypes
-from typing import List, NamedTuple
+from typing import List, NamedTuple, SupportsIndex, Union
 
-from . import Refusal, _cells, _library
+from . import Cells, Numbers, Refusal, _cells, _library, _number, _parts
 
 MOST_NODES = 32
 MOST_ARCS = 64
@@ -49,20 +49,35 @@ _flow.argtypes += [part for kind in [_UNSIGNED] + _WRITTEN for part in (ctypes.P
 _flow.restype = _UNSIGNED
 
 
-def flow_into(file, place, table, flow, starts, ends, ceilings, costs, report, worth):
+Bytes = Union[bytes, bytearray, memoryview]
+
+
+def flow_into(
+    file: Bytes,
+    place: SupportsIndex,
+    table: Numbers,
+    flow: Cells,
+    starts: Cells,
+    ends: Cells,
+    ceilings: Cells,
+    costs: Cells,
+    report: Cells,
+    worth: Cells,
+) -> int:
     """The flow of the network in these bytes on lent lists. Each of the last seven is changed in the cells that are written. Answers the
     number."""
+    if not isinstance(file, (bytes, bytearray, memoryview)):
+        raise TypeError(f"the bytes of a file are wanted, not {type(file).__name__}")
     file = bytes(file)
     lent = [flow, starts, ends, ceilings, costs, report, worth]
-    _cells(_UNSIGNED, [place])
     written = [_cells(kind, cells) for kind, cells in zip(_WRITTEN, lent)]
-    answer = _flow(file, len(file), place, *_cells(_UNSIGNED, table), *(part for pair in written for part in pair))
+    answer = _flow(file, len(file), _number(_UNSIGNED, place), *_cells(_UNSIGNED, table), *_parts(written))
     for cells, (now, length) in zip(lent, written):
         cells[:] = now[:length]
     return answer
 
 
-def flow(file, place, table) -> Flow:
+def flow(file: Bytes, place: SupportsIndex, table: Numbers) -> Flow:
     """The least-cost flow of the network in a DIMACS file, or a `FlowRefusal`.
 
     file   the bytes of the file

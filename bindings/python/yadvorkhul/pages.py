@@ -13,7 +13,7 @@ from typing import Any, Callable, Iterable, List, NamedTuple, Optional, Tuple
 from . import MOST_AMOUNT, Case, Plan, Refusal
 from .cases import check_names
 from .curve import Curve, curve_of
-from .files import File, FileRefusal, plan_text, read_case
+from .files import File, plan_text, read_case
 from .outputs import shown
 from .refusals import explain
 from .words import counted, grouped, increase, percent
@@ -249,6 +249,6 @@ def files_page(tariff: File, production: File) -> str:
     """The page of two files, planned or refused."""
     try:
         case = read_case(tariff, production)
-    except FileRefusal as refusal:
+    except Refusal as refusal:
         return refusal_page(refusal, None, tariff, production)
     return case_page(case, tariff, production)

@@ -2,6 +2,7 @@
 
 import io
 import re
+from typing import Sequence, Tuple
 
 from .curve import Curve
 from .words import grouped, increase
@@ -82,7 +83,7 @@ def _settle(figure, axes, marked):
             text.remove()
 
 
-def svg(curve: Curve, stops, width: float = 8.4, name: str = "picture") -> str:
+def svg(curve: Curve, stops: Sequence[Tuple[int, int]], width: float = 8.4, name: str = "picture") -> str:
     """The picture as an `svg` element, so many inches wide; its words are text. Two pictures on a page have two names."""
     import matplotlib
     from matplotlib import ticker

@@ -4,8 +4,10 @@ from typing import List, NamedTuple, Optional, Tuple
 
 from . import Case, Refusal
 from .dimacs import cause_of_limits, cause_of_line, cause_of_none
-from .files import COMMA, CR, LF, MINUS, NINE, QUOTE, TARIFF, ZERO, File, FileRefusal, formed, read_records
+from .files import TARIFF, File, FileRefusal
 from .words import counted, grouped
+
+CR, LF, QUOTE, COMMA, MINUS, ZERO, NINE = 13, 10, 34, 44, 45, 48, 57
 
 _ADVICE = {
     1: "Plan regions apart, or join depots that lie together.",
@@ -174,6 +176,24 @@ def spot_of(file: File, low: int, high: int, cause: str) -> Spot:
     return Spot(file, low, record, field, _name(data, low), cause, _lines(data, low, high))
 
 
+def _records(data: bytes) -> int:
+    """How many records a file of the form has."""
+    return data.count(LF) + (not data.endswith(b"\n"))
+
+
+def _fields(data: bytes, record: int) -> List[Tuple[int, int]]:
+    """Where the fields of a record begin and end, in a file that the proved reader found to be of the form: no field has a comma or a line
+    end in it."""
+    low = 0
+    for _ in range(record - 1):
+        low = data.index(LF, low) + 1
+    found = []
+    for field in data[low:].split(b"\r\n", 1)[0].split(b","):
+        found.append((low, low + len(field)))
+        low += len(field) + 1
+    return found
+
+
 # sentences -----------------------------------------------------------------------------------------------------------------------
 
 
@@ -191,14 +211,13 @@ def _explain_file(refusal: FileRefusal) -> Explained:
         ends = place >= len(file.data)
         sentence = f"{name} ends too soon: {at}." if ends else f"{name} has a byte that cannot stand there: {at}."
     else:
-        records = formed(file)
-        odd, wanted = records[place - 1], len(records[0]) if file.kind == TARIFF else 1
+        odd, wanted = _fields(file.data, place), len(_fields(file.data, 1)) if file.kind == TARIFF else 1
         than = "record 1 has" if file.kind == TARIFF else "each has"
         sentence = f"record {place} of {name} has {counted(len(odd), 'field')}; {than} {wanted}."
         if len(odd) > wanted:
-            low, high, cause = odd[wanted].start, odd[-1].end, "a field too many, perhaps after a decimal comma; numbers are whole"
+            low, high, cause = odd[wanted][0], odd[-1][1], "a field too many, perhaps after a decimal comma; numbers are whole"
         else:
-            low, high, cause = odd[-1].end, odd[-1].end + 1, "the end of a record that has too few fields"
+            low, high, cause = odd[-1][1], odd[-1][1] + 1, "the end of a record that has too few fields"
         spot = spot_of(file, low, max(high, low + 1), cause)
     return Explained(number, place, sentence, _ADVICE[number], [], spot)
 
@@ -207,8 +226,8 @@ def _field_spot(file: Optional[File], record: int, field: int) -> Optional[Spot]
     """A whole field of a file that is of the form."""
     if file is None:
         return None
-    found = read_records(file)[record - 1][field - 1]
-    return spot_of(file, found.start, found.end, "")
+    low, high = _fields(file.data, record)[field - 1]
+    return spot_of(file, low, high, "")
 
 
 def _balance(case: Case) -> List[Tuple[str, str]]:
@@ -218,8 +237,16 @@ def _balance(case: Case) -> List[Tuple[str, str]]:
     return [(name, grouped(number)) for name, number in facts]
 
 
-def explain_case(refusal: Refusal, case: Case, tariff: Optional[File] = None, production: Optional[File] = None) -> Explained:
+def _explain_size(refusal: Refusal, tariff: File) -> Explained:
+    """Refusal 1 or 2 of two files: the counts are those of the tariff's records and fields, no number was read."""
+    facts = [("sources", grouped(_records(tariff.data) - 1)), ("terminals", grouped(len(_fields(tariff.data, 1)) - 1))]
+    return Explained(refusal.number, refusal.place, str(refusal).split(": ", 1)[1] + ".", _ADVICE[refusal.number], facts, None)
+
+
+def explain_case(refusal: Refusal, case: Optional[Case], tariff: Optional[File] = None, production: Optional[File] = None) -> Explained:
     """A refusal of a case, shown in its files where it came from some."""
+    if case is None:
+        return _explain_size(refusal, tariff)
     number, place = refusal.number, refusal.place
     m, n = len(case.supplies), len(case.demands)
     sentence, facts, spot = str(refusal).split(": ", 1)[1] + ".", [], None
@@ -241,7 +268,7 @@ def explain_case(refusal: Refusal, case: Case, tariff: Optional[File] = None, pr
         facts = [(what, grouped(rows[i][j]))]
         spot = _field_spot(tariff, i + 1, j + 1) if number == 5 else None
     elif number == 6:
-        facts = [("entries", grouped(len(case.table))), ("supply of plant 1", grouped(case.supplies[0]))]
+        facts = [("entries", grouped(_records(production.data) if production else len(case.table))), ("supply of plant 1", grouped(case.supplies[0]))]
         facts += [("entries wanted", grouped(case.supplies[0] + 1))]
     elif number in (7, 8, 27):
         facts = _balance(case)
@@ -266,7 +293,7 @@ def _explain_high(place: int, low: List[int], high: List[int], file: File) -> Ex
     """Refusal 28: the high table's length, or an entry of it."""
     name = f"the high file {file.path}"
     if len(high) != len(low):
-        sentence = f"{name} has {counted(len(high), 'entry', 'entries')}, the low one {grouped(len(low))}."
+        sentence = f"{name} has {counted(_records(file.data), 'entry', 'entries')}, the low one {grouped(len(low))}."
         return Explained(28, place, sentence, _HIGH_ADVICE, [], None)
     what = "above 1,000,000,000" if high[place] >= low[place] else f"below the low one, {grouped(low[place])}"
     sentence = f"the entry of split {place} (record {place + 1} of {name}), {grouped(high[place])}, is {what}."
@@ -282,7 +309,7 @@ def explain_bounds(refusal: Refusal, case: Optional[Case], high: List[int], tari
     told = explain_case(refusal, case, tariff, low_file)
     if refusal.number == 6:
         wanted = grouped(case.supplies[0] + 1)
-        return told._replace(sentence=f"the low file {low_file.path} has {counted(len(case.table), 'entry', 'entries')}, not {wanted}.")
+        return told._replace(sentence=f"the low file {low_file.path} has {counted(_records(low_file.data), 'entry', 'entries')}, not {wanted}.")
     if refusal.number == 9:
         return told._replace(sentence=f"the entry of split {refusal.place} (record {refusal.place + 1} of the low file {low_file.path}) is above 1,000,000,000.")
     return told

@@ -7,7 +7,9 @@ ghost use Rattle.planner.specs.Answer.{slices};
 ghost use Rattle.export_reports.specs.Report.{Exported};
 use export_reports::tell;
 
+pub mod about;
 pub mod bounds;
+pub mod files;
 pub mod flow;
 pub mod seen;
 pub mod work;

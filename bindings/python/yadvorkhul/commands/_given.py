@@ -1,6 +1,6 @@
 """The files of a case that a subcommand is given: a tariff and a production table, or one JSON file."""
 
-from ..cases import NotACase, read_case
+from .. import cases
 from ..console import WrongUse
 from ..files import PRODUCTION, TARIFF, open_file
 
@@ -15,24 +15,23 @@ def files_of(parser):
     )
 
 
-def named(arguments):
-    """The paths of the files, those that are meant where none is named too."""
-    return arguments.files or ["tariff.csv", "production.csv"]
+def json_of(parser):
+    parser.add_argument("--json", action="store_true", help="print the answer, or the refusal's number and place, as JSON")
 
 
 def given(arguments):
     """The files named: None and the two files, or the case of a JSON file and None twice."""
-    paths = named(arguments)
-    if len(paths) == 1:
-        return json_case(paths[0]), None, None
-    if len(paths) == 2:
-        return None, open_file(TARIFF, paths[0]), open_file(PRODUCTION, paths[1])
+    named = arguments.files or ["tariff.csv", "production.csv"]
+    if len(named) == 1:
+        return json_case(named[0]), None, None
+    if len(named) == 2:
+        return None, open_file(TARIFF, named[0]), open_file(PRODUCTION, named[1])
     raise WrongUse("give a tariff and a production table, or one .json file")
 
 
 def json_case(path: str):
-    """A case from a JSON file."""
+    """The case of a JSON file."""
     try:
-        return read_case(path)
-    except NotACase as error:
+        return cases.read_case(path)
+    except cases.NotACase as error:
         raise WrongUse(str(error)) from error

@@ -4,32 +4,49 @@ import yadvorkhul
 
 from .. import Refusal
 from ..console import DONE, emit
-from ..files import PRODUCTION, TARIFF, open_file, read_case, read_records, refusal_text
+from ..files import PRODUCTION, TARIFF, bounds_files, handed, open_file, read_case, read_table
 from ..refusals import explain_bounds
-from ._say import told
+from ._given import json_of
+from ._say import emit_json, emit_refusal, told
 
 ORDER = 30
 SUMMARY = "tell which splits can be the cheapest, from two production tables"
-NEEDS = ["yadvorkhul_bounds"]
+NEEDS = ["yadvorkhul_bounds", "yadvorkhul_bounds_files", "yadvorkhul_read_case", "yadvorkhul_read_table"]
 
 
 def add(parser):
     parser.add_argument("tariff", help="the tariff file")
     parser.add_argument("low", help="the production table of the lowest entries")
     parser.add_argument("high", help="the production table of the highest entries")
+    json_of(parser)
+
+
+def _explained(number: int, place: int, files) -> int:
+    """The sentence of a refusal: the tariff and the low file are read again, then the high one, until one is at fault."""
+    tariff, low, high = files
+    refusal, case, entries = Refusal(number, place), None, []
+    try:
+        case = read_case(tariff, low)
+        entries = read_table(high)
+    except Refusal as found:
+        refusal = found
+    return told(explain_bounds(refusal, case, entries, *files))
+
+
+def _as_json(files):
+    tariff, low, high = files
+    case = read_case(tariff, low)
+    found = yadvorkhul.bounds(case.costs, case.supplies, case.demands, case.table, read_table(high))
+    emit_json(found._asdict())
 
 
 def run(arguments) -> int:
-    tariff, low, high_file = open_file(TARIFF, arguments.tariff), open_file(PRODUCTION, arguments.low), open_file(PRODUCTION, arguments.high)
-    case, high = None, []
-    try:
-        case = read_case(tariff, low)
-        high = [record[0].value for record in read_records(high_file)]
-        found = yadvorkhul.bounds(case.costs, case.supplies, case.demands, case.table, high)
-    except Refusal as refusal:
-        emit(refusal_text(refusal).encode())
-        return told(explain_bounds(refusal, case, high, tariff, low, high_file))
-    lines = ["smallest,largest", f"{found.smallest},{found.largest}", "split,possible"]
-    lines += [f"{split},{int(possible)}" for split, possible in enumerate(found.possible, found.first)]
-    emit("".join(line + "\r\n" for line in lines).encode())
-    return DONE
+    files = open_file(TARIFF, arguments.tariff), open_file(PRODUCTION, arguments.low), open_file(PRODUCTION, arguments.high)
+    printed = bounds_files(*map(handed, files))
+    if printed.number and arguments.json:
+        emit_refusal(Refusal(printed.number, printed.place))
+    elif arguments.json:
+        _as_json(files)
+    else:
+        emit(printed.text)
+    return _explained(printed.number, printed.place, files) if printed.number else DONE

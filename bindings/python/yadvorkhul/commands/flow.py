@@ -1,47 +1,59 @@
 """Prints the least-cost flow of a network: the total, then for each arc its start, its end, the flow on it and what that costs."""
 
+import os
 import re
 
 import yadvorkhul
 
 from .. import Refusal
 from ..console import DONE, emit
-from ..files import LONGEST, NETWORK, PRODUCTION, FileRefusal, flow_text, open_file, read_records, refusal_text
+from ..files import LONGEST, NETWORK, PRODUCTION, FileRefusal, flow_files, handed, open_file, read_table
+from ..networks import FlowRefusal
 from ..refusals import explain_network
-from ._say import told
+from ._given import json_of
+from ._say import emit_json, emit_refusal, told
 
 ORDER = 50
 SUMMARY = "print the least-cost flow of a network in DIMACS form, as the program flow does"
-NEEDS = ["yadvorkhul_flow"]
+NEEDS = ["yadvorkhul_flow", "yadvorkhul_flow_files", "yadvorkhul_read_table"]
 
 
 def add(parser):
     parser.add_argument("network", help="the network in DIMACS form: c, p min, n and a lines")
     parser.add_argument("arc", help="the arc whose cost the table replaces, by its place among the a lines, from 1")
     parser.add_argument("table", help="the costs of that arc, in the form of a production table: an entry for each flow from 0 to its ceiling")
+    json_of(parser)
 
 
-def _formed(network):
-    """Refusal 20 or 29 of a network's file: its form is judged before the table's file, the rest after it."""
-    if network.data is None or len(network.data) > LONGEST:
-        raise FileRefusal(20, 0, network)
-    try:
-        yadvorkhul.flow(network.data, 0, [])
-    except Refusal as refusal:
-        if refusal.number == 29:
-            raise
+def _place(arc: str) -> int:
+    """The place that a text names, for the sentence and for JSON; the proved function read it by itself."""
+    return int(arc) if re.fullmatch("[0-9]{1,4}", arc) else 0
+
+
+def _explained(number: int, place: int, network, arc: str, table) -> int:
+    """The sentence of a refusal: 20 is the network's where it is too long or was not read, else the table's, as are 21 and 22."""
+    refusal, entries = FlowRefusal(number, place), []
+    if number == 20 and len(handed(network)) > LONGEST:
+        refusal = FileRefusal(number, place, network)
+    elif number in (20, 21, 22):
+        refusal = FileRefusal(number, place, table)
+    elif number == 30:
+        entries = read_table(table)
+    return told(explain_network(refusal, network, _place(arc), entries))
+
+
+def _as_json(network, arc: str, table):
+    found = yadvorkhul.flow(network.data, _place(arc), read_table(table))
+    emit_json({"total": found.total, "arcs": [one._asdict() for one in found.arcs]})
 
 
 def run(arguments) -> int:
-    network, entries = open_file(NETWORK, arguments.network), []
-    # as in the program `flow`: what is not one to four digits names no arc
-    arc = int(arguments.arc) if re.fullmatch("[0-9]{1,4}", arguments.arc) else 0
-    try:
-        _formed(network)
-        entries = [record[0].value for record in read_records(open_file(PRODUCTION, arguments.table))]
-        found = yadvorkhul.flow(network.data, arc, entries)
-    except Refusal as refusal:
-        emit(refusal_text(refusal).encode())
-        return told(explain_network(refusal, network, arc, entries))
-    emit(flow_text(found, arc, entries).encode())
-    return DONE
+    network, table = open_file(NETWORK, arguments.network), open_file(PRODUCTION, arguments.table)
+    printed = flow_files(handed(network), os.fsencode(arguments.arc), handed(table))
+    if printed.number and arguments.json:
+        emit_refusal(Refusal(printed.number, printed.place))
+    elif arguments.json:
+        _as_json(network, arguments.arc, table)
+    else:
+        emit(printed.text)
+    return _explained(printed.number, printed.place, network, arguments.arc, table) if printed.number else DONE

@@ -101,7 +101,7 @@ def make_server(app: Flask, port: int, proxy: str = ""):
         port=port,
         threads=THREADS,
         ident="yadvorkhul",
-        max_request_body_size=MOST_BODY + 1,
+        max_request_body_size=2 * MOST_BODY,  # up to there the application says so itself, in a sentence
         clear_untrusted_proxy_headers=True,
         **behind,
     )

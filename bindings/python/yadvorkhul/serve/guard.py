@@ -89,7 +89,7 @@ def route() -> str:
 
 
 def let_in():
-    if request.headers.get("Host", "") not in server().hosts:
+    if request.headers.get("Host", "").lower() not in server().hosts:
         raise OtherHost()
     if not route():
         return None  # no such page, or another method: said by Flask
@@ -105,6 +105,8 @@ def let_in():
 
 def dress(response):
     response.headers.update(_HEADERS)
+    for name in ("ETag", "Last-Modified"):  # of static files: nothing is kept, so nothing need be compared
+        response.headers.pop(name, None)
     return response
 
 

@@ -4,6 +4,7 @@ A step is one entering of a case, or the calls of one write, which stand or fall
 back; a new step forgets those undone.
 """
 
+import bisect
 from typing import Dict, List, NamedTuple, Optional, Tuple
 
 
@@ -23,18 +24,20 @@ class History:
         self.undone: List[Step] = []
         self.published: Optional[dict] = None
         self.ids = set()  # user and identity of each write that was answered
+        self._entered: List[int] = []  # where among the steps a case was entered
+        self._marks: Optional[Dict[int, Tuple[str, int]]] = None  # kept until undo, redo or another case
 
     def add(self, record: dict):
         kind = record["do"]
         if record.get("id"):
             self.ids.add((record["user"], record["id"]))
         if kind in ("enter", "calls"):
-            self.steps.append(_step(record))
+            self._push(_step(record))
             self.undone.clear()
         elif kind == "undo":
-            self.undone.append(self.steps.pop())
+            self.undone.append(self._pop())
         elif kind == "redo":
-            self.steps.append(self.undone.pop())
+            self._push(self.undone.pop())
         elif kind == "publish":
             self.published = {"time": record["time"], "user": record["user"], **record["lanes"]}
         elif kind == "withdraw":
@@ -42,15 +45,34 @@ class History:
         else:
             raise ValueError(f"a record of an unknown kind, {kind}")
 
-    def since_entry(self, count: Optional[int] = None) -> Tuple[dict, List[Step]]:
-        """Of the first steps the case that was entered last, and the steps after it."""
-        steps = self.steps[:count]
-        start = max(k for k, step in enumerate(steps) if step.case is not None)
-        return steps[start].case, steps[start + 1 :]
+    def _push(self, step: Step):
+        if step.case is not None:
+            self._entered.append(len(self.steps))
+        self.steps.append(step)
+        if step.case is not None or step.names or any(call[0] == "mark" for call in step.calls):
+            self._marks = None
+
+    def _pop(self) -> Step:
+        step = self.steps.pop()
+        if step.case is not None:
+            self._entered.pop()
+        self._marks = None
+        return step
+
+    @property
+    def case(self) -> dict:
+        """The case that was entered last."""
+        return self.steps[self._entered[-1]].case
 
     @property
     def last(self) -> Step:
         return self.steps[-1]
+
+    def since_entry(self, count: Optional[int] = None) -> Tuple[dict, List[Step]]:
+        """Of the first steps the case that was entered last, and the steps after it."""
+        end = len(self.steps) if count is None else count
+        start = self._entered[bisect.bisect_left(self._entered, end) - 1]
+        return self.steps[start].case, self.steps[start + 1 : end]
 
     def may_undo(self) -> bool:
         """The first step, which entered the case, stays."""
@@ -58,11 +80,13 @@ class History:
 
     def marks(self) -> Dict[int, Tuple[str, int]]:
         """The name of each mark that was set since the case was entered, and the number of the step that set it last."""
-        found, names = {}, {}
-        for step in self.since_entry()[1]:
-            names.update(step.names)
-            found.update({call[1]: step.seq for call in step.calls if call[0] == "mark"})
-        return {mark: (names.get(mark, f"Mark {mark}"), seq) for mark, seq in sorted(found.items())}
+        if self._marks is None:
+            found, names = {}, {}
+            for step in self.since_entry()[1]:
+                names.update(step.names)
+                found.update({call[1]: step.seq for call in step.calls if call[0] == "mark"})
+            self._marks = {mark: (names.get(mark, f"Mark {mark}"), seq) for mark, seq in sorted(found.items())}
+        return self._marks
 
 
 def _step(record: dict) -> Step:

@@ -174,7 +174,7 @@ class SharedCase:
 
     def names(self) -> dict:
         """Title and names, which everybody sees."""
-        case = self.history.since_entry()[0]
+        case = self.history.case
         return {field: case[field] for field in ("title", "sources", "terminals")}
 
     def limits(self, role: Role):
@@ -182,7 +182,7 @@ class SharedCase:
         if hasattr(self.work, "see_limits"):
             return self.work.see_limits(role)
         _allowed(answer(self.work.plan, role)[1])
-        case = self.history.since_entry()[0]
+        case = self.history.case
         wide = [[4000] * len(case["demands"]) for _ in case["supplies"]]
         return tuple(case["runs"]), case["ceilings"] or wide
 

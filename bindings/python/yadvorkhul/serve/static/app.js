@@ -53,13 +53,13 @@ class Desk {
   }
 
   wrong(sentence) {
-    part("wrong").textContent = sentence;
+    part("wrong-words").textContent = sentence;
     part("wrong").hidden = false;
   }
 
   right() {
     part("wrong").hidden = true;
-    part("wrong").textContent = "";
+    part("wrong-words").textContent = "";
   }
 
   // A question with its answer: a text, true, or null where it was closed.
@@ -319,6 +319,7 @@ class Desk {
 const desk = new Desk();
 part("undo").addEventListener("click", () => desk.turn("undo"));
 part("redo").addEventListener("click", () => desk.turn("redo"));
+part("wrong-close").addEventListener("click", () => desk.right());
 part("mark-new").addEventListener("click", () => desk.newMark());
 for (const button of document.querySelectorAll("[data-act]")) button.addEventListener("click", () => desk.markAct(button.dataset.act));
 part("tabs").addEventListener("keydown", (event) => desk.tabKey(event));

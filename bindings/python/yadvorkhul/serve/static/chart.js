@@ -121,7 +121,8 @@ export class Chart {
       if (!point.text) continue;
       const half = point.text.length * 3.4;
       const middle = Math.max(SPACE.left + half, Math.min(this.width - SPACE.right - half, x));
-      const free = [y + 22, y - 14].find((at) => at < this.height - SPACE.bottom - 2 && !placed.some((p) => Math.abs(p.x - middle) < p.half + half + 6 && Math.abs(p.y - at) < 14));
+      const covers = (at) => placed.some((p) => Math.abs(p.x - middle) < p.half + half + 6 && Math.abs(p.y - at) < 14);
+      const free = [y + 22, y - 14].find((at) => at < this.height - SPACE.bottom - 2 && !covers(at)) ?? (point.always ? y - 14 : undefined);
       if (free === undefined) continue;
       placed.push({ x: middle, y: free, half });
       this.svg.append(shape("text", { class: `words ${point.class}`, x: middle, y: free, "text-anchor": "middle" }, point.text));

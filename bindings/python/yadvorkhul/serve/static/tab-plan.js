@@ -139,7 +139,7 @@ function make(panel, desk) {
       series.unshift({ class: "was", first: was.first, values: was.values });
       points.push({ x: basis.plan.split, y: basis.plan.total, glyph: "☆", class: "was", text: "" });
     }
-    points.push({ x: plan.split, y: plan.total, glyph: "★", class: "given", text: `${group(plan.split)}: ${group(plan.total)}` });
+    points.push({ x: plan.split, y: plan.total, glyph: "★", class: "given", text: `${group(plan.split)}: ${group(plan.total)}`, always: true });
     for (const [first, , total, more] of plan.rivals) points.push({ x: first, y: total, glyph: "◆", class: "rival", text: more ? signed(more) : "equal" });
     chart ??= new Chart(holder);
     chart.draw({ label: `Total over what ${desk.source(0)} makes`, axis: `${desk.source(0)} makes →`, height: 230, series, points, at: plan.split, read: reading(now, plan, basis) });

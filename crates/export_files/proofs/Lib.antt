@@ -1,0 +1,3 @@
+pub mod Printings
+pub mod Writings
+pub mod Readings
