@@ -1,10 +1,10 @@
--- `ratesfile::read_output` meets its contract. The invariant: the first k bytes are digits, and value is their number. Assumes nothing.
+-- `numbers::read_short` meets its contract. The invariant: the first k bytes are digits, and value is their number. Assumes nothing.
 use Prim.Native.Nat.{_-_}
 use native.Mathlib.Omega.{arith}
 use borrow.Author.Needs.{needs}
-use Rattle.ratesfile.proofs.DigitsRead.{Reading, reading-start, reading-next, reading-low, reading-high, reading-end, below-1000, empty, too-long, as-read}
-use Rattle.ratesfile.proofs.read_output.Statement.{statement}
-use Rattle.ratesfile.proofs.read_output.Tie as tie
+use Rattle.numbers.proofs.DigitsRead.{Reading, reading-start, reading-next, reading-low, reading-high, reading-end, below-1000, empty, too-long, as-read}
+use Rattle.numbers.proofs.read_short.Statement.{statement}
+use Rattle.numbers.proofs.read_short.Tie as tie
 
 abbrev Inv-loop : tie.InvT-loop
 Inv-loop text size value₀ k₀ value k = Reading text value k
@@ -51,8 +51,8 @@ loop-again c = reading-next (c .before .before .before .before .loop .inv) (c .b
 returns-5 : tie.Need-returns-5 Inv-loop μ-loop
 returns-5 c = as-read _ _ (c .before .before .before .if1 .left) (c .before .before .if2 .left) (reading-end (c .before .loop .inv) (c .loop-test .left))
 
-pub read-output-spec : {M : Type 1} → statement M
-read-output-spec =
+pub read-short-spec : {M : Type 1} → statement M
+read-short-spec =
     tie.close
     (tie.spec
     Inv-loop

@@ -1,10 +1,10 @@
--- `flow_network::judge::uneven` meets its contract. Assumes nothing.
+-- `flow_case::checks::uneven` meets its contract. Assumes nothing.
 use mathlib.Core.Path.{sym, _∙_}
 use borrow.Author.Needs.{needs}
 use denote.Ref.{now}
-use Rattle.flow_network.proofs.JudgeLaws.{uneven-1, uneven-2}
-use Rattle.flow_network.proofs.judge.uneven.Statement.{statement}
-use Rattle.flow_network.proofs.judge.uneven.Tie as tie
+use Rattle.flow_case.proofs.UnevenTest.{uneven-1, uneven-2}
+use Rattle.flow_case.proofs.checks.uneven.Statement.{statement}
+use Rattle.flow_case.proofs.checks.uneven.Tie as tie
 
 sum-of-requires : tie.Need-sum-of-requires
 sum-of-requires c κs = search needs

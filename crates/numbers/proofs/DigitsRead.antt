@@ -8,9 +8,9 @@ use native.Mathlib.Numerals.{add-one}
 use lib.ListN.{length, getD, drop}
 use lib.Seq.{drop-cons, drop-length}
 use borrow.Author.Tests.{lt-ltb, le-ltb, eq-eqb, ne-eqb}
-use Rattle.ratesfile.specs.File.{numberFrom, outputOf}
-use Rattle.ratesfile.specs.declared.Output.{Output}
-use Rattle.ratesfile.specs.declared.Output.the-variants.{UpTo, Unclear}
+use Rattle.numbers.specs.Short.{numberFrom, shortOf}
+use Rattle.numbers.specs.declared.Short.{Short}
+use Rattle.numbers.specs.declared.Short.the-variants.{Number, Unclear}
 
 -- k digits are read, and they are v
 pub record Reading (text : List ℕ) (v k : ℕ) : Type 0 where
@@ -52,20 +52,20 @@ module _ {text : List ℕ} {v k : ℕ} (r : Reading text v k) (h : k < length te
   reading-high a b = next-byte ∙ rw (le-ltb (getD text k 0) 48 a, lt-ltb 57 (getD text k 0) b) refl
 
 -- all bytes are read
-pub reading-end : {text : List ℕ} {v k : ℕ} → Reading text v k → length text ≤ k → numberFrom 0 text ≡ UpTo v
+pub reading-end : {text : List ℕ} {v k : ℕ} → Reading text v k → length text ≤ k → numberFrom 0 text ≡ Number v
 unfolding numberFrom
 reading-end {text} {v} {k} r h = r .so-far ∙ ap (λ (j : ℕ). numberFrom v (drop j text)) (let e : k ≡ length text = omega (arith, r .upto) in e) ∙ ap (numberFrom v) (drop-length text)
 
 -- what is answered
 module _ (text : List ℕ) where
-  pub empty : length text ≡ 0 → Unclear ≡ outputOf text
-  unfolding outputOf
+  pub empty : length text ≡ 0 → Unclear ≡ shortOf text
+  unfolding shortOf
   empty e = rw (eq-eqb (length text) 0 e) refl
 
-  pub too-long : 4 < length text → Unclear ≡ outputOf text
-  unfolding outputOf
+  pub too-long : 4 < length text → Unclear ≡ shortOf text
+  unfolding shortOf
   too-long h = rw (ne-eqb (length text) 0 (λ e. omega arith), lt-ltb 4 (length text) h) refl
 
-  pub as-read : (o : Output) → (length text ≡ 0 → ⊥) → length text ≤ 4 → numberFrom 0 text ≡ o → o ≡ outputOf text
-  unfolding outputOf
+  pub as-read : (o : Short) → (length text ≡ 0 → ⊥) → length text ≤ 4 → numberFrom 0 text ≡ o → o ≡ shortOf text
+  unfolding shortOf
   as-read o n h e = rw (ne-eqb (length text) 0 n, le-ltb 4 (length text) h) (sym e)
