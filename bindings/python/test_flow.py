@@ -70,6 +70,8 @@ class Flows(unittest.TestCase):
             (spoil(b"n 1 5", b"n 1 5 "), 3, "space at an end"),
             (spoil(b"n 1 5", b"node 1 5"), 3, "as in n NODE SUPPLY"),
             (spoil(b"n 1 5", b"m 1 5"), 3, "none of c, p, n and a"),
+            (b"\xef\xbb\xbf" + FILE, 1, "byte order mark"),
+            (spoil(b"p min", b"p max"), 2, "networks are p min"),
             (spoil(b"n 1 5", b"n 1 05"), 3, "0 in front"),
             (spoil(b"n 1 5", b"n 1 12345678901"), 3, "more than ten digits"),
             (spoil(b"n 1 5", b"n 1 5.0"), 3, "whole"),

@@ -1,4 +1,6 @@
-"""Looks into a network's file for what a refusal is about. Numbers and places are the proved reader's; only the sentences come from here."""
+"""Looks into a network's file for what a refusal is about. Numbers and places are the proved reader's; only the sentences come from here.
+
+The program `flow` names the same causes in the same words (crate `flow_command`); `examples/sentences` holds one to the other."""
 
 import re
 from typing import List, NamedTuple, Tuple
@@ -66,10 +68,14 @@ def cause_of_line(data: bytes, number: int) -> str:
     if line.startswith(b" ") or line.endswith(b" "):
         return "a space at an end of the line"
     kind = line[:1]
+    if line.startswith(b"\xef\xbb\xbf"):
+        return "a byte order mark; save the file as plain text without one"
     if kind not in _FORMS:
         return "a line that begins with none of c, p, n and a"
     if _FORMS[kind].fullmatch(line):
         return _out_of_order(kind, before)
+    if line.startswith(b"p max"):
+        return "p max; networks are p min"
     if re.search(rb" -?0[0-9]", line):
         return "a number with 0 in front"
     if re.search(rb"[0-9]{11}", line):

@@ -23,6 +23,7 @@ use Rattle.dimacs.specs.Form.{before, pieces, ArcLine, Line, lineOf, Fil
 use Rattle.dimacs.specs.Arc.{arc}
 use Rattle.csv_form.specs.Records.{signed as withSign}
 use Rattle.dimacs.specs.LineReader.{onLine, WholeLine}
+use Rattle.dimacs.specs.Stored.{linesOf, stageOf}
 use Rattle.dimacs.specs.FormReader.{LineEnd, tallyOf, onProblem, onNode, onArc, nextOf, endOf}
 use Rattle.dimacs.proofs.LineOffsets.{nothing}
 
@@ -232,12 +233,24 @@ module _ (i : ℕ) (s : Stage) (p l : List ℕ) where
       let w = some-piece l in
       ap (λ (ps : List (List ℕ)). run i s (p ∷ ps)) (w .2) ∙ rw (e, run) (ap (run (suc i) t) (sym (w .2)))
 
+  -- the same of the lines before the first that is not of the form
+  pub lines-wrong : (lineOf p >>= step s) ≡ none → linesOf s (p ∷ pieces l) ≡ s
+  unfolding linesOf
+  lines-wrong e = let w = some-piece l in ap (λ (ps : List (List ℕ)). linesOf s (p ∷ ps)) (w .2) ∙ rw (e, linesOf)
+
+  pub lines-on : (t : Stage) → (lineOf p >>= step s) ≡ some t → linesOf s (p ∷ pieces l) ≡ linesOf t (pieces l)
+  unfolding linesOf
+  lines-on t e =
+      let w = some-piece l in
+      ap (λ (ps : List (List ℕ)). linesOf s (p ∷ ps)) (w .2) ∙ rw (e, linesOf) (ap (linesOf t) (sym (w .2)))
+
 pub record SoFar (s : List ℕ) (t : Tally) (at line : ℕ) : Type 0 where
   pub upto : at ≤ length s
   pub numbered : line ≤ at + 1
   pub stage : Stage
   pub stands : Stands t stage
   pub meaning : formOf s ≡ run line stage (pieces (drop at s))
+  pub staged : stageOf s ≡ linesOf stage (pieces (drop at s))
 
 module _ (s : List ℕ) (t : Tally) (at line e : ℕ) (r : SoFar s t at line) (d : LineEnd s at e) where
   pub no-lf : length s ≤ e → at < e → formOf s ≡ broken line
@@ -254,12 +267,23 @@ module _ (s : List ℕ) (t : Tally) (at line e : ℕ) (r : SoFar s t at line) (d
       ∙ ap (run line (r .stage)) (d .last h)
       ∙ ap (last line (r .stage)) (nothing s at (omega arith))
 
+  pub stage-ends : length s ≤ e → stageOf s ≡ r .stage
+  unfolding linesOf
+  stage-ends h = r .staged ∙ ap (linesOf (r .stage)) (d .last h)
+
   module _ (h : e < length s) (l : line-answer.Line) (w : WholeLine (take (e - at) (drop at s)) l) where
     pub form-wrong : nextOf t l ≡ nexts.Wrong → formOf s ≡ broken line
     form-wrong q =
         r .meaning
         ∙ ap (run line (r .stage)) (d .line h)
         ∙ run-wrong line (r .stage) (take (e - at) (drop at s)) (drop (e + 1) s)
+        (ap (λ (o : Option Line). o >>= step (r .stage)) (w .meaning) ∙ subst (Moved (r .stage) l) q (moved t (r .stage) l (r .stands)))
+
+    pub stage-wrong : nextOf t l ≡ nexts.Wrong → stageOf s ≡ r .stage
+    stage-wrong q =
+        r .staged
+        ∙ ap (linesOf (r .stage)) (d .line h)
+        ∙ lines-wrong line (r .stage) (take (e - at) (drop at s)) (drop (e + 1) s)
         (ap (λ (o : Option Line). o >>= step (r .stage)) (w .meaning) ∙ subst (Moved (r .stage) l) q (moved t (r .stage) l (r .stands)))
 
     pub form-on : (t′ : Tally) → nextOf t l ≡ nexts.On t′ → (z : SoFar s t′ (e + 1) (line + 1)) × ((onLine l >>= step (r .stage)) ≡ some (z .stage))
@@ -276,6 +300,11 @@ module _ (s : List ℕ) (t : Tally) (at line e : ℕ) (r : SoFar s t at line) (d
                 ∙ run-on line (r .stage) (take (e - at) (drop at s)) (drop (e + 1) s) (m .0)
                 (ap (λ (o : Option Line). o >>= step (r .stage)) (w .meaning) ∙ m .1)
                 ∙ ap (λ (n : ℕ). run n (m .0) (pieces (drop (e + 1) s))) (sym (add-one line));
+            staged =
+                r .staged
+                ∙ ap (linesOf (r .stage)) (d .line h)
+                ∙ lines-on line (r .stage) (take (e - at) (drop at s)) (drop (e + 1) s) (m .0)
+                (ap (λ (o : Option Line). o >>= step (r .stage)) (w .meaning) ∙ m .1);
           },
           m .1,
         )

@@ -1,5 +1,6 @@
 -- The n lines and the a lines, one more at the end. Assumes nothing.
 use mathlib.Core.Path.{_≡_, refl, sym, ap, ap₂, _∙_}
+use mathlib.Core.Logic.{_⊎_, inl, inr}
 use mathlib.Core.Bool.{Bool, true, false, cond, _||_, true≢false}
 use mathlib.Core.List.{List, [], _∷_, _++_}
 use Prim.Native.Nat.{ℕ, zero, suc, _-_, _≤_, _<_, _^_}
@@ -112,6 +113,11 @@ pub supply-parts : (m : Bool) (v : ℕ) → subℕ (cond m 0 v) (cond m v 0) ≡
 supply-parts true zero = refl
 supply-parts true (suc v) = ap (λ (b : Bool). cond b (negsuc (suc v - 1)) (pos (0 - suc v))) (lt-ltb 0 (suc v) (omega arith)) ∙ ap negsuc (let q : suc v - 1 ≡ v = omega arith in q)
 supply-parts false v = ap (λ (b : Bool). cond b (negsuc (0 - suc v)) (pos (v - 0))) (le-ltb v 0 (omega arith)) ∙ ap pos (let q : v - 0 ≡ v = omega arith in q)
+
+-- one of the two is 0
+pub one-part : (m : Bool) (v : ℕ) → (cond m 0 v ≡ 0) ⊎ (cond m v 0 ≡ 0)
+one-part true v = inl refl
+one-part false v = inr refl
 
 pub given-small : (m : Bool) (v : ℕ) → v < 10 ^ 10 → cond m 0 v < 10 ^ 10
 given-small true v h = omega arith

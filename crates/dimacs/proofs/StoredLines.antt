@@ -9,7 +9,7 @@ use native.Mathlib.Decide.{ℕ-discrete, decLt}
 use native.Mathlib.Omega.{arith}
 use lib.Dec.{eqb, ltb}
 use lib.IntN.{ℤ, pos, subℕ}
-use lib.ListN.{length, getD, set, length-set, length-append, List·getD-append}
+use lib.ListN.{length, getD, set, length-set, length-append, List·getD-append, List·getD-eq-default}
 use lib.Seq.{getD-set-same, getD-set-other, getD-append-seam}
 use borrow.Author.Tests.{eqb-true, eq-eqb, ne-eqb, lt-ltb, le-ltb}
 use Rattle.dimacs.specs.declared.form.Form as form-answer
@@ -22,18 +22,26 @@ use Rattle.dimacs.specs.Form.{ArcLine, NodeLine, file, Stage, opening, r
 use Rattle.dimacs.specs.Lines.{supplyIn, anyOf, noNode, twice, badArc}
 use Rattle.dimacs.specs.LineReader.{onLine}
 use Rattle.dimacs.specs.FormReader.{tallyOf, endOf}
-use Rattle.dimacs.specs.Stored.{nodeIn, arcIn, noLine, arcOn, HeldBy, ArcsRead, listedNode, NodesRead, flagged, ReadAs}
+use Rattle.dimacs.specs.Stored.{nodeIn, arcIn, noLine, arcOn, HeldBy, ArcsRead, listedNode, NodesRead, flagged, stageOf, nodesIn, arcsIn, suppliesIn, LinesKept, ReadAs}
 use Rattle.dimacs.proofs.FileLines.{Stands, SoFar, end-closed, end-short, end-whole}
 use Rattle.dimacs.proofs.NodeAndArcLines.{or-first, or-next, any-joined, any-more, twice-more, supply-more, other-supply}
 
 -- ---- one more arc
 
 module _ {A : Type 0} (d : A) (f : Arc → A) (arcs : List ArcLine) (v : ArcLine) (held : List A) where
-  old-arc : (j : ℕ) → j < length arcs → arcOn (arcs ++ (v ∷ [])) j ≡ arcOn arcs j
-  old-arc j h = ap (λ (z : ArcLine). z .arc) (List·getD-append arcs (v ∷ []) noLine j h)
+  old-line : (j : ℕ) → (j ≡ length arcs → ⊥) → getD (arcs ++ (v ∷ [])) j noLine ≡ getD arcs j noLine
+  old-line j h = elim (decLt j (length arcs)) [
+    | yes l ↦ List·getD-append arcs (v ∷ []) noLine j l
+    | no l ↦
+        List·getD-eq-default (arcs ++ (v ∷ [])) noLine (omega (arith, length-append arcs (v ∷ []), h, l))
+        ∙ sym (List·getD-eq-default arcs noLine (omega (arith, l)))
+  ]
+
+  old-arc : (j : ℕ) → (j ≡ length arcs → ⊥) → arcOn (arcs ++ (v ∷ [])) j ≡ arcOn arcs j
+  old-arc j h = ap (λ (z : ArcLine). z .arc) (old-line j h)
 
   pub held-next : (x : A) → x ≡ f (v .arc) → length held ≡ 64 → length arcs < 64 → HeldBy d f arcs held → HeldBy d f (arcs ++ (v ∷ [])) (set held (length arcs) x)
-  held-next x e long h r j l q = elim (ℕ-discrete j (length arcs)) [
+  held-next x e long h r j l = elim (ℕ-discrete j (length arcs)) [
     | yes w ↦
         ap (λ (i : ℕ). getD (set held (length arcs) x) i d) w
         ∙ getD-set-same held (length arcs) x d (omega arith)
@@ -41,12 +49,12 @@ module _ {A : Type 0} (d : A) (f : Arc → A) (arcs : List ArcLine) (v : ArcLine
         ∙ sym (ap f (ap (arcOn (arcs ++ (v ∷ []))) w ∙ ap (λ (z : ArcLine). z .arc) (getD-append-seam arcs v [] noLine)))
     | no w ↦
         getD-set-other held (length arcs) j x d w
-        ∙ r j l (omega (arith, length-append arcs (v ∷ [])))
-        ∙ sym (ap f (old-arc j (omega (arith, length-append arcs (v ∷ [])))))
+        ∙ r j l
+        ∙ sym (ap f (old-arc j w))
   ]
 
   pub held-past : 64 ≤ length arcs → HeldBy d f arcs held → HeldBy d f (arcs ++ (v ∷ [])) held
-  held-past h r j l q = r j l (omega arith) ∙ sym (ap f (old-arc j (omega arith)))
+  held-past h r j l = r j l ∙ sym (ap f (old-arc j (λ e. omega arith)))
 
 module _ (nodes : ℕ) (arcs : List ArcLine) (v : ArcLine) (bad worse : Bool) (starts ends ceilings : List ℕ) (costs : List ℤ)
     (w : worse ≡ (bad || anyOf (badArc nodes) (v ∷ []))) (r : ArcsRead nodes arcs bad starts ends ceilings costs) where
@@ -112,7 +120,9 @@ module _ (nodes : ℕ) (sup : List NodeLine) (v : NodeLine) (odd : Bool) (gives 
         flag = λ few. or-first (anyOf (λ (z : NodeLine). noNode nodes (z .id)) sup || noNode nodes (v .id)) (twice sup || listedNode sup (v .id)) (sym (or-next (anyOf (λ (z : NodeLine). noNode nodes (z .id)) sup) (noNode nodes (v .id)) (out few h))) ∙ sym flags-next;
         fresh = some-lines true;
         mark = marks-kept other;
+        mark-one = r .mark-one;
         supply = supplies-kept other;
+        one-way = r .one-way;
         small = r .small;
         gives-long = r .gives-long;
         takes-long = r .takes-long;
@@ -130,7 +140,9 @@ module _ (nodes : ℕ) (sup : List NodeLine) (v : NodeLine) (odd : Bool) (gives 
       flag = λ few. or-next (anyOf (λ (z : NodeLine). noNode nodes (z .id)) sup || noNode nodes (v .id)) (twice sup || listedNode sup (v .id)) (or-next (twice sup) (listedNode sup (v .id)) (sym (ap (listedNode sup) e ∙ there))) ∙ sym flags-next;
       fresh = some-lines true;
       mark = λ k q. r .mark k q ∙ same-mark k;
+      mark-one = r .mark-one;
       supply = λ k q. r .supply k q ∙ same-supply k;
+      one-way = r .one-way;
       small = r .small;
       gives-long = r .gives-long;
       takes-long = r .takes-long;
@@ -157,13 +169,21 @@ module _ (nodes : ℕ) (sup : List NodeLine) (v : NodeLine) (odd : Bool) (gives 
         ]
 
     -- a further node
-    module _ (g t : ℕ) (new : getD marks i 0 ≤ 0) (is : subℕ g t ≡ v .supply) (sg : g < 10 ^ 10) (st : t < 10 ^ 10) where
+    module _ (g t : ℕ) (new : getD marks i 0 ≤ 0) (is : subℕ g t ≡ v .supply) (way : (g ≡ 0) ⊎ (t ≡ 0)) (sg : g < 10 ^ 10) (st : t < 10 ^ 10) where
       pub node-next : (worse : Bool) → worse ≡ (ltb nodes (v .id) || odd) → NodesRead nodes (sup ++ (v ∷ [])) worse (set gives i g) (set takes i t) (set marks i 1)
       node-next worse w = record {
         flag = λ few. w ∙ ap (λ (b : Bool). ltb nodes (v .id) || b) (r .flag few) ∙ turn few ∙ sym flags-next;
         fresh = some-lines worse;
         mark = λ k q. elim (ℕ-discrete k i) [ yes z ↦ mark-here k q z | no z ↦ mark-other k q z ];
+        mark-one = λ k q. elim (ℕ-discrete k i) [
+          | yes z ↦ rw (z, getD-set-same marks i 1 0 (omega (arith, r .marks-long))) (let h : 1 ≤ 1 = omega arith in h)
+          | no z ↦ rw (getD-set-other marks i k 1 0 z) (r .mark-one k q)
+        ];
         supply = λ k q. elim (ℕ-discrete k i) [ yes z ↦ supply-here k q z | no z ↦ supply-other k q z ];
+        one-way = λ k q. elim (ℕ-discrete k i) [
+          | yes z ↦ rw (z, getD-set-same gives i g 0 (omega (arith, r .gives-long)), getD-set-same takes i t 0 (omega (arith, r .takes-long))) way
+          | no z ↦ rw (getD-set-other gives i k g 0 z, getD-set-other takes i k t 0 z) (r .one-way k q)
+        ];
         small = λ k q. elim (ℕ-discrete k i) [
           | yes z ↦ (rw (z, getD-set-same gives i g 0 (omega (arith, r .gives-long))) sg, rw (z, getD-set-same takes i t 0 (omega (arith, r .takes-long))) st)
           | no z ↦ (rw (getD-set-other gives i k g 0 z) (r .small k q .0), rw (getD-set-other takes i k t 0 z) (r .small k q .1))
@@ -221,19 +241,6 @@ module _ (nodes : ℕ) (sup : List NodeLine) (v : NodeLine) (odd : Bool) (gives 
               ∙ other-supply sup v (suc k) (ne-eqb (v .id) (suc k) (λ w. z (omega arith)))
 
 -- ---- a further line
-
--- what a stage has read
-abbrev pub nodesIn : Stage → ℕ
-nodesIn opening = 0
-nodesIn (reading f) = f .nodes
-
-abbrev pub arcsIn : Stage → List ArcLine
-arcsIn opening = []
-arcsIn (reading f) = f .arcs
-
-abbrev pub suppliesIn : Stage → List NodeLine
-suppliesIn opening = []
-suppliesIn (reading f) = f .supplies
 
 never : {A : Type 0} (x : A) → none ≡ some x → ⊥
 never x e = let z : _≡_ {A = ℕ} 0 1 = cc in omega arith
@@ -309,7 +316,9 @@ no-nodes n m r = record {
   flag = λ few. r .fresh refl;
   fresh = r .fresh;
   mark = r .mark;
+  mark-one = r .mark-one;
   supply = r .supply;
+  one-way = r .one-way;
   small = r .small;
   gives-long = r .gives-long;
   takes-long = r .takes-long;
@@ -325,23 +334,29 @@ pub record Kept (s : List ℕ) (t : Tally) (at line : ℕ) (odd bad : Bool) (sta
 module _ (s : List ℕ) (starts ends ceilings : List ℕ) (costs : List ℤ) (gives takes marks : List ℕ) where
   pub kept-start : ArcsRead 0 [] false starts ends ceilings costs → NodesRead 0 [] false gives takes marks
       → Kept s (tallyOf false 0 0 0) 0 1 false false starts ends ceilings costs gives takes marks
-  unfolding formOf
+  unfolding formOf stageOf
   kept-start a n = record {
-    so-far = record { upto = omega arith; numbered = omega arith; stage = opening; stands = refl; meaning = refl };
+    so-far = record { upto = omega arith; numbered = omega arith; stage = opening; stands = refl; meaning = refl; staged = refl };
     arc-lines = a;
     node-lines = n;
   }
 
-  pub kept-ends : (t : Tally) (line : ℕ) (odd bad : Bool) (st : Stage) → Stands t st → formOf s ≡ atEnd line st
+  -- what was read before a line that is not of the form
+  pub kept-before : {st : Stage} {odd bad : Bool} → stageOf s ≡ st → ArcsRead (nodesIn st) (arcsIn st) bad starts ends ceilings costs
+      → NodesRead (nodesIn st) (suppliesIn st) odd gives takes marks → LinesKept (stageOf s) starts ends ceilings costs gives takes marks
+  kept-before {st} {odd} {bad} e a n =
+      subst (λ (z : Stage). LinesKept z starts ends ceilings costs gives takes marks) (sym e) (record { bad = bad; odd = odd; arc-lines = a; node-lines = n })
+
+  pub kept-ends : (t : Tally) (line : ℕ) (odd bad : Bool) (st : Stage) → Stands t st → formOf s ≡ atEnd line st → stageOf s ≡ st
       → ArcsRead (nodesIn st) (arcsIn st) bad starts ends ceilings costs → NodesRead (nodesIn st) (suppliesIn st) odd gives takes marks
       → ReadAs s (flagged (endOf t line) odd bad) starts ends ceilings costs gives takes marks
   unfolding atEnd
-  kept-ends t line odd bad opening h m a n =
-      subst (λ (z : form-answer.Form). ReadAs s (flagged z odd bad) starts ends ceilings costs gives takes marks) (end-closed t line h) m
-  kept-ends t line odd bad (reading f) h m a n = elim (decLt (t .arcs) (t .said)) [
+  kept-ends t line odd bad opening h m b a n =
+      subst (λ (z : form-answer.Form). ReadAs s (flagged z odd bad) starts ends ceilings costs gives takes marks) (end-closed t line h) (m, kept-before b a n)
+  kept-ends t line odd bad (reading f) h m b a n = elim (decLt (t .arcs) (t .said)) [
     | yes l ↦
         subst (λ (z : form-answer.Form). ReadAs s (flagged z odd bad) starts ends ceilings costs gives takes marks) (end-short t line (h .0) l)
-        (m ∙ ap (λ (b : Bool). wholeIf b f line) (ne-eqb (length (f .arcs)) (f .said) (λ q. omega (arith, h .2, h .3))))
+        (m ∙ ap (λ (b : Bool). wholeIf b f line) (ne-eqb (length (f .arcs)) (f .said) (λ q. omega (arith, h .2, h .3))), kept-before b a n)
     | no l ↦
         subst (λ (z : form-answer.Form). ReadAs s (flagged z odd bad) starts ends ceilings costs gives takes marks) (end-whole t line (h .0) (omega arith)) (
           f,

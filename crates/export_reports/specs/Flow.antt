@@ -11,7 +11,7 @@ use Rattle.transport.specs.Curve.{written}
 use Rattle.dimacs.specs.Form.{formOf}
 use Rattle.flow_problem.specs.Answer.{Outcome, carried, refused, outcomeOf}
 use Rattle.flow_problem.specs.Promise.{Slices, roomOf, Answered}
-use Rattle.flow_arcs.specs.Count.{arcsSaid}
+use Rattle.flow_network.specs.Answer.{arcsSaid}
 use Rattle.export_reports.specs.Report.{shortReport}
 
 -- 0 for a flow, else the refusal's number

@@ -1,14 +1,14 @@
 -- What the function on separate slices answers, with arrays for the slices, is what is promised of the arrays. Assumes nothing.
 use mathlib.Core.Path.{_≡_, refl, sym, ap, ap₂, _∙_}
 use mathlib.Core.Bool.{Bool, true, false, _||_}
-use mathlib.Core.List.{List, _++_, map}
+use mathlib.Core.List.{List, _++_, map, append-assoc}
 use Prim.Native.Nat.{ℕ, _-_, _≤_, _<_}
 use native.Mathlib.Decide.{decLt}
 use native.Mathlib.Omega.{arith}
 use lib.Dec.{ltb}
 use lib.IntN.{ℤ, pos}
-use lib.ListN.{length, getD, take, drop, replicate, length-map, length-append, length-replicate, List·getD-append, List·getD-map}
-use lib.Seq.{ext-getD, length-take-le}
+use lib.ListN.{length, getD, take, drop, replicate, take-append-drop, length-map, length-append, length-replicate, List·getD-append, List·getD-map}
+use lib.Seq.{ext-getD, length-take-le, drop-append-le}
 use borrow.Author.Tests.{lt-ltb, le-ltb, ltb-false}
 use Rattle.transport.specs.Curve.{written}
 use Rattle.dimacs.specs.Arc as file
@@ -16,16 +16,15 @@ use Rattle.dimacs.specs.Arc.{arc}
 use Rattle.dimacs.specs.Form.{ArcLine, File, Form, whole, broken, formOf}
 use Rattle.dimacs.proofs.NodeAndArcLines.{or-true}
 use Rattle.flow_network.specs.declared.Answer.{Answer}
-use Rattle.flow_problem.specs.Reduce.{cells}
+use Rattle.flow_problem.specs.Network.{cells}
 use Rattle.flow_problem.specs.Answer.{arcsOf, networkOf, Room, badFile, badName, outOfLimits, flows, leastTotal, Outcome, carried, refused, flowOutcome, limited, judged, outcomeOf}
 use Rattle.flow_problem.specs.Promise.{Slices, roomOf, Answered}
-use Rattle.flow_network.specs.Answer.{outcome, slicesOf}
+use Rattle.flow_network.specs.Answer.{outcome, countIn, countOf, arcsSaid, slicesOf}
 use Rattle.flow_problem.proofs.NodesAndSources.{cells-length, cells-at}
 use Rattle.flow_problem.proofs.Answers.{answer-29, answer-30}
-use Rattle.flow_arcs.specs.Count.{arcsSaid}
 use Rattle.flow_arcs.specs.declared.Arc.{Arc}
 use Rattle.flow_arcs.specs.declared.find.Found.{Found}
-use Rattle.flow_arcs.specs.Lent.{lentArc, roomFor, ArcsAnswered, atMost, countOf, arcAt, arcsFound, FoundGiven, FoundIs}
+use Rattle.flow_arcs.specs.Lent.{lentArc, roomFor, ArcsAnswered, atMost, arcAt, arcsFound, FoundGiven, FoundIs}
 use Rattle.problem.proofs.TestsPassed.{either-first, either-second}
 
 -- ---- the cells that an array has of those lent
@@ -44,6 +43,10 @@ at-most-room room = elim (decLt 64 room) [
 
 pub part-length : {A : Type 0} (r : ℕ) (a : A) → r ≤ 64 → length (take (r - 0) (drop 0 (replicate 64 a))) ≡ r
 part-length r a h = ap (λ (n : ℕ). length (take n (replicate 64 a))) (let q : r - 0 ≡ r = omega arith in q) ∙ length-take-le r (replicate 64 a) (omega (arith, length-replicate 64 a))
+
+-- the part and what is left of the cells
+pub part-rest : {A : Type 0} (r : ℕ) (a : A) → take (r - 0) (drop 0 (replicate 64 a)) ++ drop (r - 0) (drop 0 (replicate 64 a)) ≡ replicate 64 a
+part-rest r a = take-append-drop (r - 0) (replicate 64 a)
 
 -- at most 64 arcs do not tell the two apart
 short-same : (room n : ℕ) → n ≤ 64 → ltb (atMost room) n ≡ ltb room n
@@ -110,6 +113,13 @@ front-at d h l z w rest i e q k =
     long : length (map h l) ≤ length (written (map h l) z)
     long = omega (arith, length-append (map h l) (drop (length (map h l)) z))
 
+-- the front of an array written by way of a part
+written-part : {A : Type 0} (l z w rest all : List A) → length l ≤ length z → w ≡ written l z → z ++ rest ≡ all → w ++ rest ≡ written l all
+written-part l z w rest all h q e =
+    ap (λ (v : List _). v ++ rest) q
+    ∙ append-assoc l (drop (length l) z) rest
+    ∙ ap (λ (v : List _). l ++ v) (sym (drop-append-le (length l) z rest h) ∙ ap (drop (length l)) e)
+
 module _ (bytes : List ℕ) (place : ℕ) (table : List ℕ) (room : ℕ) (flow z e u : List ℕ) (c : List ℤ) (long-z : length z ≡ atMost room) (long-e : length e ≡ atMost room)
     (long-u : length u ≡ atMost room) (long-c : length c ≡ atMost room) where
   room-is : roomOf (slicesOf flow z e u c) ≡ roomFor (length flow) (atMost room)
@@ -117,17 +127,22 @@ module _ (bytes : List ℕ) (place : ℕ) (table : List ℕ) (room : ℕ) (flow 
       ap₂ (λ (a b : ℕ). record { flow = length flow; starts = a; ends = b; ceilings = length u; costs = length c }) long-z long-e
       ∙ ap₂ (λ (a b : ℕ). record { flow = length flow; starts = atMost room; ends = atMost room; ceilings = a; costs = b }) long-u long-c
 
-  module _ (answer : Answer) (count said : ℕ) (flow′ ys es us : List ℕ) (cs : List ℤ) (rs re ru : List ℕ) (rc : List ℤ)
-      (A : Answered bytes place table (outcome answer) (slicesOf flow z e u c) (slicesOf flow′ ys es us cs)) (said-is : said ≡ arcsSaid (formOf bytes)) (count-is : count ≡ countOf (outcome answer) said) where
+  module _ (answer : Answer) (count : ℕ) (flow′ ys es us : List ℕ) (cs : List ℤ) (rs re ru : List ℕ) (rc : List ℤ)
+      (all-z : z ++ rs ≡ replicate 64 0) (all-e : e ++ re ≡ replicate 64 0) (all-u : u ++ ru ≡ replicate 64 0) (all-c : c ++ rc ≡ replicate 64 (pos 0))
+      (A : Answered bytes place table (outcome answer) (slicesOf flow z e u c) (slicesOf flow′ ys es us cs)) (told-count : countIn answer ≡ countOf (outcome answer) (arcsSaid (formOf bytes)))
+      (count-told : count ≡ countIn answer) where
     abbrev r : Found
     r = record { answer = answer; count = count; starts = ys ++ rs; ends = es ++ re; ceilings = us ++ ru; costs = cs ++ rc }
+
+    count-is : count ≡ countOf (outcome answer) (arcsSaid (formOf bytes))
+    count-is = count-told ∙ told-count
 
     told : outcome answer ≡ outcomeOf bytes place table (roomFor (length flow) (atMost room))
     told = A .answer ∙ ap (λ (s : Room). outcomeOf bytes place table s) room-is
 
     module _ (f : File) (total : ℤ) (form : formOf bytes ≡ whole f) (carries : outcome answer ≡ carried total) where
       counted : count ≡ length (f .arcs)
-      counted = count-is ∙ ap (λ (o : Outcome). countOf o said) carries ∙ said-is ∙ ap arcsSaid form
+      counted = count-is ∙ ap (λ (o : Outcome). countOf o (arcsSaid (formOf bytes))) carries ∙ ap arcsSaid form
 
       small : length (f .arcs) ≤ 64
       small = few-arcs bytes place table (roomFor (length flow) (atMost room)) f total form (sym carries ∙ told)
@@ -154,10 +169,19 @@ module _ (bytes : List ℕ) (place : ℕ) (table : List ℕ) (room : ℕ) (flow 
           ∙ sym (List·getD-map lentArc (arcsOf f) i none))
 
       given-is : FoundGiven f place table total flow flow′ r
-      given-is = let g = A .given f total form carries in record { amounts = g .amounts; cheapest = g .cheapest; flow = g .flow; arcs = arcs-are }
+      given-is = let g = A .given f total form carries in record {
+        amounts = g .amounts;
+        cheapest = g .cheapest;
+        flow = g .flow;
+        arcs = arcs-are;
+        starts = written-part (map (λ (a : file.Arc). a .start) (arcsOf f)) z ys rs _ (omega (arith, length-map (arcsOf f) (λ (a : file.Arc). a .start), long-arcs, roomy, long-z)) (g .starts) all-z;
+        ends = written-part (map (λ (a : file.Arc). a .end) (arcsOf f)) e es re _ (omega (arith, length-map (arcsOf f) (λ (a : file.Arc). a .end), long-arcs, roomy, long-e)) (g .ends) all-e;
+        ceilings = written-part (map (λ (a : file.Arc). a .ceiling) (arcsOf f)) u us ru _ (omega (arith, length-map (arcsOf f) (λ (a : file.Arc). a .ceiling), long-arcs, roomy, long-u)) (g .ceilings) all-u;
+        costs = written-part (map (λ (a : file.Arc). a .cost) (arcsOf f)) c cs rc _ (omega (arith, length-map (arcsOf f) (λ (a : file.Arc). a .cost), long-arcs, roomy, long-c)) (g .costs) all-c;
+      }
 
     none-counted : (k p : ℕ) → outcome answer ≡ refused k p → count ≡ 0
-    none-counted k p h = count-is ∙ ap (λ (o : Outcome). countOf o said) h
+    none-counted k p h = count-is ∙ ap (λ (o : Outcome). countOf o (arcsSaid (formOf bytes))) h
 
     within : (o : Outcome) → outcome answer ≡ o → (g : Form) → formOf bytes ≡ g → (count ≤ 64) × (count ≤ room)
     within (refused k p) h g q = (omega (arith, none-counted k p h), omega (arith, none-counted k p h))
@@ -169,7 +193,17 @@ module _ (bytes : List ℕ) (place : ℕ) (table : List ℕ) (room : ℕ) (flow 
     found = record {
       answer = told ∙ outcome-same place table (length flow) room bytes;
       given = given-is;
-      kept = λ k p h. (ap (λ (s : Slices). s .flow) (A .kept k p h), none-counted k p h);
+      kept = λ k p h. let q = A .kept k p h in (
+        ap (λ (s : Slices). s .flow) q,
+        record {
+          count = none-counted k p h;
+          starts = ap (λ (s : Slices). s .starts ++ rs) q ∙ all-z;
+          ends = ap (λ (s : Slices). s .ends ++ re) q ∙ all-e;
+          ceilings = ap (λ (s : Slices). s .ceilings ++ ru) q ∙ all-u;
+          costs = ap (λ (s : Slices). s .costs ++ rc) q ∙ all-c;
+        },
+      );
+      counted = count-told;
       few = within (outcome answer) refl (formOf bytes) refl .0;
       fits = within (outcome answer) refl (formOf bytes) refl .1;
     }
@@ -190,5 +224,5 @@ arcs-answered bytes place table flow flow′ arcs arcs′ r t n F n-is arcs-are 
       given = λ f total form e.
           let g = F .given f total form (sym q ∙ e) in
           record { amounts = g .amounts; cheapest = g .cheapest; flow = g .flow; arcs = w ∙ ap (λ (l : List Arc). written l arcs) (g .arcs) };
-      kept = λ k p e. let g = F .kept k p (sym q ∙ e) in (g .0, w ∙ ap (λ (m : ℕ). written (cells m (arcAt r)) arcs) (g .1) ∙ unwritten (arcAt r) arcs);
+      kept = λ k p e. let g = F .kept k p (sym q ∙ e) in (g .0, w ∙ ap (λ (m : ℕ). written (cells m (arcAt r)) arcs) (g .1 .count) ∙ unwritten (arcAt r) arcs);
     }

@@ -3,8 +3,8 @@ use crate::Arc;
 use flow_network::Answer;
 ghost use mathlib.Core.Path.{_≡_};
 ghost use Prim.Native.Nat.{_<_};
-ghost use Rattle.flow_network.specs.Answer.{outcome};
-ghost use Rattle.flow_arcs.specs.Lent.{atMost, countOf, arcAt};
+ghost use Rattle.flow_network.specs.Answer.{countIn};
+ghost use Rattle.flow_arcs.specs.Lent.{atMost, arcAt};
 
 // The answer, how many arcs are to be written, and the arrays that have their numbers.
 pub struct Found {
@@ -26,12 +26,12 @@ pub fn at_most(room: usize) -> usize
     room
 }
 
-// A refusal has no arcs to be written.
-pub fn count_of(answer: Answer, said: u64) -> usize
-    ensures { λ r. ⌜ r ≡ countOf (outcome answer) said ⌝ }
+// How many arcs are to be written: a refusal has none.
+pub fn count_of(answer: Answer) -> usize
+    ensures { λ r. ⌜ r ≡ countIn answer ⌝ }
 {
     match answer {
-        Answer::Carried { total: _ } => said as usize,
+        Answer::Carried { total: _, arcs } => arcs as usize,
         Answer::Refused {
             number: _,
             place: _,

@@ -1,5 +1,4 @@
-// What is found of a network in DIMACS form, with what is to be written of its arcs in arrays, and how many arcs a file has.
-pub mod count;
+// What is found of a network in DIMACS form, with what is to be written of its arcs in arrays.
 pub mod find;
 
 // An arc as its line says it: the numbers of its two nodes, from 1, its ceiling and its cost.

@@ -19,7 +19,8 @@ use Rattle.dimacs.specs.Arc.{Arc, arc}
 use Rattle.flow_problem.specs.Network.{Network, arcCount, arcAt, start, end, ceiling, cost, supply, entering, amount}
 use Rattle.flow_problem.specs.Reduce.{node, stock, laneCost, laneCeiling, want}
 use Rattle.flow_case.specs.Build.{into, wantIn, laneIn, costIn, haveIn, overAt, underAt}
-use Rattle.flow_problem.specs.Answer.{anyBelow, uneven}
+use Rattle.flow_problem.specs.Sound.{uneven}
+use Rattle.flow_problem.specs.Answer.{anyBelow}
 use Rattle.flow_case.specs.Slices.{netOf}
 use Rattle.flow_problem.proofs.NodesAndSources.{cells-length, cells-at}
 use Rattle.flow_problem.proofs.SoundNetwork.{Proper}

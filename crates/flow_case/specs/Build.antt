@@ -1,6 +1,6 @@
 -- The parts of the case's slices, by the arcs as separate slices of numbers: contracts. Assumes nothing.
 use mathlib.Core.Path.{_≡_}
-use mathlib.Core.Bool.{Bool, cond, _||_}
+use mathlib.Core.Bool.{Bool, not, cond, _||_}
 use mathlib.Core.List.{List}
 use Prim.Native.Nat.{ℕ, _+_, _-_, _*_, _≤_, _<_}
 use lib.Dec.{eqb, ltb}
@@ -8,6 +8,7 @@ use lib.IntN.{ℤ, pos}
 use lib.ListN.{length, getD}
 use Rattle.transport.specs.Sum.{sum}
 use Rattle.flow_problem.specs.Network.{at}
+use Rattle.flow_problem.specs.Answer.{anyBelow}
 use Rattle.flow_problem.specs.Reduce.{nodeOf, sourceOf}
 
 -- over the first n arcs that end at a node: the sum of their ceilings
@@ -79,3 +80,15 @@ underAt haves takes i = ltb (getD haves i 0) (getD takes i 0)
 
 abbrev pub dearAt : List ℕ → ℕ → Bool
 dearAt table i = ltb 1000000000 (getD table i 0)
+
+-- supplies that do not sum to 0, or an amount below 0
+abbrev pub unevenIn : List ℕ → List ℕ → List ℕ → Bool
+unevenIn gives takes haves =
+    not (eqb (sum (length gives) (λ i. getD gives i 0)) (sum (length takes) (λ i. getD takes i 0))) || anyBelow (length haves) (underAt haves takes)
+
+-- what is given and taken at the nodes
+pub record Given (gives takes : List ℕ) : Type 0 where
+  pub few : length gives ≤ 32
+  pub takes-long : length takes ≡ length gives
+  pub gives-small : AtMostAll 10000000000 gives
+  pub takes-small : AtMostAll 10000000000 takes

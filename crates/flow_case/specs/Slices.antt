@@ -5,8 +5,7 @@ use Prim.Native.Nat.{ℕ}
 use lib.IntN.{ℤ, pos, subℕ}
 use lib.ListN.{length, getD}
 use Rattle.dimacs.specs.Arc.{arc}
-use Rattle.flow_problem.specs.Network.{Network}
-use Rattle.flow_problem.specs.Reduce.{cells}
+use Rattle.flow_problem.specs.Network.{Network, cells}
 
 abbrev pub netOf : List ℕ → List ℕ → List ℕ → List ℕ → List ℕ → List ℤ → Network
 netOf gives takes starts ends ceilings costs = record {

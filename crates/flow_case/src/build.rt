@@ -3,7 +3,7 @@ ghost use mathlib.Core.Path.{_≡_};
 ghost use Prim.Native.Nat.{_+_, _-_, _≤_, _<_};
 ghost use lib.ListN.{length, getD};
 ghost use Rattle.flow_problem.specs.Reduce.{swap, nodeOf, sourceOf};
-ghost use Rattle.flow_case.specs.Build.{into, wantIn, laneIn, entryIn, Filled, Moderate};
+ghost use Rattle.flow_case.specs.Build.{into, wantIn, entryIn, Filled, Moderate};
 ghost use Rattle.flow_problem.specs.Network.{at};
 ghost use mathlib.Core.Bool.{cond, _||_};
 ghost use lib.Dec.{eqb, ltb};
@@ -79,6 +79,7 @@ pub fn fill_demands(ceilings: &[u64], named: usize, demands: &mut [u64])
     }
 }
 
+// A lane's ceiling: 4,000 where the arc starts or ends at the node, 0 else.
 pub fn lane(start: u64, end: u64, id: u64) -> u64
     ensures { λ r. ⌜ r ≡ cond (eqb start id || eqb end id) 4000 0 ⌝ }
 {
@@ -86,19 +87,6 @@ pub fn lane(start: u64, end: u64, id: u64) -> u64
         return 4000;
     }
     if end == id { 4000 } else { 0 }
-}
-
-// The lane ceilings of a node's row: 4,000 where an arc starts or ends there, 0 else.
-pub fn fill_lanes(starts: &[u64], ends: &[u64], id: u64, row: &mut [u64])
-    requires { ⌜ length (now starts) ≡ length (now ends) ⌝ }
-    requires { ⌜ length (now starts) ≤ length (now row) ⌝ }
-    ensures { λ _. ⌜ Filled (laneIn (now (starts .entry)) (now (ends .entry)) id) (length (now (starts .entry))) (now (row .entry)) (now (row .exit)) ⌝ }
-{
-    let mut j = 0;
-    while j < starts.len() {
-        row[j] = lane(starts[j], ends[j], id);
-        j += 1;
-    }
 }
 
 fn moved_entry(table: &[u64], at: usize, less: usize) -> u64

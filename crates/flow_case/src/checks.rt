@@ -3,7 +3,7 @@ ghost use mathlib.Core.Path.{_≡_};
 ghost use Prim.Native.Nat.{_+_, _-_, _≤_, _<_};
 ghost use lib.ListN.{length, getD};
 ghost use Rattle.transport.specs.Sum.{sum};
-ghost use Rattle.flow_case.specs.Build.{AtMostAll, overAt, underAt, dearAt};
+ghost use Rattle.flow_case.specs.Build.{AtMostAll, overAt, underAt, dearAt, unevenIn, Given};
 ghost use Rattle.flow_problem.specs.Answer.{anyBelow};
 
 // Is an amount above 4,000?
@@ -62,4 +62,17 @@ pub fn sum_of(l: &[u64]) -> u64
         i += 1;
     }
     total
+}
+
+// Do the supplies not sum to 0, or is an amount below 0?
+pub fn uneven(gives: &[u64], takes: &[u64], haves: &[u64]) -> bool
+    requires { ⌜ Given (now gives) (now takes) × (length (now haves) ≡ length (now takes)) ⌝ }
+    ensures { λ r. ⌜ r ≡ unevenIn (now (gives .entry)) (now (takes .entry)) (now (haves .entry)) ⌝ }
+{
+    let given = sum_of(gives);
+    let taken = sum_of(takes);
+    if given != taken {
+        return true;
+    }
+    under(haves, takes)
 }

@@ -1,5 +1,7 @@
 // The command `flow`: reads a DIMACS network file and the table of the arc that is named, writes the cheapest flow, or the refusal, to standard
 // output, and says what a refusal means on standard error.
+use crate::form::say_line_cause;
+use crate::limits::say_limits_cause;
 use check::same;
 use file_io::about::told_version;
 use file_io::file::file_room;
@@ -12,6 +14,11 @@ use plan_command::refusal::explain_file;
 use plan_files::planned::Printed;
 ghost use mathlib.Core.Path.{_≡_};
 ghost use lib.ListN.{length};
+
+mod bytes;
+mod form;
+mod limits;
+mod lines;
 
 // Room for the longest text: two headers, the total and 64 arcs.
 fn text_room() -> [u8; 5662]
@@ -34,27 +41,22 @@ fn usage() {
     );
 }
 
-// Refusal 30: the limits.
-fn explain_limits() {
-    say(
-        b"Refusal 30: a number is outside the limits. There are at most 32 nodes and 64 arcs, and one n line for a node.\n",
-    );
-    say(
-        b"An arc leads from one node to another; its lower bound is 0, its capacity at most 4,000, its cost from -1,000,000 to 1,000,000.\n",
-    );
-    say(b"A node's supply and the capacities of the arcs into it sum to at most 4,000.\n");
-    say(
-        b"ARC is the place of an arc, from 1, and the table has one entry for each flow from 0 to its capacity, none above 1,000,000,000.\n",
-    );
+// Refusal 30: what is out of the limits.
+fn explain_limits(network: &[u8], arc: &[u8], table: &[u8], path: &[u8]) {
+    say(b"Refusal 30: the network file ");
+    say(path);
+    say(b", the named arc or the table is outside the limits: there is ");
+    say_limits_cause(network, arc, table);
+    say(b".\n");
 }
 
-// Refusal 29: the line.
-fn explain_line(line: u64, path: &[u8]) {
+// Refusal 29: the line, and what is wrong with it.
+fn explain_line(line: u64, network: &[u8], path: &[u8]) {
     say_with(b"Refusal 29: line ", line, b" of the network file ");
     say(path);
-    say(
-        b" is not of the form, or is missing: p min NODES ARCS, then n NODE SUPPLY, then a FROM TO 0 CAPACITY COST, or a comment c; each ends in LF.\n",
-    );
+    say(b" is not of the form: ");
+    say_line_cause(network, line);
+    say(b".\n");
 }
 
 // Refusals 20 to 22: the network file is judged by 20 alone, and first.
@@ -85,6 +87,7 @@ fn explain_table(
 fn explain_flow(
     printed: Printed,
     network: &[u8],
+    arc: &[u8],
     table: &[u8],
     network_path: &[u8],
     table_path: &[u8],
@@ -96,8 +99,8 @@ fn explain_flow(
         27 => say(
             b"Refusal 27: no flow exists; the supplies do not sum to 0, or the arcs cannot carry them.\n",
         ),
-        29 => explain_line(place, network_path),
-        30 => explain_limits(),
+        29 => explain_line(place, network, network_path),
+        30 => explain_limits(network, arc, table, network_path),
         _ => explain_table(number, place, network, table, network_path, table_path),
     }
 }
@@ -110,7 +113,7 @@ fn answer(network: &[u8], arc: &[u8], table: &[u8], network_path: &[u8], table_p
     if !io::write_all(libc::STDOUT_FILENO, first(&text, length)) {
         say(b"Standard output could not be written.\n");
     }
-    explain_flow(printed, network, table, network_path, table_path);
+    explain_flow(printed, network, arc, table, network_path, table_path);
 }
 
 // Answers the files of two paths.

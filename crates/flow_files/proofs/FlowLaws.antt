@@ -29,22 +29,27 @@ use Rattle.flow_problem.specs.Promise.{Slices, roomOf, Given, Answered}
 use Rattle.flow_problem.proofs.FlowListing.{none-of}
 use Rattle.flow_problem.proofs.Answers.{answer-29, answer-30}
 use Rattle.flow_problem.proofs.SoundNetwork.{proper, four, count-is, few-arcs}
-use Rattle.flow_files.specs.declared.Counted.{Counted}
-use Rattle.flow_files.specs.declared.Counted.the-variants as counts
-use Rattle.flow_files.specs.Printing.{placeOf, room, networkOutcome, tableThen, tableOutcome, formThen, filesOutcome, flowBytes, FlowPrinted, OutcomePrinted, NetworkPrinted, TablePrinted, FilesPrinted}
-use Rattle.flow_files.specs.ArcCells.{CountIs, CountedIs, ArcsCut, cutText}
+use Rattle.flow_network.specs.declared.Answer as flow-answer
+use Rattle.flow_network.specs.declared.Answer.the-variants as answers
+use Rattle.flow_network.specs.Answer.{outcome, countIn, countOf, arcsSaid}
+use Rattle.flow_files.specs.declared.Formed.{Formed}
+use Rattle.flow_files.specs.declared.Formed.the-variants as formeds
+use Rattle.flow_files.specs.Printing.{placeOf, room, networkOutcome, tableThen, tableOutcome, formThen, filesOutcome, flowBytes, FlowPrinted, RefusalPrinted, OutcomePrinted, NetworkPrinted, TablePrinted, FilesPrinted}
+use Rattle.flow_files.specs.ArcCells.{FormedIs, ArcsCut, cutText}
 use Rattle.problem.proofs.TestsPassed.{either-first, either-second}
 
 -- ---- an outcome
 
+same-refusal : {out out′ : List ℕ} {r : Printed} (o : Outcome) {number at : ℕ} → o ≡ refused number at → Told number at 0 0 (refusalText number at) out out′ r → RefusalPrinted o out out′ r
+same-refusal {out} {out′} {r} o {number} {at} e told number′ at′ h =
+    let en : number ≡ number′ = cc in
+    let ea : at ≡ at′ = cc in
+    subst (λ (x : ℕ). Told x at′ 0 0 (refusalText x at′) out out′ r) en (subst (λ (y : ℕ). Told number y 0 0 (refusalText number y) out out′ r) ea told)
+
 pub printed-refusal : (s : List ℕ) (place : ℕ) (table : List ℕ) (o : Outcome) {number at : ℕ} {out out′ : List ℕ} {answer : Printed}
     → o ≡ refused number at → Told number at 0 0 (refusalText number at) out out′ answer → OutcomePrinted s place table o out out′ answer
 printed-refusal s place table o {number} {at} {out} {out′} {answer} e told = record {
-  refusal = λ number′ at′ h.
-      let en : number ≡ number′ = cc in
-      let ea : at ≡ at′ = cc in
-      subst (λ (x : ℕ). Told x at′ 0 0 (refusalText x at′) out out′ answer) en
-      (subst (λ (y : ℕ). Told number y 0 0 (refusalText number y) out out′ answer) ea told);
+  refusal = same-refusal o e told;
   flow = λ f total w h. absurd (let z : _≡_ {A = ℕ} 0 1 = cc in omega arith);
 }
 
@@ -179,8 +184,17 @@ module _ (place : ℕ) (table : List ℕ) (f : File) (total : ℤ) (count : ℕ)
   unfolding flowBytes
   text-is = rw (cut-starts, cut-ends, cut-flow, cut-costs, named-flow) refl
 
+-- a file of the form has so many arcs
+abbrev CountIs : List ℕ → ℕ → Type 0
+CountIs s count = (f : File) → formOf s ≡ whole f → count ≡ length (f .arcs)
+
+-- the count that is told beside a flow is the file's
+pub count-known : (s : List ℕ) {a : flow-answer.Answer} {total : ℤ} {count : ℕ} → countIn a ≡ countOf (outcome a) (arcsSaid (formOf s)) → a ≡ answers.Carried total count → CountIs s count
+count-known s {a} {total} {count} h e f form =
+    sym (ap countIn e) ∙ h ∙ ap (λ (x : flow-answer.Answer). countOf (outcome x) (arcsSaid (formOf s))) e ∙ ap arcsSaid form
+
 -- what is answered of a network file is printed
-module _ (s : List ℕ) (place : ℕ) (table : List ℕ) (count : ℕ) (before after : Slices) (counted : CountIs s count)
+module _ (s : List ℕ) (place : ℕ) (table : List ℕ) (before after : Slices)
     (flow-long : length (before .flow) ≡ 64) (starts-long : length (before .starts) ≡ 64) (ends-long : length (before .ends) ≡ 64) (ceilings-long : length (before .ceilings) ≡ 64) (costs-long : length (before .costs) ≡ 64) where
   room-is : roomOf before ≡ room
   room-is = rw (flow-long, starts-long, ends-long, ceilings-long, costs-long) refl
@@ -194,7 +208,7 @@ module _ (s : List ℕ) (place : ℕ) (table : List ℕ) (count : ℕ) (before a
         → NetworkPrinted s place table out out′ answer
     network-refused e told = printed-refusal s place table (networkOutcome s place table) (outcome-is ∙ e) told
 
-    module _ (total : ℤ) (told : r ≡ carried total) where
+    module _ (total : ℤ) (told : r ≡ carried total) (count : ℕ) (counted : CountIs s count) where
       from : Within s place table (roomOf before)
       from = within s place table (roomOf before) total (sym (answered .answer) ∙ told)
 
@@ -257,9 +271,18 @@ long-outcome s place table long = go (formOf s) refl
     go (broken line) e = answer-29 s place table room line e
     go (whole f) e = answer-30 s place table room f e (long-limits f place table room long)
 
-never-carried : (g : Form) (total : ℤ) → formThen g (refused 30 0) ≡ carried total → ⊥
-never-carried (broken line) total e = let z : _≡_ {A = ℕ} 0 1 = cc in omega arith
-never-carried (whole f) total e = let z : _≡_ {A = ℕ} 0 1 = cc in omega arith
+never-carried : (g : Form) (number at : ℕ) (total : ℤ) → formThen g (refused number at) ≡ carried total → ⊥
+never-carried (broken line) number at total e = let z : _≡_ {A = ℕ} 0 1 = cc in omega arith
+never-carried (whole f) number at total e = let z : _≡_ {A = ℕ} 0 1 = cc in omega arith
+
+-- 29 comes first in what is answered of the network file too
+form-first : (s : List ℕ) (place : ℕ) (table : List ℕ) → formThen (formOf s) (networkOutcome s place table) ≡ networkOutcome s place table
+unfolding networkOutcome
+form-first s place table = go (formOf s) refl
+  where
+    go : (g : Form) → formOf s ≡ g → formThen g (outcomeOf s place table room) ≡ outcomeOf s place table room
+    go (broken line) e = sym (answer-29 s place table room line e)
+    go (whole f) e = refl
 
 -- the first 4,002 entries are answered as all
 pub first-entries : (s : List ℕ) (place : ℕ) (table : List ℕ) {out out′ : List ℕ} {answer : Printed}
@@ -271,7 +294,7 @@ first-entries s place table {out} {out′} {answer} p = elim (decLt 4002 (length
       let b = long-outcome s place table (omega arith) in
       record {
         refusal = λ number at e. p .refusal number at (a ∙ sym b ∙ e);
-        flow = λ f total w e. absurd (never-carried (formOf s) total (sym b ∙ e));
+        flow = λ f total w e. absurd (never-carried (formOf s) 30 0 total (sym b ∙ e));
       }
   | no h ↦ subst (λ (t : List ℕ). NetworkPrinted s place t out out′ answer) (take-all 4002 table (omega arith)) p
 ]
@@ -297,43 +320,39 @@ pub entries-kept : (t cells cells′ : List ℕ) (count kept : ℕ) {answer : En
 entries-kept t cells cells′ count kept long stored e k = omega (arith, ap length (stored .stored count e), length-sets cells 0 (take 4002 (entriesOf t)))
 
 module _ (s arc t : List ℕ) {answer : Entries} {cells cells′ : List ℕ} (stored : EntriesStored t cells cells′ answer) {out out′ : List ℕ} {r : Printed} where
-  pub table-refused : {number place : ℕ} → answer ≡ entries.Refused number place → Told number place 0 0 (refusalText number place) out out′ r → TablePrinted s arc t out out′ r
+  pub table-refused : {number place : ℕ} → answer ≡ entries.Refused number place → RefusalPrinted (formThen (formOf s) (refused number place)) out out′ r → TablePrinted s arc t out out′ r
   unfolding tableOutcome
   table-refused {number} {place} e told =
-      let k : entriesFor (tableOf Production t) ≡ entries.Refused number place = sym (stored .answered) ∙ e in
-      printed-refusal s (placeOf arc) (entriesOf t) (tableThen (entriesFor (tableOf Production t)) (networkOutcome s (placeOf arc) (entriesOf t))) (rw k refl) told
+      let k : tableOutcome s arc t ≡ refused number place = ap (λ (x : Entries). tableThen x (networkOutcome s (placeOf arc) (entriesOf t))) (sym (stored .answered) ∙ e) in
+      subst (λ (o : Outcome). OutcomePrinted s (placeOf arc) (entriesOf t) (formThen (formOf s) o) out out′ r) (sym k)
+      (record { refusal = told; flow = λ f total w h. absurd (never-carried (formOf s) number place total h) })
 
   pub table-read : (count kept place : ℕ) → length cells ≡ 4002 → answer ≡ entries.Read count → kept ≡ min count 4002 → place ≡ placeOf arc
       → NetworkPrinted s place (take kept cells′) out out′ r → TablePrinted s arc t out out′ r
   unfolding tableOutcome
   table-read count kept place long e k named p =
-      let a : entriesFor (tableOf Production t) ≡ entries.Read count = sym (stored .answered) ∙ e in
+      let a : tableOutcome s arc t ≡ networkOutcome s (placeOf arc) (entriesOf t) = ap (λ (x : Entries). tableThen x (networkOutcome s (placeOf arc) (entriesOf t))) (sym (stored .answered) ∙ e) in
       let q = first-entries s (placeOf arc) (entriesOf t) (rw (cut-entries t cells cells′ count kept long stored e k, named) at p) in
-      rw a q
+      subst (λ (o : Outcome). OutcomePrinted s (placeOf arc) (entriesOf t) o out out′ r) (sym (ap (formThen (formOf s)) a ∙ form-first s (placeOf arc) (entriesOf t))) q
 
 module _ (s arc t : List ℕ) {out out′ : List ℕ} {r : Printed} where
   pub too-long : 65536 < length s → Told 20 0 0 0 (refusalText 20 0) out out′ r → FilesPrinted s arc t out out′ r
   unfolding filesOutcome
   too-long h told = printed-refusal s (placeOf arc) (entriesOf t) _ (rw (lt-ltb 65536 (length s) h) refl) told
 
-  pub not-formed : (line : ℕ) → length s ≤ 65536 → formOf s ≡ broken line → Told 29 line 0 0 (refusalText 29 line) out out′ r → FilesPrinted s arc t out out′ r
+  pub not-long : length s ≤ 65536 → TablePrinted s arc t out out′ r → FilesPrinted s arc t out out′ r
   unfolding filesOutcome
-  not-formed line h e told = printed-refusal s (placeOf arc) (entriesOf t) _ (rw (le-ltb 65536 (length s) h, e) refl) told
+  not-long h p = rw (le-ltb 65536 (length s) h) p
 
-  pub formed : (f : File) → length s ≤ 65536 → formOf s ≡ whole f → TablePrinted s arc t out out′ r → FilesPrinted s arc t out out′ r
-  unfolding filesOutcome
-  formed f h e p = rw (le-ltb 65536 (length s) h, e) p
+-- ---- the form
 
--- ---- the count of arcs
+module _ (s : List ℕ) {answer : Formed} (formed : FormedIs s answer) (number place : ℕ) {out out′ : List ℕ} {r : Printed} where
+  pub not-formed : {line : ℕ} → answer ≡ formeds.Refused line → Told 29 line 0 0 (refusalText 29 line) out out′ r → RefusalPrinted (formThen (formOf s) (refused number place)) out out′ r
+  not-formed {line} e told =
+      let f : formOf s ≡ broken line = subst (FormedIs s) e formed in
+      same-refusal _ (ap (λ (g : Form). formThen g (refused number place)) f) told
 
-pub counted-broken : (s : List ℕ) {r : Counted} {line : ℕ} → CountedIs s r → r ≡ counts.Refused line → formOf s ≡ broken line
-counted-broken s h e = subst (λ (r : Counted). CountedIs s r) e h
-
-pub counted-whole : (s : List ℕ) {r : Counted} {count : ℕ} → CountedIs s r → r ≡ counts.Arcs count → (f : File) × (formOf s ≡ whole f) × (count ≡ length (f .arcs))
-counted-whole s h e = subst (λ (r : Counted). CountedIs s r) e h
-
-pub count-known : (s : List ℕ) {r : Counted} {count : ℕ} → CountedIs s r → r ≡ counts.Arcs count → CountIs s count
-count-known s h e f form =
-    let w = counted-whole s h e in
-    let same : w .0 ≡ f = (let k = w .1 in cc) in
-    w .2 ∙ ap (λ (x : File). length (x .arcs)) same
+  pub well-formed : answer ≡ formeds.Whole → Told number place 0 0 (refusalText number place) out out′ r → RefusalPrinted (formThen (formOf s) (refused number place)) out out′ r
+  well-formed e told =
+      let f = subst (FormedIs s) e formed in
+      same-refusal _ (ap (λ (g : Form). formThen g (refused number place)) (f .1)) told

@@ -6,17 +6,13 @@ use lib.IntN.{ℤ}
 use lib.ListN.{length, getD, take}
 use Rattle.csv_answers.specs.Flow.{flowText, FlowFits}
 use Rattle.dimacs.specs.Form.{File, whole, broken, formOf}
-use Rattle.flow_files.specs.declared.Counted as counted-answer
-use Rattle.flow_files.specs.declared.Counted.the-variants as counts
+use Rattle.flow_files.specs.declared.Formed as formed-answer
+use Rattle.flow_files.specs.declared.Formed.the-variants as formeds
 
--- a file of the form has so many arcs
-abbrev pub CountIs : List ℕ → ℕ → Type 0
-CountIs s count = (f : File) → formOf s ≡ whole f → count ≡ length (f .arcs)
-
--- the line of 29, or the count
-abbrev pub CountedIs : List ℕ → counted-answer.Counted → Type 0
-CountedIs s (counts.Refused line) = formOf s ≡ broken line
-CountedIs s (counts.Arcs count) = (f : File) × (formOf s ≡ whole f) × (count ≡ length (f .arcs))
+-- the line of 29, or there is none
+abbrev pub FormedIs : List ℕ → formed-answer.Formed → Type 0
+FormedIs s (formeds.Refused line) = formOf s ≡ broken line
+FormedIs s formeds.Whole = (f : File) × (formOf s ≡ whole f)
 
 -- the entry at the named arc's flow
 abbrev pub chargeIn : ℕ → List ℕ → List ℕ → ℕ

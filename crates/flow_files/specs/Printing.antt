@@ -8,9 +8,9 @@ use lib.IntN.{ℤ}
 use lib.ListN.{length}
 use Rattle.csv_print.specs.Text.{refusalText}
 use Rattle.csv_answers.specs.Flow.{flowText}
-use Rattle.ratesfile.specs.declared.Output.{Output}
-use Rattle.ratesfile.specs.declared.Output.the-variants.{UpTo, Unclear}
-use Rattle.ratesfile.specs.File.{outputOf}
+use Rattle.numbers.specs.declared.Short.{Short}
+use Rattle.numbers.specs.declared.Short.the-variants.{Number, Unclear}
+use Rattle.numbers.specs.Short.{shortOf}
 use Rattle.csv_form.specs.declared.Kind.the-variants.{Production}
 use Rattle.csv_case.specs.declared.case.Entries.{Entries}
 use Rattle.csv_case.specs.declared.case.Entries.the-variants as entries
@@ -24,12 +24,12 @@ use Rattle.flow_problem.specs.Network.{listed}
 use Rattle.flow_problem.specs.Answer.{CheapestFlow, arcsOf, networkOf, Room, Outcome, carried, refused, outcomeOf}
 
 -- the place of the arc, from 1, that a text of one to four digits names; 0, which is none, of any other text
-abbrev pub placeFor : Output → ℕ
-placeFor (UpTo place) = place
+abbrev pub placeFor : Short → ℕ
+placeFor (Number place) = place
 placeFor Unclear = 0
 
 unfoldable pub placeOf : List ℕ → ℕ
-placeOf arc = placeFor (outputOf arc)
+placeOf arc = placeFor (shortOf arc)
 
 -- the outcome of a network file with a place and a table; there are cells for 64 arcs
 abbrev pub room : Room
@@ -67,18 +67,22 @@ pub record FlowPrinted (f : File) (place : ℕ) (table : List ℕ) (total : ℤ)
   pub cheapest : CheapestFlow (networkOf f) (place - 1) table amounts total
   pub text : Told 0 0 0 0 (flowBytes f (place - 1) table amounts total) out out′ answer
 
+-- a refusal is printed by its two numbers
+abbrev pub RefusalPrinted : Outcome → List ℕ → List ℕ → Printed → Type 0
+RefusalPrinted o out out′ answer = (number at : ℕ) → o ≡ refused number at → Told number at 0 0 (refusalText number at) out out′ answer
+
 -- what is printed of a network file with the outcome o: the refusal's two numbers, or a flow
 pub record OutcomePrinted (s : List ℕ) (place : ℕ) (table : List ℕ) (o : Outcome) (out out′ : List ℕ) (answer : Printed) : Type 0 where
-  pub refusal : (number at : ℕ) → o ≡ refused number at → Told number at 0 0 (refusalText number at) out out′ answer
+  pub refusal : RefusalPrinted o out out′ answer
   pub flow : (f : File) (total : ℤ) → formOf s ≡ whole f → o ≡ carried total → FlowPrinted f place table total out out′ answer
 
 -- what is printed of a network file with a place and a table
 abbrev pub NetworkPrinted : List ℕ → ℕ → List ℕ → List ℕ → List ℕ → Printed → Type 0
 NetworkPrinted s place table out out′ answer = OutcomePrinted s place table (networkOutcome s place table) out out′ answer
 
--- what is printed of a network file of the form
+-- what is printed of a network file that is not too long
 abbrev pub TablePrinted : List ℕ → List ℕ → List ℕ → List ℕ → List ℕ → Printed → Type 0
-TablePrinted s arc t out out′ answer = OutcomePrinted s (placeOf arc) (entriesOf t) (tableOutcome s arc t) out out′ answer
+TablePrinted s arc t out out′ answer = OutcomePrinted s (placeOf arc) (entriesOf t) (formThen (formOf s) (tableOutcome s arc t)) out out′ answer
 
 -- what is printed of the two files and the text
 abbrev pub FilesPrinted : List ℕ → List ℕ → List ℕ → List ℕ → List ℕ → Printed → Type 0

@@ -1,8 +1,10 @@
 // From a network file, the text that names an arc, and the file of that arc's table to what is printed of the cheapest flow.
 ghost use mathlib.Core.Path.{_≡_};
 ghost use Rattle.plan_files.specs.Printed.{Told};
-ghost use Rattle.flow_files.specs.Printing.{placeOf, NetworkPrinted, TablePrinted, FilesPrinted};
-ghost use Rattle.flow_files.specs.ArcCells.{CountedIs, CountIs, ArcsCut, cutText};
+ghost use Rattle.flow_problem.specs.Answer.{refused};
+ghost use Rattle.dimacs.specs.Form.{formOf};
+ghost use Rattle.flow_files.specs.Printing.{placeOf, formThen, RefusalPrinted, NetworkPrinted, TablePrinted, FilesPrinted};
+ghost use Rattle.flow_files.specs.ArcCells.{FormedIs, ArcsCut, cutText};
 use csv_answers::flow::put_flow;
 use csv_case::case::Entries;
 use csv_case::case::read_entries;
@@ -12,30 +14,30 @@ use dimacs::store::Reading;
 use dimacs::store::read_file;
 use flow_network::Answer;
 use flow_network::cheapest_flow;
+use numbers::Short;
+use numbers::read_short;
 use plan_files::planned::Printed;
 use plan_files::planned::print_refusal;
-use ratesfile::Output;
-use ratesfile::read_output;
 
 // The place of the arc that a text of one to four digits names; 0, which is none, of any other text.
 fn read_place(text: &[u8]) -> usize
     ensures { λ r. ⌜ r ≡ placeOf (now (text .entry)) ⌝ }
 {
-    let output = read_output(text);
+    let output = read_short(text);
     match output {
-        Output::UpTo(place) => place as usize,
-        Output::Unclear => 0,
+        Short::Number(place) => place as usize,
+        Short::Unclear => 0,
     }
 }
 
-// The count of a network file's arcs, or the line that is not of the form.
-pub enum Counted {
-    Arcs { count: u64 },
+// A network file is of the form, or one of its lines is not.
+pub enum Formed {
+    Whole,
     Refused { line: usize },
 }
 
-fn count_arcs(network: &[u8]) -> Counted
-    ensures { λ r. ⌜ CountedIs (now (network .entry)) r ⌝ }
+fn check_form(network: &[u8]) -> Formed
+    ensures { λ r. ⌜ FormedIs (now (network .entry)) r ⌝ }
 {
     let mut starts = [0u64; 64];
     let mut ends = [0u64; 64];
@@ -55,13 +57,24 @@ fn count_arcs(network: &[u8]) -> Counted
         &mut marks,
     );
     match reading {
-        Reading::Refused { line } => Counted::Refused { line },
+        Reading::Refused { line } => Formed::Refused { line },
         Reading::Whole {
             nodes: _,
-            arcs,
+            arcs: _,
             odd: _,
             bad: _,
-        } => Counted::Arcs { count: arcs },
+        } => Formed::Whole,
+    }
+}
+
+// The table file is refused. Prints that, unless the network file is not of the form, which comes first.
+fn print_refused(network: &[u8], number: u64, place: u64, out: &mut [u8]) -> Printed
+    ensures { λ r. ⌜ RefusalPrinted (formThen (formOf (now (network .entry))) (refused number place)) (now (out .entry)) (now (out .exit)) r ⌝ }
+{
+    let formed = check_form(network);
+    match formed {
+        Formed::Refused { line } => print_refusal(out, 29, line as u64, 0, 0),
+        Formed::Whole => print_refusal(out, number, place, 0, 0),
     }
 }
 
@@ -102,9 +115,8 @@ fn print_flow(
     }
 }
 
-// Asks for the cheapest flow of a network file of count arcs, and prints it or the refusal.
-fn print_network(network: &[u8], count: u64, place: usize, table: &[u64], out: &mut [u8]) -> Printed
-    requires { ⌜ CountIs (now network) count ⌝ }
+// Asks for the cheapest flow of a network file, and prints it or the refusal.
+fn print_network(network: &[u8], place: usize, table: &[u64], out: &mut [u8]) -> Printed
     ensures { λ r. ⌜ NetworkPrinted (now (network .entry)) place (now (table .entry)) (now (out .entry)) (now (out .exit)) r ⌝ }
 {
     let mut flow = [0u64; 64];
@@ -124,10 +136,10 @@ fn print_network(network: &[u8], count: u64, place: usize, table: &[u64], out: &
     );
     match answer {
         Answer::Refused { number, place: at } => print_refusal(out, number, at, 0, 0),
-        Answer::Carried { total } => print_flow(
+        Answer::Carried { total, arcs } => print_flow(
             out,
             total,
-            count as usize,
+            arcs as usize,
             place,
             table,
             &flow,
@@ -139,18 +151,17 @@ fn print_network(network: &[u8], count: u64, place: usize, table: &[u64], out: &
 }
 
 // Reads the table file, and prints what is answered of the network file with it.
-fn print_with_table(network: &[u8], count: u64, arc: &[u8], table: &[u8], out: &mut [u8]) -> Printed
-    requires { ⌜ CountIs (now network) count ⌝ }
+fn print_with_table(network: &[u8], arc: &[u8], table: &[u8], out: &mut [u8]) -> Printed
     ensures { λ r. ⌜ TablePrinted (now (network .entry)) (now (arc .entry)) (now (table .entry)) (now (out .entry)) (now (out .exit)) r ⌝ }
 {
     let mut entries = entry_cells();
     let answer = read_entries(table, &mut entries);
     match answer {
-        Entries::Refused { number, place } => print_refusal(out, number, place as u64, 0, 0),
+        Entries::Refused { number, place } => print_refused(network, number, place as u64, out),
         Entries::Read { count: read } => {
             let kept = smaller(read, 4002);
             let place = read_place(arc);
-            print_network(network, count, place, &entries[..kept], out)
+            print_network(network, place, &entries[..kept], out)
         }
     }
 }
@@ -163,9 +174,5 @@ pub fn flow_files(network: &[u8], arc: &[u8], table: &[u8], out: &mut [u8]) -> P
     if 65_536 < network.len() {
         return print_refusal(out, 20, 0, 0, 0);
     }
-    let counted = count_arcs(network);
-    match counted {
-        Counted::Refused { line } => print_refusal(out, 29, line as u64, 0, 0),
-        Counted::Arcs { count } => print_with_table(network, count, arc, table, out),
-    }
+    print_with_table(network, arc, table, out)
 }

@@ -23,11 +23,11 @@ use Rattle.problem.specs.Plans.{rowSum, planFor}
 use Rattle.problem.specs.Promise.{Cheapest, Bounded}
 use Rattle.problem.proofs.MachineIntegers.{read-back}
 use Rattle.dimacs.specs.Arc.{Arc}
-use Rattle.flow_problem.specs.Network.{Network, arcCount, arcAt, start, end, ceiling, NoFlow}
-use Rattle.flow_problem.specs.Reduce.{cells, rowsOf, nodeOf, sourceOf, node, source, stock, laneCost, laneCeiling, want, entryAt, caseOf, flowAt, flowOf}
-use Rattle.flow_problem.specs.Sound.{Sound}
+use Rattle.flow_problem.specs.Network.{Network, arcCount, arcAt, start, end, ceiling, NoFlow, cells}
+use Rattle.flow_problem.specs.Reduce.{rowsOf, nodeOf, sourceOf, node, source, stock, laneCost, laneCeiling, want, entryAt, caseOf, flowAt, flowOf}
+use Rattle.flow_problem.specs.Sound.{Sound, uneven}
 use Rattle.flow_case.specs.Build.{Filled, Put, RowsAre, wantIn, laneIn, costIn, entryIn, stockIn, flowIn, underAt}
-use Rattle.flow_problem.specs.Answer.{anyBelow, uneven}
+use Rattle.flow_problem.specs.Answer.{anyBelow}
 use Rattle.flow_case.specs.Slices.{netOf}
 use Rattle.flow_network.specs.Ready.{Arcs, Amounts, Named, CarriedAs, CarriedIs}
 use Rattle.flow_network.specs.declared.carry.Found.{Found}

@@ -1,5 +1,6 @@
 -- The network that the cells hold is the file's, and the answer to it the file's answer. Assumes nothing.
 use mathlib.Core.Path.{_≡_, refl, sym, ap, ap₂, _∙_, subst}
+use mathlib.Core.Logic.{inl}
 use mathlib.Core.Bool.{Bool, true, false, _||_}
 use mathlib.Core.List.{List, [], map}
 use Prim.Native.Nat.{ℕ, suc, _-_, _≤_, _<_}
@@ -20,14 +21,15 @@ use Rattle.dimacs.proofs.NodeAndArcLines.{or-true}
 use Rattle.dimacs.specs.declared.store.Reading.{Reading}
 use Rattle.dimacs.specs.declared.store.Reading.the-variants as readings
 use Rattle.transport.specs.Curve.{written}
-use Rattle.flow_problem.specs.Network.{Network, amount}
-use Rattle.flow_problem.specs.Reduce.{cells}
+use Rattle.flow_problem.specs.Network.{Network, amount, cells}
 use Rattle.flow_problem.specs.Answer.{CheapestFlow, arcsOf, networkOf, anyBelow, tooShort, badFile, badName, outOfLimits, flows, leastTotal, Outcome, carried, refused, flowOutcome, limited, outcomeOf}
 use Rattle.flow_problem.specs.Promise as promise
 use Rattle.flow_problem.specs.Promise.{Slices, roomOf, Answered}
+use Rattle.flow_case.specs.Build.{Given}
 use Rattle.flow_case.specs.Slices.{netOf}
+use Rattle.flow_network.specs.Answer.{countOf, arcsSaid}
 use Rattle.flow_network.specs.Ready.{Arcs}
-use Rattle.flow_network.specs.Judged.{beyond, judgedNet, Given, Judged}
+use Rattle.flow_network.specs.Judged.{beyond, judgedNet, Judged}
 use Rattle.flow_problem.proofs.NodesAndSources.{cells-length, cells-at}
 use Rattle.flow_problem.proofs.FlowListing.{or-both, none-of, or-regroup}
 use Rattle.flow_problem.proofs.SoundNetwork.{Passes, passes}
@@ -41,7 +43,7 @@ use Rattle.problem.proofs.TestsPassed.{either-first, either-second}
 
 pub read-refused : {s : List ℕ} {r : Reading} {starts ends ceilings : List ℕ} {costs : List ℤ} {gives takes marks : List ℕ} {line : ℕ} → ReadIs s r starts ends ceilings costs gives takes marks
     → r ≡ readings.Refused line → formOf s ≡ broken line
-read-refused {s} {r} {starts} {ends} {ceilings} {costs} {gives} {takes} {marks} {line} h e = subst (λ (r : Reading). ReadAs s r starts ends ceilings costs gives takes marks) e (h .reads)
+read-refused {s} {r} {starts} {ends} {ceilings} {costs} {gives} {takes} {marks} {line} h e = subst (λ (r : Reading). ReadAs s r starts ends ceilings costs gives takes marks) e (h .reads) .0
 
 pub read-whole : {s : List ℕ} {r : Reading} {starts ends ceilings : List ℕ} {costs : List ℤ} {gives takes marks : List ℕ} {nodes arcs : ℕ} {odd bad : Bool}
     → ReadIs s r starts ends ceilings costs gives takes marks → r ≡ readings.Whole nodes arcs odd bad
@@ -54,10 +56,10 @@ pub zero-arcs : ArcsRead 0 [] false (replicate 64 0) (replicate 64 0) (replicate
 unfolding anyOf
 zero-arcs = record {
   flag = refl;
-  start = λ j h q. absurd (omega arith);
-  end = λ j h q. absurd (omega arith);
-  ceiling = λ j h q. absurd (omega arith);
-  cost = λ j h q. absurd (omega arith);
+  start = λ j h. getD-replicate {A = ℕ} 64 j 0 0 h;
+  end = λ j h. getD-replicate {A = ℕ} 64 j 0 0 h;
+  ceiling = λ j h. getD-replicate {A = ℕ} 64 j 0 0 h;
+  cost = λ j h. getD-replicate {A = ℤ} 64 j (pos 0) (pos 0) h;
   starts-long = length-replicate {A = ℕ} 64 0;
   ends-long = length-replicate {A = ℕ} 64 0;
   ceilings-long = length-replicate {A = ℕ} 64 0;
@@ -70,7 +72,9 @@ zero-nodes = record {
   flag = λ h. refl;
   fresh = λ e. refl;
   mark = λ i h. ap (ltb 0) (getD-replicate {A = ℕ} 32 i 0 0 h);
+  mark-one = λ i h. omega (arith, getD-replicate {A = ℕ} 32 i 0 0 h);
   supply = λ i h. ap₂ (λ (a b : ℕ). subℕ a b) (getD-replicate {A = ℕ} 32 i 0 0 h) (getD-replicate {A = ℕ} 32 i 0 0 h);
+  one-way = λ i h. inl (getD-replicate {A = ℕ} 32 i 0 0 h);
   small = λ i h. (omega (arith, getD-replicate {A = ℕ} 32 i 0 0 h), omega (arith, getD-replicate {A = ℕ} 32 i 0 0 h));
   gives-long = length-replicate {A = ℕ} 32 0;
   takes-long = length-replicate {A = ℕ} 32 0;
@@ -209,16 +213,16 @@ module _ (f : File) (nodes arcs : ℕ) (odd bad : Bool) (tails heads caps : List
     long-P = part-long arcs prices (omega (arith, few-arcs, R .arc-lines .costs-long))
 
     start-at : (j : ℕ) → j < arcs → getD S j 0 ≡ getD (f .arcs) j noLine .arc .start
-    start-at j l = part-at 0 arcs tails j l ∙ R .arc-lines .start j (omega (arith, few-arcs)) (omega (arith, R .arcs-are))
+    start-at j l = part-at 0 arcs tails j l ∙ R .arc-lines .start j (omega (arith, few-arcs))
 
     end-at : (j : ℕ) → j < arcs → getD E j 0 ≡ getD (f .arcs) j noLine .arc .end
-    end-at j l = part-at 0 arcs heads j l ∙ R .arc-lines .end j (omega (arith, few-arcs)) (omega (arith, R .arcs-are))
+    end-at j l = part-at 0 arcs heads j l ∙ R .arc-lines .end j (omega (arith, few-arcs))
 
     ceiling-at : (j : ℕ) → j < arcs → getD C j 0 ≡ getD (f .arcs) j noLine .arc .ceiling
-    ceiling-at j l = part-at 0 arcs caps j l ∙ R .arc-lines .ceiling j (omega (arith, few-arcs)) (omega (arith, R .arcs-are))
+    ceiling-at j l = part-at 0 arcs caps j l ∙ R .arc-lines .ceiling j (omega (arith, few-arcs))
 
     cost-at : (j : ℕ) → j < arcs → getD P j (pos 0) ≡ getD (f .arcs) j noLine .arc .cost
-    cost-at j l = part-at (pos 0) arcs prices j l ∙ R .arc-lines .cost j (omega (arith, few-arcs)) (omega (arith, R .arcs-are))
+    cost-at j l = part-at (pos 0) arcs prices j l ∙ R .arc-lines .cost j (omega (arith, few-arcs))
 
     -- the network is the file's
     net-is : netOf G T S E C P ≡ networkOf f
@@ -270,6 +274,10 @@ module _ (f : File) (nodes arcs : ℕ) (odd bad : Bool) (tails heads caps : List
       gives-small = λ k l. let q : k < nodes = omega (arith, l, long-G) in omega (arith, part-at 0 nodes gives k q, R .node-lines .small k (omega (arith, few-nodes)) .0);
       takes-small = λ k l. let q : k < nodes = omega (arith, l, long-T) in omega (arith, part-at 0 nodes takes k q, R .node-lines .small k (omega (arith, few-nodes)) .1);
     }
+
+    -- the count that is told is the file's
+    pub counted : (bytes : List ℕ) → formOf bytes ≡ whole f → (r : Outcome) (n : ℕ) → n ≡ countOf r (length S) → n ≡ countOf r (arcsSaid (formOf bytes))
+    counted bytes form r n e = e ∙ ap (countOf r) (long-S ∙ R .arcs-are ∙ sym (ap arcsSaid form))
 
     starts-are : S ≡ map (λ (a : Arc). a .start) (arcsOf f)
     unfolding networkOf

@@ -16,15 +16,15 @@ use Rattle.transport.specs.Curve.{written}
 use Rattle.dimacs.specs.Arc.{Arc, arc}
 use Rattle.dimacs.specs.Lines.{anyOf}
 use Rattle.dimacs.proofs.NodeAndArcLines.{or-true}
-use Rattle.flow_problem.specs.Network.{Network, arcCount, ceiling, amount, NoFlow}
-use Rattle.flow_problem.specs.Reduce.{cells}
-use Rattle.flow_case.specs.Build.{Put, cellOf, haveIn, overAt, underAt, dearAt}
-use Rattle.flow_problem.specs.Answer.{anyBelow, Room, tooShort, badName, flows, leastTotal, carried, refused, flowOutcome, uneven}
+use Rattle.flow_problem.specs.Network.{Network, arcCount, ceiling, amount, NoFlow, cells}
+use Rattle.flow_case.specs.Build.{Put, cellOf, haveIn, overAt, underAt, dearAt, unevenIn, Given}
+use Rattle.flow_problem.specs.Sound.{uneven}
+use Rattle.flow_problem.specs.Answer.{anyBelow, Room, tooShort, badName, flows, leastTotal, carried, refused, flowOutcome}
 use Rattle.flow_problem.specs.Promise.{Slices, roomOf}
 use Rattle.flow_case.specs.Slices.{netOf}
 use Rattle.flow_network.specs.Ready.{Arcs, Amounts, Named, CarriedAs}
 use Rattle.flow_network.specs.declared.carry.Carried.the-variants as carrieds
-use Rattle.flow_network.specs.Judged.{beyond, judgedNet, badNameIn, unevenIn, Given, Holding, Told, Judged}
+use Rattle.flow_network.specs.Judged.{beyond, judgedNet, badNameIn, Holding, Told, Judged}
 use Rattle.flow_problem.proofs.NodesAndSources.{cells-length, cells-at}
 use Rattle.flow_problem.proofs.FlowListing.{or-both, none-below, carried-is, none-is, or-regroup}
 use Rattle.flow_problem.proofs.SoundNetwork.{Proper, uneven-none, four}
@@ -64,14 +64,6 @@ module _ (ceilings : List ℕ) (place : ℕ) (table : List ℕ) where
   pub name-4 : 1 ≤ place → place ≤ length ceilings → length table ≡ getD ceilings (place - 1) 0 + 1 → (r : Bool) → r ≡ anyBelow (length table) (dearAt table) → r ≡ badNameIn ceilings place table
   name-4 h1 h2 h3 r e =
       e ∙ sym (let q : badNameIn ceilings place table ≡ anyBelow (length table) (dearAt table) = simp (le-ltb place 1 h1, le-ltb (length ceilings) place h2, eq-eqb (length table) (getD ceilings (place - 1) 0 + 1) h3) in q)
-
-module _ (gives takes haves : List ℕ) where
-  pub uneven-1 : (sum (length gives) (λ i. getD gives i 0) ≡ sum (length takes) (λ i. getD takes i 0) → ⊥) → true ≡ unevenIn gives takes haves
-  uneven-1 h = sym (let q : unevenIn gives takes haves ≡ true = simp (ne-eqb (sum (length gives) (λ i. getD gives i 0)) (sum (length takes) (λ i. getD takes i 0)) h) in q)
-
-  pub uneven-2 : sum (length gives) (λ i. getD gives i 0) ≡ sum (length takes) (λ i. getD takes i 0) → (r : Bool) → r ≡ anyBelow (length haves) (underAt haves takes) → r ≡ unevenIn gives takes haves
-  uneven-2 h r e =
-      e ∙ sym (let q : unevenIn gives takes haves ≡ anyBelow (length haves) (underAt haves takes) = simp (eq-eqb (sum (length gives) (λ i. getD gives i 0)) (sum (length takes) (λ i. getD takes i 0)) h) in q)
 
 -- ---- a list's members, from the front and from the end
 

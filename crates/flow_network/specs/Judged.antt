@@ -30,18 +30,6 @@ abbrev pub badNameIn : List ℕ → ℕ → List ℕ → Bool
 badNameIn ceilings place table =
     ltb place 1 || (ltb (length ceilings) place || (not (eqb (length table) (getD ceilings (place - 1) 0 + 1)) || anyBelow (length table) (dearAt table)))
 
--- supplies that do not sum to 0, or an amount below 0
-abbrev pub unevenIn : List ℕ → List ℕ → List ℕ → Bool
-unevenIn gives takes haves =
-    not (eqb (sum (length gives) (λ i. getD gives i 0)) (sum (length takes) (λ i. getD takes i 0))) || anyBelow (length haves) (underAt haves takes)
-
--- what is given and taken at the nodes
-pub record Given (gives takes : List ℕ) : Type 0 where
-  pub few : length gives ≤ 32
-  pub takes-long : length takes ≡ length gives
-  pub gives-small : AtMostAll 10000000000 gives
-  pub takes-small : AtMostAll 10000000000 takes
-
 -- cells that hold what each node has
 pub record Holding (gives ends ceilings haves : List ℕ) : Type 0 where
   pub long : length haves ≡ length gives

@@ -5,8 +5,7 @@ use crate::carry::carry;
 use crate::refused;
 use flow_case::checks::dear;
 use flow_case::checks::over;
-use flow_case::checks::sum_of;
-use flow_case::checks::under;
+use flow_case::checks::uneven;
 use flow_case::rows::copy_costs;
 use flow_case::rows::copy_numbers;
 use flow_case::rows::fill_haves;
@@ -15,11 +14,11 @@ ghost use mathlib.Core.Bool.{_||_};
 ghost use Prim.Native.Nat.{_<_};
 ghost use lib.Dec.{ltb};
 ghost use lib.ListN.{length};
-ghost use Rattle.flow_case.specs.Build.{AtMostAll};
+ghost use Rattle.flow_case.specs.Build.{AtMostAll, Given};
 ghost use Rattle.flow_network.specs.Ready.{Arcs};
 ghost use Rattle.flow_case.specs.Slices.{netOf};
-ghost use Rattle.flow_network.specs.Judged.{badNameIn, unevenIn, Given, Holding, Judged};
-ghost use Rattle.flow_network.specs.Answer.{outcome, slicesOf};
+ghost use Rattle.flow_network.specs.Judged.{badNameIn, Holding, Judged};
+ghost use Rattle.flow_network.specs.Answer.{outcome, countIn, countOf, slicesOf};
 
 // Is the place none, or the table not of the named arc?
 fn bad_name(ceilings: &[u64], place: usize, table: &[u64]) -> bool
@@ -67,19 +66,6 @@ fn too_short(
     costs < n
 }
 
-// Do the supplies not sum to 0, or is an amount below 0?
-fn uneven(gives: &[u64], takes: &[u64], haves: &[u64]) -> bool
-    requires { ⌜ Given (now gives) (now takes) × (length (now haves) ≡ length (now takes)) ⌝ }
-    ensures { λ r. ⌜ r ≡ unevenIn (now (gives .entry)) (now (takes .entry)) (now (haves .entry)) ⌝ }
-{
-    let given = sum_of(gives);
-    let taken = sum_of(takes);
-    if given != taken {
-        return true;
-    }
-    under(haves, takes)
-}
-
 // The same once it is known what each node has.
 fn judge_by(
     gives: &[u64],
@@ -100,7 +86,7 @@ fn judge_by(
     requires { ⌜ Arcs (length (now gives)) (now tails) (now heads) (now capacities) (now prices) ⌝ }
     requires { ⌜ Given (now gives) (now takes) ⌝ }
     requires { ⌜ Holding (now gives) (now heads) (now capacities) (now haves) ⌝ }
-    ensures { λ r. ⌜ Judged (netOf (now (gives .entry)) (now (takes .entry)) (now (tails .entry)) (now (heads .entry)) (now (capacities .entry)) (now (prices .entry))) (now (tails .entry)) (now (heads .entry)) (now (capacities .entry)) (now (prices .entry)) place (now (table .entry)) (outcome r) (slicesOf (now (flow .entry)) (now (starts .entry)) (now (ends .entry)) (now (ceilings .entry)) (now (costs .entry))) (slicesOf (now (flow .exit)) (now (starts .exit)) (now (ends .exit)) (now (ceilings .exit)) (now (costs .exit))) ⌝ }
+    ensures { λ r. ⌜ Judged (netOf (now (gives .entry)) (now (takes .entry)) (now (tails .entry)) (now (heads .entry)) (now (capacities .entry)) (now (prices .entry))) (now (tails .entry)) (now (heads .entry)) (now (capacities .entry)) (now (prices .entry)) place (now (table .entry)) (outcome r) (slicesOf (now (flow .entry)) (now (starts .entry)) (now (ends .entry)) (now (ceilings .entry)) (now (costs .entry))) (slicesOf (now (flow .exit)) (now (starts .exit)) (now (ends .exit)) (now (ceilings .exit)) (now (costs .exit))) × (countIn r ≡ countOf (outcome r) (length (now (tails .entry)))) ⌝ }
 {
     if over(haves, takes) {
         return refused(30, 0);
@@ -140,7 +126,10 @@ fn judge_by(
     copy_numbers(heads, ends);
     copy_numbers(capacities, ceilings);
     copy_costs(prices, costs);
-    Answer::Carried { total }
+    Answer::Carried {
+        total,
+        arcs: tails.len() as u64,
+    }
 }
 
 // Refusal 30 for the amounts, the name, the table and the room; 27 where there is no flow; else the cheapest flow and the arcs, written.
@@ -161,7 +150,7 @@ pub fn judge(
 ) -> Answer
     requires { ⌜ Arcs (length (now gives)) (now tails) (now heads) (now capacities) (now prices) ⌝ }
     requires { ⌜ Given (now gives) (now takes) ⌝ }
-    ensures { λ r. ⌜ Judged (netOf (now (gives .entry)) (now (takes .entry)) (now (tails .entry)) (now (heads .entry)) (now (capacities .entry)) (now (prices .entry))) (now (tails .entry)) (now (heads .entry)) (now (capacities .entry)) (now (prices .entry)) place (now (table .entry)) (outcome r) (slicesOf (now (flow .entry)) (now (starts .entry)) (now (ends .entry)) (now (ceilings .entry)) (now (costs .entry))) (slicesOf (now (flow .exit)) (now (starts .exit)) (now (ends .exit)) (now (ceilings .exit)) (now (costs .exit))) ⌝ }
+    ensures { λ r. ⌜ Judged (netOf (now (gives .entry)) (now (takes .entry)) (now (tails .entry)) (now (heads .entry)) (now (capacities .entry)) (now (prices .entry))) (now (tails .entry)) (now (heads .entry)) (now (capacities .entry)) (now (prices .entry)) place (now (table .entry)) (outcome r) (slicesOf (now (flow .entry)) (now (starts .entry)) (now (ends .entry)) (now (ceilings .entry)) (now (costs .entry))) (slicesOf (now (flow .exit)) (now (starts .exit)) (now (ends .exit)) (now (ceilings .exit)) (now (costs .exit))) × (countIn r ≡ countOf (outcome r) (length (now (tails .entry)))) ⌝ }
 {
     let m = gives.len();
     let mut cells = [0u64; 32];

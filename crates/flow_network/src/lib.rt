@@ -7,14 +7,15 @@ ghost use mathlib.Core.Bool.{_||_};
 ghost use lib.Dec.{ltb};
 ghost use Rattle.flow_problem.specs.Promise.{Answered};
 ghost use Rattle.flow_network.specs.declared.Answer.the-variants as answers;
-ghost use Rattle.flow_network.specs.Answer.{outcome, slicesOf};
+ghost use Rattle.dimacs.specs.Form.{formOf};
+ghost use Rattle.flow_network.specs.Answer.{outcome, countIn, countOf, arcsSaid, slicesOf};
 
 mod carry;
 mod judge;
 
-// A flow was found, or the file is refused.
+// A flow was found, with its total and the count of the file's arcs, or the file is refused.
 pub enum Answer {
-    Carried { total: i64 },
+    Carried { total: i64, arcs: u64 },
     Refused { number: u64, place: u64 },
 }
 
@@ -52,7 +53,7 @@ pub fn cheapest_flow(
     ceilings: &mut [u64],
     costs: &mut [i64],
 ) -> Answer
-    ensures { λ r. ⌜ Answered (now (bytes .entry)) place (now (table .entry)) (outcome r) (slicesOf (now (flow .entry)) (now (starts .entry)) (now (ends .entry)) (now (ceilings .entry)) (now (costs .entry))) (slicesOf (now (flow .exit)) (now (starts .exit)) (now (ends .exit)) (now (ceilings .exit)) (now (costs .exit))) ⌝ }
+    ensures { λ r. ⌜ Answered (now (bytes .entry)) place (now (table .entry)) (outcome r) (slicesOf (now (flow .entry)) (now (starts .entry)) (now (ends .entry)) (now (ceilings .entry)) (now (costs .entry))) (slicesOf (now (flow .exit)) (now (starts .exit)) (now (ends .exit)) (now (ceilings .exit)) (now (costs .exit))) × (countIn r ≡ countOf (outcome r) (arcsSaid (formOf (now (bytes .entry))))) ⌝ }
 {
     let mut tails = [0u64; 64];
     let mut heads = [0u64; 64];

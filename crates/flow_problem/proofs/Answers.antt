@@ -11,10 +11,10 @@ use borrow.Author.Tests.{ltb-false}
 use Rattle.flow_problem.specs.Network.{Network, arcCount, ceiling}
 use Rattle.problem.specs.Promise.{Cheapest, NoPlan}
 use Rattle.flow_problem.specs.Reduce.{caseOf, flowOf}
-use Rattle.flow_problem.specs.Sound.{Sound}
+use Rattle.flow_problem.specs.Sound.{Sound, uneven}
 use Rattle.dimacs.specs.Form.{File, Form, whole, broken, formOf}
 use Rattle.dimacs.specs.Lines.{anyOf}
-use Rattle.flow_problem.specs.Answer.{CheapestFlow, networkOf, Room, badFile, badName, outOfLimits, flows, leastTotal, carried, refused, flowOutcome, limited, judged, outcomeOf, uneven}
+use Rattle.flow_problem.specs.Answer.{CheapestFlow, networkOf, Room, badFile, badName, outOfLimits, flows, leastTotal, carried, refused, flowOutcome, limited, judged, outcomeOf}
 use Rattle.flow_problem.proofs.FlowListing.{carried-is, none-is}
 use Rattle.flow_problem.proofs.SoundNetwork.{proper, sound, uneven-none, four}
 use Rattle.flow_problem.proofs.Reduction.{cheapest-flow, no-flow}

@@ -7,8 +7,7 @@ use Rattle.transport.specs.Sum.{sum}
 use Rattle.transport.specs.Listing.{upFrom, select, least}
 use Rattle.problem.specs.Integer.{eqZ, minℤ, sumℤ, leastℤ}
 use Rattle.dimacs.specs.Arc.{arc}
-use Rattle.flow_problem.specs.Network.{Network, at, leaving, entering, ownCost, flowTotal, amount}
-use Rattle.flow_problem.specs.Reduce.{cells}
+use Rattle.flow_problem.specs.Network.{Network, at, leaving, entering, ownCost, flowTotal, amount, cells}
 use Rattle.dimacs.specs.Bytes.{_>>=_, digits, counting, number, signed, spaces, gap, word, field, signedField}
 use Rattle.dimacs.specs.Form.{pieces, ending, problemLine, nodeLine, arcOf, lineOf, step, atEnd, last, run, formOf}
 use Rattle.dimacs.specs.Lines.{supplyIn, anyOf, twice}

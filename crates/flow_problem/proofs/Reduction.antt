@@ -17,12 +17,12 @@ use Rattle.transport.specs.Plan.{byRow, row, col}
 use Rattle.transport.proofs.Sums.{sum-ext, sum-at}
 use Rattle.problem.specs.Integer.{sumℤ}
 use Rattle.flow_problem.specs.Answer.{CheapestFlow}
-use Rattle.flow_problem.specs.Network.{Network, arcCount, start, end, ceiling, cost, listed, Flow, ownCost, flowTotal, NoFlow}
+use Rattle.flow_problem.specs.Network.{Network, arcCount, start, end, ceiling, cost, listed, Flow, ownCost, flowTotal, NoFlow, cells}
 use Rattle.problem.specs.Case.{Case, supply as supplyOf, entry}
 use Rattle.problem.specs.Freight.{ratesByRow, freightℤ}
 use Rattle.problem.specs.Plans.{freightOf, rowSum, columnSum, MeetsTP, planTotal}
 use Rattle.problem.specs.Promise.{Cheapest, NoPlan}
-use Rattle.flow_problem.specs.Reduce.{cells, node, source, stock, laneCost, laneCeiling, want, entryAt, caseOf, flowAt, flowOf, sentAt, planOf}
+use Rattle.flow_problem.specs.Reduce.{node, source, stock, laneCost, laneCeiling, want, entryAt, caseOf, flowAt, flowOf, sentAt, planOf}
 use Rattle.flow_problem.specs.Sound.{Sound}
 use Rattle.flow_problem.proofs.SumsByNode.{cond-same, cond-other, at-same, at-other, sum-two-at, sumℤ-ext, sumℤ-swap, sumℤ-one}
 use Rattle.flow_problem.proofs.PlanAsFlow.{Carries, sends, kept-last}

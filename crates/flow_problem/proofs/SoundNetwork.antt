@@ -18,10 +18,10 @@ use Rattle.problem.specs.Integer.{eqZ, sumℤ}
 use Rattle.dimacs.specs.Arc.{Arc, arc}
 use Rattle.flow_problem.specs.Network.{Network, arcCount, arcAt, start, end, ceiling, cost, supply, listed, at, leaving, entering, Flow, amount, NoFlow}
 use Rattle.flow_problem.specs.Reduce.{stock}
-use Rattle.flow_problem.specs.Sound.{Sound}
+use Rattle.flow_problem.specs.Sound.{Sound, uneven}
 use Rattle.dimacs.specs.Form.{ArcLine, NodeLine, File}
 use Rattle.dimacs.specs.Lines.{anyOf, noNode, twice, badArc}
-use Rattle.flow_problem.specs.Answer.{networkOf, anyBelow, badFile, uneven}
+use Rattle.flow_problem.specs.Answer.{networkOf, anyBelow, badFile}
 use Rattle.transport.proofs.Differences.{pos-sub, sub-add, sub-pos}
 use Rattle.flow_problem.proofs.SumsByNode.{at-same, at-other, regroup}
 use Rattle.flow_problem.proofs.FlowListing.{or-both, none-below, below-none, none-of, eqZ-true, true-eqZ}

@@ -8,10 +8,9 @@ use lib.IntN.{ℤ, pos, subℕ}
 use lib.Signed.{ltZ, _≤ℤ_, _<ℤ_}
 use lib.ListN.{length}
 use Rattle.transport.specs.Listing.{upFrom, select, least}
-use Rattle.problem.specs.Integer.{eqZ, sumℤ, leastℤ}
+use Rattle.problem.specs.Integer.{eqZ, leastℤ}
 use Rattle.dimacs.specs.Arc.{Arc}
-use Rattle.flow_problem.specs.Network.{Network, arcCount, ceiling, supply, listed, leaving, entering, Flow, flowTotal, amount}
-use Rattle.flow_problem.specs.Reduce.{cells}
+use Rattle.flow_problem.specs.Network.{Network, arcCount, ceiling, supply, listed, leaving, entering, Flow, flowTotal, amount, cells}
 use Rattle.dimacs.specs.Lines.{supplyIn, anyOf, noNode, twice, badArc}
 use Rattle.dimacs.specs.Form.{ArcLine, NodeLine, File, Form, whole, broken, formOf}
 
@@ -118,8 +117,3 @@ judged (whole f) place table room = limited f place table room
 -- 29, 30, 27
 unfoldable pub outcomeOf : List ℕ → ℕ → List ℕ → Room → Outcome
 outcomeOf bytes place table room = judged (formOf bytes) place table room
-
--- ---- what is checked before the planner is asked: supplies that do not sum to 0, an amount below 0
-
-unfoldable pub uneven : Network → Bool
-uneven g = not (eqZ (sumℤ (g .nodes) (supply g)) (pos 0)) || anyBelow (g .nodes) (λ i. ltZ (amount g i) (pos 0))

@@ -1,5 +1,5 @@
 pub mod Network
-pub mod Reduce
-pub mod Sound
 pub mod Answer
 pub mod Promise
+pub mod Reduce
+pub mod Sound

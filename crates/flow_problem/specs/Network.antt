@@ -2,14 +2,19 @@
 -- counted from 0. Assumes nothing.
 use mathlib.Core.Path.{_≡_}
 use mathlib.Core.Bool.{cond}
-use mathlib.Core.List.{List}
-use Prim.Native.Nat.{ℕ, _-_, _≤_, _<_}
+use mathlib.Core.List.{List, [], _∷_}
+use Prim.Native.Nat.{ℕ, zero, suc, _-_, _≤_, _<_}
 use lib.Dec.{eqb}
 use lib.IntN.{ℤ, pos, subℕ, _+ℤ_, _*ℤ_}
 use lib.ListN.{length, getD}
 use Rattle.transport.specs.Sum.{sum}
 use Rattle.dimacs.specs.Arc.{Arc, arc}
 use Rattle.problem.specs.Integer.{sumℤ}
+
+-- a list made from its places: f 0, f 1, .., n of them
+unfoldable pub cells {ℓ} : {A : Type ℓ} → ℕ → (ℕ → A) → List A
+cells zero f = []
+cells (suc n) f = f 0 ∷ cells n (λ j. f (suc j))
 
 -- a supply for each node (0 for a node without an n line), and the arcs in file order
 pub record Network : Type 0 where

@@ -7,13 +7,8 @@ use Prim.Native.Nat.{ℕ, zero, suc, _+_, _-_}
 use lib.Dec.{eqb, ltb}
 use lib.IntN.{ℤ, pos, natAbs}
 use Rattle.transport.specs.Plan.{byRow, row}
-use Rattle.flow_problem.specs.Network.{Network, arcCount, start, end, ceiling, cost, listed, amount}
+use Rattle.flow_problem.specs.Network.{cells, Network, arcCount, start, end, ceiling, cost, listed, amount}
 use Rattle.problem.specs.Case.{Case}
-
--- f 0, f 1, .., n of them
-unfoldable pub cells {ℓ} : {A : Type ℓ} → ℕ → (ℕ → A) → List A
-cells zero f = []
-cells (suc n) f = f 0 ∷ cells n (λ j. f (suc j))
 
 -- m rows of n, row after row
 unfoldable pub rowsOf {ℓ} : {A : Type ℓ} → ℕ → ℕ → (ℕ → ℕ → A) → List A

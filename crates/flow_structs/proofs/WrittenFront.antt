@@ -5,7 +5,7 @@ use Prim.Native.Nat.{ℕ, zero, suc, _≤_, _<_}
 use native.Mathlib.Omega.{arith}
 use lib.ListN.{length, set, drop, length-set}
 use Rattle.transport.specs.Curve.{written}
-use Rattle.flow_problem.specs.Reduce.{cells}
+use Rattle.flow_problem.specs.Network.{cells}
 use Rattle.flow_problem.proofs.NodesAndSources.{cells-length}
 
 module _ {A : Type 0} where

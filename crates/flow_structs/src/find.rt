@@ -1,5 +1,4 @@
 // The least-cost flow with the arcs' numbers in arrays, one for each field of an arc.
-use flow_arcs::count::arcs_in;
 use flow_arcs::find::Found;
 use flow_arcs::find::at_most;
 use flow_arcs::find::count_of;
@@ -25,7 +24,7 @@ pub fn find(bytes: &[u8], place: usize, table: &[u64], flow: &mut [u64], room: u
         &mut ceilings[0..r],
         &mut costs[0..r],
     );
-    let count = count_of(answer, arcs_in(bytes));
+    let count = count_of(answer);
     Found {
         answer,
         count,

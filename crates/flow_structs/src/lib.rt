@@ -11,10 +11,10 @@ ghost use Prim.Native.Nat.{_≤_};
 ghost use lib.ListN.{length};
 ghost use Rattle.transport.specs.Curve.{written};
 ghost use Rattle.flow_network.specs.Answer.{outcome};
-ghost use Rattle.flow_problem.specs.Reduce.{cells};
+ghost use Rattle.flow_problem.specs.Network.{cells};
 ghost use Rattle.flow_arcs.specs.Lent.{arcAt, ArcsAnswered};
 
-pub mod find;
+mod find;
 
 // Writes the first n arcs that were found to the front of the slice.
 fn write(arcs: &mut [Arc], found: Found, n: usize)

@@ -1,2 +1,1 @@
-pub mod DigitsRead
 pub mod Records

@@ -13,8 +13,9 @@ use Rattle.csv_print.proofs.Columns.{column-short}
 use Rattle.ratetable.specs.Rate.{rate, ratesFrom, RateTable}
 use Rattle.ratetable.proofs.Squares.{rate-is}
 use Rattle.ratetable.proofs.Filling.{from-length, from-at, table-takes}
-use Rattle.ratesfile.specs.File.{ratesText, outputOf, textFor, fileText}
-use Rattle.ratesfile.specs.declared.Output.{Output}
+use Rattle.ratesfile.specs.File.{ratesText, textFor, fileText}
+use Rattle.numbers.specs.Short.{shortOf}
+use Rattle.numbers.specs.declared.Short.{Short}
 
 -- up to an output of 4,000 a rate has at most four digits
 four-digits : (y : ℕ) → y ≤ 4000 → rate y < 10000
@@ -48,10 +49,10 @@ column-of-rates most {all} {out} {out′} {r} {k} h t w =
     rw (le-ltb 4000 most h) (record { bytes = v .bytes; ends = v .ends; short = rates-short most h })
 
 -- the file for the output that a text names
-pub file-for : (text : List ℕ) (o : Output) {out out′ : List ℕ} {r : ℕ} → outputOf text ≡ o → Written out out′ 0 r (textFor o) 24006
+pub file-for : (text : List ℕ) (o : Short) {out out′ : List ℕ} {r : ℕ} → shortOf text ≡ o → Written out out′ 0 r (textFor o) 24006
     → Written out out′ 0 r (fileText text) 24006
 unfolding fileText
-file-for text o {out} {out′} {r} e w = subst (λ (o : Output). Written out out′ 0 r (textFor o) 24006) (sym e) w
+file-for text o {out} {out′} {r} e w = subst (λ (o : Short). Written out out′ 0 r (textFor o) 24006) (sym e) w
 
 pub no-file : {out : List ℕ} → Written out out 0 0 [] 24006
 no-file = record { bytes = refl; ends = refl; short = omega arith }

@@ -1,42 +1,11 @@
 // The production file of square-root rates, from the text of a number to the bytes of the file.
 ghost use mathlib.Core.Path.{_≡_};
 ghost use Rattle.csv_print.specs.Writing.{Written};
-ghost use Rattle.ratesfile.specs.File.{outputOf, ratesText, fileText};
+ghost use Rattle.ratesfile.specs.File.{ratesText, fileText};
 use csv_print::column::put_column;
+use numbers::Short;
+use numbers::read_short;
 use ratetable::rates;
-
-// What a text says of plant 1's greatest output.
-pub enum Output {
-    // The number that one to four digits are.
-    UpTo(u64),
-    // It is no such number.
-    Unclear,
-}
-
-// Reads a number of one to four digits.
-pub fn read_output(text: &[u8]) -> Output
-    ensures { λ r. ⌜ r ≡ outputOf (now (text .entry)) ⌝ }
-{
-    let size = text.len();
-    if size == 0 {
-        return Output::Unclear;
-    }
-    if 4 < size {
-        return Output::Unclear;
-    }
-    let mut value: u64 = 0;
-    for k in 0..size {
-        let byte = text[k];
-        if byte < 48 {
-            return Output::Unclear;
-        }
-        if 57 < byte {
-            return Output::Unclear;
-        }
-        value = 10 * value + (byte - 48) as u64;
-    }
-    Output::UpTo(value)
-}
 
 // Writes the rates of the outputs 0 to `most`, each a record of its own. Gives the length of the text, at most 24,006; 0, and nothing is
 // written, where `most` is above 4,000.
@@ -56,9 +25,9 @@ pub fn put_rates(out: &mut [u8], most: u64) -> usize
 pub fn put_file(out: &mut [u8], text: &[u8]) -> usize
     ensures { λ r. ⌜ Written (now (out .entry)) (now (out .exit)) 0 r (fileText (now (text .entry))) 24006 ⌝ }
 {
-    let output = read_output(text);
+    let output = read_short(text);
     match output {
-        Output::UpTo(most) => put_rates(out, most),
-        Output::Unclear => 0,
+        Short::Number(most) => put_rates(out, most),
+        Short::Unclear => 0,
     }
 }

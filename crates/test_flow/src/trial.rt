@@ -53,8 +53,9 @@ fn holds(numbers: &[u64], cells: &[u64]) -> bool {
     later(cells, numbers.len())
 }
 
-// Are the arcs those of the network, and the later cells as they were?
+// Are the arcs those of the network, as many as are told, and the later cells as they were?
 fn same_arcs(
+    count: u64,
     starts: &[u64],
     ends: &[u64],
     ceilings: &[u64],
@@ -62,6 +63,9 @@ fn same_arcs(
     heads: &[u64],
     caps: &[u64],
 ) -> bool {
+    if count != starts.len() as u64 {
+        return false;
+    }
     if !holds(starts, tails) {
         return false;
     }
@@ -170,8 +174,8 @@ fn ask(
                 flows,
             }
         }
-        Answer::Carried { total } => {
-            let arcs = same_arcs(starts, ends, ceilings, &tails, &heads, &caps);
+        Answer::Carried { total, arcs: count } => {
+            let arcs = same_arcs(count, starts, ends, ceilings, &tails, &heads, &caps);
             let carried = carries(starts, ends, ceilings, supplies, &flow);
             let least = cheapest(costs, named, table, &flow, level(total), best);
             Seen {

@@ -37,6 +37,5 @@ pub extern "C" fn yadvorkhul_flow(
         ceilings,
         costs,
     );
-    let count = flow_arcs::count::arcs_in(bytes);
-    tell_flow(answer, count, report, worth)
+    tell_flow(answer, report, worth)
 }

@@ -23,8 +23,8 @@ read-entries-requires c κs = search needs
 enum-known-answer : tie.Need-enum-known-answer
 enum-known-answer c = search needs
 
-print-refusal-requires : tie.Need-print-refusal-requires
-print-refusal-requires c κs = search needs
+print-refused-requires : tie.Need-print-refused-requires
+print-refused-requires c κs = search needs
 
 enum-known-answer-2 : tie.Need-enum-known-answer-2
 enum-known-answer-2 c = search needs
@@ -48,7 +48,7 @@ same-length : tie.Need-same-length
 same-length c = search needs
 
 returns : tie.Need-returns
-returns c = table-refused _ _ _ (c .before .before .before .before .before .before .before .before .read-entries .ensures) (c .before .before .before .before .before .answer .given .1) (c .before .before .print-refusal .ensures)
+returns c = table-refused _ _ _ (c .before .before .before .before .before .before .before .before .read-entries .ensures) (c .before .before .before .before .before .answer .given .1) (c .before .before .print-refused .ensures)
 
 same-length-2 : tie.Need-same-length-2
 same-length-2 c = search needs
@@ -64,7 +64,7 @@ print-with-table-spec =
     slice-aggregate-read-entries
     read-entries-requires
     enum-known-answer
-    print-refusal-requires
+    print-refused-requires
     enum-known-answer-2
     smaller-requires
     read-place-requires

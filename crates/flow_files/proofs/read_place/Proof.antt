@@ -5,8 +5,8 @@ use borrow.Author.Needs.{needs}
 use Rattle.flow_files.proofs.read_place.Statement.{statement}
 use Rattle.flow_files.proofs.read_place.Tie as tie
 
-read-output-requires : tie.Need-read-output-requires
-read-output-requires c κs = search needs
+read-short-requires : tie.Need-read-short-requires
+read-short-requires c κs = search needs
 
 enum-known-output : tie.Need-enum-known-output
 enum-known-output c = search needs
@@ -16,12 +16,12 @@ enum-told c = search needs
 
 returns : tie.Need-returns
 unfolding placeOf
-returns c = sym (ap placeFor (sym (c .before .before .before .read-output .ensures) ∙ c .before .output .given .1))
+returns c = sym (ap placeFor (sym (c .before .before .before .read-short .ensures) ∙ c .before .output .given .1))
 
 returns-2 : tie.Need-returns-2
 unfolding placeOf
-returns-2 c = sym (ap placeFor (sym (c .before .before .read-output .ensures) ∙ c .enum-told .given .1))
+returns-2 c = sym (ap placeFor (sym (c .before .before .read-short .ensures) ∙ c .enum-told .given .1))
 
 pub read-place-spec : {M : Type 1} → statement M
 read-place-spec =
-    tie.close (tie.spec read-output-requires enum-known-output enum-told returns returns-2)
+    tie.close (tie.spec read-short-requires enum-known-output enum-told returns returns-2)

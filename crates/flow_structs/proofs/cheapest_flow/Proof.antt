@@ -45,7 +45,7 @@ use denote.Triple.Clauses.{ensured, lasts}
 use denote.Triple.Walked.{says, Stays, stay-none, stay-none-slice, gave-slice, walkOf, goes-none, goes-none-slice, goes-gave-slice, Walks, ends-at, walked, walk-meets}
 use denote.Exit.{yes}
 use Rattle.transport.specs.Curve.{written}
-use Rattle.flow_problem.specs.Reduce.{cells}
+use Rattle.flow_problem.specs.Network.{cells}
 use Rattle.flow_network.specs.declared.Answer.{Answer}
 use Rattle.flow_network.proofs.Answer as N
 use Rattle.flow_network.proofs.Answer.Laws as N′

@@ -1,13 +1,13 @@
 -- `ratesfile::put_file` meets its contract. Assumes nothing.
 use mathlib.Core.Path.{sym, _∙_}
-use Rattle.ratesfile.specs.declared.Output.the-variants.{UpTo, Unclear}
+use Rattle.numbers.specs.declared.Short.the-variants.{Number, Unclear}
 use Rattle.ratesfile.proofs.Records.{file-for, no-file}
 use borrow.Author.Needs.{needs}
 use Rattle.ratesfile.proofs.put_file.Statement.{statement}
 use Rattle.ratesfile.proofs.put_file.Tie as tie
 
-read-output-requires : tie.Need-read-output-requires
-read-output-requires c κs = search needs
+read-short-requires : tie.Need-read-short-requires
+read-short-requires c κs = search needs
 
 enum-known-output : tie.Need-enum-known-output
 enum-known-output c = search needs
@@ -22,16 +22,16 @@ same-length : tie.Need-same-length
 same-length c = search needs
 
 returns : tie.Need-returns
-returns c = file-for _ (UpTo _) (sym (c .before .before .before .before .before .before .before .read-output .ensures) ∙ c .before .before .before .before .before .output .given .1) (c .before .before .put-rates .ensures)
+returns c = file-for _ (Number _) (sym (c .before .before .before .before .before .before .before .read-short .ensures) ∙ c .before .before .before .before .before .output .given .1) (c .before .before .put-rates .ensures)
 
 returns-2 : tie.Need-returns-2
-returns-2 c = file-for _ Unclear (sym (c .before .before .read-output .ensures) ∙ c .enum-told .given .1) no-file
+returns-2 c = file-for _ Unclear (sym (c .before .before .read-short .ensures) ∙ c .enum-told .given .1) no-file
 
 pub put-file-spec : {M : Type 1} → statement M
 put-file-spec =
     tie.close
     (tie.spec
-    read-output-requires
+    read-short-requires
     enum-known-output
     put-rates-requires
     enum-told

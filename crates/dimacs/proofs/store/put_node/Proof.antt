@@ -4,7 +4,7 @@ use mathlib.Core.Logic.{inl, inr}
 use Prim.Native.Nat.{ℕ, _-_, _<_, _^_}
 use native.Mathlib.Omega.{arith}
 use lib.IntN.{subℕ}
-use Rattle.dimacs.proofs.NodeAndArcLines.{supply-parts, given-small, taken-small}
+use Rattle.dimacs.proofs.NodeAndArcLines.{supply-parts, one-part, given-small, taken-small}
 use Rattle.dimacs.proofs.StoredLines.{node-none, node-again, node-next}
 use borrow.Author.Needs.{needs}
 use Rattle.dimacs.proofs.store.put_node.Statement.{statement}
@@ -53,7 +53,7 @@ either-requires : tie.Need-either-requires
 either-requires c κs = search needs
 
 returns-4 : tie.Need-returns-4
-returns-4 c = λ sup r. let a = c .before .before .before .before .before .before .before .args in let g = c .before .before .given in let t = c .before .taken in node-next (a .nodes) sup _ (a .odd) _ _ _ r (a .id - 1) (omega (arith, c .before .before .before .before .before .before .if1 .left)) (omega (arith, c .before .before .before .before .before .if2 .left, c .before .before .before .before .before .before .if1 .left)) (g .result) (t .result) (c .before .before .before .if3 .left) (ap₂ (λ (x y : ℕ). subℕ x y) (g .ensures) (t .ensures) ∙ supply-parts (a .minus) (a .supply)) (subst (λ (x : ℕ). x < 10 ^ 10) (sym (g .ensures)) (given-small (a .minus) (a .supply) (c .before .before .before .before .before .before .before .pre))) (subst (λ (x : ℕ). x < 10 ^ 10) (sym (t .ensures)) (taken-small (a .minus) (a .supply) (c .before .before .before .before .before .before .before .pre))) (c .either .result) (c .either .ensures)
+returns-4 c = λ sup r. let a = c .before .before .before .before .before .before .before .args in let g = c .before .before .given in let t = c .before .taken in node-next (a .nodes) sup _ (a .odd) _ _ _ r (a .id - 1) (omega (arith, c .before .before .before .before .before .before .if1 .left)) (omega (arith, c .before .before .before .before .before .if2 .left, c .before .before .before .before .before .before .if1 .left)) (g .result) (t .result) (c .before .before .before .if3 .left) (ap₂ (λ (x y : ℕ). subℕ x y) (g .ensures) (t .ensures) ∙ supply-parts (a .minus) (a .supply)) (rw (g .ensures, t .ensures) (one-part (a .minus) (a .supply))) (subst (λ (x : ℕ). x < 10 ^ 10) (sym (g .ensures)) (given-small (a .minus) (a .supply) (c .before .before .before .before .before .before .before .pre))) (subst (λ (x : ℕ). x < 10 ^ 10) (sym (t .ensures)) (taken-small (a .minus) (a .supply) (c .before .before .before .before .before .before .before .pre))) (c .either .result) (c .either .ensures)
 
 pub put-node-spec : {M : Type 1} → statement M
 put-node-spec =

@@ -8,8 +8,8 @@ use lib.ListN.{length}
 use Rattle.dimacs.specs.declared.form.Form.{Form}
 use Rattle.dimacs.specs.declared.store.Reading.{Reading}
 use Rattle.dimacs.specs.Stored.{flagged, ReadAs}
-use Rattle.dimacs.proofs.FileLines.{no-lf, form-ends, form-wrong, form-on}
-use Rattle.dimacs.proofs.StoredLines.{Kept, kept-start, kept-ends, kept-on}
+use Rattle.dimacs.proofs.FileLines.{no-lf, form-ends, stage-ends, form-wrong, stage-wrong, form-on}
+use Rattle.dimacs.proofs.StoredLines.{Kept, kept-start, kept-before, kept-ends, kept-on}
 use Rattle.dimacs.proofs.store.read_file.Statement.{statement}
 use Rattle.dimacs.proofs.store.read_file.Tie as tie
 
@@ -28,7 +28,10 @@ line-end-requires : tie.Need-line-end-requires Inv-loop μ-loop
 line-end-requires c κs = c .loop .inv .so-far .upto
 
 returns : tie.Need-returns Inv-loop μ-loop
-returns c = record { reads = no-lf _ _ _ _ _ (c .before .before .before .loop .inv .so-far) (c .before .before .line-end .ensures) (c .before .if1 .taken) (c .if2 .taken) }
+returns c =
+    let k = c .before .before .before .loop .inv in
+    let e = c .before .before .line-end .ensures in
+    record { reads = (no-lf _ _ _ _ _ (k .so-far) e (c .before .if1 .taken) (c .if2 .taken), kept-before _ _ _ _ _ _ _ _ (stage-ends _ _ _ _ _ (k .so-far) e (c .before .if1 .taken)) (k .arc-lines) (k .node-lines)) }
 
 at-end-requires : tie.Need-at-end-requires Inv-loop μ-loop
 at-end-requires c κs = search needs
@@ -37,7 +40,7 @@ with-flags-requires : tie.Need-with-flags-requires Inv-loop μ-loop
 with-flags-requires c κs = search needs
 
 returns-2 : tie.Need-returns-2 Inv-loop μ-loop
-returns-2 c = record { reads = let k = c .before .before .before .before .before .loop in subst (λ (z : Reading). ReadAs (now (c .before .before .before .before .before .before .before .args .s)) z (k .starts) (k .ends) (k .ceilings) (k .costs) (k .gives) (k .takes) (k .marks)) (sym (c .with-flags .ensures ∙ ap (λ (z : Form). flagged z (k .odd) (k .bad)) (c .before .at-end .ensures))) (kept-ends _ _ _ _ _ _ _ _ (k .t) (k .line) (k .odd) (k .bad) (k .inv .so-far .stage) (k .inv .so-far .stands) (form-ends _ _ _ _ _ (k .inv .so-far) (c .before .before .before .before .line-end .ensures) (c .before .before .before .if1 .taken) (c .before .before .if2 .left)) (k .inv .arc-lines) (k .inv .node-lines)) }
+returns-2 c = record { reads = let k = c .before .before .before .before .before .loop in subst (λ (z : Reading). ReadAs (now (c .before .before .before .before .before .before .before .args .s)) z (k .starts) (k .ends) (k .ceilings) (k .costs) (k .gives) (k .takes) (k .marks)) (sym (c .with-flags .ensures ∙ ap (λ (z : Form). flagged z (k .odd) (k .bad)) (c .before .at-end .ensures))) (kept-ends _ _ _ _ _ _ _ _ (k .t) (k .line) (k .odd) (k .bad) (k .inv .so-far .stage) (k .inv .so-far .stands) (form-ends _ _ _ _ _ (k .inv .so-far) (c .before .before .before .before .line-end .ensures) (c .before .before .before .if1 .taken) (c .before .before .if2 .left)) (stage-ends _ _ _ _ _ (k .inv .so-far) (c .before .before .before .before .line-end .ensures) (c .before .before .before .if1 .taken)) (k .inv .arc-lines) (k .inv .node-lines)) }
 
 sub-read-line : tie.Need-sub-read-line Inv-loop μ-loop
 sub-read-line c = omega (arith, c .before .line-end .ensures .from)
@@ -61,7 +64,13 @@ enum-told : tie.Need-enum-told Inv-loop μ-loop
 enum-told c = search needs
 
 returns-3 : tie.Need-returns-3 Inv-loop μ-loop
-returns-3 c = record { reads = form-wrong _ _ _ _ _ (c .before .before .before .before .before .before .before .loop .inv .so-far) (c .before .before .before .before .before .before .line-end .ensures) (c .before .before .before .before .before .if1 .left) _ (c .before .before .before .read-line .ensures) (sym (c .before .before .with-line .ensures) ∙ c .enum-told .given .1) }
+returns-3 c =
+    let k = c .before .before .before .before .before .before .before .loop .inv in
+    let e = c .before .before .before .before .before .before .line-end .ensures in
+    let l = c .before .before .before .before .before .if1 .left in
+    let w = c .before .before .before .read-line .ensures in
+    let q = sym (c .before .before .with-line .ensures) ∙ c .enum-told .given .1 in
+    record { reads = (form-wrong _ _ _ _ _ (k .so-far) e l _ w q, kept-before _ _ _ _ _ _ _ _ (stage-wrong _ _ _ _ _ (k .so-far) e l _ w q) (k .arc-lines) (k .node-lines)) }
 
 store-node-requires : tie.Need-store-node-requires Inv-loop μ-loop
 store-node-requires c κs = c .before .before .before .before .before .before .before .read-line .ensures .small

@@ -4,7 +4,7 @@ use lib.IntN.{ℤ}
 use lib.ListN.{set}
 use denote.Ref.{now}
 use Rattle.transport.specs.Curve.{written}
-use Rattle.flow_network.specs.Answer.{outcome}
+use Rattle.flow_network.specs.Answer.{outcome, countIn}
 use Rattle.export_reports.specs.Flow.{numberOf, reportOf, worthOf}
 use Rattle.export_reports.proofs.FlowReports.{first-written}
 use borrow.Author.Needs.{needs}
@@ -38,7 +38,7 @@ returns c =
     let s = c .before .before .before in
     let e : s .args .answer ≡ _ = c .before .answer .given .1 in (
       sym (ap (λ a. numberOf (outcome a)) e),
-      first-written (now (s .args .report)) _ (s .pre .0) ∙ sym (ap (λ a. written (reportOf (s .args .arcs) (outcome a)) (now (s .args .report))) e),
+      first-written (now (s .args .report)) _ (s .pre .0) ∙ sym (ap (λ a. written (reportOf (countIn a) (outcome a)) (now (s .args .report))) e),
       ap (λ (x : ℤ). set (now (s .args .worth)) 0 x) (read-back (c .before .answer .given .0 .0) (c .known-told .given .0 .1)) ∙ first-written (now (s .args .worth)) _ (s .pre .1)
           ∙ sym (ap (λ a. written (worthOf (outcome a)) (now (s .args .worth))) e),
     )
@@ -51,7 +51,7 @@ returns-2 c =
     let s = c .before .before .before in
     let e : s .args .answer ≡ _ = c .before .answer2 .given .1 in (
       sym (ap (λ a. numberOf (outcome a)) e),
-      first-written (now (s .args .report)) _ (s .pre .0) ∙ sym (ap (λ a. written (reportOf (s .args .arcs) (outcome a)) (now (s .args .report))) e),
+      first-written (now (s .args .report)) _ (s .pre .0) ∙ sym (ap (λ a. written (reportOf (countIn a) (outcome a)) (now (s .args .report))) e),
       sym (ap (λ a. written (worthOf (outcome a)) (now (s .args .worth))) e),
     )
 

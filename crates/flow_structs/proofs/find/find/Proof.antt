@@ -1,11 +1,11 @@
 -- `flow_structs::find::find` meets its contract, by that of the function on separate slices. Assumes nothing.
 use mathlib.Core.Path.{_∙_}
 use native.Mathlib.Omega.{arith}
-use Prim.Native.Nat.{ℕ}
+use Prim.Native.Nat.{ℕ, _≤_}
 use lib.IntN.{pos}
 use lib.ListN.{length-replicate}
 use borrow.Author.Needs.{needs}
-use Rattle.flow_arcs.proofs.FoundLaws.{at-most-64, part-length, found}
+use Rattle.flow_arcs.proofs.FoundLaws.{at-most-64, part-length, part-rest, found}
 use Rattle.flow_structs.proofs.find.find.Statement.{statement}
 use Rattle.flow_structs.proofs.find.find.Tie as tie
 
@@ -51,9 +51,6 @@ part-costs-end c = omega (arith, c .before .before .before .before .at-most .ens
 cheapest-flow-requires : tie.Need-cheapest-flow-requires
 cheapest-flow-requires c κs = search needs
 
-arcs-in-requires : tie.Need-arcs-in-requires
-arcs-in-requires c κs = search needs
-
 count-of-requires : tie.Need-count-of-requires
 count-of-requires c κs = search needs
 
@@ -62,10 +59,12 @@ same-length c = search needs
 
 returns : tie.Need-returns
 returns c =
-    let m = c .before .before .before .before .before .before .before .before .before .before .before .before .before .before .at-most .ensures in
-    let h = at-most-64 (c .before .before .before .before .before .before .before .before .before .before .before .before .before .before .before .before .before .before .args .room) in
-    found _ _ _ (c .before .before .before .before .before .before .before .before .before .before .before .before .before .before .before .before .before .before .args .room) _ _ _ _ _ (part-length _ 0 (omega (arith, m, h)) ∙ m) (part-length _ 0 (omega (arith, m, h)) ∙ m) (part-length _ 0 (omega (arith, m, h)) ∙ m) (part-length _ (pos 0) (omega (arith, m, h)) ∙ m)
-    _ _ _ _ _ _ _ _ _ _ _ _ (c .before .before .before .before .before .before .before .before .cheapest-flow .ensures) (c .before .arcs-in .ensures) (c .count-of .ensures)
+    let a = c .before .before .before .before .before .before .before .before .before .before .before .before .before .at-most in
+    let w = c .before .before .before .before .before .before .before .cheapest-flow .ensures in
+    let room = c .before .before .before .before .before .before .before .before .before .before .before .before .before .before .before .before .before .args .room in
+    let h : a .result ≤ 64 = omega (arith, a .ensures, at-most-64 room) in
+    found _ _ _ room _ _ _ _ _ (part-length _ 0 h ∙ a .ensures) (part-length _ 0 h ∙ a .ensures) (part-length _ 0 h ∙ a .ensures) (part-length _ (pos 0) h ∙ a .ensures)
+    _ _ _ _ _ _ _ _ _ _ _ (part-rest (a .result) 0) (part-rest (a .result) 0) (part-rest (a .result) 0) (part-rest (a .result) (pos 0)) (w .0) (w .1) (c .count-of .ensures)
 
 pub find-spec : {M : Type 1} → statement M
 find-spec =
@@ -85,7 +84,6 @@ find-spec =
     part-costs-start
     part-costs-end
     cheapest-flow-requires
-    arcs-in-requires
     count-of-requires
     same-length
     returns)

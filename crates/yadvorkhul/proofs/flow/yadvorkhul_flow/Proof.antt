@@ -13,9 +13,6 @@ returns-2 c = by-short-worth _ _ _ _ _ _ (c .before .if1 .left) (c .if2 .taken)
 cheapest-flow-requires : tie.Need-cheapest-flow-requires
 cheapest-flow-requires c κs = search needs
 
-arcs-in-requires : tie.Need-arcs-in-requires
-arcs-in-requires c κs = search needs
-
 tell-flow-requires : tie.Need-tell-flow-requires
 tell-flow-requires c κs = search needs
 
@@ -43,9 +40,8 @@ same-length-7 c = search needs
 returns-3 : tie.Need-returns-3
 returns-3 c =
     let t = c .before .before .before .tell-flow .ensures in
-    by-flow _ _ _ _ _ _ _ _ _ _ _ _ (c .before .before .before .before .before .before .before .before .before .before .before .before .before .before .before .before .before .before .before .before .before .before .before .if1 .left) (c .before .before .before .before .before .before .before .before .before .before .before .before .before .before .before .before .before .before .before .before .before .before .if2 .left)
-    (c .before .before .before .before .before .before .arcs-in .ensures)
-    (c .before .before .before .before .before .before .before .before .before .before .before .before .before .before .before .before .cheapest-flow .ensures) (t .0) (t .1) (t .2)
+    let w = c .before .before .before .before .before .before .before .before .before .before .before .before .before .before .before .cheapest-flow .ensures in
+    by-flow _ _ _ _ _ _ _ _ _ _ _ _ (c .before .before .before .before .before .before .before .before .before .before .before .before .before .before .before .before .before .before .before .before .before .before .if1 .left) (c .before .before .before .before .before .before .before .before .before .before .before .before .before .before .before .before .before .before .before .before .before .if2 .left) (w .1) (w .0) (t .0) (t .1) (t .2)
 
 pub yadvorkhul-flow-spec : {M : Type 1} → statement M
 yadvorkhul-flow-spec =
@@ -54,7 +50,6 @@ yadvorkhul-flow-spec =
     returns
     returns-2
     cheapest-flow-requires
-    arcs-in-requires
     tell-flow-requires
     same-length
     same-length-2

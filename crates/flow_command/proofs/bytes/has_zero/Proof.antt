@@ -1,0 +1,48 @@
+-- `flow_command::bytes::has_zero` is safe and ends: it goes at most once over the bytes. Assumes nothing.
+use mathlib.Core.Path.{_≡_}
+use Prim.Native.Nat.{_-_, _≤_}
+use borrow.Author.Needs.{needs}
+use lib.ListN.{length}
+use Rattle.flow_command.proofs.bytes.has_zero.Statement.{statement}
+use Rattle.flow_command.proofs.bytes.has_zero.Tie as tie
+
+abbrev Inv-loop : tie.InvT-loop
+Inv-loop line i₀ i-end i = (i-end ≡ length line) × (i ≤ i-end)
+
+abbrev μ-loop : tie.MeasureT-loop
+μ-loop line i₀ i-end i = i-end - i
+
+loop-holds : tie.Need-loop-holds Inv-loop μ-loop
+loop-holds c = search needs
+
+leads-requires : tie.Need-leads-requires Inv-loop μ-loop
+leads-requires c κs = search needs
+
+returns : tie.Need-returns Inv-loop μ-loop
+returns c = search needs
+
+add-i : tie.Need-add-i Inv-loop μ-loop
+add-i c = search needs
+
+loop-less : tie.Need-loop-less Inv-loop μ-loop
+loop-less c = search needs
+
+loop-again : tie.Need-loop-again Inv-loop μ-loop
+loop-again c = search needs
+
+returns-2 : tie.Need-returns-2 Inv-loop μ-loop
+returns-2 c = search needs
+
+pub has-zero-spec : {M : Type 1} → statement M
+has-zero-spec =
+    tie.close
+    (tie.spec
+    Inv-loop
+    μ-loop
+    loop-holds
+    leads-requires
+    returns
+    add-i
+    loop-less
+    loop-again
+    returns-2)
