@@ -40,11 +40,13 @@ SPOILED = [  # what is changed, and the sentence
     ({"sources": ["Grasse", 5]}, "sources, item 2: a text is wanted, not a whole number"),
     ({"terminals": {"1": "Paris"}}, "terminals: a list or null is wanted, not an object"),
     ({"title": ["Autumn"]}, "title: a text is wanted, not a list"),
-    ({"drums": 1}, "'drums' is no field of a case; these are title, sources, terminals, supplies, demands, costs, table, runs, ceilings"),
+    ({"currency": 5}, "currency: a text is wanted, not a whole number"),
+    ({"date": None}, "date: a text is wanted, not null"),
+    ({"drums": 1}, "'drums' is no field of a case; these are title, currency, date, sources, terminals, supplies, demands, costs, table, runs, ceilings"),
     ({"sources": ["a", "b", "c", "d"]}, "sources: there are 4 names and 3 supplies"),
     ({"title": "Autumn \ud800"}, "'Autumn \\ud800' holds half of a character (a lone surrogate), which no file can hold"),
     ({"terminals": ["\udcff"]}, "'\\udcff' holds half of a character (a lone surrogate), which no file can hold"),
-    ({"demands": 5, "drums": 1, "costs": "x"}, "'drums' is no field of a case; these are title, sources, terminals, supplies, demands, costs, table, runs, ceilings"),
+    ({"demands": 5, "drums": 1, "costs": "x"}, "'drums' is no field of a case; these are title, currency, date, sources, terminals, supplies, demands, costs, table, runs, ceilings"),
     ({"costs": "x", "demands": 5}, "demands: a list is wanted, not a whole number"),
 ]
 

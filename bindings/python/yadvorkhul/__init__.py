@@ -155,7 +155,7 @@ class Bounds(NamedTuple):
 
 
 class Case(NamedTuple):
-    """What is planned: the parameters of `plan`, then the names that a page shows where there are some."""
+    """What is planned: the parameters of `plan`, then the names, the currency and the date that a page shows where there are some."""
 
     costs: List[List[int]]
     supplies: List[int]
@@ -166,6 +166,8 @@ class Case(NamedTuple):
     title: str = ""
     sources: Optional[List[str]] = None
     terminals: Optional[List[str]] = None
+    currency: str = ""
+    date: str = ""
 
     def plan(self) -> Plan:
         """The plan, or a `Refusal`."""

@@ -149,9 +149,10 @@ def _writable(text: str) -> bool:
 
 def check_names(case: Case) -> Case:
     """The case, where its title is a text and its names are lists of texts that can be written down, none left over; or a `NotACase`."""
-    if not isinstance(case.title, str):
-        raise NotACase("title: a text is wanted")
-    named = [case.title]
+    named = [case.title, case.currency, case.date]
+    for field, text in zip(("title", "currency", "date"), named):
+        if not isinstance(text, str):
+            raise NotACase(f"{field}: a text is wanted")
     for field, names, count, of in (
         ("sources", case.sources, len(list(case.supplies)), "supplies"),
         ("terminals", case.terminals, len(list(case.demands)), "demands"),

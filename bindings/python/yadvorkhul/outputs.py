@@ -1,7 +1,7 @@
 """Writes a file whole or not at all, and never over what was read."""
 
 import os
-from typing import Iterable, List, Optional
+from typing import Iterable, List, Optional, Union
 
 
 class BadOutput(ValueError):
@@ -42,10 +42,11 @@ def _device(path: str) -> bool:
     return os.path.exists(path) and not os.path.isfile(path)
 
 
-def write_whole(path: str, text: str) -> None:
-    """Writes a text as UTF-8. The file appears when all of it is written; where that fails nothing is left, and an older file stays."""
+def write_whole(path: str, text: Union[str, bytes]) -> None:
+    """Writes a text as UTF-8, bytes as they are. The file appears when all of it is written; where that fails nothing is left, and an older
+    file stays."""
     try:
-        data = text.encode("utf-8")
+        data = text if isinstance(text, bytes) else text.encode("utf-8")
     except UnicodeEncodeError as error:
         raise BadOutput(f"{shown(path)} is not written: the text holds {text[error.start]!r}, which is no character") from error
     path = os.path.realpath(path)

@@ -1,0 +1,341 @@
+"""Tests of workbooks and spreadsheet files in and out. Those of workbooks need openpyxl and defusedxml, run by /usr/bin/python3."""
+
+import contextlib
+import datetime
+import io
+import os
+import random
+import shutil
+import subprocess
+import tempfile
+import unittest
+import zipfile
+
+from yadvorkhul import Case, command
+from yadvorkhul.cases import read_case
+from yadvorkhul.forms import case_json, fingerprint, limits_text, plan_fingerprint, production_text, read_again, spoken, tariff_text
+from yadvorkhul.imports import import_book, import_files
+from yadvorkhul.sheets import BadSheet, Cell, Notes, column_name, whole
+
+try:
+    import openpyxl
+
+    from yadvorkhul.workbook import EXAMPLE, export_book, template
+
+    BOOKS = openpyxl.DEFUSEDXML
+except ImportError:
+    BOOKS = False
+
+EXAMPLES = os.path.join(os.path.dirname(os.path.abspath(__file__)), "..", "..", "examples")
+A = Case([[2, 6], [5, 3], [1, 4]], [3, 3, 1], [3, 2], [99, 20, 24, 20])
+NAMED = A._replace(sources=["Grasse", "Holzminden", "Lyon"], terminals=["Paris", "Rome"])
+LABELLED = ";Paris;Rome;supply\nGrasse;2;6;3\nHolzminden;5;3;3\nLyon;1;4;1\ndemand;3;2;\n"
+TABLE = "99\n20\n24\n20\n"
+
+
+def season():
+    return read_case(os.path.join(EXAMPLES, "season", "season.json"))
+
+
+def run(*words):
+    """Status and what the command says."""
+    errors = io.StringIO()
+    with contextlib.redirect_stdout(io.TextIOWrapper(io.BytesIO())), contextlib.redirect_stderr(errors):
+        return command.main(list(words)), errors.getvalue()
+
+
+class Folder(unittest.TestCase):
+    def setUp(self):
+        self.folder = tempfile.mkdtemp(prefix="yadvorkhul-sheets-")
+        self.addCleanup(shutil.rmtree, self.folder)
+
+    def path(self, name, data=None):
+        path = os.path.join(self.folder, name)
+        if data is not None:
+            with open(path, "wb") as out:
+                out.write(data if isinstance(data, bytes) else data.encode())
+        return path
+
+    def read(self, tariff, table=TABLE, thousands="", **more):
+        paths = {"tariff": self.path("t.csv", tariff), "production": self.path("p.csv", table)}
+        paths.update({name: self.path(name + ".csv", text) for name, text in more.items()})
+        return import_files(paths, thousands)
+
+    def refused(self, words, *files, **more):
+        with self.assertRaises(BadSheet) as caught:
+            self.read(*files, **more)
+        self.assertIn(words, str(caught.exception))
+
+
+class Files(Folder):
+    def test_dialects(self):
+        """One case, however a spreadsheet saves it; each assumption is said."""
+        for text, said in (
+            (LABELLED.encode(), "separator semicolon"),
+            (LABELLED.replace(";", "\t").encode(), "separator tab"),
+            (LABELLED.replace(";", ",").encode(), "separator comma"),
+            (LABELLED.encode("utf-8-sig"), "UTF-8 with a byte order mark"),
+            (LABELLED.encode("utf-16"), "UTF-16"),
+            (LABELLED.encode("utf-16-le"), "UTF-16 without its mark"),
+            (b"\xfe\xff" + LABELLED.encode("utf-16-be"), "UTF-16"),
+            (("sep=;\n" + LABELLED).encode(), "separator semicolon"),
+            (LABELLED.encode(), "lines end in LF"),
+            (LABELLED.replace("\n", "\r").encode(), "lines end in CR"),
+            (LABELLED.replace("2;6", " 2;6").encode(), "blanks around numbers left out (tariff!B2)"),
+        ):
+            found = self.read(text)
+            self.assertEqual(found.case, NAMED, said)
+            self.assertIn(said, " | ".join(found.notes))
+            self.assertIn("row", " | ".join(note for note in found.notes if "taken as names" in note))
+
+    def test_bare(self):
+        """W-213's own form is a case without names."""
+        self.assertEqual(self.read("2,6,3\r\n5,3,3\r\n1,4,1\r\n3,2,\r\n").case, A)
+        self.assertEqual(self.read("2,6,3\r\n5,3,3\r\n1,4,1\r\n3,2").case, A)  # the demands without their last comma
+        cp1252 = self.read(LABELLED.replace("Lyon", "Cologne-K\u00f6ln").encode("cp1252"))
+        self.assertEqual((cp1252.case.sources[2], "Windows-1252" in " ".join(cp1252.notes)), ("Cologne-K\u00f6ln", True))
+
+    def test_thousands(self):
+        """Groups that can mean one thing only are understood; 1,234 alone is not."""
+        for sign in (" ", "\u00a0", "\u202f", "'", "\u2019"):
+            found = self.read(LABELLED.replace("2;6", f"1{sign}234;6"))
+            self.assertEqual(found.case.costs[0][0], 1234)
+            self.assertIn("thousands separator (tariff!B2)", " ".join(found.notes))
+        for sign in ",.":
+            spoiled = LABELLED.replace("2;6", f"1{sign}234;6")
+            self.refused("tariff!B2: '1" + sign + "234' may be 1234 or a decimal", spoiled)
+            self.assertEqual(self.read(spoiled, thousands=sign).case.costs[0][0], 1234)
+            shown = spoiled.replace("5;3", f"1{sign}000{sign}000;3")
+            self.assertEqual(self.read(shown).case.costs[:2], [[1234, 6], [1000000, 3]])
+
+    def test_never_guessed(self):
+        for cell, words in (
+            ("00412", "has 0 in front, perhaps an item code"),
+            ("-0", "0 has no minus"),
+            ("99,00", "is a decimal"),
+            ("9.5", "is a decimal"),
+            ("1.234,00", "is a decimal"),
+            ("5-", "a sign that is not a plain minus"),
+            ("(5)", "a sign that is not a plain minus"),
+            ("+5", "a sign that is not a plain minus"),
+            ("\u22125", "a sign that is not a plain minus"),
+            ("12345678901", "more than ten digits"),
+            ("12 EUR", "is not a whole number"),
+            ("1 23", "is not a whole number"),
+            ("#N/A", "is not a whole number"),
+            ("1e3", "is not a whole number"),
+            ("\u0665", "is not a whole number"),
+            ("", "tariff!C3 is empty"),
+        ):
+            self.refused(words, LABELLED.replace("Holzminden;5;3;3", f"Holzminden;5;{cell};3"))
+            self.refused("tariff!C3", LABELLED.replace("Holzminden;5;3;3", f"Holzminden;5;{cell};3"))
+        self.assertEqual(self.read(LABELLED.replace("5;3;3", "5;-3;3")).case.costs[1], [5, -3])
+        self.refused("tariff!D3: -3 is below 0; only a unit cost may be", LABELLED.replace("5;3;3", "5;3;-3"))
+
+    def test_shape(self):
+        self.refused("tariff!D5 must be empty", LABELLED.replace("demand;3;2;", "demand;3;2;5"))
+        self.refused("perhaps the two are swapped", TABLE, LABELLED)
+        self.refused("production!B1: a second column without a name", LABELLED, "0,50\n1,20\n2,30\n3,10\n")
+        self.refused("production!A4: output 2 is wanted", LABELLED, "y;cost\n0;99\n1;20\n3;24\n2;20\n")
+        self.assertEqual(self.read(LABELLED, "y;cost\n0;99\n1;20\n2;24\n3;20\n").case, NAMED)
+        self.refused("is a workbook, whatever its name says", b"PK\x03\x04" + b"0" * 50)
+        self.refused("is empty", "\n\n")
+        self.refused("unexpected end of data", LABELLED.replace("Lyon", '"Lyon'))
+
+    def test_runs_and_ceilings(self):
+        for runs in ("1;2\n", "plant;run\nGrasse;1\nHolzminden;2\n", "1\n2\n"):
+            self.assertEqual(self.read(LABELLED, runs=runs).case, NAMED._replace(runs=(1, 2)))
+        self.refused("two numbers are wanted", LABELLED, runs="1\n2\n3\n")
+        bounded = NAMED._replace(ceilings=[[4000, 1], [4000, 4000], [0, 4000]])
+        for ceilings in (";Paris;Rome\nGrasse;;1\nHolzminden;;\nLyon;0;4000\n", "4000;1\n4000;4000\n0;4000\n"):
+            self.assertEqual(self.read(LABELLED, ceilings=ceilings).case, bounded)
+        self.refused("terminal 1 is named 'Rome', but 'Paris' in the tariff", LABELLED, ceilings=";Rome;Paris\nGrasse;1;1\nHolzminden;1;1\nLyon;1;1\n")
+        self.refused("3 sources and 2 terminals", LABELLED, ceilings="1;2;3;4\n")
+
+    def test_command(self):
+        tariff, table, out = self.path("t.csv", LABELLED), self.path("p.csv", TABLE), self.path("case.json")
+        status, said = run("import", tariff, table, "-o", out)
+        self.assertEqual((status, read_case(out)), (0, NAMED))
+        self.assertIn("taken: t.csv: separator semicolon\n", said)
+        self.assertIn("planned: plant 1 makes 3, total 33\n", said)
+        self.path("p.csv", "99,00\n20,00\n")
+        status, said = run("import", tariff, table, "-o", self.path("other.json"))
+        self.assertEqual((status, os.path.exists(self.path("other.json"))), (2, False))
+        self.assertIn("production!B1", said)
+        self.assertEqual(run("import", tariff, table, "-o", tariff)[0], 2)
+        self.assertEqual(run("import", tariff, table, table, "-o", out)[0], 2)
+        self.assertEqual(run("import", self.path("none.csv"), table, "-o", out)[0], 2)
+
+
+class Forms(unittest.TestCase):
+    def test_texts(self):
+        """The texts of the examples, which lie in W-213's form already."""
+        for folder in ("case_a", "season"):
+            paths = [os.path.join(EXAMPLES, folder, name) for name in ("tariff.csv", "production.csv")]
+            found = import_files(dict(zip(("tariff", "production"), paths))).case
+            for path, text in zip(paths, (tariff_text(found), production_text(found))):
+                with open(path, "rb") as stream:
+                    self.assertEqual(stream.read().rstrip(b"\r\n"), text.encode().rstrip(b"\r\n"))
+            self.assertEqual(read_again(found), found)
+
+    def test_fingerprints(self):
+        """Equal numbers, equal fingerprints; any number more or less makes another."""
+        due = fingerprint(A)
+        self.assertEqual(fingerprint(NAMED), due)
+        self.assertEqual(fingerprint(A._replace(title="x", ceilings=[[4000, 4000]] * 3)), due)
+        self.assertEqual(limits_text(A), "")
+        others = [A._replace(runs=(1, 0)), A._replace(ceilings=[[4000, 3999]] + [[4000] * 2] * 2), A._replace(demands=[2, 3])]
+        others += [A._replace(table=[99, 20, 24, 21]), A._replace(costs=[[2, 6], [5, 3], [1, -4]]), A._replace(supplies=[3, 2, 2])]
+        self.assertEqual(len({fingerprint(other) for other in others} | {due}), 7)
+        import hashlib
+
+        files = [os.path.join(EXAMPLES, "case_a", name) for name in ("tariff.csv", "production.csv")]
+        texts = tariff_text(A).encode() + production_text(A).encode()
+        self.assertEqual(due, hashlib.sha256(texts).hexdigest())
+        self.assertEqual([os.path.exists(file) for file in files], [True, True])
+        self.assertNotEqual(plan_fingerprint(A, A.plan()), plan_fingerprint(others[3], others[3].plan()._replace(split=2)))
+        self.assertEqual(spoken("0123456789abcdef" * 4), "0123 4567 89ab cdef")
+
+    def test_json(self):
+        with tempfile.TemporaryDirectory() as folder:
+            path = os.path.join(folder, "case.json")
+            for case in (A, NAMED, season(), NAMED._replace(currency="EUR", date="1 May", title="t", runs=(1, 0))):
+                with open(path, "w", encoding="utf-8") as out:
+                    out.write(case_json(case))
+                self.assertEqual(read_case(path)._replace(runs=tuple(read_case(path).runs)), case._replace(runs=tuple(case.runs)))
+
+    def test_columns(self):
+        self.assertEqual([column_name(j) for j in (0, 25, 26, 51, 52, 701, 702)], ["A", "Z", "AA", "AZ", "BA", "ZZ", "AAA"])
+
+
+@unittest.skipUnless(BOOKS, "openpyxl and defusedxml are not there")
+class Books(Folder):
+    def again(self, case):
+        return import_book(self.path("book.xlsx", export_book(case, case.plan()))).case
+
+    def same(self, case):
+        runs = lambda one: one._replace(runs=tuple(one.runs))
+        self.assertEqual(runs(self.again(case)), runs(case))
+
+    def test_template(self):
+        self.assertEqual(import_book(self.path("t.xlsx", template())).case, EXAMPLE)
+        self.assertEqual(run("template", "-o", self.path("u.xlsx"))[0], 0)
+        self.assertEqual(import_book(self.path("u.xlsx")).case, EXAMPLE)
+
+    def test_round_trip(self):
+        """Import, export, import: the same case."""
+        self.same(season())
+        self.same(A)
+        self.same(NAMED._replace(runs=(1, 1), ceilings=[[3, 4000], [4000, 2], [0, 4000]], title="=A1", currency="EUR", date="2026-11-17"))
+        self.same(A._replace(sources=["Grasse"]))
+        self.same(A._replace(terminals=["", "Rome"]))
+        odd = ["=1+1", "+5", "-x", "@SUM(A1)", "'quoted", " both ends ", "_x0041_", "\u6771\u4eac", 'a"b;c,d', "2026", "0012"]
+        draw = random.Random(4)
+        for _ in range(4):
+            names = draw.sample(odd, 5)
+            self.same(A._replace(sources=names[:3], terminals=names[3:]))
+
+    def test_no_formula(self):
+        """A name is text, whatever it begins with."""
+        book = openpyxl.load_workbook(self.path("b.xlsx", export_book(*[case := NAMED._replace(terminals=["=1+1", "@x"]), case.plan()])))
+        kinds = {cell.data_type for sheet in book if sheet.title != "certificate" for row in sheet.iter_rows() for cell in row}
+        self.assertNotIn("f", kinds)
+        self.assertEqual(book["tariff"]["B1"].value, "=1+1")
+        with self.assertRaises(BadSheet):
+            export_book(NAMED._replace(terminals=["a\x01", "b"]), NAMED.plan())
+
+    def spoiled(self, cell, value, shape=None):
+        book = openpyxl.load_workbook(self.path("t.xlsx", template()))
+        book["tariff"][cell].value = value
+        if shape:
+            book["tariff"][cell].number_format = shape
+        book.save(self.path("s.xlsx"))
+        return self.path("s.xlsx")
+
+    def test_cells(self):
+        for value, shape, words in (
+            (2.5, None, "is a fraction"),
+            (412, "00000", "is shown with 0 in front"),
+            ("00412", None, "has 0 in front"),
+            (datetime.date(2026, 2, 1), None, "is a date or a time"),
+            (True, None, "is true or false"),
+            ("=1+1", None, "a formula without a stored value"),
+            (None, None, "is empty"),
+            (0.05, "0%", "is a fraction"),
+            (3, "0%", "is a percentage"),
+            ("n/a", None, "is not a whole number"),
+        ):
+            with self.assertRaises(BadSheet) as caught:
+                import_book(self.spoiled("B2", value, shape))
+            self.assertIn("tariff!B2", str(caught.exception))
+            self.assertIn(words, str(caught.exception))
+        found = import_book(self.spoiled("B2", "7"))
+        self.assertEqual((found.case.costs[0][0], "numbers stored as text (tariff!B2)" in found.notes), (7, True))
+        self.assertEqual(import_book(self.spoiled("B2", 7.0, "#,##0.00")).case.costs[0][0], 7)
+
+    def test_hostile(self):
+        """What is no workbook, or would fill the memory, is one sentence."""
+        bomb = self.path("bomb.xlsx")
+        with zipfile.ZipFile(bomb, "w", zipfile.ZIP_DEFLATED) as packed:
+            packed.writestr("xl/workbook.xml", b"0" * 60_000_000)
+        entities = self.path("entities.xlsx", template())
+        with zipfile.ZipFile(entities) as packed:
+            parts = {name: packed.read(name) for name in packed.namelist()}
+        evil = b'<!DOCTYPE x [<!ENTITY a "aaaaaaaaaa"><!ENTITY b "&a;&a;&a;">]>'
+        with zipfile.ZipFile(entities, "w") as packed:
+            for name, data in parts.items():
+                packed.writestr(name, data.replace(b"<worksheet", evil + b"<worksheet", 1) if "sheet2" in name else data)
+        for path in (bomb, entities, self.path("no.xlsx", b"PK nothing"), self.path("text.xlsx", LABELLED)):
+            with self.assertRaises(BadSheet, msg=path):
+                import_book(path)
+        self.assertEqual(run("import", self.path("no.xlsx"), "-o", self.path("x.json"))[0], 2)
+
+    def test_missing_sheet(self):
+        book = openpyxl.load_workbook(self.path("t.xlsx", template()))
+        del book["production"]
+        book.save(self.path("s.xlsx"))
+        with self.assertRaisesRegex(BadSheet, "a sheet named production is wanted"):
+            import_book(self.path("s.xlsx"))
+
+    @unittest.skipUnless(shutil.which("ssconvert"), "gnumeric is not there")
+    def test_certificate(self):
+        """Another program's arithmetic says of every split that the plan is the cheapest, and no longer where a cost is lowered."""
+        case = season()
+        for cost, due in ((None, "TRUE"), (0, "FALSE")):
+            book = openpyxl.load_workbook(self.path("c.xlsx", export_book(case, case.plan())))
+            if cost is not None:
+                book["certificate"]["B2"].value += 1
+            book.save(self.path("c.xlsx"))
+            subprocess.run(["ssconvert", "-S", self.path("c.xlsx"), self.path("c-%s.csv")], check=True, capture_output=True)
+            with open(self.path("c-certificate.csv"), encoding="utf-8") as stream:
+                rows = [line.strip().split(",") for line in stream]
+            self.assertEqual(rows[3][1], due)
+            shown = [row for row in rows if row[-1] in ("TRUE", "FALSE")]
+            self.assertEqual({row[-1] for row in shown} == {"TRUE"}, due == "TRUE")
+
+    def test_export_command(self):
+        out = self.path("plan.xlsx")
+        self.assertEqual(run("export", os.path.join(EXAMPLES, "case_a", "tariff.csv"), os.path.join(EXAMPLES, "case_a", "production.csv"), "-o", out)[0], 0)
+        self.assertEqual(import_book(out).case, A)
+        sheet = openpyxl.load_workbook(out)["plan"]
+        told = {row[0].value: row[1].value for row in sheet.iter_rows()}
+        self.assertEqual((told["total"], told["Plant 1 makes"], told["fingerprint of the case"]), (33, 3, fingerprint(A)))
+
+
+class Numbers(unittest.TestCase):
+    def test_no_number_changes(self):
+        """A text that is taken is the number that its digits spell; any other is refused."""
+        draw = random.Random(9)
+        for _ in range(3000):
+            text = "".join(draw.choice("0123456789-., '") for _ in range(draw.randint(1, 7)))
+            try:
+                found = whole(Cell(text, "t!A1"), Notes(), signed=True)
+            except BadSheet:
+                continue
+            digits = "".join(c for c in text if c in "-0123456789")
+            self.assertEqual(str(found), digits)
+            self.assertNotIn(".", text.strip(" ") if text.count(".") < 2 else "")
+
+
+if __name__ == "__main__":
+    unittest.main()

@@ -1,0 +1,161 @@
+"""A case from a workbook or from text files, as a spreadsheet writes them.
+
+The sheet `tariff` has a row for each source: unit costs to the terminals, then the supply; the demands come last. `production` has an entry
+in each row, `runs` the two least runs, `ceilings` a row for each source. Labels in the first row and the first column become names.
+What is read is written in W-213's form and read again by the reader of the two files, which has the last word.
+"""
+
+import re
+from typing import Dict, List, NamedTuple, Optional, Tuple
+
+from . import MOST_AMOUNT, Case
+from .cases import check_names
+from .forms import read_again
+from .sheets import BadSheet, Cell, Notes, Sheet, book_sheets, gather_thousands, is_number, label, text_sheet, whole
+
+
+class Imported(NamedTuple):
+    case: Case
+    notes: List[str]  # what was taken for granted
+
+
+class _Labelled(NamedTuple):
+    """A table of cells without its labels."""
+
+    cells: List[List[Cell]]
+    rows: Optional[List[str]]
+    columns: Optional[List[str]]
+
+
+def _names(names: List[str]) -> Optional[List[str]]:
+    """The names without empty ones at the end; none where all are empty."""
+    while names and not names[-1]:
+        names.pop()
+    return names or None
+
+
+def _labelled(sheet: Sheet, notes: Notes, top: bool, left: bool) -> _Labelled:
+    """Takes the labels off a sheet: of the first row, of the first column."""
+    if top:
+        notes.say(f"{sheet.name}: row {re.sub('.*[^0-9]', '', sheet.rows[0][0].where)} taken as names")
+    if left:
+        notes.say(f"{sheet.name}: column A taken as names")
+    rows = sheet.rows[1:] if top else sheet.rows
+    columns = [label(cell) for cell in sheet.rows[0][1 if left else 0 :]] if top else None
+    return _Labelled([row[1 if left else 0 :] for row in rows], [label(row[0]) for row in rows] if left else None, columns)
+
+
+def _tariff(sheet: Sheet, notes: Notes) -> Case:
+    """Costs, supplies and demands with their names; the table is still to come."""
+    top, left = not is_number(sheet.rows[0][-1]), not is_number(sheet.rows[-1][0])
+    if top and is_number(sheet.rows[0][0]) and all(is_number(cell) for cell in sheet.rows[0][:-1]):
+        raise BadSheet(f"{sheet.rows[0][-1].where}: the supply is missing; each source has its unit costs, then its supply")
+    found = _labelled(sheet, notes, top, left)
+    if len(found.cells) < 2 or len(found.cells[0]) < 2:
+        raise BadSheet(f"{sheet.name} is too small: sources with their supplies, then the demands, are wanted")
+    *sources, demands = found.cells
+    if demands[-1].value is not None:
+        raise BadSheet(f"{demands[-1].where} must be empty: the last row holds the demands, and no supply")
+    costs = [[whole(cell, notes, signed=True) for cell in row[:-1]] for row in sources]
+    supplies = [whole(row[-1], notes) for row in sources]
+    rows = _names(found.rows[:-1]) if found.rows else None
+    columns = _names(found.columns[:-1]) if found.columns else None
+    return Case(costs, supplies, [whole(cell, notes) for cell in demands[:-1]], [], sources=rows, terminals=columns)
+
+
+def _column(sheet: Sheet, notes: Notes) -> List[Cell]:
+    """The column of entries; one before it counts the outputs 0, 1, 2, ..."""
+    top = not is_number(sheet.rows[0][-1])
+    if top:
+        notes.say(f"{sheet.name}: row 1 taken as names")
+    rows = sheet.rows[1:] if top else sheet.rows
+    if len(sheet.rows[0]) > 2:
+        raise BadSheet(f"{sheet.name} has {len(sheet.rows[0])} columns; one of entries is wanted, or one of outputs and one of entries")
+    if len(sheet.rows[0]) == 2:
+        if not top:
+            raise BadSheet(f"{rows[0][1].where}: a second column without a name in row 1; perhaps a decimal comma or a thousands separator parted a number")
+        for output, row in enumerate(rows):
+            if whole(row[0], notes) != output:
+                raise BadSheet(f"{row[0].where}: output {output} is wanted; the first column counts 0, 1, 2, ...")
+        notes.say(f"{sheet.name}: column A counts the outputs")
+    return [row[-1] for row in rows]
+
+
+def _runs(sheet: Sheet, notes: Notes) -> Tuple[int, int]:
+    """Two least runs, below or beside each other, with or without names."""
+    rows = sheet.rows[1:] if not is_number(sheet.rows[0][-1]) else sheet.rows
+    if len(rows) == 2 and len(rows[0]) <= 2:
+        return whole(rows[0][-1], notes), whole(rows[1][-1], notes)
+    if len(rows) == 1 and 2 <= len(rows[0]) <= 3:
+        return whole(rows[0][-2], notes), whole(rows[0][-1], notes)
+    raise BadSheet(f"{sheet.name}: two numbers are wanted, the least run of each plant, each with its name before it or without names")
+
+
+def _same(names: Optional[List[str]], due: Optional[List[str]], sheet: str, what: str):
+    """Names of a second sheet are those of the tariff, in its order."""
+    for k, (one, other) in enumerate(zip(names or [], due or []), 1):
+        if one and one != other:
+            raise BadSheet(f"{sheet}: {what} {k} is named {one!r}, but {other!r} in the tariff; the order is the same in both")
+
+
+def _ceilings(sheet: Sheet, case: Case, notes: Notes) -> List[List[int]]:
+    m, n = len(case.supplies), len(case.demands)
+    top, left = len(sheet.rows) == m + 1, len(sheet.rows[0]) == n + 1
+    if not top and len(sheet.rows) > m or not left and len(sheet.rows[0]) > n:
+        raise BadSheet(f"{sheet.name} has {len(sheet.rows)} rows and {len(sheet.rows[0])} columns; {m} sources and {n} terminals, perhaps with names, are wanted")
+    found = _labelled(sheet, notes, top, left)
+    _same(found.rows, case.sources, sheet.name, "source")
+    _same(found.columns, case.terminals, sheet.name, "terminal")
+    ceilings = [[MOST_AMOUNT] * n for _ in range(m)]
+    for i, row in enumerate(found.cells):
+        for j, cell in enumerate(row):
+            if cell.value is not None or cell.formula:
+                ceilings[i][j] = whole(cell, notes)
+    if any(cell.value is None for row in found.cells for cell in row) or len(found.cells) < m or len(found.cells[0]) < n:
+        notes.say(f"{sheet.name}: an empty cell is no ceiling")
+    return ceilings
+
+
+def _about(sheet: Sheet) -> Dict[str, str]:
+    """Title, currency and date, each in a row beside its name."""
+    found = {}
+    for row in sheet.rows:
+        name = str(row[0].value or "").strip().lower()
+        if name not in ("title", "currency", "date"):
+            raise BadSheet(f"{row[0].where}: title, currency or date is wanted, not {name!r}")
+        value = row[1].value if len(row) > 1 else None
+        found[name] = value.date().isoformat() if hasattr(value, "date") else label(row[1]) if value is not None else ""
+    return found
+
+
+def case_of(sheets: Dict[str, Sheet], notes: Notes) -> Case:
+    """The case of the sheets, by their names."""
+    for name in ("tariff", "production"):
+        if name not in sheets:
+            raise BadSheet(f"a sheet named {name} is wanted; there {'is' if len(sheets) == 1 else 'are'} {', '.join(sheets) or 'none'}")
+    if len(sheets["tariff"].rows[0]) == 1 and len(sheets["production"].rows[0]) > 2:
+        raise BadSheet("the tariff has one column and the production table several; perhaps the two are swapped")
+    gather_thousands(sheets.values(), notes)
+    case = _tariff(sheets["tariff"], notes)
+    case = case._replace(table=[whole(cell, notes) for cell in _column(sheets["production"], notes)])
+    if "runs" in sheets:
+        case = case._replace(runs=_runs(sheets["runs"], notes))
+    if "ceilings" in sheets:
+        ceilings = _ceilings(sheets["ceilings"], case, notes)
+        case = case._replace(ceilings=ceilings if any(one != MOST_AMOUNT for row in ceilings for one in row) else None)
+    if "about" in sheets:
+        case = case._replace(**_about(sheets["about"]))
+    return read_again(check_names(case))
+
+
+def import_book(path: str, thousands: str = "") -> Imported:
+    """The case of a workbook, or a `BadSheet`, or the reader's refusal."""
+    notes = Notes(thousands)
+    return Imported(case_of(book_sheets(path, notes), notes), notes.all())
+
+
+def import_files(paths: Dict[str, str], thousands: str = "") -> Imported:
+    """The same of text files, by the names of the sheets."""
+    notes = Notes(thousands)
+    sheets = {name: text_sheet(name, path, notes) for name, path in paths.items()}
+    return Imported(case_of(sheets, notes), notes.all())
