@@ -117,7 +117,7 @@ fn answer(network: &[u8], arc: &[u8], table: &[u8], network_path: &[u8], table_p
 }
 
 // Answers the files of two paths.
-fn answer_paths(network_path: &[u8], arc: &[u8], table_path: &[u8]) {
+pub fn answer_paths(network_path: &[u8], arc: &[u8], table_path: &[u8]) {
     let mut network = file_room();
     let mut table = file_room();
     let n = read_file(network_path, &mut network);
@@ -131,7 +131,24 @@ fn answer_paths(network_path: &[u8], arc: &[u8], table_path: &[u8]) {
     );
 }
 
-// Answers the files and the arc that the three arguments name, unless the first is the word for help.
+// Answers the files and the arc, unless one is the word for help.
+fn answer_or_help(network: &[u8], arc: &[u8], table: &[u8]) {
+    if same(network, b"--help") {
+        usage();
+        return;
+    }
+    if same(arc, b"--help") {
+        usage();
+        return;
+    }
+    if same(table, b"--help") {
+        usage();
+        return;
+    }
+    answer_paths(network, arc, table);
+}
+
+// Answers the files and the arc that the three arguments name.
 fn with_arguments() {
     let mut network = io::buffer();
     let mut arc = io::buffer();
@@ -139,11 +156,7 @@ fn with_arguments() {
     let n = os::arg(1, &mut network);
     let a = os::arg(2, &mut arc);
     let t = os::arg(3, &mut table);
-    if same(first(&network, n), b"--help") {
-        usage();
-        return;
-    }
-    answer_paths(first(&network, n), first(&arc, a), first(&table, t));
+    answer_or_help(first(&network, n), first(&arc, a), first(&table, t));
 }
 
 // Answers what three arguments name.
