@@ -78,17 +78,18 @@ fn find_path(
     ensures { λ r. ⌜ Covers m n (now (x .entry)) (now (serves .exit)) ⌝ }
 {
     advance(m, n, drained, cost, columns, x, serves, pot, up, rows, cols);
-    let traced = follow(m, n, cost, cap, x, pot, up, limit);
+    let mut path = Path {
+        dist: *pot,
+        prev: [0u32; 96],
+        count: 0,
+        gap: 0,
+        delta: 0,
+    };
+    let traced = follow(m, n, cost, cap, x, pot, up, limit, &mut path.prev);
     if 0 < traced.count {
-        let dist = *pot;
-        let prev = traced.prev;
-        return Path {
-            dist,
-            prev,
-            count: traced.count,
-            gap: 0,
-            delta: traced.amount,
-        };
+        path.count = traced.count;
+        path.delta = traced.amount;
+        return path;
     }
     let found = reach(m, n, cost, cap, limit, demand, x, serves, pot, up);
     let dist = found.dist;
@@ -210,8 +211,6 @@ pub fn stretch(
         rows,
         cols,
     );
-    let dist = path.dist;
-    let prev = path.prev;
     let count = path.count;
     let gap = path.gap;
     let delta = path.delta;
@@ -220,16 +219,16 @@ pub fn stretch(
     // 2° The next split y + δ, the amounts after moving δ along the path, and f there: f + δ · (cost of the path).
     let drums = delta as u64;
     let next = y + drums;
-    let last = push(&prev, count, 1, delta, x, serves);
+    let last = push(&path.prev, count, 1, delta, x, serves);
     let value = freight + gain * drums - loss * drums;
     // 3° The incumbent, revised where a total on the way is smaller: every split of the stretch is looked at. Its plan is that of the next split
     // with the drums beyond its own taken back; it is copied only where the climb leaves it.
     let held = scan(table, y, drums, freight, gain, loss, best);
     let split = held.split;
-    keep(&prev, count, split, y, next, x, kept);
+    keep(&path.prev, count, split, y, next, x, kept);
     // 4° The end, where the split is u, is the test of the loop around this. The residual network and the potentials for the next stretch: the
     // potentials are lowered at the end too, since the plan that is kept needs them.
-    lower_by(gap, &dist, pot);
+    lower_by(gap, &path.dist, pot);
     hold(split, y, next, pot, prices);
     Moved {
         delta: drums,

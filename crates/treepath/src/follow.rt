@@ -91,15 +91,14 @@ fn tied(
     tied_ahead(m, v, w, cost, cap, x, pot)
 }
 
-// The arcs of the tree's path (0: it has none), how many drums can go along it, and for each node on it but the first the node before it.
+// The arcs of the tree's path (0: it has none), and how many drums can go along it.
 pub struct Traced {
     pub count: u32,
     pub amount: u32,
-    pub prev: [u32; 96],
 }
 
 // The way from plant 1 up the tree, for limit drums at most: does it lead to plant 0? It ends there, or where an arc is not open or not tight, or
-// after as many arcs as no path has.
+// after as many arcs as no path has. For each node on it but the last, prev then has the node before it.
 pub fn follow(
     m: usize,
     n: usize,
@@ -109,12 +108,13 @@ pub fn follow(
     pot: &[u32; 96],
     up: &[u32; 128],
     limit: u32,
+    prev: &mut [u32; 96],
 ) -> Traced
     requires { ⌜ FollowReady m n (now cost) (now pot) ⌝ }
     requires { ⌜ 1 < m ⌝ }
-    ensures { λ r. ⌜ (0 < r .count → Followed (net m n (now (cost .entry)) (now (cap .entry)) (now (x .entry))) (now (pot .entry)) limit (r .prev) (r .count) (r .amount)) ⌝ }
+    ensures { λ r. ⌜ (0 < r .count → Followed (net m n (now (cost .entry)) (now (cap .entry)) (now (x .entry))) (now (pot .entry)) limit (now (prev .exit)) (r .count) (r .amount)) ⌝ }
 {
-    let mut prev = [0u32; 96];
+    *prev = [0u32; 96];
     let mut v: usize = 1;
     let mut count: u32 = 0;
     let mut amount = limit;
@@ -125,24 +125,18 @@ pub fn follow(
             return Traced {
                 count: 0,
                 amount: 0,
-                prev,
             };
         }
         prev[v] = w as u32;
         amount = smaller(amount, room);
         count = count + 1;
         if w == 0 {
-            return Traced {
-                count,
-                amount,
-                prev,
-            };
+            return Traced { count, amount };
         }
         v = w;
     }
     Traced {
         count: 0,
         amount: 0,
-        prev,
     }
 }

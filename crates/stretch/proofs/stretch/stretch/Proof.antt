@@ -15,55 +15,64 @@ element-copy-out-gain : tie.Need-element-copy-out-gain
 element-copy-out-gain c = search needs
 
 cast-gain : tie.Need-cast-gain
-cast-gain c = let f = c .before .before .before .find-path .ensures .0 in omega (arith, scan-ready (ready-on (c .before .before .before .before .before .before .before .before .before .before .before .pre .0) (f .ready)) (f .done) .rise)
+cast-gain c = let f = c .before .find-path .ensures .0 in omega (arith, scan-ready (ready-on (c .before .before .before .before .before .before .before .before .before .pre .0) (f .ready)) (f .done) .rise)
 
 element-copy-out-loss : tie.Need-element-copy-out-loss
 element-copy-out-loss c = search needs
 
 sub-loss : tie.Need-sub-loss
-sub-loss c = let f = c .before .before .before .before .find-path .ensures .0 in loss-ready (ready-on (c .before .before .before .before .before .before .before .before .before .before .before .before .pre .0) (f .ready)) (f .done)
+sub-loss c = let f = c .before .before .find-path .ensures .0 in loss-ready (ready-on (c .before .before .before .before .before .before .before .before .before .before .pre .0) (f .ready)) (f .done)
 
 cast-loss : tie.Need-cast-loss
-cast-loss c = let f = c .before .before .before .before .find-path .ensures .0 in omega (arith, scan-ready (ready-on (c .before .before .before .before .before .before .before .before .before .before .before .before .pre .0) (f .ready)) (f .done) .fall)
+cast-loss c = let f = c .before .before .find-path .ensures .0 in omega (arith, scan-ready (ready-on (c .before .before .before .before .before .before .before .before .before .before .pre .0) (f .ready)) (f .done) .fall)
 
 cast-drums : tie.Need-cast-drums
-cast-drums c = let f = c .before .before .before .before .find-path .ensures .0 in omega (arith, scan-ready (ready-on (c .before .before .before .before .before .before .before .before .before .before .before .before .pre .0) (f .ready)) (f .done) .few)
+cast-drums c = let f = c .before .before .find-path .ensures .0 in omega (arith, scan-ready (ready-on (c .before .before .before .before .before .before .before .before .before .before .pre .0) (f .ready)) (f .done) .few)
 
 add-next : tie.Need-add-next
-add-next c = let f = c .before .before .before .before .find-path .ensures .0 in omega (arith, scan-ready (ready-on (c .before .before .before .before .before .before .before .before .before .before .before .before .pre .0) (f .ready)) (f .done) .entries, c .before .before .before .before .before .before .before .before .before .before .before .before .good)
+add-next c = let f = c .before .before .find-path .ensures .0 in omega (arith, scan-ready (ready-on (c .before .before .before .before .before .before .before .before .before .before .pre .0) (f .ready)) (f .done) .entries, c .before .before .before .before .before .before .before .before .before .before .good)
 
 push-requires : tie.Need-push-requires
-push-requires c κs = let f = c .before .before .before .before .before .before .before .find-path .ensures .0 in (f .done .able, trail-wide _ (f .ready .swinging .sound .sources) _ _ (f .done .trail))
+push-requires c κs = let f = c .before .before .before .before .before .before .find-path .ensures .0 in (f .done .able, trail-wide _ (f .ready .swinging .sound .sources) _ _ (f .done .trail))
 
 mul-value : tie.Need-mul-value
-mul-value c = let f = c .before .before .before .before .before .before .before .before .find-path .ensures .0 in omega (arith, gains (ready-on (c .before .before .before .before .before .before .before .before .before .before .before .before .before .before .before .before .pre .0) (f .ready)) (f .done))
+mul-value c =
+    let f = c .before .before .before .before .before .before .before .find-path .ensures .0 in
+    let r = ready-on (c .before .before .before .before .before .before .before .before .before .before .before .before .before .before .before .pre .0) (f .ready) in
+    omega (arith, gains r (f .done), losses r (f .done))
 
 add-value : tie.Need-add-value
-add-value c = let f = c .before .before .before .before .before .before .before .before .find-path .ensures .0 in omega (arith, gains (ready-on (c .before .before .before .before .before .before .before .before .before .before .before .before .before .before .before .before .pre .0) (f .ready)) (f .done), c .before .before .before .before .before .before .before .before .before .before .before .before .before .before .before .before .pre .0 .start)
+add-value c =
+    let f = c .before .before .before .before .before .before .before .find-path .ensures .0 in
+    let r = ready-on (c .before .before .before .before .before .before .before .before .before .before .before .before .before .before .before .pre .0) (f .ready) in
+    omega (arith, gains r (f .done), losses r (f .done), c .before .before .before .before .before .before .before .before .before .before .before .before .before .before .before .pre .0 .start)
 
 mul-value-2 : tie.Need-mul-value-2
-mul-value-2 c = let f = c .before .before .before .before .before .before .before .before .find-path .ensures .0 in omega (arith, losses (ready-on (c .before .before .before .before .before .before .before .before .before .before .before .before .before .before .before .before .pre .0) (f .ready)) (f .done))
+mul-value-2 c =
+    let f = c .before .before .before .before .before .before .before .find-path .ensures .0 in
+    let r = ready-on (c .before .before .before .before .before .before .before .before .before .before .before .before .before .before .before .pre .0) (f .ready) in
+    omega (arith, gains r (f .done), losses r (f .done))
 
 sub-value : tie.Need-sub-value
-sub-value c = let f = c .before .before .before .before .before .before .before .before .find-path .ensures .0 in losses-short (ready-on (c .before .before .before .before .before .before .before .before .before .before .before .before .before .before .before .before .pre .0) (f .ready)) (f .done)
+sub-value c = let f = c .before .before .before .before .before .before .before .find-path .ensures .0 in losses-short (ready-on (c .before .before .before .before .before .before .before .before .before .before .before .before .before .before .before .pre .0) (f .ready)) (f .done)
 
 scan-requires : tie.Need-scan-requires
-scan-requires c κs = let f = c .before .before .before .before .before .before .before .before .find-path .ensures .0 in scan-ready (ready-on (c .before .before .before .before .before .before .before .before .before .before .before .before .before .before .before .before .pre .0) (f .ready)) (f .done)
+scan-requires c κs = let f = c .before .before .before .before .before .before .before .find-path .ensures .0 in scan-ready (ready-on (c .before .before .before .before .before .before .before .before .before .before .before .before .before .before .before .pre .0) (f .ready)) (f .done)
 
 keep-requires : tie.Need-keep-requires
-keep-requires c κs = let f = c .before .before .before .before .before .before .before .before .before .before .before .before .find-path .ensures .0 in keep-ready (ready-on (c .before .before .before .before .before .before .before .before .before .before .before .before .before .before .before .before .before .before .before .before .pre .0) (f .ready)) (f .done) (c .before .before .before .scan .ensures) _ (c .before .before .before .before .push .ensures .0)
+keep-requires c κs = let f = c .before .before .before .before .before .before .before .before .before .before .before .before .find-path .ensures .0 in keep-ready (ready-on (c .before .before .before .before .before .before .before .before .before .before .before .before .before .before .before .before .before .before .before .before .pre .0) (f .ready)) (f .done) (c .before .before .before .before .scan .ensures) _ (c .before .before .before .before .before .push .ensures .0)
 
 lower-by-requires : tie.Need-lower-by-requires
-lower-by-requires c κs = λ h. c .before .before .before .before .before .before .before .before .before .before .before .before .before .before .before .find-path .ensures .0 .done .ready
+lower-by-requires c κs = λ h. c .before .before .before .before .before .before .before .before .before .before .before .before .before .before .before .before .find-path .ensures .0 .done .ready
 
 hold-requires : tie.Need-hold-requires
 hold-requires c κs = search needs
 
 returns : tie.Need-returns
 returns c =
-    let f = c .before .before .before .before .before .before .before .before .before .before .before .before .before .before .before .before .before .before .before .find-path .ensures in
-    let s = c .before .before .before .before .before .before .before .before .before .before .before .push .ensures in (
-      stretch-done (ready-on (c .before .before .before .before .before .before .before .before .before .before .before .before .before .before .before .before .before .before .before .before .before .before .before .before .before .before .before .pre .0) (f .0 .ready)) (f .0 .done) (c .before .before .before .before .before .before .before .before .before .before .scan .ensures) (c .before .before .before .before .before .before .keep .ensures) (s .0)
+    let f = c .before .before .before .before .before .before .before .before .before .before .before .before .before .before .before .before .before .before .before .before .find-path .ensures in
+    let s = c .before .before .before .before .before .before .before .before .before .before .before .before .before .push .ensures in (
+      stretch-done (ready-on (c .before .before .before .before .before .before .before .before .before .before .before .before .before .before .before .before .before .before .before .before .before .before .before .before .before .before .before .before .pre .0) (f .0 .ready)) (f .0 .done) (c .before .before .before .before .before .before .before .before .before .before .before .before .scan .ensures) (c .before .before .before .before .before .before .before .keep .ensures) (s .0)
           (found-lowered (f .0) (c .before .before .before .lower-by .ensures)) (c .hold .ensures),
       cover-walk (f .0 .ready .swinging .sound .terminals) _ _ _ _ _ _ (f .0 .done .trail) (f .1) (s .0) (s .1),
     )

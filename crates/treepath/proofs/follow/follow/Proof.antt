@@ -14,7 +14,7 @@ abbrev μ-loop : tie.MeasureT-loop
 μ-loop m n cost cap x pot up limit prev₀ v₀ count₀ amount₀ prev v count amount = 95 - count
 
 loop-holds : tie.Need-loop-holds Inv-loop μ-loop
-loop-holds c = walk-start (c .pre .1)
+loop-holds c = walk-start (c .before .pre .1)
 
 mul-w : tie.Need-mul-w Inv-loop μ-loop
 mul-w c = search needs
@@ -26,7 +26,7 @@ cast-w : tie.Need-cast-w Inv-loop μ-loop
 cast-w c = search needs
 
 tied-requires : tie.Need-tied-requires Inv-loop μ-loop
-tied-requires c κs = let i = c .before .before .loop .inv in (c .before .before .before .pre .0, (i .source, i .terminal))
+tied-requires c κs = let i = c .before .before .loop .inv in (c .before .before .before .before .pre .0, (i .source, i .terminal))
 
 returns : tie.Need-returns Inv-loop μ-loop
 returns c = λ e. absurd (omega arith)
@@ -37,8 +37,8 @@ cast-prev c = search needs
 mul-prev : tie.Need-mul-prev Inv-loop μ-loop
 mul-prev c = search needs
 
-array-write-prev : tie.Need-array-write-prev Inv-loop μ-loop
-array-write-prev c = search needs
+element-write-prev : tie.Need-element-write-prev Inv-loop μ-loop
+element-write-prev c = search needs
 
 smaller-requires : tie.Need-smaller-requires Inv-loop μ-loop
 smaller-requires c κs = search needs
@@ -72,7 +72,7 @@ follow-spec =
     returns
     cast-prev
     mul-prev
-    array-write-prev
+    element-write-prev
     smaller-requires
     add-count
     returns-2
