@@ -1,6 +1,7 @@
 """Tests of the command `python3 -m yadvorkhul`: each subcommand, refusals, and what a build lacks."""
 
 import contextlib
+import importlib.util
 import io
 import json
 import os
@@ -156,6 +157,27 @@ class Command(unittest.TestCase):
         ):
             with open(os.path.join(root, path), encoding="utf-8") as stream:
                 self.assertIn(line, stream.read())
+
+    @unittest.skipUnless(importlib.util.find_spec("argcomplete"), "python3-argcomplete is not there")
+    def test_completion(self):
+        for line, due in (("yadvorkhul b", "bounds"), ("yadvorkhul plan --j", "--json")):
+            asked = {"COMP_LINE": line, "COMP_POINT": str(len(line)), "_ARGCOMPLETE": "1", "_ARGCOMPLETE_IFS": "\v"}
+            command = f'"{sys.executable}" -m yadvorkhul 8>&1 9>/dev/null >/dev/null'
+            done = subprocess.run(["sh", "-c", command], cwd=HERE, capture_output=True, env={**os.environ, **asked})
+            self.assertEqual((done.returncode, done.stdout.decode().strip()), (0, due))
+
+    def test_endless(self):
+        status, printed, said = run("plan", "/dev/zero")
+        self.assertEqual((status, printed), (2, ""))
+        self.assertIn("longer than", said)
+        self.assertEqual(run("plan", "/dev/zero", "/dev/zero")[:2], (1, "refusal,place\r\n20,0\r\n"))
+        with tempfile.TemporaryDirectory() as folder:
+            path = os.path.join(folder, "case.json")
+            for text in ("[" * 100_000, '{"costs":' * 50_000, '{"sources": 5}', '{"table": [1], "table": [2]}', "5", "1e999"):
+                with open(path, "w", encoding="utf-8") as out:
+                    out.write(text)
+                status, printed, said = run("plan", path)
+                self.assertEqual((status, printed, said.count("\n")), (2, "", 1), text[:40])
 
     def test_called(self):
         for called, due in (("/usr/bin/yadvorkhul", "usage: yadvorkhul "), ("/x/__main__.py", "usage: python3 -m yadvorkhul ")):

@@ -65,6 +65,8 @@
 //! A [`WorkingCase`] takes edits, marks and returns, each call with the [`Role`] of who asks, and is planned as it is then. A network in DIMACS
 //! form, one of whose arcs has a table of costs, is planned by [`flow`].
 //!
+//! What the programs do with files, reading, printing and writing out, is in [`files`], on bytes.
+//!
 //! What is proved are the functions behind [`plan_into`], [`rates_into`], [`bounds_into`], [`flow_into`] and those of [`work`].
 //! `tools/check-declarations` compares their declarations here with the Rattle source; the tests of this crate compare the planner with an independent one on many cases, each
 //! rate with its rule, the bounds with all tables between them, random histories of a working case with whole copies, and the flow with all

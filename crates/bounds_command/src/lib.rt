@@ -4,6 +4,7 @@ use bounds_files::bounds_files;
 use bounds_files::low_stands;
 use check::same;
 use csv_table::table::tariff_stands;
+use file_io::about::told_version;
 use file_io::file::file_room;
 use file_io::file::first;
 use file_io::file::read_file;
@@ -162,6 +163,9 @@ fn with_arguments() {
 
 // Answers the files that three arguments name or, without arguments, those of the current folder.
 pub fn run() {
+    if told_version(b"bounds") {
+        return;
+    }
     let arguments = os::arg_count();
     match arguments {
         0 | 1 => answer_paths(b"tariff.csv", b"low.csv", b"high.csv"),

@@ -66,7 +66,8 @@ module _ (out out′ report reported : List ℕ) (r : ℕ) (answer : Printed) (h
 
   pub bounds-told-of : (t l u : List ℕ) → bounded.FilesPrinted t l u out out′ answer → BoundsFilesExported t l u out out′ report reported r
   bounds-told-of t l u q =
-      exported (BoundsFilesTold t l u out out′ report reported r) out report out′ reported r h (bounds-outcome (bounded.filesOutcome t l u) q)
+      exported (BoundsFilesTold t l u out out′ report reported r) out report out′ reported r h
+      record { told = bounds-outcome (bounded.filesOutcome t l u) q; answer = answer; promised = q }
 
   -- number and place of a flow: a network that has one is of the form
   module _ (s arc t : List ℕ) (q : carried.FilesPrinted s arc t out out′ answer) where

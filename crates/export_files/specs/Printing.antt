@@ -71,9 +71,13 @@ boundsBytes c high (bounds.refused k p) = refusalText k p
 abbrev pub boundsFilesText : List ℕ → List ℕ → List ℕ → List ℕ
 boundsFilesText t l h = boundsBytes (fileCase t l) (entriesOf h) (bounded.filesOutcome t l h)
 
-abbrev pub BoundsFilesTold : List ℕ → List ℕ → List ℕ → List ℕ → List ℕ → List ℕ → List ℕ → ℕ → Type 0
-BoundsFilesTold t l h out out′ report reported r =
-    TextTold (bounds-told.numberOf (bounded.filesOutcome t l h)) (boundsPlace (bounded.filesOutcome t l h)) (boundsFilesText t l h) out out′ report reported r
+-- the bytes are those of the three files by definition; what they say is promised of the printer
+pub record BoundsFilesTold (t l h out out′ report reported : List ℕ) (r : ℕ) : Type 0 where
+  pub told :
+      TextTold (bounds-told.numberOf (bounded.filesOutcome t l h)) (boundsPlace (bounded.filesOutcome t l h)) (boundsFilesText t l h) out out′ report reported
+      r
+  pub answer : Printed
+  pub promised : bounded.FilesPrinted t l h out out′ answer
 
 abbrev pub BoundsFilesExported : List ℕ → List ℕ → List ℕ → List ℕ → List ℕ → List ℕ → List ℕ → ℕ → Type 0
 BoundsFilesExported t l h out out′ report reported r = TextExported (BoundsFilesTold t l h out out′ report reported r) out out′ report reported r

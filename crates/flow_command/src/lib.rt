@@ -1,6 +1,7 @@
 // The command `flow`: reads a DIMACS network file and the table of the arc that is named, writes the cheapest flow, or the refusal, to standard
 // output, and says what a refusal means on standard error.
 use check::same;
+use file_io::about::told_version;
 use file_io::file::file_room;
 use file_io::file::first;
 use file_io::file::read_file;
@@ -144,6 +145,9 @@ fn with_arguments() {
 
 // Answers what three arguments name.
 pub fn run() {
+    if told_version(b"flow") {
+        return;
+    }
     let arguments = os::arg_count();
     match arguments {
         4 => with_arguments(),

@@ -12,9 +12,13 @@ use crate::arguments::with_arguments;
 use crate::file::plan_paths;
 use crate::rewriting::tidy_usage;
 use crate::rewriting::tidy_with_arguments;
+use file_io::about::told_version;
 
 // Plans the files that two arguments name or, without arguments, those of the current folder.
 pub fn run() {
+    if told_version(b"plan") {
+        return;
+    }
     let arguments = os::arg_count();
     match arguments {
         0 | 1 => plan_paths(b"tariff.csv", b"production.csv"),
@@ -25,6 +29,9 @@ pub fn run() {
 
 // Writes the case of the files that the first two arguments name as two new files, of the names that the other two give.
 pub fn tidy() {
+    if told_version(b"tidy") {
+        return;
+    }
     let arguments = os::arg_count();
     match arguments {
         5 => tidy_with_arguments(),

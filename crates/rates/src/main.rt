@@ -38,6 +38,9 @@ fn print(text: &[u8]) {
 }
 
 fn main() {
+    if file_io::about::told_version(b"rates") {
+        return;
+    }
     if os::arg_count() != 2 {
         usage();
         return;
