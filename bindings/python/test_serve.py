@@ -189,7 +189,8 @@ class Calls(WithServer):
         most = (1 << 64) - 1
         state = self.paul.do(["edit_entry", 0, str(most)]).told
         self.assertEqual(state["table"][0], str(most))
-        self.assertEqual(self.anna.get("/out/production.csv").body, f"{most}\r\n20\r\n24\r\n20\r\n".encode())
+        self.assertEqual(self.anna.get("/out/production.csv").told["refused"]["number"], 32)  # no field can hold it
+        self.assertEqual(json.loads(self.anna.get("/out/case.json").body)["table"][0], most)
 
     def test_bounds_and_rates(self):
         found = self.anna.post("/bounds", {"low": A["table"], "high": [99, 20, 24, 21]}).told
@@ -225,6 +226,13 @@ class Files(WithServer):
         self.assertEqual(self.dora.get("/out/tariff.csv").body, b"2,6,3\r\n5,3,3\r\n1,4,1\r\n3,2,\r\n")
         self.assertEqual(self.anna.get("/out/production.csv").body, b"99\r\n20\r\n24\r\n20\r\n")
         self.assertEqual(self.anna.get("/out/plan.csv").body, b"source,terminal,amount,cost\r\n0,0,3,20\r\n1,1,3,6\r\n1,2,0,0\r\n2,1,0,0\r\n2,2,1,3\r\n3,1,0,0\r\n3,2,1,4\r\n")
+
+    def test_csv_of_a_case_that_is_not_written(self):
+        self.anna.do(["edit_demand", 1, 30], ["edit_entry", 1, 10**10])
+        for client in (self.anna, self.dora, self.rita):
+            got = client.get("/out/tariff.csv")
+            self.assertEqual((got.status, got.told["refused"]["number"]), (422, 8))  # the same to all: entries are not looked at
+        self.assertEqual(self.anna.get("/out/case.json").status, 200)
 
     def test_case_in_json_per_role(self):
         told = json.loads(self.anna.get("/out/case.json").body)

@@ -3,6 +3,8 @@ names a folder, it gets screenshots. Needs python3-selenium and chromium-driver.
 
 import base64
 import os
+import shutil
+import tempfile
 import time
 import unittest
 
@@ -299,6 +301,22 @@ class Screen(unittest.TestCase):
         self.assertFalse(self.one("#panel-published .tools-row").is_displayed())
         self.assertNotIn("162,730", self.one("body").text)
         self.shot("published")
+
+    def test_files_are_saved_or_refused_in_a_sentence(self):
+        folder = tempfile.mkdtemp(prefix="yadvorkhul-saved-")
+        self.addCleanup(shutil.rmtree, folder, True)
+        self.browser.execute_cdp_cmd("Browser.setDownloadBehavior", {"behavior": "allow", "downloadPath": folder})
+        self.come_as("anna")
+        self.open_tab("files")
+        for link in self.all("#panel-files .files a"):
+            link.click()
+            name = link.text
+            self.until(lambda: os.path.exists(os.path.join(folder, name)), 30)
+        with open(os.path.join(folder, "production.csv"), "rb") as stream:
+            self.assertEqual(len(stream.read().split(b"\r\n")), 1502)
+        self.planner.do(["edit_entry", 1, 10**10])
+        self.run_script("document.querySelector('#panel-files a[download=\"production.csv\"]').click()")
+        self.until(lambda: "9,999,999,999" in self.one("#wrong").text)
 
     def test_no_plan_says_why(self):
         self.come_as("anna")

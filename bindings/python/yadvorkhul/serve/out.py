@@ -3,9 +3,8 @@
 import json
 import secrets
 import threading
-from typing import List
 
-from .. import Case, Role, Tariff
+from .. import Case, Role, write_case
 from ..files import plan_text
 from .shared import SharedCase, answer
 
@@ -20,25 +19,25 @@ def as_case(case: dict) -> Case:
     return Case(**case)
 
 
-def tariff_text(tariff: Tariff) -> str:
-    """Bare fields, CR LF after each record: W-213's form."""
-    rows = [row + [supply] for row, supply in zip(tariff.costs, tariff.supplies)]
-    lines = [",".join(str(number) for number in row) for row in rows]
-    lines.append("".join(f"{demand}," for demand in tariff.demands))
-    return "".join(line + "\r\n" for line in lines)
+def tariff_text(shared: SharedCase, role: Role) -> bytes:
+    """The tariff as the archive writes a case (W-213), with zeros for entries, which the tariff does not tell of."""
+    tariff = shared.work.see_tariff(role)
+    return write_case(Case(*tariff, [0] * (tariff.supplies[0] + 1)))[0]
 
 
-def production_text(table: List[int]) -> str:
-    return "".join(f"{entry}\r\n" for entry in table)
+def production_text(shared: SharedCase, role: Role) -> bytes:
+    """The table as the archive writes a case."""
+    table = shared.work.see_table(role)
+    return write_case(Case(*shared.work.see_tariff(role), table))[1]
 
 
-def plan_csv(shared: SharedCase, role: Role) -> str:
+def plan_csv(shared: SharedCase, role: Role) -> bytes:
     """The plan as the program `plan` prints it."""
     plan = shared.work.plan(role)
-    return plan_text(shared.case(role), plan)
+    return plan_text(shared.case(role), plan).encode()
 
 
-def case_json(shared: SharedCase, role: Role) -> str:
+def case_json(shared: SharedCase, role: Role) -> bytes:
     """The fields of `Case` that the role may see; a planner's can be served and imported again."""
     with shared.lock:
         told = dict(shared.names())
@@ -50,14 +49,14 @@ def case_json(shared: SharedCase, role: Role) -> str:
         limits, _ = answer(shared.limits, role)
         if limits is not None:
             told.update(runs=list(limits[0]), ceilings=limits[1])
-    return json.dumps(told, ensure_ascii=False, indent=1) + "\n"
+    return (json.dumps(told, ensure_ascii=False, indent=1) + "\n").encode()
 
 
-def page(shared: SharedCase, role: Role) -> str:
+def page(shared: SharedCase, role: Role) -> bytes:
     """The page of the plan, or of its refusal, for whoever may plan."""
     from ..pages import case_page
 
     with shared.lock:
         case = shared.case(role)
     with _drawing:
-        return case_page(case)
+        return case_page(case).encode()

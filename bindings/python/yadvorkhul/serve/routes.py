@@ -277,8 +277,8 @@ def withdraw():
 # out -------------------------------------------------------------------------------------------------------------------------------
 
 
-def _file(text: str, name: str, kind: str) -> Response:
-    response = Response(text.encode(), mimetype=kind)
+def _file(data: bytes, name: str, kind: str) -> Response:
+    response = Response(data, mimetype=kind)
     response.headers["Content-Disposition"] = f'attachment; filename="{name}"'
     return response
 
@@ -286,13 +286,13 @@ def _file(text: str, name: str, kind: str) -> Response:
 @routes.get("/out/tariff.csv", endpoint="out_tariff")
 def out_tariff():
     with shared().lock:
-        return _file(out.tariff_text(shared().work.see_tariff(who().role)), "tariff.csv", "text/csv")
+        return _file(out.tariff_text(shared(), who().role), "tariff.csv", "text/csv")
 
 
 @routes.get("/out/production.csv", endpoint="out_production")
 def out_production():
     with shared().lock:
-        return _file(out.production_text(shared().work.see_table(who().role)), "production.csv", "text/csv")
+        return _file(out.production_text(shared(), who().role), "production.csv", "text/csv")
 
 
 @routes.get("/out/plan.csv", endpoint="out_plan")

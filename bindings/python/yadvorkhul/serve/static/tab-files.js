@@ -37,9 +37,24 @@ function make(panel, desk) {
     if (sure && (await desk.send("/import", body))) picker.value = "";
   });
 
+  // Fetched first, so that a refusal is a sentence on the page and not a file.
+  async function save(event, path, name) {
+    event.preventDefault();
+    const response = await fetch(path, { credentials: "same-origin", cache: "no-store" });
+    if (!response.ok) {
+      const told = await response.json();
+      return desk.wrong(told.refused?.sentence ?? told.sentence);
+    }
+    desk.right();
+    const address = URL.createObjectURL(await response.blob());
+    element("a", { href: address, download: name }).click();
+    setTimeout(() => URL.revokeObjectURL(address), 10000);
+    desk.say(`${name} is saved.`);
+  }
+
   function update({ state }) {
     const shown = OUT.filter(([, , , shows]) => shows(state));
-    list.replaceChildren(...shown.map(([path, name, words]) => element("li", {}, element("a", { href: path, download: name }, name), ` ${words}`)));
+    list.replaceChildren(...shown.map(([path, name, words]) => element("li", {}, element("a", { href: path, download: name, onclick: (event) => save(event, path, name) }, name), ` ${words}`)));
     entering.hidden = state.undo === undefined;
   }
   return { update };
