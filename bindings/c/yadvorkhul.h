@@ -204,6 +204,27 @@ uint64_t yadvorkhul_see_table(size_t role, const uint64_t *store, size_t store_c
                               uint64_t *table, size_t table_cells,
                               uint64_t *report, size_t report_cells);
 
+/* Copies the limits of the case, which no call alters: the two least runs into the first cells of runs, m × n ceilings into those of
+   ceilings. Later cells keep their contents; 11 where a slice is too short. The planner's alone. */
+uint64_t yadvorkhul_see_limits(size_t role, const uint64_t *store, size_t store_cells,
+                               uint64_t *runs, size_t runs_cells,
+                               uint64_t *ceilings, size_t ceilings_cells,
+                               uint64_t *report, size_t report_cells);
+
+/* Writes 1 for each mark that is set, else 0, into the first eight cells of marks; 11 where there are fewer. The planner's alone. */
+uint64_t yadvorkhul_marks_set(size_t role, const uint64_t *store, size_t store_cells,
+                              uint64_t *marks, size_t marks_cells,
+                              uint64_t *report, size_t report_cells);
+
+/* Plans the case that a mark holds, without going back: as yadvorkhul_plan_case after yadvorkhul_go_back, and the store stays as it is.
+   24 where the mark is none of 1 to 8, 25 where it was never set (place: the mark). The planner's alone. */
+uint64_t yadvorkhul_plan_mark(size_t role, size_t mark, const uint64_t *store, size_t store_cells,
+                              uint64_t *plan, size_t plan_cells,
+                              uint64_t *splits, size_t splits_cells,
+                              int64_t *freights, size_t freights_cells,
+                              uint64_t *report, size_t report_cells,
+                              int64_t *worth, size_t worth_cells);
+
 /* Finds a least-cost whole flow of a network in DIMACS form, where a table replaces the cost of one arc. Any bytes, numbers and
    lengths may be passed.
 

@@ -1,14 +1,56 @@
-// The working case by roles: each deed is done only where the table of roles allows it.
+// The working case as it is offered: the table of roles is read before each operation on it, and each is done only where the table allows it.
+// Entering makes a working case and takes no role.
+ghost use mathlib.Core.Path.{_≡_};
+ghost use mathlib.Core.Bool.{not};
 ghost use lib.ListN.{length};
 ghost use Rattle.validation.specs.Verdict.{verdict};
 ghost use Rattle.planner.specs.Answer.{outcome, slices};
-ghost use Rattle.work_store.specs.Store.{heldIn};
+ghost use Rattle.work_store.specs.State.{draft};
+ghost use Rattle.work_store.specs.Promise.{Entered};
+ghost use Rattle.work_store.specs.Store.{heldIn, cellsToLend};
 ghost use Rattle.work_store.specs.Calls.{editDemand, editSupply, editCost, editEntry, setMark, goBack};
-ghost use Rattle.roletable.specs.Promise.{PerformedBy, PlannedBy, TariffSeen, TableSeen};
+ghost use Rattle.roletable.specs.Roles.{barred};
+ghost use Rattle.roletable.specs.Promise.{PerformedBy, PlannedBy, MarkPlannedBy, TariffSeen, TableSeen, LimitsSeen, MarksSeen};
 use planner::Answer;
 use roletable::table::may;
 use roletable::table::may_supply;
 use validation::tests::Verdict;
+
+// How many cells to lend for a case of m sources and n terminals; 0 for a size that no case has.
+pub fn store_cells(m: usize, n: usize) -> usize
+    ensures { λ r. ⌜ r ≡ cellsToLend m n ⌝ }
+{
+    work_case::store_cells(m, n)
+}
+
+// Enters a case with its least runs and ceilings; no mark is set.
+pub fn enter(
+    m: usize,
+    n: usize,
+    run1: u64,
+    run2: u64,
+    costs: &[i64],
+    supplies: &[u64],
+    demands: &[u64],
+    ceilings: &[u64],
+    table: &[u64],
+    store: &mut [u64],
+) -> Verdict
+    ensures { λ r. ⌜ Entered (draft m n run1 run2 (now (costs .entry)) (now (supplies .entry)) (now (demands .entry)) (now (ceilings .entry)) (now (table .entry))) (now (store .entry)) (now (store .exit)) (verdict r) ⌝ }
+{
+    work_case::enter(
+        m,
+        n,
+        run1,
+        run2,
+        costs,
+        supplies,
+        demands,
+        ceilings,
+        table,
+        store,
+    )
+}
 
 // Alters the demand of terminal j.
 pub fn edit_demand(role: usize, j: usize, value: u64, store: &mut [u64]) -> Verdict
@@ -111,6 +153,56 @@ pub fn see_table(role: usize, store: &[u64], table: &mut [u64]) -> Verdict
 {
     if may(role, 5) {
         return work_case::see_table(store, table);
+    }
+    Verdict::Refused(31, 0)
+}
+
+// The deed of planning.
+const PLAN: usize = 6;
+
+// Whether the role may plan: the three operations below count as planning.
+fn may_plan(role: usize) -> bool
+    ensures { λ r. ⌜ r ≡ not (barred role 6) ⌝ }
+{
+    may(role, PLAN)
+}
+
+// Plans the case that mark k holds, without going back: the planner's alone, as planning is.
+pub fn plan_mark(
+    role: usize,
+    k: usize,
+    store: &[u64],
+    plan: &mut [u64],
+    splits: &mut [u64],
+    freights: &mut [i64],
+) -> Answer
+    ensures { λ r. ⌜ MarkPlannedBy role k (heldIn (now (store .entry))) (length (now (plan .entry))) (length (now (splits .entry))) (length (now (freights .entry))) (outcome r) (slices (now (plan .entry)) (now (splits .entry)) (now (freights .entry))) (slices (now (plan .exit)) (now (splits .exit)) (now (freights .exit))) ⌝ }
+{
+    if may_plan(role) {
+        return work_case::plan_mark(k, store, plan, splits, freights);
+    }
+    Answer::Refused {
+        number: 31,
+        place: 0,
+    }
+}
+
+// Shows the two least runs and the ceilings: the planner's alone, as planning is.
+pub fn see_limits(role: usize, store: &[u64], runs: &mut [u64], ceilings: &mut [u64]) -> Verdict
+    ensures { λ r. ⌜ LimitsSeen role (heldIn (now (store .entry))) (now (runs .entry)) (now (ceilings .entry)) (now (runs .exit)) (now (ceilings .exit)) (verdict r) ⌝ }
+{
+    if may_plan(role) {
+        return work_case::see_limits(store, runs, ceilings);
+    }
+    Verdict::Refused(31, 0)
+}
+
+// Shows which marks are set: the planner's alone, as planning is.
+pub fn marks_set(role: usize, store: &[u64], marks: &mut [u64]) -> Verdict
+    ensures { λ r. ⌜ MarksSeen role (heldIn (now (store .entry))) (now (marks .entry)) (now (marks .exit)) (verdict r) ⌝ }
+{
+    if may_plan(role) {
+        return work_case::marks_set(store, marks);
     }
     Verdict::Refused(31, 0)
 }

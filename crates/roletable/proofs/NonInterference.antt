@@ -14,13 +14,14 @@ use Rattle.planner.specs.Answer.{Slices}
 use Rattle.work_store.specs.State.{State}
 use Rattle.work_store.specs.Calls.{Call, editDemand, editSupply, editCost, editEntry, setMark, goBack, leastRun, refusalIn, acted, unless, step}
 use Rattle.work_store.specs.Store.{heldIn}
-use Rattle.work_plans.specs.Planning.{outcomeIn}
-use Rattle.work_store.specs.Seeing.{tariffRefusal, tariffAnswer, tableAnswer, costsIn, suppliesIn, demandsIn, tableIn, shownUnless}
+use Rattle.work_store.specs.Promise.{answerTo, steps}
+use Rattle.work_plans.specs.Planning.{outcomeIn, outcomeUnless}
+use Rattle.work_store.specs.Seeing.{tariffRefusal, tariffAnswer, tableAnswer, limitsAnswer, marksAnswer, costsIn, suppliesIn, demandsIn, tableIn, runsIn, ceilingsIn, flagsIn, shownUnless}
 use Rattle.roletable.specs.Roles.{noRole, barred, barredFirst}
 use Rattle.roletable.specs.Deeds.{work, seeTariff, seeTable, plan, column, first, test31}
-use Rattle.roletable.specs.Promise.{answerBy, unlessHeld, stepsBy, outcomeUnless}
-use Rattle.roletable.specs.Secrecy.{veiled, veiledHeld, Alike, Outsider, Outside, ends, more, Asked, act, tariff, table, planning}
-use Rattle.roletable.specs.Secrecy.{Heard, verdict, costs, entries, Did, Saw, Looked, Tried, Made, By, Goes}
+use Rattle.roletable.specs.Promise.{answerBy, unlessHeld, stepsBy}
+use Rattle.roletable.specs.Secrecy.{veiled, veiledHeld, Alike, Outsider, Outside, ends, more, Asked, act, tariff, table, planning, markPlanning, limits, marks}
+use Rattle.roletable.specs.Secrecy.{Heard, verdict, costs, entries, runs, flags, Did, Saw, Looked, Tried, TriedMark, SawLimits, SawMarks, Made, By, Goes}
 use Rattle.roletable.specs.Secrecy as secrecy
 
 -- ---- one edit, mark or return
@@ -169,12 +170,51 @@ module _ (role : ℕ) (out : Outsider role) (a b : List ℕ) (alike : Alike a b)
       let f : q .r ≡ refused 31 0 = q .done .answer ∙ ap (λ (z : Option Outcome). outcomeUnless z (outcomeIn (heldIn b) (length (old .plan)) (length (old .splits)) (length (old .freights)))) n in
       (p .gets ∙ ap₂ secrecy.plan (e ∙ sym f) (p .done .kept 31 0 e ∙ sym (q .done .kept 31 0 f)) ∙ sym (q .gets), stay-alike a' b' (p .stays) (q .stays))
 
+  -- what 31 bars whatever the store holds
+  barred-31 : (o : Option Outcome) → (test31 role plan orElse o) ≡ some (refused 31 0)
+  unfolding _orElse_
+  barred-31 o = ap (λ (z : Option Outcome). z orElse o) (no-plan role out)
+
+  tried-mark-same : (k : ℕ) (old : Slices) (a' b' : List ℕ) (x y : Heard) → TriedMark role k old a a' x → TriedMark role k old b b' y → (x ≡ y) × Alike a' b'
+  tried-mark-same k old a' b' x y p q =
+      let e : p .r ≡ refused 31 0 =
+      p .done .answer
+      ∙ ap (λ (z : Option Outcome). outcomeUnless z (outcomeIn (steps (goBack k) (heldIn a)) (length (old .plan)) (length (old .splits)) (length (old .freights)))) (barred-31 (answerTo (goBack k) (heldIn a))) in
+      let f : q .r ≡ refused 31 0 =
+      q .done .answer
+      ∙ ap (λ (z : Option Outcome). outcomeUnless z (outcomeIn (steps (goBack k) (heldIn b)) (length (old .plan)) (length (old .splits)) (length (old .freights)))) (barred-31 (answerTo (goBack k) (heldIn b))) in
+      (p .gets ∙ ap₂ secrecy.plan (e ∙ sym f) (p .done .kept 31 0 e ∙ sym (q .done .kept 31 0 f)) ∙ sym (q .gets), stay-alike a' b' (p .stays) (q .stays))
+
+  limits-same : (u c a' b' : List ℕ) (x y : Heard) → SawLimits role u c a a' x → SawLimits role u c b b' y → (x ≡ y) × Alike a' b'
+  limits-same u c a' b' x y p q =
+      let e : p .r ≡ some (refused 31 0) = p .seen .answer ∙ barred-31 (limitsAnswer (length u) (length c) (heldIn a)) in
+      let f : q .r ≡ some (refused 31 0) = q .seen .answer ∙ barred-31 (limitsAnswer (length u) (length c) (heldIn b)) in
+      let gu : p .u' ≡ u = p .seen .runs ∙ ap (λ (z : Option Outcome). shownUnless z (runsIn (heldIn a)) u) e in
+      let hu : q .u' ≡ u = q .seen .runs ∙ ap (λ (z : Option Outcome). shownUnless z (runsIn (heldIn b)) u) f in
+      let gc : p .c' ≡ c = p .seen .ceilings ∙ ap (λ (z : Option Outcome). shownUnless z (ceilingsIn (heldIn a)) c) e in
+      let hc : q .c' ≡ c = q .seen .ceilings ∙ ap (λ (z : Option Outcome). shownUnless z (ceilingsIn (heldIn b)) c) f in
+      (p .gets ∙ all (e ∙ sym f) (gu ∙ sym hu) (gc ∙ sym hc) ∙ sym (q .gets), stay-alike a' b' (p .stays) (q .stays))
+    where
+      all : {r r' : Option Outcome} {u u' c c' : List ℕ} → r ≡ r' → u ≡ u' → c ≡ c' → runs r u c ≡ runs r' u' c'
+      all er eu ec = λ i. runs (er i) (eu i) (ec i)
+
+  marks-same : (l a' b' : List ℕ) (x y : Heard) → SawMarks role l a a' x → SawMarks role l b b' y → (x ≡ y) × Alike a' b'
+  marks-same l a' b' x y p q =
+      let e : p .r ≡ some (refused 31 0) = p .seen .answer ∙ barred-31 (marksAnswer (length l) (heldIn a)) in
+      let f : q .r ≡ some (refused 31 0) = q .seen .answer ∙ barred-31 (marksAnswer (length l) (heldIn b)) in
+      let g : p .f' ≡ l = p .seen .flags ∙ ap (λ (z : Option Outcome). shownUnless z (flagsIn (heldIn a)) l) e in
+      let h : q .f' ≡ l = q .seen .flags ∙ ap (λ (z : Option Outcome). shownUnless z (flagsIn (heldIn b)) l) f in
+      (p .gets ∙ ap₂ flags (e ∙ sym f) (g ∙ sym h) ∙ sym (q .gets), stay-alike a' b' (p .stays) (q .stays))
+
   -- one call: the same answer or refusal, the same cells in what is lent, and the stores stay alike
   pub same-heard : (ask : Asked) (a' b' : List ℕ) (x y : Heard) → Made role ask a a' x → Made role ask b b' y → (x ≡ y) × Alike a' b'
   same-heard (act call) a' b' x y p q = did-same call a' b' x y p q
   same-heard (tariff c s d) a' b' x y p q = saw-same c s d a' b' x y p q
   same-heard (table t) a' b' x y p q = looked-same t a' b' x y p q
   same-heard (planning old) a' b' x y p q = tried-same old a' b' x y p q
+  same-heard (markPlanning k old) a' b' x y p q = tried-mark-same k old a' b' x y p q
+  same-heard (limits u c) a' b' x y p q = limits-same u c a' b' x y p q
+  same-heard (marks l) a' b' x y p q = marks-same l a' b' x y p q
 
 -- two working cases alike but for production entries, in the case and its marks, give depot and reader the same answers and refusals to all calls of
 -- theirs, and the same cells in what they lend, so long as nobody else calls between

@@ -1,5 +1,5 @@
 -- From what a call on the working case promises to what is promised by its role. Assumes nothing.
-use mathlib.Core.Path.{_≡_, refl, sym, ap, _∙_}
+use mathlib.Core.Path.{_≡_, refl, sym, ap, _∙_, subst}
 use mathlib.Core.Bool.{Bool, true, false, not, _||_, _&&_}
 use mathlib.Core.Option.{Option, none, some}
 use mathlib.Core.List.{List}
@@ -8,18 +8,19 @@ use native.Mathlib.Omega.{arith}
 use lib.IntN.{ℤ}
 use lib.ListN.{length}
 use borrow.Author.Tests.{not-true, not-false}
-use Rattle.problem.specs.Outcome.{Outcome, refused, refuseIf}
+use Rattle.problem.specs.Outcome.{Outcome, refused, refuseIf, _orElse_}
 use Rattle.planner.specs.Answer.{Slices}
+use Rattle.work_plans.proofs.PlanLaws.{refused-before}
 use Rattle.problem.proofs.TestsPassed.{first-decides, second-decides}
 use Rattle.work_store.specs.State.{State}
-use Rattle.work_store.specs.Calls.{Call}
+use Rattle.work_store.specs.Calls.{Call, goBack}
 use Rattle.work_store.specs.Store.{heldIn}
 use Rattle.work_store.specs.Promise.{answerTo, steps, Performed}
-use Rattle.work_plans.specs.Planning.{outcomeIn, PlannedFrom}
-use Rattle.work_store.specs.Seeing.{tariffAnswer, tableAnswer, TariffShown, TableShown}
+use Rattle.work_plans.specs.Planning.{outcomeIn, outcomeUnless, PlannedFrom, PlannedUnless, MarkPlanned}
+use Rattle.work_store.specs.Seeing.{tariffAnswer, tableAnswer, limitsAnswer, marksAnswer, TariffShown, TableShown, LimitsShown, MarksShown}
 use Rattle.roletable.specs.Roles.{barred, barredFirst}
 use Rattle.roletable.specs.Deeds.{Deed, work, seeTariff, seeTable, plan, column, first, test31}
-use Rattle.roletable.specs.Promise.{answerBy, unlessHeld, stepsBy, PerformedBy, outcomeUnless, PlannedBy, TariffSeen, TableSeen}
+use Rattle.roletable.specs.Promise.{answerBy, unlessHeld, stepsBy, PerformedBy, PlannedBy, MarkPlannedBy, TariffSeen, TableSeen, LimitsSeen, MarksSeen}
 
 -- ---- refusal 31 by the answer of the table's functions
 
@@ -71,11 +72,17 @@ module _ (role : ℕ) (held : Option State) where
     }
 
     pub plan-barred : (s : Slices) → test31 role plan ≡ some (refused 31 0) → PlannedBy role held p q f (refused 31 0) s s
-    plan-barred s e = record {
-      answer = ap (λ (t : Option Outcome). outcomeUnless t (outcomeIn held p q f)) (sym e);
-      work = λ x y z. let g : _≡_ {A = ℕ} 0 1 = cc in absurd (omega arith);
-      kept = λ _ _ _. refl;
-    }
+    plan-barred s e = refused-before (test31 role plan) held p q f 31 0 s e
+
+    pub mark-call : (k : ℕ) (r : Outcome) (before after : Slices) → test31 role plan ≡ none → MarkPlanned k held p q f r before after
+        → MarkPlannedBy role k held p q f r before after
+    mark-call k r before after e w =
+        subst (λ (t : Option Outcome). PlannedUnless t (steps (goBack k) held) p q f r before after) (sym (second-decides (test31 role plan) (answerTo (goBack k) held) e)) w
+
+    pub mark-barred : (k : ℕ) (s : Slices) → test31 role plan ≡ some (refused 31 0) → MarkPlannedBy role k held p q f (refused 31 0) s s
+    mark-barred k s e =
+        refused-before (test31 role plan orElse answerTo (goBack k) held) (steps (goBack k) held) p q f 31 0 s
+        (first-decides (test31 role plan) (answerTo (goBack k) held) (refused 31 0) e)
 
   pub tariff-call : (c c' : List ℤ) (s d s' d' : List ℕ) (r : Option Outcome) → test31 role seeTariff ≡ none → TariffShown held c s d c' s' d' r
       → TariffSeen role held c s d c' s' d' r
@@ -99,3 +106,23 @@ module _ (role : ℕ) (held : Option State) where
 
   pub table-barred : (t : List ℕ) → test31 role seeTable ≡ some (refused 31 0) → TableSeen role held t t (some (refused 31 0))
   table-barred t e = record { answer = sym (first-decides (test31 role seeTable) (tableAnswer (length t) held) (refused 31 0) e); table = refl }
+
+  pub limits-call : (u c u' c' : List ℕ) (r : Option Outcome) → test31 role plan ≡ none → LimitsShown held u c u' c' r → LimitsSeen role held u c u' c' r
+  limits-call u c u' c' r e w = record {
+    answer = w .answer ∙ sym (second-decides (test31 role plan) (limitsAnswer (length u) (length c) held) e);
+    runs = w .runs;
+    ceilings = w .ceilings;
+  }
+
+  pub limits-barred : (u c : List ℕ) → test31 role plan ≡ some (refused 31 0) → LimitsSeen role held u c u c (some (refused 31 0))
+  limits-barred u c e = record {
+    answer = sym (first-decides (test31 role plan) (limitsAnswer (length u) (length c) held) (refused 31 0) e);
+    runs = refl;
+    ceilings = refl;
+  }
+
+  pub marks-call : (f f' : List ℕ) (r : Option Outcome) → test31 role plan ≡ none → MarksShown held f f' r → MarksSeen role held f f' r
+  marks-call f f' r e w = record { answer = w .answer ∙ sym (second-decides (test31 role plan) (marksAnswer (length f) held) e); flags = w .flags }
+
+  pub marks-barred : (f : List ℕ) → test31 role plan ≡ some (refused 31 0) → MarksSeen role held f f (some (refused 31 0))
+  marks-barred f e = record { answer = sym (first-decides (test31 role plan) (marksAnswer (length f) held) (refused 31 0) e); flags = refl }

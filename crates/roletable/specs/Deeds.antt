@@ -12,6 +12,7 @@ pub data Deed : Type 0 where
   work : Call → Deed
   seeTariff : Deed
   seeTable : Deed
+  -- planning; planning a mark, seeing the limits and asking which marks are set count as it, and so are the planner's alone
   plan : Deed
 
 -- the deed's number, its column in the table

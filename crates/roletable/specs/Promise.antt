@@ -5,14 +5,14 @@ use mathlib.Core.List.{List}
 use Prim.Native.Nat.{ℕ}
 use lib.IntN.{ℤ}
 use lib.ListN.{length}
-use Rattle.problem.specs.Outcome.{Outcome, refused, _orElse_}
-use Rattle.planner.specs.Answer.{Slices, Answered}
-use Rattle.work_store.specs.State.{State, lentWith}
-use Rattle.work_store.specs.Calls.{Call}
+use Rattle.problem.specs.Outcome.{Outcome, _orElse_}
+use Rattle.planner.specs.Answer.{Slices}
+use Rattle.work_store.specs.State.{State}
+use Rattle.work_store.specs.Calls.{Call, goBack}
 use Rattle.work_store.specs.Store.{heldIn, sources, terminals, writes}
 use Rattle.work_store.specs.Promise.{answerTo, steps, cellsUnless}
-use Rattle.work_plans.specs.Planning.{outcomeIn}
-use Rattle.work_store.specs.Seeing.{tariffAnswer, tableAnswer, shownUnless, costsIn, suppliesIn, demandsIn, tableIn}
+use Rattle.work_plans.specs.Planning.{PlannedUnless}
+use Rattle.work_store.specs.Seeing.{tariffAnswer, tableAnswer, limitsAnswer, marksAnswer, shownUnless, costsIn, suppliesIn, demandsIn, tableIn, runsIn, ceilingsIn, flagsIn}
 use Rattle.roletable.specs.Deeds.{work, seeTariff, seeTable, plan, test31}
 
 -- the answer to a call: 31 first of all
@@ -32,15 +32,14 @@ pub record PerformedBy (role : ℕ) (call : Call) (before after : List ℕ) (r :
   pub cells : after ≡ cellsUnless r (writes (sources before) (terminals before) call before) before
   pub state : heldIn after ≡ stepsBy role call (heldIn before)
 
-abbrev pub outcomeUnless : Option Outcome → Outcome → Outcome
-outcomeUnless none o = o
-outcomeUnless (some r) o = r
+-- planning: all that the planner promises of the working case
+abbrev pub PlannedBy : ℕ → Option State → ℕ → ℕ → ℕ → Outcome → Slices → Slices → Type 0
+PlannedBy role held p q f r before after = PlannedUnless (test31 role plan) held p q f r before after
 
-pub record PlannedBy (role : ℕ) (held : Option State) (p q f : ℕ) (r : Outcome) (before after : Slices) : Type 0 where
-  pub answer : r ≡ outcomeUnless (test31 role plan) (outcomeIn held p q f)
-  -- all that the planner promises of the working case
-  pub work : (s : State) → test31 role plan ≡ none → held ≡ some s → Answered (lentWith (s .case) p q f) r before after
-  pub kept : (k l : ℕ) → r ≡ refused k l → after ≡ before
+-- planning a mark: 31, then as going back to it is refused, else what planning after going back gives
+abbrev pub MarkPlannedBy : ℕ → ℕ → Option State → ℕ → ℕ → ℕ → Outcome → Slices → Slices → Type 0
+MarkPlannedBy role k held p q f r before after =
+    PlannedUnless (test31 role plan orElse answerTo (goBack k) held) (steps (goBack k) held) p q f r before after
 
 -- the three lent slices of the tariff
 pub record TariffSeen (role : ℕ) (held : Option State) (c : List ℤ) (s d : List ℕ) (c' : List ℤ) (s' d' : List ℕ) (r : Option Outcome) : Type 0 where
@@ -52,3 +51,13 @@ pub record TariffSeen (role : ℕ) (held : Option State) (c : List ℤ) (s d : L
 pub record TableSeen (role : ℕ) (held : Option State) (t t' : List ℕ) (r : Option Outcome) : Type 0 where
   pub answer : r ≡ (test31 role seeTable orElse tableAnswer (length t) held)
   pub table : t' ≡ shownUnless r (tableIn held) t
+
+-- the two lent slices of the limits: runs, then ceilings
+pub record LimitsSeen (role : ℕ) (held : Option State) (u c u' c' : List ℕ) (r : Option Outcome) : Type 0 where
+  pub answer : r ≡ (test31 role plan orElse limitsAnswer (length u) (length c) held)
+  pub runs : u' ≡ shownUnless r (runsIn held) u
+  pub ceilings : c' ≡ shownUnless r (ceilingsIn held) c
+
+pub record MarksSeen (role : ℕ) (held : Option State) (f f' : List ℕ) (r : Option Outcome) : Type 0 where
+  pub answer : r ≡ (test31 role plan orElse marksAnswer (length f) held)
+  pub flags : f' ≡ shownUnless r (flagsIn held) f

@@ -11,7 +11,7 @@ use Rattle.planner.specs.Answer.{Slices}
 use Rattle.work_store.specs.State.{Draft, State}
 use Rattle.work_store.specs.Calls.{Call, edited}
 use Rattle.work_store.specs.Store.{heldIn}
-use Rattle.roletable.specs.Promise.{PerformedBy, PlannedBy, TariffSeen, TableSeen}
+use Rattle.roletable.specs.Promise.{PerformedBy, PlannedBy, MarkPlannedBy, TariffSeen, TableSeen, LimitsSeen, MarksSeen}
 
 -- a case with every entry 0
 abbrev pub veiledCase : Draft → Draft
@@ -37,12 +37,15 @@ Alike a b = veiledHeld (heldIn a) ≡ veiledHeld (heldIn b)
 abbrev pub Outsider : ℕ → Type 0
 Outsider role = (role ≡ 3) ⊎ (role ≡ 4)
 
--- a call, with what the slices hold that are lent to it
+-- a call, with what the slices hold that are lent to it; entering is none of these: it takes no role, and who enters a case knows its entries
 pub data Asked : Type 0 where
   act : Call → Asked
   tariff : List ℤ → List ℕ → List ℕ → Asked
   table : List ℕ → Asked
   planning : Slices → Asked
+  markPlanning : ℕ → Slices → Asked
+  limits : List ℕ → List ℕ → Asked
+  marks : List ℕ → Asked
 
 -- what a caller gets: the answer or the refusal, and what the lent slices hold then
 pub data Heard : Type 0 where
@@ -50,6 +53,8 @@ pub data Heard : Type 0 where
   costs : Option Outcome → List ℤ → List ℕ → List ℕ → Heard
   entries : Option Outcome → List ℕ → Heard
   plan : Outcome → Slices → Heard
+  runs : Option Outcome → List ℕ → List ℕ → Heard
+  flags : Option Outcome → List ℕ → Heard
 
 -- ---- a call on a store, as the functions promise it: store before and after, and what the caller gets
 
@@ -82,11 +87,36 @@ pub record Tried (role : ℕ) (old : Slices) (before after : List ℕ) (x : Hear
   pub gets : x ≡ plan r new
   pub stays : after ≡ before
 
+pub record TriedMark (role k : ℕ) (old : Slices) (before after : List ℕ) (x : Heard) : Type 0 where
+  pub r : Outcome
+  pub new : Slices
+  pub done : MarkPlannedBy role k (heldIn before) (length (old .plan)) (length (old .splits)) (length (old .freights)) r old new
+  pub gets : x ≡ plan r new
+  pub stays : after ≡ before
+
+pub record SawLimits (role : ℕ) (u c : List ℕ) (before after : List ℕ) (x : Heard) : Type 0 where
+  pub r : Option Outcome
+  pub u' : List ℕ
+  pub c' : List ℕ
+  pub seen : LimitsSeen role (heldIn before) u c u' c' r
+  pub gets : x ≡ runs r u' c'
+  pub stays : after ≡ before
+
+pub record SawMarks (role : ℕ) (f : List ℕ) (before after : List ℕ) (x : Heard) : Type 0 where
+  pub r : Option Outcome
+  pub f' : List ℕ
+  pub seen : MarksSeen role (heldIn before) f f' r
+  pub gets : x ≡ flags r f'
+  pub stays : after ≡ before
+
 abbrev pub Made : ℕ → Asked → List ℕ → List ℕ → Heard → Type 0
 Made role (act call) before after x = Did role call before after x
 Made role (tariff c s d) before after x = Saw role c s d before after x
 Made role (table t) before after x = Looked role t before after x
 Made role (planning old) before after x = Tried role old before after x
+Made role (markPlanning k old) before after x = TriedMark role k old before after x
+Made role (limits u c) before after x = SawLimits role u c before after x
+Made role (marks f) before after x = SawMarks role f before after x
 
 -- a caller's role and call
 pub record By : Type 0 where

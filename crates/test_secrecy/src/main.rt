@@ -32,7 +32,7 @@ fn enter(seed: u64, store: &mut [u64]) -> Verdict {
     let demands = [3u64, 2];
     let x = next(seed);
     let table = [seed, below(seed, 300), below(x, 300), below(next(x), 300)];
-    work_case::enter(
+    roles::enter(
         3,
         2,
         1,

@@ -1,15 +1,19 @@
-// A working case with marks 1 to 8, in a lent store.
+// A working case with marks 1 to 8, in a lent store. Not offered, since no operation here asks for a role: callers have `roles`, where the table of
+// roles is read before each of them.
 ghost use mathlib.Core.Path.{_≡_};
 ghost use lib.ListN.{length};
 ghost use Rattle.validation.specs.Verdict.{verdict};
 ghost use Rattle.planner.specs.Answer.{outcome, slices};
 ghost use Rattle.work_store.specs.Store.{heldIn, cellsToLend};
-ghost use Rattle.work_plans.specs.Planning.{PlannedFrom};
+ghost use Rattle.work_plans.specs.Planning.{PlannedFrom, MarkPlanned};
 ghost use Rattle.work_store.specs.Calls.{editDemand, editSupply, editCost, editEntry, setMark, goBack};
 ghost use Rattle.work_store.specs.Promise.{Performed, Entered};
-ghost use Rattle.work_store.specs.Seeing.{TariffShown, TableShown};
+ghost use Rattle.work_store.specs.Seeing.{TariffShown, TableShown, LimitsShown, MarksShown};
 ghost use Rattle.work_store.specs.State.{draft};
 use crate::planning::plan_open;
+use crate::planning::plan_set;
+use crate::seeing::show_limits;
+use crate::seeing::show_marks;
 use crate::seeing::show_table;
 use crate::seeing::show_tariff;
 use planner::Answer;
@@ -194,5 +198,44 @@ pub fn see_table(store: &[u64], table: &mut [u64]) -> Verdict
     match open_store(store) {
         Opened::Closed => Verdict::Refused(11, 0),
         Opened::Held { m, n } => show_table(m, n, store, table),
+    }
+}
+
+// Shows the two least runs and the ceilings.
+pub fn see_limits(store: &[u64], runs: &mut [u64], ceilings: &mut [u64]) -> Verdict
+    ensures { λ r. ⌜ LimitsShown (heldIn (now (store .entry))) (now (runs .entry)) (now (ceilings .entry)) (now (runs .exit)) (now (ceilings .exit)) (verdict r) ⌝ }
+{
+    match open_store(store) {
+        Opened::Closed => Verdict::Refused(11, 0),
+        Opened::Held { m, n } => show_limits(m, n, store, runs, ceilings),
+    }
+}
+
+// Shows which marks are set.
+pub fn marks_set(store: &[u64], marks: &mut [u64]) -> Verdict
+    ensures { λ r. ⌜ MarksShown (heldIn (now (store .entry))) (now (marks .entry)) (now (marks .exit)) (verdict r) ⌝ }
+{
+    match open_store(store) {
+        Opened::Closed => Verdict::Refused(11, 0),
+        Opened::Held { m, n } => show_marks(m, n, store, marks),
+    }
+}
+
+// Plans the case that mark k holds, without going back.
+pub fn plan_mark(
+    k: usize,
+    store: &[u64],
+    plan: &mut [u64],
+    splits: &mut [u64],
+    freights: &mut [i64],
+) -> Answer
+    ensures { λ r. ⌜ MarkPlanned k (heldIn (now (store .entry))) (length (now (plan .entry))) (length (now (splits .entry))) (length (now (freights .entry))) (outcome r) (slices (now (plan .entry)) (now (splits .entry)) (now (freights .entry))) (slices (now (plan .exit)) (now (splits .exit)) (now (freights .exit))) ⌝ }
+{
+    match open_store(store) {
+        Opened::Closed => Answer::Refused {
+            number: 11,
+            place: 0,
+        },
+        Opened::Held { m, n } => plan_set(m, n, k, store, plan, splits, freights),
     }
 }

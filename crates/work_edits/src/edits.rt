@@ -36,7 +36,7 @@ pub fn put_demand(m: usize, n: usize, j: usize, value: u64, store: &mut [u64]) -
 
 // How many entries the table has.
 pub fn entries(store: &[u64]) -> usize
-    requires { ⌜ 13 ≤ length (now store) ⌝ }
+    requires { ⌜ 14 ≤ length (now store) ⌝ }
     ensures { λ r. ⌜ r ≡ entriesIn (now (store .entry)) ⌝ }
 {
     let first = store[SUPPLIES];
@@ -68,7 +68,7 @@ fn zero_cells(from: usize, count: usize, store: &mut [u64])
 
 // The least run of source i, 0 of a depot.
 fn least_run(i: usize, store: &[u64]) -> u64
-    requires { ⌜ 12 ≤ length (now store) ⌝ }
+    requires { ⌜ 13 ≤ length (now store) ⌝ }
     ensures { λ r. ⌜ r ≡ runIn (now (store .entry)) i ⌝ }
 {
     if i == 1 {

@@ -8,6 +8,7 @@ ghost use Rattle.work_store.specs.Store.{cellsOf};
 ghost use Rattle.work_store.specs.OpenStore.{Sized};
 ghost use Rattle.work_store.specs.State.{draft};
 use crate::costs::raise_cells;
+use work_store::layout::SIGNATURE;
 use work_store::layout::SUPPLIES;
 use work_store::layout::ceilings_at;
 use work_store::layout::costs_at;
@@ -42,7 +43,21 @@ pub fn put_case(
     requires { ⌜ Sized (draft m n run1 run2 (now costs) (now supplies) (now demands) (now ceilings) (now table)) (now store) ⌝ }
     ensures { λ _. ⌜ now (store .exit) ≡ written (cellsOf (draft m n run1 run2 (now (costs .entry)) (now (supplies .entry)) (now (demands .entry)) (now (ceilings .entry)) (now (table .entry)))) (now (store .entry)) ⌝ }
 {
-    let head = [m as u64, n as u64, 0, 0, 0, 0, 0, 0, 0, 0, run1, run2];
+    let head = [
+        m as u64,
+        n as u64,
+        0,
+        0,
+        0,
+        0,
+        0,
+        0,
+        0,
+        0,
+        SIGNATURE,
+        run1,
+        run2,
+    ];
     let a = demands_at(m);
     let b = costs_at(m, n);
     let c = ceilings_at(m, n);

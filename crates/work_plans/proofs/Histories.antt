@@ -24,10 +24,10 @@ slices-eq a b ep es ef = λ i. record { plan = ep i; splits = es i; freights = e
 
 -- two answers by one promise, from the same case and slices: the same outcome and the same cells
 module _ (c : Case) (r r' : Outcome) (before after after' : Slices) (w : Answered c r before after) (w' : Answered c r' before after') where
-  same-outcome : r ≡ r'
+  pub same-outcome : r ≡ r'
   same-outcome = w .answer ∙ sym (w' .answer)
 
-  same-slices : after ≡ after'
+  pub same-slices : after ≡ after'
   same-slices = go r refl
     where
       go : (o : Outcome) → r ≡ o → after ≡ after'

@@ -12,7 +12,7 @@ use Rattle.problem.proofs.TestsPassed.{first-passes, second-passes, refuseIf-no
 use Rattle.work_store.specs.declared.opened.Opened.the-variants.{Held, Closed}
 use Rattle.work_store.specs.State.{State}
 use Rattle.work_store.specs.Calls.{Call, editCost, setMark, goBack, refuseWhen, absent, unset, refusalIn, acted, unless, step}
-use Rattle.work_store.specs.Store.{stateAt, markIn, sources, terminals, opens, heldIn, copied, writes}
+use Rattle.work_store.specs.Store.{stateAt, markIn, sources, terminals, signedAt, opens, heldIn, copied, writes}
 use Rattle.work_store.specs.Promise.{answerTo, steps, cellsUnless, Performed}
 use Rattle.work_store.specs.OpenStore.{openedOf, Acted}
 use Rattle.work_store.proofs.StateAfterWrites.{inside, is-open, held-eq, mark-state, mark-head, mark-length, back-state}
@@ -39,7 +39,8 @@ mark-faithful k cells o e =
     let i = inside k 8 (refuseIf-none 24 (absent k 8) e) in
     let p = is-open cells o in
     held-eq cells (set (copied m n 0 k cells) (1 + k) 1) _ o (mark-length m n cells p k (i .0) (i .1))
-    (mark-head m n cells p k (i .0) (i .1) 0 (omega arith)) (mark-head m n cells p k (i .0) (i .1) 1 (omega arith))
+    (mark-head m n cells p k (i .0) (i .1) 0 (omega arith) (λ z. omega arith)) (mark-head m n cells p k (i .0) (i .1) 1 (omega arith) (λ z. omega (arith, i .0)))
+    (mark-head m n cells p k (i .0) (i .1) signedAt (omega arith) (λ z. omega (arith, i .1)))
     (mark-state m n cells p k (i .0) (i .1))
 
 pub back-faithful : (k : ℕ) → Faithful (goBack k)
@@ -52,6 +53,7 @@ back-faithful k cells o e =
     let p = is-open cells o in
     held-eq cells (copied m n k 0 cells) _ o (copied-length m n cells (p .room) k 0 (i .1) (omega arith))
     (copied-head m n cells (p .room) k 0 (i .1) (omega arith) 0 (omega arith)) (copied-head m n cells (p .room) k 0 (i .1) (omega arith) 1 (omega arith))
+    (copied-head m n cells (p .room) k 0 (i .1) (omega arith) signedAt (omega arith))
     (back-state m n cells p k (i .0) (i .1) u)
 
 -- ---- what the store holds

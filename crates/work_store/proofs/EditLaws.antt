@@ -17,7 +17,7 @@ use Rattle.problem.specs.Outcome.{refuseIf, _orElse_}
 use Rattle.problem.proofs.TestsPassed.{first-passes, second-passes, refuseIf-none, either-first, either-second}
 use Rattle.work_store.specs.State.{Draft}
 use Rattle.work_store.specs.Calls.{editDemand, editSupply, editCost, editEntry, refuseWhen, absent, leastRun, refusalIn, acted, withCase, withEntry}
-use Rattle.work_store.specs.Store.{suppliesAt, demandsAt, costsAt, tableAt, inCase, width, slot, draftIn, stateAt, sources, terminals, opens, heldIn, entriesFor, entriesIn, zeroed, extended, writes}
+use Rattle.work_store.specs.Store.{suppliesAt, demandsAt, costsAt, tableAt, inCase, width, slot, draftIn, stateAt, sources, terminals, signedAt, opens, heldIn, entriesFor, entriesIn, zeroed, extended, writes}
 use Rattle.work_store.specs.OpenStore.{Open}
 use Rattle.work_store.proofs.StoreInSlot.{demand-draft, supply-draft, cost-draft, entry-draft}
 use Rattle.work_store.proofs.StateAfterWrites.{inside, held-eq, is-open, edit-state}
@@ -41,7 +41,8 @@ edit-held : (cells : List ℕ) → opens cells ≡ true → (q v : ℕ) (d : Dra
     → heldIn (set cells (inCase q) v) ≡ some (withCase d (stateAt (sources cells) (terminals cells) cells))
 edit-held cells o q v d h e =
     held-eq cells (set cells (inCase q) v) _ o (length-set cells (inCase q) v) (getD-set-other cells (inCase q) 0 v 0 (λ z. omega arith))
-    (getD-set-other cells (inCase q) 1 v 0 (λ z. omega arith)) (edit-state (sources cells) (terminals cells) cells (is-open cells o) q v d h e)
+    (getD-set-other cells (inCase q) 1 v 0 (λ z. omega arith)) (getD-set-other cells (inCase q) signedAt v 0 (λ z. omega arith))
+    (edit-state (sources cells) (terminals cells) cells (is-open cells o) q v d h e)
 
 pub demand-faithful : (j v : ℕ) → Faithful (editDemand j v)
 unfolding refusalIn writes acted stateAt draftIn width
@@ -101,6 +102,7 @@ first-faithful v cells o small =
     held-eq cells (set E (inCase suppliesAt) v) _ o (length-set E (inCase suppliesAt) v ∙ ext-length m n cells p (v + 1) few)
     (getD-set-other E (inCase suppliesAt) 0 v 0 (λ z. omega arith) ∙ ext-low m n cells p (v + 1) few 0 (omega arith))
     (getD-set-other E (inCase suppliesAt) 1 v 0 (λ z. omega arith) ∙ ext-low m n cells p (v + 1) few 1 (omega arith))
+    (getD-set-other E (inCase suppliesAt) signedAt v 0 (λ z. omega arith) ∙ ext-low m n cells p (v + 1) few signedAt (omega arith))
     (first-state m n cells p v small)
 
 other-faithful : (i v : ℕ) (cells : List ℕ) → opens cells ≡ true → 2 ≤ i → i ≤ sources cells

@@ -15,7 +15,7 @@ use Rattle.problem.specs.Outcome.{Outcome, refused, refuseIf, formRefusal}
 use Rattle.problem.proofs.TestsPassed.{formed, first-decides, second-decides}
 use Rattle.work_store.specs.State.{Draft, lentWith, entered}
 use Rattle.work_store.specs.Calls.{absent}
-use Rattle.work_store.specs.Store.{cellsFor, suppliesAt, demandsAt, costsAt, ceilingsAt, tableAt, inCase, width, slot, costIn, entriesFor, draftIn, markIn, stateAt, opens, inLimits, heldIn, header, cellsOf}
+use Rattle.work_store.specs.Store.{cellsFor, suppliesAt, demandsAt, costsAt, ceilingsAt, tableAt, inCase, width, slot, costIn, entriesFor, draftIn, markIn, stateAt, signature, opens, signed, inLimits, heldIn, header, cellsOf}
 use Rattle.work_store.specs.Promise.{entryRefusal, Entered}
 use Rattle.work_store.specs.OpenStore.{Sized}
 use Rattle.work_store.proofs.ListParts.{part-at}
@@ -37,7 +37,7 @@ written-more x s d at e =
     rest : drop (length s) (drop (length x) d) ≡ drop (length (x ++ s)) d
     rest = drop-drop (length s) (length x) d ∙ ap (λ (k : ℕ). drop k d) (sym (length-append x s))
 
-written-length : (x d : List ℕ) → length x ≤ length d → length (written x d) ≡ length d
+pub written-length : (x d : List ℕ) → length x ≤ length d → length (written x d) ≡ length d
 written-length x d h = length-append x (drop (length x) d) ∙ omega (arith, length-drop (length x) d)
 
 -- the part that x is, after p and before q
@@ -86,7 +86,7 @@ module _ (d : Draft) (before : List ℕ) (z : Sized d before) where
   entry-length =
       omega (arith, length-append (header d ++ d .supplies ++ d .demands ++ map raisedOf (d .costs) ++ d .ceilings) (d .table), lenU, z .table-long)
 
-  entry-fits : length (cellsOf d) ≤ length before
+  pub entry-fits : length (cellsOf d) ≤ length before
   unfolding cellsFor
   entry-fits = omega (arith, entry-length, z .opening .room, z .first-small)
 
@@ -96,17 +96,17 @@ module _ (d : Draft) (before : List ℕ) (z : Sized d before) where
   cells : List ℕ
   cells = written (cellsOf d) before
 
-  head-at : (i : ℕ) → i < 12 → getD cells i 0 ≡ getD (header d) i 0
+  head-at : (i : ℕ) → i < 13 → getD cells i 0 ≡ getD (header d) i 0
   unfolding cellsOf cells tail raised
   head-at i h =
       ap (λ (l : List ℕ). getD l i 0) (six (header d) (d .supplies) (d .demands) raised (d .ceilings) (d .table) tail)
-      ∙ List·getD-append (header d) (d .supplies ++ (d .demands ++ (raised ++ (d .ceilings ++ (d .table ++ tail))))) 0 i (let q : i < 12 = h in q)
+      ∙ List·getD-append (header d) (d .supplies ++ (d .demands ++ (raised ++ (d .ceilings ++ (d .table ++ tail))))) 0 i (let q : i < 13 = h in q)
 
   supplies-at : take (d .m) (drop (inCase suppliesAt) cells) ≡ d .supplies
   unfolding cellsOf cells tail raised
   supplies-at =
-      ap (λ (l : List ℕ). take (d .m) (drop 12 l)) (five (header d ++ d .supplies) (d .demands) raised (d .ceilings) (d .table) tail)
-      ∙ part-is (header d) (d .supplies) _ 12 (d .m) refl (z .supplies-long)
+      ap (λ (l : List ℕ). take (d .m) (drop 13 l)) (five (header d ++ d .supplies) (d .demands) raised (d .ceilings) (d .table) tail)
+      ∙ part-is (header d) (d .supplies) _ 13 (d .m) refl (z .supplies-long)
 
   demands-at : take (d .n) (drop (inCase (demandsAt (d .m))) cells) ≡ d .demands
   unfolding cellsOf cells tail raised
@@ -139,7 +139,7 @@ module _ (d : Draft) (before : List ℕ) (z : Sized d before) where
   unfolding width
   first-is =
       case-cell (d .m) (d .n) cells room 2 (omega arith)
-      ∙ sym (part-at (d .m) 12 cells 0 (omega (arith, z .opening .two)))
+      ∙ sym (part-at (d .m) 13 cells 0 (omega (arith, z .opening .two)))
       ∙ ap (λ (l : List ℕ). getD l 0 0) supplies-at
 
   entered-draft : draftIn (d .m) (d .n) (slot (d .m) (d .n) 0 cells) ≡ d
@@ -147,7 +147,7 @@ module _ (d : Draft) (before : List ℕ) (z : Sized d before) where
   entered-draft =
       let m = d .m in
       let n = d .n in
-      draft-eq m n (case-cell m n cells room 0 (omega arith) ∙ head-at 10 (omega arith)) (case-cell m n cells room 1 (omega arith) ∙ head-at 11 (omega arith))
+      draft-eq m n (case-cell m n cells room 0 (omega arith) ∙ head-at 11 (omega arith)) (case-cell m n cells room 1 (omega arith) ∙ head-at 12 (omega arith))
       (case-part m n cells room suppliesAt m (omega arith) ∙ supplies-at) (case-part m n cells room (demandsAt m) n (omega arith) ∙ demands-at)
       (ap (map costIn) (case-part m n cells room (costsAt m n) (m * n) (omega arith) ∙ costs-at) ∙ costs-back (d .costs) (z .costs-inside))
       (case-part m n cells room (ceilingsAt m n) (m * n) (omega arith) ∙ ceilings-at)
@@ -161,7 +161,7 @@ module _ (d : Draft) (before : List ℕ) (z : Sized d before) where
   no-flag k a b =
       head-at (1 + k) (omega arith)
       ∙ ap (λ (i : ℕ). getD (header d) i 0) (let q : 1 + k ≡ suc (suc (k - 1)) = omega arith in q)
-      ∙ List·getD-append (replicate 8 0) (d .run1 ∷ d .run2 ∷ []) 0 (k - 1) (let q : k - 1 < 8 = omega arith in q)
+      ∙ List·getD-append (replicate 8 0) (signature ∷ d .run1 ∷ d .run2 ∷ []) 0 (k - 1) (let q : k - 1 < 8 = omega arith in q)
       ∙ getD-replicate 8 (k - 1) 0 0 (omega arith)
 
   no-mark : (k : ℕ) → markIn (d .m) (d .n) cells k ≡ none
@@ -179,7 +179,7 @@ module _ (d : Draft) (before : List ℕ) (z : Sized d before) where
   entered-state = state-eq _ _ entered-draft no-mark
 
   pub entered-held : heldIn (written (cellsOf d) before) ≡ some (entered d)
-  unfolding heldIn opens inLimits cellsOf cells
+  unfolding heldIn opens inLimits signed cellsOf cells
   entered-held =
       let o = z .opening in
       simp (
@@ -194,7 +194,7 @@ module _ (d : Draft) (before : List ℕ) (z : Sized d before) where
 
   pub filled : (a b c e : ℕ) (s1 s2 s3 s4 s5 s6 : List ℕ) → a ≡ inCase (demandsAt (d .m)) → b ≡ inCase (costsAt (d .m) (d .n))
       → c ≡ inCase (ceilingsAt (d .m) (d .n)) → e ≡ inCase (tableAt (d .m) (d .n))
-      → s1 ≡ paste before 0 (header d) 12 → s2 ≡ paste s1 12 (d .supplies) (length (d .supplies)) → s3 ≡ paste s2 a (d .demands) (length (d .demands))
+      → s1 ≡ paste before 0 (header d) 13 → s2 ≡ paste s1 13 (d .supplies) (length (d .supplies)) → s3 ≡ paste s2 a (d .demands) (length (d .demands))
       → s4 ≡ paste s3 b (map raisedOf (d .costs)) (length (map raisedOf (d .costs))) → s5 ≡ paste s4 c (d .ceilings) (length (d .ceilings))
       → s6 ≡ paste s5 e (d .table) (length (d .table)) → s6 ≡ written (cellsOf d) before
   unfolding cellsOf
@@ -205,7 +205,7 @@ module _ (d : Draft) (before : List ℕ) (z : Sized d before) where
       let r = map raisedOf (d .costs) in
       let u = d .ceilings in
       let t = d .table in
-      let w2 : s2 ≡ written (h ++ s) before = e2 ∙ ap (λ (l : List ℕ). paste l 12 s (length s)) e1 ∙ written-more h s before 12 refl in
+      let w2 : s2 ≡ written (h ++ s) before = e2 ∙ ap (λ (l : List ℕ). paste l 13 s (length s)) e1 ∙ written-more h s before 13 refl in
       let w3 : s3 ≡ written (h ++ s ++ w) before = e3 ∙ ap (λ (l : List ℕ). paste l a w (length w)) w2 ∙ written-more (h ++ s) w before a (lenS ∙ sym ea) in
       let w4 : s4 ≡ written (h ++ s ++ w ++ r) before = e4 ∙ ap (λ (l : List ℕ). paste l b r (length r)) w3 ∙ written-more (h ++ s ++ w) r before b (lenD ∙ sym eb) in
       let w5 : s5 ≡ written (h ++ s ++ w ++ r ++ u) before = e5 ∙ ap (λ (l : List ℕ). paste l c u (length u)) w4 ∙ written-more (h ++ s ++ w ++ r) u before c (lenC ∙ sym ec) in

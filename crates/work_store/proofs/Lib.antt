@@ -14,3 +14,5 @@ pub mod EditLaws
 pub mod EditRefusals
 pub mod EnteredAfresh
 pub mod SeeLaws
+pub mod LimitLaws
+pub mod StoreLength

@@ -5,10 +5,10 @@ use mathlib.Core.List.{List}
 use Prim.Native.Nat.{ℕ, _*_, _≤_, _<_}
 use native.Mathlib.Nat.{mul-le-mul}
 use native.Mathlib.Omega.{arith}
-use lib.ListN.{length}
-use borrow.Author.Tests.{le-leb, lt-leb}
+use lib.ListN.{length, getD}
+use borrow.Author.Tests.{le-leb, lt-leb, eq-eqb, ne-eqb}
 use Rattle.work_store.specs.declared.opened.Opened.the-variants.{Held, Closed}
-use Rattle.work_store.specs.Store.{cellsFor, sources, terminals, opens, inLimits, cellsToLend}
+use Rattle.work_store.specs.Store.{cellsFor, sources, terminals, signedAt, signature, signed, opens, inLimits, cellsToLend}
 use Rattle.work_store.specs.OpenStore.{openedOf, Open}
 use Rattle.work_store.proofs.StateAfterWrites.{is-open, large}
 
@@ -74,18 +74,23 @@ module _ (cells : List ℕ) where
   unfolding opens inLimits
   shut-room h = shut (simp (lt-leb (cellsFor (sources cells) (terminals cells)) (length cells) h, and-false))
 
-  pub shut-small : length cells < 10 → Closed ≡ openedOf cells
+  pub shut-unsigned : (getD cells signedAt 0 ≡ signature → ⊥) → Closed ≡ openedOf cells
+  unfolding opens signed
+  shut-unsigned d = shut (simp (ne-eqb (getD cells signedAt 0) signature d, and-false))
+
+  pub shut-small : length cells < 11 → Closed ≡ openedOf cells
   shut-small h = shut-room (omega (arith, large (sources cells) (terminals cells)))
 
-  pub found : Open (sources cells) (terminals cells) cells → Held (sources cells) (terminals cells) ≡ openedOf cells
-  unfolding openedOf opens inLimits
-  found o =
+  pub found : Open (sources cells) (terminals cells) cells → getD cells signedAt 0 ≡ signature → Held (sources cells) (terminals cells) ≡ openedOf cells
+  unfolding openedOf opens inLimits signed
+  found o e =
       simp (
         le-leb 2 (sources cells) (o .two),
         le-leb (sources cells) 32 (o .few),
         le-leb 1 (terminals cells) (o .one),
         le-leb (terminals cells) 64 (o .many),
         le-leb (cellsFor (sources cells) (terminals cells)) (length cells) (o .room),
+        eq-eqb (getD cells signedAt 0) signature e,
       )
 
   pub is-shut : openedOf cells ≡ Closed → opens cells ≡ false

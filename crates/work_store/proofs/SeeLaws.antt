@@ -70,7 +70,7 @@ module _ (m n : ℕ) (cells : List ℕ) (op : Open m n cells) where
         ) in e))
 
   -- a part of the store, copied to the front of a lent slice
-  shown : (x : List ℕ) (o l f k : ℕ) (old new : List ℕ) → x ≡ take l (drop o cells) → f ≡ o → k ≡ l
+  pub shown : (x : List ℕ) (o l f k : ℕ) (old new : List ℕ) → x ≡ take l (drop o cells) → f ≡ o → k ≡ l
       → new ≡ paste old 0 (take k (drop f cells)) (length (take k (drop f cells))) → new ≡ written x old
   shown x o l f k old new e p q g =
       g ∙ filled-front (take k (drop f cells)) old ∙ ap (λ (s : List ℕ). written s old) (ap₂ (λ (i j : ℕ). take i (drop j cells)) q p ∙ sym e)
@@ -121,7 +121,7 @@ module _ (cells : List ℕ) where
   table-closed t e = record { answer = sym (ap (tableAnswer (length t)) (held-none cells (is-shut cells e))); table = refl }
 
   module _ (m n : ℕ) (e : openedOf cells ≡ Held m n) where
-    held-is : some (stateAt m n cells) ≡ heldIn cells
+    pub held-is : some (stateAt m n cells) ≡ heldIn cells
     held-is =
         let z = found-size cells m n e in
         sym (held-some cells (is-found cells m n e) ∙ ap₂ (λ (a b : ℕ). some (stateAt a b cells)) (z .0) (z .1))

@@ -13,7 +13,7 @@ use borrow.Author.Tests.{leb-true, le-ltb, ltb-false, eq-eqb, ne-eqb}
 use Rattle.problem.proofs.TestsPassed.{either-first, either-second}
 use Rattle.work_store.specs.State.{Draft, State}
 use Rattle.work_store.specs.Calls.{absent, withCase, held, unset, acted, setMark, goBack}
-use Rattle.work_store.specs.Store.{cellsFor, width, slot, draftIn, markIn, stateAt, sources, terminals, opens, inLimits, heldIn, copied}
+use Rattle.work_store.specs.Store.{cellsFor, width, slot, draftIn, markIn, stateAt, sources, terminals, signedAt, signature, signed, opens, inLimits, heldIn, copied}
 use Rattle.work_store.specs.OpenStore.{Open}
 use Rattle.work_store.proofs.Slots.{store-slot, store-other, copied-length, copied-head, copied-same, copied-other, store-head}
 
@@ -67,26 +67,27 @@ mark-held m n a k d = go (absent k 8) (eqb (getD a (1 + k) 0) 0)
     go false true e = let z : _≡_ {A = ℕ} 0 1 = cc in absurd (omega arith)
     go false false e = refl
 
-pub large : (m n : ℕ) → 10 ≤ cellsFor m n
+pub large : (m n : ℕ) → 11 ≤ cellsFor m n
 unfolding cellsFor
 large m n = omega arith
 
--- the state of cells of the same size
+-- the state of signed cells of the same size
 pub held-eq : (cells after : List ℕ) (t : State) → opens cells ≡ true → length after ≡ length cells → sources after ≡ sources cells
-    → terminals after ≡ terminals cells → stateAt (sources cells) (terminals cells) after ≡ t → heldIn after ≡ some t
-unfolding heldIn opens inLimits
-held-eq cells after t o l a b e =
+    → terminals after ≡ terminals cells → getD after signedAt 0 ≡ getD cells signedAt 0 → stateAt (sources cells) (terminals cells) after ≡ t
+    → heldIn after ≡ some t
+unfolding heldIn opens signed
+held-eq cells after t o l a b c e =
     ap₂ (λ (x : Bool) (s : State). cond x (some s) none) (same ∙ o)
     (ap₂ (λ (m n : ℕ). stateAt m n after) a b ∙ e)
   where
-    same :
-        (leb 2 (sources after) && leb (sources after) 32 && leb 1 (terminals after) && leb (terminals after) 64
-        && leb (cellsFor (sources after) (terminals after)) (length after))
-        ≡ (leb 2 (sources cells) && leb (sources cells) 32 && leb 1 (terminals cells) && leb (terminals cells) 64
-        && leb (cellsFor (sources cells) (terminals cells)) (length cells))
-    same =
-        ap₂ (λ (m n : ℕ). leb 2 m && leb m 32 && leb 1 n && leb n 64 && leb (cellsFor m n) (length after)) a b
-        ∙ ap (λ (k : ℕ). leb 2 (sources cells) && leb (sources cells) 32 && leb 1 (terminals cells) && leb (terminals cells) 64 && leb (cellsFor (sources cells) (terminals cells)) k) l
+    fits : (inLimits (sources after) (terminals after) && leb (cellsFor (sources after) (terminals after)) (length after))
+        ≡ (inLimits (sources cells) (terminals cells) && leb (cellsFor (sources cells) (terminals cells)) (length cells))
+    fits =
+        ap₂ (λ (m n : ℕ). inLimits m n && leb (cellsFor m n) (length after)) a b
+        ∙ ap (λ (k : ℕ). inLimits (sources cells) (terminals cells) && leb (cellsFor (sources cells) (terminals cells)) k) l
+
+    same : opens after ≡ opens cells
+    same = ap₂ (λ (x : Bool) (k : ℕ). x && eqb k signature) fits c
 
 pub is-open : (cells : List ℕ) → opens cells ≡ true → Open (sources cells) (terminals cells) cells
 unfolding opens inLimits
@@ -96,7 +97,8 @@ is-open cells o =
     let c = leb 1 (terminals cells) in
     let d = leb (terminals cells) 64 in
     let e = leb (cellsFor (sources cells) (terminals cells)) (length cells) in
-    let o4 = both-first (a && b && c && d) e o in
+    let o5 = both-first (a && b && c && d && e) (signed cells) o in
+    let o4 = both-first (a && b && c && d) e o5 in
     let o3 = both-first (a && b && c) d o4 in
     let o2 = both-first (a && b) c o3 in
     record {
@@ -104,17 +106,17 @@ is-open cells o =
       few = leb-true (sources cells) 32 (both-second a b o2);
       one = leb-true 1 (terminals cells) (both-second (a && b) c o3);
       many = leb-true (terminals cells) 64 (both-second (a && b && c) d o4);
-      room = leb-true (cellsFor (sources cells) (terminals cells)) (length cells) (both-second (a && b && c && d) e o);
+      room = leb-true (cellsFor (sources cells) (terminals cells)) (length cells) (both-second (a && b && c && d) e o5);
     }
 
 module _ (m n : ℕ) (cells : List ℕ) (op : Open m n cells) where
   -- a store in slot 0
   pub edit-state : (q v : ℕ) (d : Draft) → q < width m n → draftIn m n (set (slot m n 0 cells) q v) ≡ d
-      → stateAt m n (set cells (10 + q) v) ≡ withCase d (stateAt m n cells)
+      → stateAt m n (set cells (11 + q) v) ≡ withCase d (stateAt m n cells)
   unfolding stateAt
   edit-state q v d h e =
       state-eq _ _ (ap (draftIn m n) (store-slot m n cells (op .room) q v h) ∙ e)
-      (λ k. mark-eq m n (set cells (10 + q) v) cells k (λ a b. getD-set-other cells (10 + q) (1 + k) v 0 (λ z. omega arith))
+      (λ k. mark-eq m n (set cells (11 + q) v) cells k (λ a b. getD-set-other cells (11 + q) (1 + k) v 0 (λ z. omega arith))
       (λ a b. store-other m n cells (op .room) q v k h a))
 
   -- slot 0 copied to slot k, and its flag set
@@ -126,7 +128,7 @@ module _ (m n : ℕ) (cells : List ℕ) (op : Open m n cells) where
     unfolding marked
     marked-flag = getD-set-same (copied m n 0 k cells) (1 + k) 1 0 (omega (arith, copied-length m n cells (op .room) 0 k (omega arith) b, op .room, large m n))
 
-    marked-head : (i : ℕ) → i < 10 → (i ≡ 1 + k → ⊥) → getD marked i 0 ≡ getD cells i 0
+    marked-head : (i : ℕ) → i < 11 → (i ≡ 1 + k → ⊥) → getD marked i 0 ≡ getD cells i 0
     unfolding marked
     marked-head i h d = getD-set-other (copied m n 0 k cells) (1 + k) i 1 0 d ∙ copied-head m n cells (op .room) 0 k (omega arith) b i h
 
@@ -152,9 +154,9 @@ module _ (m n : ℕ) (cells : List ℕ) (op : Open m n cells) where
     unfolding acted stateAt marked
     mark-state = state-eq _ _ (ap (draftIn m n) (marked-other 0 (omega arith) (λ z. omega arith))) marked-marks
 
-    pub mark-head : (i : ℕ) → i < 2 → getD (set (copied m n 0 k cells) (1 + k) 1) i 0 ≡ getD cells i 0
+    pub mark-head : (i : ℕ) → i < 11 → (i ≡ 1 + k → ⊥) → getD (set (copied m n 0 k cells) (1 + k) 1) i 0 ≡ getD cells i 0
     unfolding marked
-    mark-head i h = marked-head i (omega arith) (λ z. omega arith)
+    mark-head i h d = marked-head i h d
 
     pub mark-length : length (set (copied m n 0 k cells) (1 + k) 1) ≡ length cells
     mark-length = length-set (copied m n 0 k cells) (1 + k) (let v : ℕ = 1 in v) ∙ copied-length m n cells (op .room) 0 k (omega arith) b

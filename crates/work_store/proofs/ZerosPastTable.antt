@@ -53,7 +53,7 @@ module _ (m n : ℕ) (cells : List ℕ) (op : Open m n cells) (c : ℕ) (small :
   ext-part a l h = part-ext l a a (extended m n c cells) cells (omega (arith, ext-length, room)) (omega (arith, room)) (λ i g. ext-low (a + i) (omega arith))
 
   ext-first : getD (extended m n c cells) (inCase suppliesAt) 0 ≡ getD cells (inCase suppliesAt) 0
-  ext-first = ext-low 12 (omega (arith, op .two))
+  ext-first = ext-low 13 (omega (arith, op .two))
 
   ext-slot : (k : ℕ) → 1 ≤ k → k ≤ 8 → slot m n k (extended m n c cells) ≡ slot m n k cells
   unfolding slot width
@@ -66,7 +66,7 @@ module _ (m n : ℕ) (cells : List ℕ) (op : Open m n cells) (c : ℕ) (small :
   unfolding entriesIn
   ext-case =
       let E = extended m n c cells in
-      draft-eq m n (ext-low 10 (omega arith)) (ext-low 11 (omega arith)) (ext-part (inCase suppliesAt) m (omega arith))
+      draft-eq m n (ext-low 11 (omega arith)) (ext-low 12 (omega arith)) (ext-part (inCase suppliesAt) m (omega arith))
       (ext-part (inCase (demandsAt m)) n (omega arith)) (ap (map costIn) (ext-part (inCase (costsAt m n)) (m * n) (omega arith)))
       (ext-part (inCase (ceilingsAt m n)) (m * n) (omega arith))
       (ap (λ (k : ℕ). take (entriesFor k) (drop (inCase (tableAt m n)) E)) ext-first ∙ ext-part (inCase (tableAt m n)) (entriesFor (getD cells (inCase suppliesAt) 0)) (omega arith))

@@ -13,7 +13,7 @@ use Rattle.work_store.specs.declared.opened.Opened.{Opened}
 use Rattle.work_store.specs.declared.opened.Opened.the-variants.{Held, Closed}
 use Rattle.work_store.specs.State.{Draft}
 use Rattle.work_store.specs.Calls.{Call, refusalIn}
-use Rattle.work_store.specs.Store.{cellsFor, stateAt, sources, terminals, opens, inCase, writes}
+use Rattle.work_store.specs.Store.{cellsFor, tableAt, stateAt, sources, terminals, opens, inCase, writes}
 use Rattle.work_store.specs.Promise.{cellsUnless}
 
 -- the size of the working case in the store, if there is one
@@ -27,6 +27,12 @@ pub record Open (m n : ℕ) (cells : List ℕ) : Type 0 where
   pub one : 1 ≤ n
   pub many : n ≤ 64
   pub room : cellsFor m n ≤ length cells
+
+-- cells that begin as a store does: what stands before the slots, whatever it is, and one whole slot
+pub record Front (m n : ℕ) (cells : List ℕ) : Type 0 where
+  pub few : m ≤ 32
+  pub many : n ≤ 64
+  pub room : inCase (tableAt m n) + 4001 ≤ length cells
 
 -- what a call does in an open store
 pub record Acted (m n : ℕ) (call : Call) (before after : List ℕ) (r : Option Outcome) : Type 0 where

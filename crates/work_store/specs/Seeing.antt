@@ -1,13 +1,15 @@
--- What is shown of a working case (W-212): the tariff is unit costs, supplies and demands; the table is the entries. Assumes nothing.
+-- What is shown of a working case (W-212): the tariff is unit costs, supplies and demands; the table is the entries. To the planner alone: the
+-- limits that no edit alters, which are least runs and ceilings, and which marks are set. Assumes nothing.
 use mathlib.Core.Path.{_≡_}
 use mathlib.Core.Bool.{_||_}
 use mathlib.Core.Option.{Option, none, some}
-use mathlib.Core.List.{List, []}
+use mathlib.Core.List.{List, [], _∷_, map}
 use Prim.Native.Nat.{ℕ}
 use lib.Dec.{ltb}
 use lib.IntN.{ℤ}
 use lib.ListN.{length}
 use Rattle.transport.specs.Curve.{written}
+use Rattle.transport.specs.Listing.{upFrom}
 use Rattle.problem.specs.Outcome.{Outcome, refused, refuseIf}
 use Rattle.work_store.specs.State.{Draft, State}
 
@@ -59,3 +61,50 @@ pub record TariffShown (held : Option State) (c : List ℤ) (s d : List ℕ) (c'
 pub record TableShown (held : Option State) (t t' : List ℕ) (r : Option Outcome) : Type 0 where
   pub answer : r ≡ tableAnswer (length t) held
   pub table : t' ≡ shownUnless r (tableIn held) t
+
+-- ---- the limits, and which marks are set
+
+unfoldable pub limitsRefusal : ℕ → ℕ → Draft → Option Outcome
+limitsRefusal a b d = refuseIf 11 (ltb a 2 || ltb b (length (d .ceilings)))
+
+unfoldable pub marksRefusal : ℕ → Option Outcome
+marksRefusal a = refuseIf 11 (ltb a 8)
+
+abbrev pub limitsAnswer : ℕ → ℕ → Option State → Option Outcome
+limitsAnswer a b none = some (refused 11 0)
+limitsAnswer a b (some s) = limitsRefusal a b (s .case)
+
+abbrev pub marksAnswer : ℕ → Option State → Option Outcome
+marksAnswer a none = some (refused 11 0)
+marksAnswer a (some s) = marksRefusal a
+
+abbrev pub runsIn : Option State → List ℕ
+runsIn none = []
+runsIn (some s) = s .case .run1 ∷ s .case .run2 ∷ []
+
+abbrev pub ceilingsIn : Option State → List ℕ
+ceilingsIn none = []
+ceilingsIn (some s) = s .case .ceilings
+
+-- 1 where a mark is set, else 0
+abbrev pub flagOf : Option Draft → ℕ
+flagOf none = 0
+flagOf (some d) = 1
+
+-- of marks 1 to 8
+unfoldable pub flagsOf : State → List ℕ
+flagsOf s = map (λ k. flagOf (s .marks k)) (upFrom 1 8)
+
+abbrev pub flagsIn : Option State → List ℕ
+flagsIn none = []
+flagsIn (some s) = flagsOf s
+
+-- the two lent slices of the limits: runs, then ceilings
+pub record LimitsShown (held : Option State) (u c u' c' : List ℕ) (r : Option Outcome) : Type 0 where
+  pub answer : r ≡ limitsAnswer (length u) (length c) held
+  pub runs : u' ≡ shownUnless r (runsIn held) u
+  pub ceilings : c' ≡ shownUnless r (ceilingsIn held) c
+
+pub record MarksShown (held : Option State) (f f' : List ℕ) (r : Option Outcome) : Type 0 where
+  pub answer : r ≡ marksAnswer (length f) held
+  pub flags : f' ≡ shownUnless r (flagsIn held) f

@@ -1,5 +1,5 @@
--- The store's layout: ten cells before all slots, then nine slots, slot 0 of the working case and slot k of mark k. Assumes nothing.
---   cell 0: m; cell 1: n; cell 1 + k: whether mark k is set
+-- The store's layout: eleven cells before all slots, then nine slots, slot 0 of the working case and slot k of mark k. Assumes nothing.
+--   cell 0: m; cell 1: n; cell 1 + k: whether mark k is set; cell 10: the signature
 --   a slot: 2 least runs, m supplies, n demands, m × n unit costs, m × n ceilings, then the table, for which there are 4,001 cells
 use mathlib.Core.Bool.{Bool, cond, _&&_}
 use mathlib.Core.Option.{Option, none, some}
@@ -31,9 +31,17 @@ cellsToLend m n = cond (inLimits m n) (cellsFor m n) 0
 abbrev pub flagAt : ℕ → ℕ
 flagAt k = 1 + k
 
+-- the signature of a working case
+abbrev pub signedAt : ℕ
+signedAt = 10
+
+-- the magic number, the letters YADV as four bytes, and after it, in the lower 32 bits, the layout's version
+abbrev pub signature : ℕ
+signature = 1497449558 * 4294967296 + 2
+
 -- the slots
 abbrev pub slotsAt : ℕ
-slotsAt = 10
+slotsAt = 11
 
 -- ---- where the parts of a slot begin, after the two least runs
 
@@ -99,9 +107,14 @@ sources cells = getD cells 0 0
 abbrev pub terminals : List ℕ → ℕ
 terminals cells = getD cells 1 0
 
--- the cells are those of some working case: a size within the limits, and room for it
+-- the cells are signed
+unfoldable pub signed : List ℕ → Bool
+signed cells = eqb (getD cells signedAt 0) signature
+
+-- the cells are those of some working case: a size within the limits, room for it, and the signature
 unfoldable pub opens : List ℕ → Bool
-opens cells = inLimits (sources cells) (terminals cells) && leb (cellsFor (sources cells) (terminals cells)) (length cells)
+opens cells =
+    inLimits (sources cells) (terminals cells) && leb (cellsFor (sources cells) (terminals cells)) (length cells) && signed cells
 
 -- the state that the cells hold, if any
 unfoldable pub heldIn : List ℕ → Option State
@@ -140,9 +153,9 @@ writes m n (goBack k) cells = copied m n k 0 cells
 
 -- ---- entering
 
--- the ten cells before the slots, with no mark set, and the two least runs
+-- the cells before the slots, with no mark set, and the two least runs
 abbrev pub header : Draft → List ℕ
-header d = d .m ∷ d .n ∷ 0 ∷ 0 ∷ 0 ∷ 0 ∷ 0 ∷ 0 ∷ 0 ∷ 0 ∷ d .run1 ∷ d .run2 ∷ []
+header d = d .m ∷ d .n ∷ 0 ∷ 0 ∷ 0 ∷ 0 ∷ 0 ∷ 0 ∷ 0 ∷ 0 ∷ signature ∷ d .run1 ∷ d .run2 ∷ []
 
 -- the cells that entering writes, from the first on
 unfoldable pub cellsOf : Draft → List ℕ

@@ -15,12 +15,17 @@ pub fn cells_for(m: usize, n: usize) -> usize
 // The flag of mark k is at FLAGS + k.
 pub const FLAGS: usize = 1;
 
+// The signature of a working case: the letters YADV, and the layout's version.
+pub const SIGNED: usize = 10;
+
+pub const SIGNATURE: u64 = 6_431_496_879_019_655_170;
+
 // The two least runs and the supplies of the working case.
-pub const RUN1: usize = 10;
+pub const RUN1: usize = 11;
 
-pub const RUN2: usize = 11;
+pub const RUN2: usize = 12;
 
-pub const SUPPLIES: usize = 12;
+pub const SUPPLIES: usize = 13;
 
 pub fn demands_at(m: usize) -> usize
     requires { ⌜ m ≤ 32 ⌝ }

@@ -1,6 +1,8 @@
 // Which working case a store holds.
 ghost use mathlib.Core.Path.{_≡_};
 ghost use Rattle.work_store.specs.OpenStore.{openedOf};
+use crate::layout::SIGNATURE;
+use crate::layout::SIGNED;
 use crate::layout::cells_for;
 
 pub enum Opened {
@@ -11,7 +13,10 @@ pub enum Opened {
 pub fn open_store(store: &[u64]) -> Opened
     ensures { λ r. ⌜ r ≡ openedOf (now (store .entry)) ⌝ }
 {
-    if store.len() < 10 {
+    if store.len() < 11 {
+        return Opened::Closed;
+    }
+    if store[SIGNED] != SIGNATURE {
         return Opened::Closed;
     }
     let a = store[0];

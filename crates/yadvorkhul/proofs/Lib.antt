@@ -1,1 +1,3 @@
 pub mod WorkReports
+pub mod ExportSecrecy
+pub mod ExportHistories

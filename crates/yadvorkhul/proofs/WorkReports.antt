@@ -13,9 +13,10 @@ use Rattle.problem.specs.Outcome.{Outcome}
 use Rattle.planner.specs.Answer.{Slices}
 use Rattle.work_store.specs.State.{State}
 use Rattle.work_store.specs.Calls.{editCost}
-use Rattle.roletable.specs.Promise.{PerformedBy, PlannedBy}
+use Rattle.roletable.specs.Promise.{PerformedBy}
+use Rattle.work_plans.specs.Planning.{PlannedUnless}
 use Rattle.export_reports.specs.Report.{numberOf, reportOf, worthOf, shortReport, Untold}
-use Rattle.yadvorkhul.specs.Work.{verdictNumber, verdictReport, CallTold, CallUntold, CallExported, outcomeBy, PlanTold, PlanExported}
+use Rattle.yadvorkhul.specs.Work.{verdictNumber, verdictReport, CallTold, CallUntold, CallExported, outcomeTold, PlanTold, ExportedUnless}
 
 module _ (answer : Option Outcome) (Done : Option Outcome → Type 0) (Kept : Type 0) (report : List ℕ) where
   pub call-untold : length report < 2 → Kept → CallExported answer Done Kept report report shortReport
@@ -39,31 +40,31 @@ same-cost role i j v w before after r e p = subst (λ (z : ℤ). PerformedBy rol
 
 -- ---- planning
 
-module _ (role : ℕ) (held : Option State) (report : List ℕ) (worth : List ℤ) where
-  short : (s : Slices) → (ltb (length report) 2 || ltb (length worth) 2) ≡ true → PlanExported role held s s report report worth worth shortReport
-  unfolding PlanExported
+module _ (t : Option Outcome) (held : Option State) (report : List ℕ) (worth : List ℤ) where
+  short : (s : Slices) → (ltb (length report) 2 || ltb (length worth) 2) ≡ true → ExportedUnless t held s s report report worth worth shortReport
+  unfolding ExportedUnless
   short s e =
-      subst (λ (b : Bool). cond b (Untold s s report report worth worth shortReport) (PlanTold role held s s report report worth worth shortReport)) (sym e)
+      subst (λ (b : Bool). cond b (Untold s s report report worth worth shortReport) (PlanTold t held s s report report worth worth shortReport)) (sym e)
       record { number = refl; cells = refl; values = refl; slices = refl }
 
-  pub plan-untold : (s : Slices) → length report < 2 → PlanExported role held s s report report worth worth shortReport
+  pub plan-untold : (s : Slices) → length report < 2 → ExportedUnless t held s s report report worth worth shortReport
   plan-untold s h = short s (simp (lt-ltb (length report) 2 h))
 
-  pub plan-unvalued : (s : Slices) → 2 ≤ length report → length worth < 2 → PlanExported role held s s report report worth worth shortReport
+  pub plan-unvalued : (s : Slices) → 2 ≤ length report → length worth < 2 → ExportedUnless t held s s report report worth worth shortReport
   plan-unvalued s h l = short s (simp (le-ltb (length report) 2 h, lt-ltb (length worth) 2 l))
 
   pub plan-told : (o : Outcome) (before after : Slices) (reported : List ℕ) (valued : List ℤ) (r : ℕ) → 2 ≤ length report → 2 ≤ length worth
-      → PlannedBy role held (length (before .plan)) (length (before .splits)) (length (before .freights)) o before after → r ≡ numberOf o
-      → reported ≡ written (reportOf o) report → valued ≡ written (worthOf o) worth → PlanExported role held before after report reported worth valued r
-  unfolding PlanExported
+      → PlannedUnless t held (length (before .plan)) (length (before .splits)) (length (before .freights)) o before after → r ≡ numberOf o
+      → reported ≡ written (reportOf o) report → valued ≡ written (worthOf o) worth → ExportedUnless t held before after report reported worth valued r
+  unfolding ExportedUnless
   plan-told o before after reported valued r h l a n w v =
       let e : (ltb (length report) 2 || ltb (length worth) 2) ≡ false = simp (le-ltb (length report) 2 h, le-ltb (length worth) 2 l) in
-      let q : o ≡ outcomeBy role held before = a .answer in
-      subst (λ (b : Bool). cond b (Untold before after report reported worth valued r) (PlanTold role held before after report reported worth valued r)) (sym e)
+      let q : o ≡ outcomeTold t held before = a .answer in
+      subst (λ (b : Bool). cond b (Untold before after report reported worth valued r) (PlanTold t held before after report reported worth valued r)) (sym e)
       record {
         number = n ∙ ap numberOf q;
         cells = w ∙ ap (λ (o : Outcome). written (reportOf o) report) q;
         values = v ∙ ap (λ (o : Outcome). written (worthOf o) worth) q;
         planned =
-            subst (λ (o : Outcome). PlannedBy role held (length (before .plan)) (length (before .splits)) (length (before .freights)) o before after) q a;
+            subst (λ (o : Outcome). PlannedUnless t held (length (before .plan)) (length (before .splits)) (length (before .freights)) o before after) q a;
       }

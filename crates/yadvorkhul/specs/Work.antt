@@ -11,13 +11,13 @@ use Rattle.transport.specs.Curve.{written}
 use Rattle.problem.specs.Outcome.{Outcome, _orElse_}
 use Rattle.planner.specs.Answer.{Slices}
 use Rattle.work_store.specs.State.{Draft, State}
-use Rattle.work_store.specs.Calls.{Call}
+use Rattle.work_store.specs.Calls.{Call, goBack}
 use Rattle.work_store.specs.Store.{heldIn}
-use Rattle.work_store.specs.Promise.{entryRefusal, Entered}
-use Rattle.work_plans.specs.Planning.{outcomeIn}
-use Rattle.work_store.specs.Seeing.{tariffAnswer, tableAnswer}
+use Rattle.work_store.specs.Promise.{answerTo, steps, entryRefusal, Entered}
+use Rattle.work_plans.specs.Planning.{outcomeIn, outcomeUnless, PlannedUnless}
+use Rattle.work_store.specs.Seeing.{tariffAnswer, tableAnswer, limitsAnswer, marksAnswer}
 use Rattle.roletable.specs.Deeds.{seeTariff, seeTable, plan, test31}
-use Rattle.roletable.specs.Promise.{answerBy, PerformedBy, outcomeUnless, PlannedBy, TariffSeen, TableSeen}
+use Rattle.roletable.specs.Promise.{answerBy, PerformedBy, TariffSeen, TableSeen, LimitsSeen, MarksSeen}
 use Rattle.export_reports.specs.Report.{numberOf, reportOf, worthOf, shortReport, Untold}
 
 -- 0 where a call is done, else the refusal's number
@@ -66,22 +66,40 @@ abbrev pub TableExported : ℕ → Option State → List ℕ → List ℕ → Li
 TableExported role held t t' report reported r =
     CallExported (test31 role seeTable orElse tableAnswer (length t) held) (TableSeen role held t t') (t' ≡ t) report reported r
 
+-- the two lent slices of the limits, before and after
+abbrev pub LimitsExported : ℕ → Option State → List ℕ → List ℕ → List ℕ → List ℕ → List ℕ → List ℕ → ℕ → Type 0
+LimitsExported role held u c u' c' report reported r =
+    CallExported (test31 role plan orElse limitsAnswer (length u) (length c) held) (LimitsSeen role held u c u' c') ((u' ≡ u) × (c' ≡ c)) report reported r
+
+abbrev pub MarksExported : ℕ → Option State → List ℕ → List ℕ → List ℕ → List ℕ → ℕ → Type 0
+MarksExported role held f f' report reported r =
+    CallExported (test31 role plan orElse marksAnswer (length f) held) (MarksSeen role held f f') (f' ≡ f) report reported r
+
 -- ---- planning
 
--- the outcome by the role: 31 first of all
-abbrev pub outcomeBy : ℕ → Option State → Slices → Outcome
-outcomeBy role held s = outcomeUnless (test31 role plan) (outcomeIn held (length (s .plan)) (length (s .splits)) (length (s .freights)))
+-- the outcome, unless planning is refused before
+abbrev pub outcomeTold : Option Outcome → Option State → Slices → Outcome
+outcomeTold t held s = outcomeUnless t (outcomeIn held (length (s .plan)) (length (s .splits)) (length (s .freights)))
 
 -- report and worth are long enough: the number, the report and the worth are those of the outcome, the lent slices are as promised
-pub record PlanTold (role : ℕ) (held : Option State) (before after : Slices) (report reported : List ℕ) (worth valued : List ℤ) (r : ℕ) : Type 0 where
-  pub number : r ≡ numberOf (outcomeBy role held before)
-  pub cells : reported ≡ written (reportOf (outcomeBy role held before)) report
-  pub values : valued ≡ written (worthOf (outcomeBy role held before)) worth
+pub record PlanTold (t : Option Outcome) (held : Option State) (before after : Slices) (report reported : List ℕ) (worth valued : List ℤ) (r : ℕ) : Type 0 where
+  pub number : r ≡ numberOf (outcomeTold t held before)
+  pub cells : reported ≡ written (reportOf (outcomeTold t held before)) report
+  pub values : valued ≡ written (worthOf (outcomeTold t held before)) worth
   pub planned :
-      PlannedBy role held (length (before .plan)) (length (before .splits)) (length (before .freights)) (outcomeBy role held before) before after
+      PlannedUnless t held (length (before .plan)) (length (before .splits)) (length (before .freights)) (outcomeTold t held before) before after
 
 -- all that is promised, by the two lengths
-unfoldable pub PlanExported : ℕ → Option State → Slices → Slices → List ℕ → List ℕ → List ℤ → List ℤ → ℕ → Type 0
-PlanExported role held before after report reported worth valued r =
+unfoldable pub ExportedUnless : Option Outcome → Option State → Slices → Slices → List ℕ → List ℕ → List ℤ → List ℤ → ℕ → Type 0
+ExportedUnless t held before after report reported worth valued r =
     cond (ltb (length report) 2 || ltb (length worth) 2) (Untold before after report reported worth valued r)
-    (PlanTold role held before after report reported worth valued r)
+    (PlanTold t held before after report reported worth valued r)
+
+-- 31 first of all
+abbrev pub PlanExported : ℕ → Option State → Slices → Slices → List ℕ → List ℕ → List ℤ → List ℤ → ℕ → Type 0
+PlanExported role held before after report reported worth valued r = ExportedUnless (test31 role plan) held before after report reported worth valued r
+
+-- then 24 and 25 as for going back to the mark, else what planning after going back gives
+abbrev pub MarkExported : ℕ → ℕ → Option State → Slices → Slices → List ℕ → List ℕ → List ℤ → List ℤ → ℕ → Type 0
+MarkExported role k held before after report reported worth valued r =
+    ExportedUnless (test31 role plan orElse answerTo (goBack k) held) (steps (goBack k) held) before after report reported worth valued r

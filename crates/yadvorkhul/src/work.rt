@@ -31,7 +31,7 @@ pub fn tell_verdict(told: Verdict, report: &mut [u64]) -> u64
 pub extern "C" fn yadvorkhul_store_cells(m: usize, n: usize) -> usize
     ensures { λ r. ⌜ r ≡ cellsToLend m n ⌝ }
 {
-    work_case::store_cells(m, n)
+    roles::store_cells(m, n)
 }
 
 // Enters a case into a store; no mark is set.
@@ -54,7 +54,7 @@ pub extern "C" fn yadvorkhul_enter(
     if report.len() < 2 {
         return 34;
     }
-    let told = work_case::enter(
+    let told = roles::enter(
         m,
         n,
         run1,

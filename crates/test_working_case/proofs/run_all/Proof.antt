@@ -7,10 +7,10 @@ use Rattle.test_working_case.proofs.run_all.Statement.{statement}
 use Rattle.test_working_case.proofs.run_all.Tie as tie
 
 abbrev Inv-loop : tie.InvT-loop
-Inv-loop store₀ calls₀ plans₀ seed₀ k₀ store calls plans seed k = length store ≡ length store₀
+Inv-loop store₀ calls₀ plans₀ marked₀ shown₀ seed₀ k₀ store calls plans marked shown seed k = length store ≡ length store₀
 
 abbrev μ-loop : tie.MeasureT-loop
-μ-loop store₀ calls₀ plans₀ seed₀ k₀ store calls plans seed k = 2000 - k
+μ-loop store₀ calls₀ plans₀ marked₀ shown₀ seed₀ k₀ store calls plans marked shown seed k = 1000 - k
 
 pub run-all-spec : {M : Type 1} → statement M
 run-all-spec =

@@ -1,7 +1,7 @@
 -- `work_case::plan_case` meets its contract. By the planner's promise. Assumes nothing.
 use mathlib.Core.Path.{sym, _∙_}
 use Rattle.work_store.proofs.OpenStore.{opened}
-use Rattle.work_plans.proofs.PlanLaws.{plan-closed, plan-work}
+use Rattle.work_plans.proofs.PlanLaws.{open-front, plan-closed, plan-work}
 use borrow.Author.Needs.{needs}
 use Rattle.work_case.proofs.plan_case.Statement.{statement}
 use Rattle.work_case.proofs.plan_case.Tie as tie
@@ -16,7 +16,7 @@ enum-known-m : tie.Need-enum-known-m
 enum-known-m c = search needs
 
 plan-open-requires : tie.Need-plan-open-requires
-plan-open-requires c κs = opened _ _ _ (sym (c .before .before .before .before .before .before .open-store .ensures) ∙ c .before .before .before .before .m .given .1)
+plan-open-requires c κs = open-front _ _ _ (opened _ _ _ (sym (c .before .before .before .before .before .before .open-store .ensures) ∙ c .before .before .before .before .m .given .1))
 
 returns : tie.Need-returns
 returns c = plan-closed _ _ _ _ _ (sym (c .before .before .open-store .ensures) ∙ c .enum-told .given .1)

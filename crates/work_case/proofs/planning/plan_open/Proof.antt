@@ -2,7 +2,7 @@
 use mathlib.Core.Path.{refl}
 use native.Mathlib.Omega.{arith}
 use denote.Ref.{now}
-use Rattle.work_store.proofs.CaseCells.{room-0, lanes-few, few-entries}
+use Rattle.work_store.proofs.CaseCells.{front-room, front-lanes, few-entries}
 use Rattle.work_plans.proofs.PlanLaws.{lanes-long, planned-cells}
 use borrow.Author.Needs.{needs}
 use Rattle.work_case.proofs.planning.plan_open.Statement.{statement}
@@ -21,91 +21,91 @@ table-at-requires : tie.Need-table-at-requires
 table-at-requires c κs = search needs
 
 entries-requires : tie.Need-entries-requires
-entries-requires c κs = omega (arith, room-0 _ _ _ (c .before .before .before .before .before .before .before .pre), lanes-few _ _ _ (c .before .before .before .before .before .before .before .pre), c .before .before .before .before .before .before .before .pre .few, c .before .before .before .before .before .before .before .pre .many, few-entries (now (c .before .before .before .before .before .before .before .args .store)))
+entries-requires c κs = omega (arith, front-room _ _ _ (c .before .before .before .before .before .before .before .pre), front-lanes _ _ _ (c .before .before .before .before .before .before .before .pre), c .before .before .before .before .before .before .before .pre .few, c .before .before .before .before .before .before .before .pre .many, few-entries (now (c .before .before .before .before .before .before .before .args .store)))
 
 add-e : tie.Need-add-e
-add-e c = omega (arith, room-0 _ _ _ (c .before .before .before .before .before .before .before .before .pre), lanes-few _ _ _ (c .before .before .before .before .before .before .before .before .pre), c .before .before .before .before .before .before .before .before .pre .few, c .before .before .before .before .before .before .before .before .pre .many, few-entries (now (c .before .before .before .before .before .before .before .before .args .store)), c .before .before .before .before .demands-at .ensures, c .before .before .before .costs-at .ensures, c .before .before .ceilings-at .ensures, c .before .table-at .ensures, c .entries .ensures)
+add-e c = omega (arith, front-room _ _ _ (c .before .before .before .before .before .before .before .before .pre), front-lanes _ _ _ (c .before .before .before .before .before .before .before .before .pre), c .before .before .before .before .before .before .before .before .pre .few, c .before .before .before .before .before .before .before .before .pre .many, few-entries (now (c .before .before .before .before .before .before .before .before .args .store)), c .before .before .before .before .demands-at .ensures, c .before .before .before .costs-at .ensures, c .before .before .ceilings-at .ensures, c .before .table-at .ensures, c .entries .ensures)
 
 mul-lanes : tie.Need-mul-lanes
-mul-lanes c = omega (arith, room-0 _ _ _ (c .before .before .before .before .before .before .before .before .pre), lanes-few _ _ _ (c .before .before .before .before .before .before .before .before .pre), c .before .before .before .before .before .before .before .before .pre .few, c .before .before .before .before .before .before .before .before .pre .many, few-entries (now (c .before .before .before .before .before .before .before .before .args .store)), c .before .before .before .before .demands-at .ensures, c .before .before .before .costs-at .ensures, c .before .before .ceilings-at .ensures, c .before .table-at .ensures, c .entries .ensures)
+mul-lanes c = omega (arith, front-room _ _ _ (c .before .before .before .before .before .before .before .before .pre), front-lanes _ _ _ (c .before .before .before .before .before .before .before .before .pre), c .before .before .before .before .before .before .before .before .pre .few, c .before .before .before .before .before .before .before .before .pre .many, few-entries (now (c .before .before .before .before .before .before .before .before .args .store)), c .before .before .before .before .demands-at .ensures, c .before .before .before .costs-at .ensures, c .before .before .ceilings-at .ensures, c .before .table-at .ensures, c .entries .ensures)
 
 shared-slice-read-run1 : tie.Need-shared-slice-read-run1
-shared-slice-read-run1 c = omega (arith, room-0 _ _ _ (c .before .before .before .before .before .before .before .before .before .pre), lanes-few _ _ _ (c .before .before .before .before .before .before .before .before .before .pre), c .before .before .before .before .before .before .before .before .before .pre .few, c .before .before .before .before .before .before .before .before .before .pre .many, few-entries (now (c .before .before .before .before .before .before .before .before .before .args .store)), c .before .before .before .before .before .demands-at .ensures, c .before .before .before .before .costs-at .ensures, c .before .before .before .ceilings-at .ensures, c .before .before .table-at .ensures, c .before .entries .ensures)
+shared-slice-read-run1 c = omega (arith, front-room _ _ _ (c .before .before .before .before .before .before .before .before .before .pre), front-lanes _ _ _ (c .before .before .before .before .before .before .before .before .before .pre), c .before .before .before .before .before .before .before .before .before .pre .few, c .before .before .before .before .before .before .before .before .before .pre .many, few-entries (now (c .before .before .before .before .before .before .before .before .before .args .store)), c .before .before .before .before .before .demands-at .ensures, c .before .before .before .before .costs-at .ensures, c .before .before .before .ceilings-at .ensures, c .before .before .table-at .ensures, c .before .entries .ensures)
 
 shared-slice-read-run2 : tie.Need-shared-slice-read-run2
-shared-slice-read-run2 c = omega (arith, room-0 _ _ _ (c .before .before .before .before .before .before .before .before .before .before .pre), lanes-few _ _ _ (c .before .before .before .before .before .before .before .before .before .before .pre), c .before .before .before .before .before .before .before .before .before .before .pre .few, c .before .before .before .before .before .before .before .before .before .before .pre .many, few-entries (now (c .before .before .before .before .before .before .before .before .before .before .args .store)), c .before .before .before .before .before .before .demands-at .ensures, c .before .before .before .before .before .costs-at .ensures, c .before .before .before .before .ceilings-at .ensures, c .before .before .before .table-at .ensures, c .before .before .entries .ensures)
+shared-slice-read-run2 c = omega (arith, front-room _ _ _ (c .before .before .before .before .before .before .before .before .before .before .pre), front-lanes _ _ _ (c .before .before .before .before .before .before .before .before .before .before .pre), c .before .before .before .before .before .before .before .before .before .before .pre .few, c .before .before .before .before .before .before .before .before .before .before .pre .many, few-entries (now (c .before .before .before .before .before .before .before .before .before .before .args .store)), c .before .before .before .before .before .before .demands-at .ensures, c .before .before .before .before .before .costs-at .ensures, c .before .before .before .before .ceilings-at .ensures, c .before .before .before .table-at .ensures, c .before .before .entries .ensures)
 
 mul-costs-of : tie.Need-mul-costs-of
-mul-costs-of c = omega (arith, room-0 _ _ _ (c .before .before .before .before .before .before .before .before .before .before .pre), lanes-few _ _ _ (c .before .before .before .before .before .before .before .before .before .before .pre), c .before .before .before .before .before .before .before .before .before .before .pre .few, c .before .before .before .before .before .before .before .before .before .before .pre .many, few-entries (now (c .before .before .before .before .before .before .before .before .before .before .args .store)), c .before .before .before .before .before .before .demands-at .ensures, c .before .before .before .before .before .costs-at .ensures, c .before .before .before .before .ceilings-at .ensures, c .before .before .before .table-at .ensures, c .before .before .entries .ensures)
+mul-costs-of c = omega (arith, front-room _ _ _ (c .before .before .before .before .before .before .before .before .before .before .pre), front-lanes _ _ _ (c .before .before .before .before .before .before .before .before .before .before .pre), c .before .before .before .before .before .before .before .before .before .before .pre .few, c .before .before .before .before .before .before .before .before .before .before .pre .many, few-entries (now (c .before .before .before .before .before .before .before .before .before .before .args .store)), c .before .before .before .before .before .before .demands-at .ensures, c .before .before .before .before .before .costs-at .ensures, c .before .before .before .before .ceilings-at .ensures, c .before .before .before .table-at .ensures, c .before .before .entries .ensures)
 
 sub-costs-of : tie.Need-sub-costs-of
-sub-costs-of c = omega (arith, room-0 _ _ _ (c .before .before .before .before .before .before .before .before .before .before .pre), lanes-few _ _ _ (c .before .before .before .before .before .before .before .before .before .before .pre), c .before .before .before .before .before .before .before .before .before .before .pre .few, c .before .before .before .before .before .before .before .before .before .before .pre .many, few-entries (now (c .before .before .before .before .before .before .before .before .before .before .args .store)), c .before .before .before .before .before .before .demands-at .ensures, c .before .before .before .before .before .costs-at .ensures, c .before .before .before .before .ceilings-at .ensures, c .before .before .before .table-at .ensures, c .before .before .entries .ensures)
+sub-costs-of c = omega (arith, front-room _ _ _ (c .before .before .before .before .before .before .before .before .before .before .pre), front-lanes _ _ _ (c .before .before .before .before .before .before .before .before .before .before .pre), c .before .before .before .before .before .before .before .before .before .before .pre .few, c .before .before .before .before .before .before .before .before .before .before .pre .many, few-entries (now (c .before .before .before .before .before .before .before .before .before .before .args .store)), c .before .before .before .before .before .before .demands-at .ensures, c .before .before .before .before .before .costs-at .ensures, c .before .before .before .before .ceilings-at .ensures, c .before .before .before .table-at .ensures, c .before .before .entries .ensures)
 
 part-costs-of-start : tie.Need-part-costs-of-start
-part-costs-of-start c = omega (arith, room-0 _ _ _ (c .before .before .before .before .before .before .before .before .before .before .pre), lanes-few _ _ _ (c .before .before .before .before .before .before .before .before .before .before .pre), c .before .before .before .before .before .before .before .before .before .before .pre .few, c .before .before .before .before .before .before .before .before .before .before .pre .many, few-entries (now (c .before .before .before .before .before .before .before .before .before .before .args .store)), c .before .before .before .before .before .before .demands-at .ensures, c .before .before .before .before .before .costs-at .ensures, c .before .before .before .before .ceilings-at .ensures, c .before .before .before .table-at .ensures, c .before .before .entries .ensures)
+part-costs-of-start c = omega (arith, front-room _ _ _ (c .before .before .before .before .before .before .before .before .before .before .pre), front-lanes _ _ _ (c .before .before .before .before .before .before .before .before .before .before .pre), c .before .before .before .before .before .before .before .before .before .before .pre .few, c .before .before .before .before .before .before .before .before .before .before .pre .many, few-entries (now (c .before .before .before .before .before .before .before .before .before .before .args .store)), c .before .before .before .before .before .before .demands-at .ensures, c .before .before .before .before .before .costs-at .ensures, c .before .before .before .before .ceilings-at .ensures, c .before .before .before .table-at .ensures, c .before .before .entries .ensures)
 
 part-costs-of-end : tie.Need-part-costs-of-end
-part-costs-of-end c = omega (arith, room-0 _ _ _ (c .before .before .before .before .before .before .before .before .before .before .pre), lanes-few _ _ _ (c .before .before .before .before .before .before .before .before .before .before .pre), c .before .before .before .before .before .before .before .before .before .before .pre .few, c .before .before .before .before .before .before .before .before .before .before .pre .many, few-entries (now (c .before .before .before .before .before .before .before .before .before .before .args .store)), c .before .before .before .before .before .before .demands-at .ensures, c .before .before .before .before .before .costs-at .ensures, c .before .before .before .before .ceilings-at .ensures, c .before .before .before .table-at .ensures, c .before .before .entries .ensures)
+part-costs-of-end c = omega (arith, front-room _ _ _ (c .before .before .before .before .before .before .before .before .before .before .pre), front-lanes _ _ _ (c .before .before .before .before .before .before .before .before .before .before .pre), c .before .before .before .before .before .before .before .before .before .before .pre .few, c .before .before .before .before .before .before .before .before .before .before .pre .many, few-entries (now (c .before .before .before .before .before .before .before .before .before .before .args .store)), c .before .before .before .before .before .before .demands-at .ensures, c .before .before .before .before .before .costs-at .ensures, c .before .before .before .before .ceilings-at .ensures, c .before .before .before .table-at .ensures, c .before .before .entries .ensures)
 
 costs-of-requires : tie.Need-costs-of-requires
-costs-of-requires c κs = omega (arith, room-0 _ _ _ (c .before .before .before .before .before .before .before .before .before .before .before .pre), lanes-few _ _ _ (c .before .before .before .before .before .before .before .before .before .before .before .pre), c .before .before .before .before .before .before .before .before .before .before .before .pre .few, c .before .before .before .before .before .before .before .before .before .before .before .pre .many, few-entries (now (c .before .before .before .before .before .before .before .before .before .before .before .args .store)), lanes-long (c .before .before .before .before .before .before .before .before .before .before .before .args .m) (c .before .before .before .before .before .before .before .before .before .before .before .args .n) (now (c .before .before .before .before .before .before .before .before .before .before .before .args .store)) (c .before .before .before .before .before .before .before .before .before .before .before .pre) _ _ _ _ _ (c .before .before .before .before .before .before .before .demands-at .ensures) (c .before .before .before .before .before .before .costs-at .ensures) (c .before .before .before .before .before .ceilings-at .ensures) (c .before .before .before .before .table-at .ensures) (c .before .before .before .entries .ensures))
+costs-of-requires c κs = omega (arith, front-room _ _ _ (c .before .before .before .before .before .before .before .before .before .before .before .pre), front-lanes _ _ _ (c .before .before .before .before .before .before .before .before .before .before .before .pre), c .before .before .before .before .before .before .before .before .before .before .before .pre .few, c .before .before .before .before .before .before .before .before .before .before .before .pre .many, few-entries (now (c .before .before .before .before .before .before .before .before .before .before .before .args .store)), lanes-long (c .before .before .before .before .before .before .before .before .before .before .before .args .m) (c .before .before .before .before .before .before .before .before .before .before .before .args .n) (now (c .before .before .before .before .before .before .before .before .before .before .before .args .store)) (c .before .before .before .before .before .before .before .before .before .before .before .pre) _ _ _ _ _ (c .before .before .before .before .before .before .before .demands-at .ensures) (c .before .before .before .before .before .before .costs-at .ensures) (c .before .before .before .before .before .ceilings-at .ensures) (c .before .before .before .before .table-at .ensures) (c .before .before .before .entries .ensures))
 
 sub-plan : tie.Need-sub-plan
-sub-plan c = omega (arith, room-0 _ _ _ (c .before .before .before .before .before .before .before .before .before .before .before .before .pre), lanes-few _ _ _ (c .before .before .before .before .before .before .before .before .before .before .before .before .pre), c .before .before .before .before .before .before .before .before .before .before .before .before .pre .few, c .before .before .before .before .before .before .before .before .before .before .before .before .pre .many, few-entries (now (c .before .before .before .before .before .before .before .before .before .before .before .before .args .store)), c .before .before .before .before .before .before .before .before .demands-at .ensures, c .before .before .before .before .before .before .before .costs-at .ensures, c .before .before .before .before .before .before .ceilings-at .ensures, c .before .before .before .before .before .table-at .ensures, c .before .before .before .before .entries .ensures, c .costs-of .ensures .0)
+sub-plan c = omega (arith, front-room _ _ _ (c .before .before .before .before .before .before .before .before .before .before .before .before .pre), front-lanes _ _ _ (c .before .before .before .before .before .before .before .before .before .before .before .before .pre), c .before .before .before .before .before .before .before .before .before .before .before .before .pre .few, c .before .before .before .before .before .before .before .before .before .before .before .before .pre .many, few-entries (now (c .before .before .before .before .before .before .before .before .before .before .before .before .args .store)), c .before .before .before .before .before .before .before .before .demands-at .ensures, c .before .before .before .before .before .before .before .costs-at .ensures, c .before .before .before .before .before .before .ceilings-at .ensures, c .before .before .before .before .before .table-at .ensures, c .before .before .before .before .entries .ensures, c .costs-of .ensures .0)
 
 part-plan-start : tie.Need-part-plan-start
-part-plan-start c = omega (arith, room-0 _ _ _ (c .before .before .before .before .before .before .before .before .before .before .before .before .before .pre), lanes-few _ _ _ (c .before .before .before .before .before .before .before .before .before .before .before .before .before .pre), c .before .before .before .before .before .before .before .before .before .before .before .before .before .pre .few, c .before .before .before .before .before .before .before .before .before .before .before .before .before .pre .many, few-entries (now (c .before .before .before .before .before .before .before .before .before .before .before .before .before .args .store)), c .before .before .before .before .before .before .before .before .before .demands-at .ensures, c .before .before .before .before .before .before .before .before .costs-at .ensures, c .before .before .before .before .before .before .before .ceilings-at .ensures, c .before .before .before .before .before .before .table-at .ensures, c .before .before .before .before .before .entries .ensures, c .before .costs-of .ensures .0)
+part-plan-start c = omega (arith, front-room _ _ _ (c .before .before .before .before .before .before .before .before .before .before .before .before .before .pre), front-lanes _ _ _ (c .before .before .before .before .before .before .before .before .before .before .before .before .before .pre), c .before .before .before .before .before .before .before .before .before .before .before .before .before .pre .few, c .before .before .before .before .before .before .before .before .before .before .before .before .before .pre .many, few-entries (now (c .before .before .before .before .before .before .before .before .before .before .before .before .before .args .store)), c .before .before .before .before .before .before .before .before .before .demands-at .ensures, c .before .before .before .before .before .before .before .before .costs-at .ensures, c .before .before .before .before .before .before .before .ceilings-at .ensures, c .before .before .before .before .before .before .table-at .ensures, c .before .before .before .before .before .entries .ensures, c .before .costs-of .ensures .0)
 
 part-plan-end : tie.Need-part-plan-end
-part-plan-end c = omega (arith, room-0 _ _ _ (c .before .before .before .before .before .before .before .before .before .before .before .before .before .pre), lanes-few _ _ _ (c .before .before .before .before .before .before .before .before .before .before .before .before .before .pre), c .before .before .before .before .before .before .before .before .before .before .before .before .before .pre .few, c .before .before .before .before .before .before .before .before .before .before .before .before .before .pre .many, few-entries (now (c .before .before .before .before .before .before .before .before .before .before .before .before .before .args .store)), c .before .before .before .before .before .before .before .before .before .demands-at .ensures, c .before .before .before .before .before .before .before .before .costs-at .ensures, c .before .before .before .before .before .before .before .ceilings-at .ensures, c .before .before .before .before .before .before .table-at .ensures, c .before .before .before .before .before .entries .ensures, c .before .costs-of .ensures .0)
+part-plan-end c = omega (arith, front-room _ _ _ (c .before .before .before .before .before .before .before .before .before .before .before .before .before .pre), front-lanes _ _ _ (c .before .before .before .before .before .before .before .before .before .before .before .before .before .pre), c .before .before .before .before .before .before .before .before .before .before .before .before .before .pre .few, c .before .before .before .before .before .before .before .before .before .before .before .before .before .pre .many, few-entries (now (c .before .before .before .before .before .before .before .before .before .before .before .before .before .args .store)), c .before .before .before .before .before .before .before .before .before .demands-at .ensures, c .before .before .before .before .before .before .before .before .costs-at .ensures, c .before .before .before .before .before .before .before .ceilings-at .ensures, c .before .before .before .before .before .before .table-at .ensures, c .before .before .before .before .before .entries .ensures, c .before .costs-of .ensures .0)
 
 mul-plan : tie.Need-mul-plan
-mul-plan c = omega (arith, room-0 _ _ _ (c .before .before .before .before .before .before .before .before .before .before .before .before .before .before .pre), lanes-few _ _ _ (c .before .before .before .before .before .before .before .before .before .before .before .before .before .before .pre), c .before .before .before .before .before .before .before .before .before .before .before .before .before .before .pre .few, c .before .before .before .before .before .before .before .before .before .before .before .before .before .before .pre .many, few-entries (now (c .before .before .before .before .before .before .before .before .before .before .before .before .before .before .args .store)), c .before .before .before .before .before .before .before .before .before .before .demands-at .ensures, c .before .before .before .before .before .before .before .before .before .costs-at .ensures, c .before .before .before .before .before .before .before .before .ceilings-at .ensures, c .before .before .before .before .before .before .before .table-at .ensures, c .before .before .before .before .before .before .entries .ensures, c .before .before .costs-of .ensures .0)
+mul-plan c = omega (arith, front-room _ _ _ (c .before .before .before .before .before .before .before .before .before .before .before .before .before .before .pre), front-lanes _ _ _ (c .before .before .before .before .before .before .before .before .before .before .before .before .before .before .pre), c .before .before .before .before .before .before .before .before .before .before .before .before .before .before .pre .few, c .before .before .before .before .before .before .before .before .before .before .before .before .before .before .pre .many, few-entries (now (c .before .before .before .before .before .before .before .before .before .before .before .before .before .before .args .store)), c .before .before .before .before .before .before .before .before .before .before .demands-at .ensures, c .before .before .before .before .before .before .before .before .before .costs-at .ensures, c .before .before .before .before .before .before .before .before .ceilings-at .ensures, c .before .before .before .before .before .before .before .table-at .ensures, c .before .before .before .before .before .before .entries .ensures, c .before .before .costs-of .ensures .0)
 
 sub-plan-2 : tie.Need-sub-plan-2
-sub-plan-2 c = omega (arith, room-0 _ _ _ (c .before .before .before .before .before .before .before .before .before .before .before .before .before .before .pre), lanes-few _ _ _ (c .before .before .before .before .before .before .before .before .before .before .before .before .before .before .pre), c .before .before .before .before .before .before .before .before .before .before .before .before .before .before .pre .few, c .before .before .before .before .before .before .before .before .before .before .before .before .before .before .pre .many, few-entries (now (c .before .before .before .before .before .before .before .before .before .before .before .before .before .before .args .store)), c .before .before .before .before .before .before .before .before .before .before .demands-at .ensures, c .before .before .before .before .before .before .before .before .before .costs-at .ensures, c .before .before .before .before .before .before .before .before .ceilings-at .ensures, c .before .before .before .before .before .before .before .table-at .ensures, c .before .before .before .before .before .before .entries .ensures, c .before .before .costs-of .ensures .0)
+sub-plan-2 c = omega (arith, front-room _ _ _ (c .before .before .before .before .before .before .before .before .before .before .before .before .before .before .pre), front-lanes _ _ _ (c .before .before .before .before .before .before .before .before .before .before .before .before .before .before .pre), c .before .before .before .before .before .before .before .before .before .before .before .before .before .before .pre .few, c .before .before .before .before .before .before .before .before .before .before .before .before .before .before .pre .many, few-entries (now (c .before .before .before .before .before .before .before .before .before .before .before .before .before .before .args .store)), c .before .before .before .before .before .before .before .before .before .before .demands-at .ensures, c .before .before .before .before .before .before .before .before .before .costs-at .ensures, c .before .before .before .before .before .before .before .before .ceilings-at .ensures, c .before .before .before .before .before .before .before .table-at .ensures, c .before .before .before .before .before .before .entries .ensures, c .before .before .costs-of .ensures .0)
 
 part-plan-start-2 : tie.Need-part-plan-start-2
-part-plan-start-2 c = omega (arith, room-0 _ _ _ (c .before .before .before .before .before .before .before .before .before .before .before .before .before .before .pre), lanes-few _ _ _ (c .before .before .before .before .before .before .before .before .before .before .before .before .before .before .pre), c .before .before .before .before .before .before .before .before .before .before .before .before .before .before .pre .few, c .before .before .before .before .before .before .before .before .before .before .before .before .before .before .pre .many, few-entries (now (c .before .before .before .before .before .before .before .before .before .before .before .before .before .before .args .store)), c .before .before .before .before .before .before .before .before .before .before .demands-at .ensures, c .before .before .before .before .before .before .before .before .before .costs-at .ensures, c .before .before .before .before .before .before .before .before .ceilings-at .ensures, c .before .before .before .before .before .before .before .table-at .ensures, c .before .before .before .before .before .before .entries .ensures, c .before .before .costs-of .ensures .0)
+part-plan-start-2 c = omega (arith, front-room _ _ _ (c .before .before .before .before .before .before .before .before .before .before .before .before .before .before .pre), front-lanes _ _ _ (c .before .before .before .before .before .before .before .before .before .before .before .before .before .before .pre), c .before .before .before .before .before .before .before .before .before .before .before .before .before .before .pre .few, c .before .before .before .before .before .before .before .before .before .before .before .before .before .before .pre .many, few-entries (now (c .before .before .before .before .before .before .before .before .before .before .before .before .before .before .args .store)), c .before .before .before .before .before .before .before .before .before .before .demands-at .ensures, c .before .before .before .before .before .before .before .before .before .costs-at .ensures, c .before .before .before .before .before .before .before .before .ceilings-at .ensures, c .before .before .before .before .before .before .before .table-at .ensures, c .before .before .before .before .before .before .entries .ensures, c .before .before .costs-of .ensures .0)
 
 part-plan-end-2 : tie.Need-part-plan-end-2
-part-plan-end-2 c = omega (arith, room-0 _ _ _ (c .before .before .before .before .before .before .before .before .before .before .before .before .before .before .pre), lanes-few _ _ _ (c .before .before .before .before .before .before .before .before .before .before .before .before .before .before .pre), c .before .before .before .before .before .before .before .before .before .before .before .before .before .before .pre .few, c .before .before .before .before .before .before .before .before .before .before .before .before .before .before .pre .many, few-entries (now (c .before .before .before .before .before .before .before .before .before .before .before .before .before .before .args .store)), c .before .before .before .before .before .before .before .before .before .before .demands-at .ensures, c .before .before .before .before .before .before .before .before .before .costs-at .ensures, c .before .before .before .before .before .before .before .before .ceilings-at .ensures, c .before .before .before .before .before .before .before .table-at .ensures, c .before .before .before .before .before .before .entries .ensures, c .before .before .costs-of .ensures .0)
+part-plan-end-2 c = omega (arith, front-room _ _ _ (c .before .before .before .before .before .before .before .before .before .before .before .before .before .before .pre), front-lanes _ _ _ (c .before .before .before .before .before .before .before .before .before .before .before .before .before .before .pre), c .before .before .before .before .before .before .before .before .before .before .before .before .before .before .pre .few, c .before .before .before .before .before .before .before .before .before .before .before .before .before .before .pre .many, few-entries (now (c .before .before .before .before .before .before .before .before .before .before .before .before .before .before .args .store)), c .before .before .before .before .before .before .before .before .before .before .demands-at .ensures, c .before .before .before .before .before .before .before .before .before .costs-at .ensures, c .before .before .before .before .before .before .before .before .ceilings-at .ensures, c .before .before .before .before .before .before .before .table-at .ensures, c .before .before .before .before .before .before .entries .ensures, c .before .before .costs-of .ensures .0)
 
 mul-plan-2 : tie.Need-mul-plan-2
-mul-plan-2 c = omega (arith, room-0 _ _ _ (c .before .before .before .before .before .before .before .before .before .before .before .before .before .before .before .pre), lanes-few _ _ _ (c .before .before .before .before .before .before .before .before .before .before .before .before .before .before .before .pre), c .before .before .before .before .before .before .before .before .before .before .before .before .before .before .before .pre .few, c .before .before .before .before .before .before .before .before .before .before .before .before .before .before .before .pre .many, few-entries (now (c .before .before .before .before .before .before .before .before .before .before .before .before .before .before .before .args .store)), c .before .before .before .before .before .before .before .before .before .before .before .demands-at .ensures, c .before .before .before .before .before .before .before .before .before .before .costs-at .ensures, c .before .before .before .before .before .before .before .before .before .ceilings-at .ensures, c .before .before .before .before .before .before .before .before .table-at .ensures, c .before .before .before .before .before .before .before .entries .ensures, c .before .before .before .costs-of .ensures .0)
+mul-plan-2 c = omega (arith, front-room _ _ _ (c .before .before .before .before .before .before .before .before .before .before .before .before .before .before .before .pre), front-lanes _ _ _ (c .before .before .before .before .before .before .before .before .before .before .before .before .before .before .before .pre), c .before .before .before .before .before .before .before .before .before .before .before .before .before .before .before .pre .few, c .before .before .before .before .before .before .before .before .before .before .before .before .before .before .before .pre .many, few-entries (now (c .before .before .before .before .before .before .before .before .before .before .before .before .before .before .before .args .store)), c .before .before .before .before .before .before .before .before .before .before .before .demands-at .ensures, c .before .before .before .before .before .before .before .before .before .before .costs-at .ensures, c .before .before .before .before .before .before .before .before .before .ceilings-at .ensures, c .before .before .before .before .before .before .before .before .table-at .ensures, c .before .before .before .before .before .before .before .entries .ensures, c .before .before .before .costs-of .ensures .0)
 
 sub-plan-3 : tie.Need-sub-plan-3
-sub-plan-3 c = omega (arith, room-0 _ _ _ (c .before .before .before .before .before .before .before .before .before .before .before .before .before .before .before .pre), lanes-few _ _ _ (c .before .before .before .before .before .before .before .before .before .before .before .before .before .before .before .pre), c .before .before .before .before .before .before .before .before .before .before .before .before .before .before .before .pre .few, c .before .before .before .before .before .before .before .before .before .before .before .before .before .before .before .pre .many, few-entries (now (c .before .before .before .before .before .before .before .before .before .before .before .before .before .before .before .args .store)), c .before .before .before .before .before .before .before .before .before .before .before .demands-at .ensures, c .before .before .before .before .before .before .before .before .before .before .costs-at .ensures, c .before .before .before .before .before .before .before .before .before .ceilings-at .ensures, c .before .before .before .before .before .before .before .before .table-at .ensures, c .before .before .before .before .before .before .before .entries .ensures, c .before .before .before .costs-of .ensures .0)
+sub-plan-3 c = omega (arith, front-room _ _ _ (c .before .before .before .before .before .before .before .before .before .before .before .before .before .before .before .pre), front-lanes _ _ _ (c .before .before .before .before .before .before .before .before .before .before .before .before .before .before .before .pre), c .before .before .before .before .before .before .before .before .before .before .before .before .before .before .before .pre .few, c .before .before .before .before .before .before .before .before .before .before .before .before .before .before .before .pre .many, few-entries (now (c .before .before .before .before .before .before .before .before .before .before .before .before .before .before .before .args .store)), c .before .before .before .before .before .before .before .before .before .before .before .demands-at .ensures, c .before .before .before .before .before .before .before .before .before .before .costs-at .ensures, c .before .before .before .before .before .before .before .before .before .ceilings-at .ensures, c .before .before .before .before .before .before .before .before .table-at .ensures, c .before .before .before .before .before .before .before .entries .ensures, c .before .before .before .costs-of .ensures .0)
 
 part-plan-start-3 : tie.Need-part-plan-start-3
-part-plan-start-3 c = omega (arith, room-0 _ _ _ (c .before .before .before .before .before .before .before .before .before .before .before .before .before .before .before .pre), lanes-few _ _ _ (c .before .before .before .before .before .before .before .before .before .before .before .before .before .before .before .pre), c .before .before .before .before .before .before .before .before .before .before .before .before .before .before .before .pre .few, c .before .before .before .before .before .before .before .before .before .before .before .before .before .before .before .pre .many, few-entries (now (c .before .before .before .before .before .before .before .before .before .before .before .before .before .before .before .args .store)), c .before .before .before .before .before .before .before .before .before .before .before .demands-at .ensures, c .before .before .before .before .before .before .before .before .before .before .costs-at .ensures, c .before .before .before .before .before .before .before .before .before .ceilings-at .ensures, c .before .before .before .before .before .before .before .before .table-at .ensures, c .before .before .before .before .before .before .before .entries .ensures, c .before .before .before .costs-of .ensures .0)
+part-plan-start-3 c = omega (arith, front-room _ _ _ (c .before .before .before .before .before .before .before .before .before .before .before .before .before .before .before .pre), front-lanes _ _ _ (c .before .before .before .before .before .before .before .before .before .before .before .before .before .before .before .pre), c .before .before .before .before .before .before .before .before .before .before .before .before .before .before .before .pre .few, c .before .before .before .before .before .before .before .before .before .before .before .before .before .before .before .pre .many, few-entries (now (c .before .before .before .before .before .before .before .before .before .before .before .before .before .before .before .args .store)), c .before .before .before .before .before .before .before .before .before .before .before .demands-at .ensures, c .before .before .before .before .before .before .before .before .before .before .costs-at .ensures, c .before .before .before .before .before .before .before .before .before .ceilings-at .ensures, c .before .before .before .before .before .before .before .before .table-at .ensures, c .before .before .before .before .before .before .before .entries .ensures, c .before .before .before .costs-of .ensures .0)
 
 part-plan-end-3 : tie.Need-part-plan-end-3
-part-plan-end-3 c = omega (arith, room-0 _ _ _ (c .before .before .before .before .before .before .before .before .before .before .before .before .before .before .before .pre), lanes-few _ _ _ (c .before .before .before .before .before .before .before .before .before .before .before .before .before .before .before .pre), c .before .before .before .before .before .before .before .before .before .before .before .before .before .before .before .pre .few, c .before .before .before .before .before .before .before .before .before .before .before .before .before .before .before .pre .many, few-entries (now (c .before .before .before .before .before .before .before .before .before .before .before .before .before .before .before .args .store)), c .before .before .before .before .before .before .before .before .before .before .before .demands-at .ensures, c .before .before .before .before .before .before .before .before .before .before .costs-at .ensures, c .before .before .before .before .before .before .before .before .before .ceilings-at .ensures, c .before .before .before .before .before .before .before .before .table-at .ensures, c .before .before .before .before .before .before .before .entries .ensures, c .before .before .before .costs-of .ensures .0)
+part-plan-end-3 c = omega (arith, front-room _ _ _ (c .before .before .before .before .before .before .before .before .before .before .before .before .before .before .before .pre), front-lanes _ _ _ (c .before .before .before .before .before .before .before .before .before .before .before .before .before .before .before .pre), c .before .before .before .before .before .before .before .before .before .before .before .before .before .before .before .pre .few, c .before .before .before .before .before .before .before .before .before .before .before .before .before .before .before .pre .many, few-entries (now (c .before .before .before .before .before .before .before .before .before .before .before .before .before .before .before .args .store)), c .before .before .before .before .before .before .before .before .before .before .before .demands-at .ensures, c .before .before .before .before .before .before .before .before .before .before .costs-at .ensures, c .before .before .before .before .before .before .before .before .before .ceilings-at .ensures, c .before .before .before .before .before .before .before .before .table-at .ensures, c .before .before .before .before .before .before .before .entries .ensures, c .before .before .before .costs-of .ensures .0)
 
 mul-plan-3 : tie.Need-mul-plan-3
-mul-plan-3 c = omega (arith, room-0 _ _ _ (c .before .before .before .before .before .before .before .before .before .before .before .before .before .before .before .before .pre), lanes-few _ _ _ (c .before .before .before .before .before .before .before .before .before .before .before .before .before .before .before .before .pre), c .before .before .before .before .before .before .before .before .before .before .before .before .before .before .before .before .pre .few, c .before .before .before .before .before .before .before .before .before .before .before .before .before .before .before .before .pre .many, few-entries (now (c .before .before .before .before .before .before .before .before .before .before .before .before .before .before .before .before .args .store)), c .before .before .before .before .before .before .before .before .before .before .before .before .demands-at .ensures, c .before .before .before .before .before .before .before .before .before .before .before .costs-at .ensures, c .before .before .before .before .before .before .before .before .before .before .ceilings-at .ensures, c .before .before .before .before .before .before .before .before .before .table-at .ensures, c .before .before .before .before .before .before .before .before .entries .ensures, c .before .before .before .before .costs-of .ensures .0)
+mul-plan-3 c = omega (arith, front-room _ _ _ (c .before .before .before .before .before .before .before .before .before .before .before .before .before .before .before .before .pre), front-lanes _ _ _ (c .before .before .before .before .before .before .before .before .before .before .before .before .before .before .before .before .pre), c .before .before .before .before .before .before .before .before .before .before .before .before .before .before .before .before .pre .few, c .before .before .before .before .before .before .before .before .before .before .before .before .before .before .before .before .pre .many, few-entries (now (c .before .before .before .before .before .before .before .before .before .before .before .before .before .before .before .before .args .store)), c .before .before .before .before .before .before .before .before .before .before .before .before .demands-at .ensures, c .before .before .before .before .before .before .before .before .before .before .before .costs-at .ensures, c .before .before .before .before .before .before .before .before .before .before .ceilings-at .ensures, c .before .before .before .before .before .before .before .before .before .table-at .ensures, c .before .before .before .before .before .before .before .before .entries .ensures, c .before .before .before .before .costs-of .ensures .0)
 
 sub-plan-4 : tie.Need-sub-plan-4
-sub-plan-4 c = omega (arith, room-0 _ _ _ (c .before .before .before .before .before .before .before .before .before .before .before .before .before .before .before .before .pre), lanes-few _ _ _ (c .before .before .before .before .before .before .before .before .before .before .before .before .before .before .before .before .pre), c .before .before .before .before .before .before .before .before .before .before .before .before .before .before .before .before .pre .few, c .before .before .before .before .before .before .before .before .before .before .before .before .before .before .before .before .pre .many, few-entries (now (c .before .before .before .before .before .before .before .before .before .before .before .before .before .before .before .before .args .store)), c .before .before .before .before .before .before .before .before .before .before .before .before .demands-at .ensures, c .before .before .before .before .before .before .before .before .before .before .before .costs-at .ensures, c .before .before .before .before .before .before .before .before .before .before .ceilings-at .ensures, c .before .before .before .before .before .before .before .before .before .table-at .ensures, c .before .before .before .before .before .before .before .before .entries .ensures, c .before .before .before .before .costs-of .ensures .0)
+sub-plan-4 c = omega (arith, front-room _ _ _ (c .before .before .before .before .before .before .before .before .before .before .before .before .before .before .before .before .pre), front-lanes _ _ _ (c .before .before .before .before .before .before .before .before .before .before .before .before .before .before .before .before .pre), c .before .before .before .before .before .before .before .before .before .before .before .before .before .before .before .before .pre .few, c .before .before .before .before .before .before .before .before .before .before .before .before .before .before .before .before .pre .many, few-entries (now (c .before .before .before .before .before .before .before .before .before .before .before .before .before .before .before .before .args .store)), c .before .before .before .before .before .before .before .before .before .before .before .before .demands-at .ensures, c .before .before .before .before .before .before .before .before .before .before .before .costs-at .ensures, c .before .before .before .before .before .before .before .before .before .before .ceilings-at .ensures, c .before .before .before .before .before .before .before .before .before .table-at .ensures, c .before .before .before .before .before .before .before .before .entries .ensures, c .before .before .before .before .costs-of .ensures .0)
 
 part-plan-start-4 : tie.Need-part-plan-start-4
-part-plan-start-4 c = omega (arith, room-0 _ _ _ (c .before .before .before .before .before .before .before .before .before .before .before .before .before .before .before .before .pre), lanes-few _ _ _ (c .before .before .before .before .before .before .before .before .before .before .before .before .before .before .before .before .pre), c .before .before .before .before .before .before .before .before .before .before .before .before .before .before .before .before .pre .few, c .before .before .before .before .before .before .before .before .before .before .before .before .before .before .before .before .pre .many, few-entries (now (c .before .before .before .before .before .before .before .before .before .before .before .before .before .before .before .before .args .store)), c .before .before .before .before .before .before .before .before .before .before .before .before .demands-at .ensures, c .before .before .before .before .before .before .before .before .before .before .before .costs-at .ensures, c .before .before .before .before .before .before .before .before .before .before .ceilings-at .ensures, c .before .before .before .before .before .before .before .before .before .table-at .ensures, c .before .before .before .before .before .before .before .before .entries .ensures, c .before .before .before .before .costs-of .ensures .0)
+part-plan-start-4 c = omega (arith, front-room _ _ _ (c .before .before .before .before .before .before .before .before .before .before .before .before .before .before .before .before .pre), front-lanes _ _ _ (c .before .before .before .before .before .before .before .before .before .before .before .before .before .before .before .before .pre), c .before .before .before .before .before .before .before .before .before .before .before .before .before .before .before .before .pre .few, c .before .before .before .before .before .before .before .before .before .before .before .before .before .before .before .before .pre .many, few-entries (now (c .before .before .before .before .before .before .before .before .before .before .before .before .before .before .before .before .args .store)), c .before .before .before .before .before .before .before .before .before .before .before .before .demands-at .ensures, c .before .before .before .before .before .before .before .before .before .before .before .costs-at .ensures, c .before .before .before .before .before .before .before .before .before .before .ceilings-at .ensures, c .before .before .before .before .before .before .before .before .before .table-at .ensures, c .before .before .before .before .before .before .before .before .entries .ensures, c .before .before .before .before .costs-of .ensures .0)
 
 part-plan-end-4 : tie.Need-part-plan-end-4
-part-plan-end-4 c = omega (arith, room-0 _ _ _ (c .before .before .before .before .before .before .before .before .before .before .before .before .before .before .before .before .pre), lanes-few _ _ _ (c .before .before .before .before .before .before .before .before .before .before .before .before .before .before .before .before .pre), c .before .before .before .before .before .before .before .before .before .before .before .before .before .before .before .before .pre .few, c .before .before .before .before .before .before .before .before .before .before .before .before .before .before .before .before .pre .many, few-entries (now (c .before .before .before .before .before .before .before .before .before .before .before .before .before .before .before .before .args .store)), c .before .before .before .before .before .before .before .before .before .before .before .before .demands-at .ensures, c .before .before .before .before .before .before .before .before .before .before .before .costs-at .ensures, c .before .before .before .before .before .before .before .before .before .before .ceilings-at .ensures, c .before .before .before .before .before .before .before .before .before .table-at .ensures, c .before .before .before .before .before .before .before .before .entries .ensures, c .before .before .before .before .costs-of .ensures .0)
+part-plan-end-4 c = omega (arith, front-room _ _ _ (c .before .before .before .before .before .before .before .before .before .before .before .before .before .before .before .before .pre), front-lanes _ _ _ (c .before .before .before .before .before .before .before .before .before .before .before .before .before .before .before .before .pre), c .before .before .before .before .before .before .before .before .before .before .before .before .before .before .before .before .pre .few, c .before .before .before .before .before .before .before .before .before .before .before .before .before .before .before .before .pre .many, few-entries (now (c .before .before .before .before .before .before .before .before .before .before .before .before .before .before .before .before .args .store)), c .before .before .before .before .before .before .before .before .before .before .before .before .demands-at .ensures, c .before .before .before .before .before .before .before .before .before .before .before .costs-at .ensures, c .before .before .before .before .before .before .before .before .before .before .ceilings-at .ensures, c .before .before .before .before .before .before .before .before .before .table-at .ensures, c .before .before .before .before .before .before .before .before .entries .ensures, c .before .before .before .before .costs-of .ensures .0)
 
 mul-plan-4 : tie.Need-mul-plan-4
-mul-plan-4 c = omega (arith, room-0 _ _ _ (c .before .before .before .before .before .before .before .before .before .before .before .before .before .before .before .before .before .pre), lanes-few _ _ _ (c .before .before .before .before .before .before .before .before .before .before .before .before .before .before .before .before .before .pre), c .before .before .before .before .before .before .before .before .before .before .before .before .before .before .before .before .before .pre .few, c .before .before .before .before .before .before .before .before .before .before .before .before .before .before .before .before .before .pre .many, few-entries (now (c .before .before .before .before .before .before .before .before .before .before .before .before .before .before .before .before .before .args .store)), c .before .before .before .before .before .before .before .before .before .before .before .before .before .demands-at .ensures, c .before .before .before .before .before .before .before .before .before .before .before .before .costs-at .ensures, c .before .before .before .before .before .before .before .before .before .before .before .ceilings-at .ensures, c .before .before .before .before .before .before .before .before .before .before .table-at .ensures, c .before .before .before .before .before .before .before .before .before .entries .ensures, c .before .before .before .before .before .costs-of .ensures .0)
+mul-plan-4 c = omega (arith, front-room _ _ _ (c .before .before .before .before .before .before .before .before .before .before .before .before .before .before .before .before .before .pre), front-lanes _ _ _ (c .before .before .before .before .before .before .before .before .before .before .before .before .before .before .before .before .before .pre), c .before .before .before .before .before .before .before .before .before .before .before .before .before .before .before .before .before .pre .few, c .before .before .before .before .before .before .before .before .before .before .before .before .before .before .before .before .before .pre .many, few-entries (now (c .before .before .before .before .before .before .before .before .before .before .before .before .before .before .before .before .before .args .store)), c .before .before .before .before .before .before .before .before .before .before .before .before .before .demands-at .ensures, c .before .before .before .before .before .before .before .before .before .before .before .before .costs-at .ensures, c .before .before .before .before .before .before .before .before .before .before .before .ceilings-at .ensures, c .before .before .before .before .before .before .before .before .before .before .table-at .ensures, c .before .before .before .before .before .before .before .before .before .entries .ensures, c .before .before .before .before .before .costs-of .ensures .0)
 
 sub-plan-5 : tie.Need-sub-plan-5
-sub-plan-5 c = omega (arith, room-0 _ _ _ (c .before .before .before .before .before .before .before .before .before .before .before .before .before .before .before .before .before .pre), lanes-few _ _ _ (c .before .before .before .before .before .before .before .before .before .before .before .before .before .before .before .before .before .pre), c .before .before .before .before .before .before .before .before .before .before .before .before .before .before .before .before .before .pre .few, c .before .before .before .before .before .before .before .before .before .before .before .before .before .before .before .before .before .pre .many, few-entries (now (c .before .before .before .before .before .before .before .before .before .before .before .before .before .before .before .before .before .args .store)), c .before .before .before .before .before .before .before .before .before .before .before .before .before .demands-at .ensures, c .before .before .before .before .before .before .before .before .before .before .before .before .costs-at .ensures, c .before .before .before .before .before .before .before .before .before .before .before .ceilings-at .ensures, c .before .before .before .before .before .before .before .before .before .before .table-at .ensures, c .before .before .before .before .before .before .before .before .before .entries .ensures, c .before .before .before .before .before .costs-of .ensures .0)
+sub-plan-5 c = omega (arith, front-room _ _ _ (c .before .before .before .before .before .before .before .before .before .before .before .before .before .before .before .before .before .pre), front-lanes _ _ _ (c .before .before .before .before .before .before .before .before .before .before .before .before .before .before .before .before .before .pre), c .before .before .before .before .before .before .before .before .before .before .before .before .before .before .before .before .before .pre .few, c .before .before .before .before .before .before .before .before .before .before .before .before .before .before .before .before .before .pre .many, few-entries (now (c .before .before .before .before .before .before .before .before .before .before .before .before .before .before .before .before .before .args .store)), c .before .before .before .before .before .before .before .before .before .before .before .before .before .demands-at .ensures, c .before .before .before .before .before .before .before .before .before .before .before .before .costs-at .ensures, c .before .before .before .before .before .before .before .before .before .before .before .ceilings-at .ensures, c .before .before .before .before .before .before .before .before .before .before .table-at .ensures, c .before .before .before .before .before .before .before .before .before .entries .ensures, c .before .before .before .before .before .costs-of .ensures .0)
 
 part-plan-start-5 : tie.Need-part-plan-start-5
-part-plan-start-5 c = omega (arith, room-0 _ _ _ (c .before .before .before .before .before .before .before .before .before .before .before .before .before .before .before .before .before .pre), lanes-few _ _ _ (c .before .before .before .before .before .before .before .before .before .before .before .before .before .before .before .before .before .pre), c .before .before .before .before .before .before .before .before .before .before .before .before .before .before .before .before .before .pre .few, c .before .before .before .before .before .before .before .before .before .before .before .before .before .before .before .before .before .pre .many, few-entries (now (c .before .before .before .before .before .before .before .before .before .before .before .before .before .before .before .before .before .args .store)), c .before .before .before .before .before .before .before .before .before .before .before .before .before .demands-at .ensures, c .before .before .before .before .before .before .before .before .before .before .before .before .costs-at .ensures, c .before .before .before .before .before .before .before .before .before .before .before .ceilings-at .ensures, c .before .before .before .before .before .before .before .before .before .before .table-at .ensures, c .before .before .before .before .before .before .before .before .before .entries .ensures, c .before .before .before .before .before .costs-of .ensures .0)
+part-plan-start-5 c = omega (arith, front-room _ _ _ (c .before .before .before .before .before .before .before .before .before .before .before .before .before .before .before .before .before .pre), front-lanes _ _ _ (c .before .before .before .before .before .before .before .before .before .before .before .before .before .before .before .before .before .pre), c .before .before .before .before .before .before .before .before .before .before .before .before .before .before .before .before .before .pre .few, c .before .before .before .before .before .before .before .before .before .before .before .before .before .before .before .before .before .pre .many, few-entries (now (c .before .before .before .before .before .before .before .before .before .before .before .before .before .before .before .before .before .args .store)), c .before .before .before .before .before .before .before .before .before .before .before .before .before .demands-at .ensures, c .before .before .before .before .before .before .before .before .before .before .before .before .costs-at .ensures, c .before .before .before .before .before .before .before .before .before .before .before .ceilings-at .ensures, c .before .before .before .before .before .before .before .before .before .before .table-at .ensures, c .before .before .before .before .before .before .before .before .before .entries .ensures, c .before .before .before .before .before .costs-of .ensures .0)
 
 part-plan-end-5 : tie.Need-part-plan-end-5
-part-plan-end-5 c = omega (arith, room-0 _ _ _ (c .before .before .before .before .before .before .before .before .before .before .before .before .before .before .before .before .before .pre), lanes-few _ _ _ (c .before .before .before .before .before .before .before .before .before .before .before .before .before .before .before .before .before .pre), c .before .before .before .before .before .before .before .before .before .before .before .before .before .before .before .before .before .pre .few, c .before .before .before .before .before .before .before .before .before .before .before .before .before .before .before .before .before .pre .many, few-entries (now (c .before .before .before .before .before .before .before .before .before .before .before .before .before .before .before .before .before .args .store)), c .before .before .before .before .before .before .before .before .before .before .before .before .before .demands-at .ensures, c .before .before .before .before .before .before .before .before .before .before .before .before .costs-at .ensures, c .before .before .before .before .before .before .before .before .before .before .before .ceilings-at .ensures, c .before .before .before .before .before .before .before .before .before .before .table-at .ensures, c .before .before .before .before .before .before .before .before .before .entries .ensures, c .before .before .before .before .before .costs-of .ensures .0)
+part-plan-end-5 c = omega (arith, front-room _ _ _ (c .before .before .before .before .before .before .before .before .before .before .before .before .before .before .before .before .before .pre), front-lanes _ _ _ (c .before .before .before .before .before .before .before .before .before .before .before .before .before .before .before .before .before .pre), c .before .before .before .before .before .before .before .before .before .before .before .before .before .before .before .before .before .pre .few, c .before .before .before .before .before .before .before .before .before .before .before .before .before .before .before .before .before .pre .many, few-entries (now (c .before .before .before .before .before .before .before .before .before .before .before .before .before .before .before .before .before .args .store)), c .before .before .before .before .before .before .before .before .before .before .before .before .before .demands-at .ensures, c .before .before .before .before .before .before .before .before .before .before .before .before .costs-at .ensures, c .before .before .before .before .before .before .before .before .before .before .before .ceilings-at .ensures, c .before .before .before .before .before .before .before .before .before .before .table-at .ensures, c .before .before .before .before .before .before .before .before .before .entries .ensures, c .before .before .before .before .before .costs-of .ensures .0)
 
 plan-requires : tie.Need-plan-requires
 plan-requires c κs = search needs

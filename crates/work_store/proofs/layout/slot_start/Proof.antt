@@ -22,7 +22,7 @@ add-result c = omega (arith, bound c)
 
 returns : tie.Need-returns
 unfolding start
-returns c = ap (λ (w : ℕ). 10 + c .before .args .k * w) (c .slot-width .ensures)
+returns c = ap (λ (w : ℕ). 11 + c .before .args .k * w) (c .slot-width .ensures)
 
 pub slot-start-spec : {M : Type 1} → statement M
 slot-start-spec =

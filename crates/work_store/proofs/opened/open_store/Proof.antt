@@ -1,6 +1,6 @@
 -- `work_store::opened::open_store` meets its contract. Assumes nothing.
 use native.Mathlib.Omega.{arith}
-use Rattle.work_store.proofs.OpenStore.{shut-small, shut-two, shut-few, shut-one, shut-many, shut-room, found}
+use Rattle.work_store.proofs.OpenStore.{shut-small, shut-unsigned, shut-two, shut-few, shut-one, shut-many, shut-room, found}
 use borrow.Author.Needs.{needs}
 use Rattle.work_store.proofs.opened.open_store.Statement.{statement}
 use Rattle.work_store.proofs.opened.open_store.Tie as tie
@@ -8,44 +8,59 @@ use Rattle.work_store.proofs.opened.open_store.Tie as tie
 returns : tie.Need-returns
 returns c = shut-small _ (c .if1 .taken)
 
+shared-slice-read-if2 : tie.Need-shared-slice-read-if2
+shared-slice-read-if2 c = search needs
+
+returns-2 : tie.Need-returns-2
+returns-2 c = shut-unsigned _ (c .if2 .taken)
+
 shared-slice-read-a : tie.Need-shared-slice-read-a
 shared-slice-read-a c = search needs
 
 shared-slice-read-b : tie.Need-shared-slice-read-b
 shared-slice-read-b c = search needs
 
-returns-2 : tie.Need-returns-2
-returns-2 c = shut-two _ (c .if2 .taken)
-
 returns-3 : tie.Need-returns-3
-returns-3 c = shut-few _ (c .if3 .taken)
+returns-3 c = shut-two _ (c .if3 .taken)
 
 returns-4 : tie.Need-returns-4
-returns-4 c = shut-one _ (c .if4 .taken)
+returns-4 c = shut-few _ (c .if4 .taken)
 
 returns-5 : tie.Need-returns-5
-returns-5 c = shut-many _ (c .if5 .taken)
-
-cells-for-requires : tie.Need-cells-for-requires
-cells-for-requires c κs = (c .before .before .if3 .left, c .if5 .left)
+returns-5 c = shut-one _ (c .if5 .taken)
 
 returns-6 : tie.Need-returns-6
-returns-6 c = shut-room _ (omega (arith, c .if6 .taken, c .before .cells-for .ensures))
+returns-6 c = shut-many _ (c .if6 .taken)
+
+cells-for-requires : tie.Need-cells-for-requires
+cells-for-requires c κs = (c .before .before .if4 .left, c .if6 .left)
 
 returns-7 : tie.Need-returns-7
-returns-7 c = found _ (record { two = c .before .before .before .before .before .if2 .left; few = c .before .before .before .before .if3 .left; one = c .before .before .before .if4 .left; many = c .before .before .if5 .left; room = omega (arith, c .if6 .left, c .before .cells-for .ensures) })
+returns-7 c = shut-room _ (omega (arith, c .if7 .taken, c .before .cells-for .ensures))
+
+returns-8 : tie.Need-returns-8
+returns-8 c =
+    found _ (record {
+      two = c .before .before .before .before .before .if3 .left;
+      few = c .before .before .before .before .if4 .left;
+      one = c .before .before .before .if5 .left;
+      many = c .before .before .if6 .left;
+      room = omega (arith, c .if7 .left, c .before .cells-for .ensures);
+    }) (c .before .before .before .before .before .before .before .before .if2 .left)
 
 pub open-store-spec : {M : Type 1} → statement M
 open-store-spec =
     tie.close
     (tie.spec
     returns
+    shared-slice-read-if2
+    returns-2
     shared-slice-read-a
     shared-slice-read-b
-    returns-2
     returns-3
     returns-4
     returns-5
-    cells-for-requires
     returns-6
-    returns-7)
+    cells-for-requires
+    returns-7
+    returns-8)

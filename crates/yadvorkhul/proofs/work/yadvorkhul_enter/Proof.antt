@@ -1,4 +1,4 @@
--- `yadvorkhul::work::yadvorkhul_enter` meets its contract, by that of `work_case::enter`. Assumes nothing.
+-- `yadvorkhul::work::yadvorkhul_enter` meets its contract, by that of `roles::enter`. Assumes nothing.
 use mathlib.Core.Path.{refl}
 use Rattle.yadvorkhul.proofs.WorkReports.{call-untold, call-told}
 use borrow.Author.Needs.{needs}

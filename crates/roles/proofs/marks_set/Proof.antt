@@ -1,0 +1,34 @@
+-- `roles::marks_set` meets its contract. Assumes nothing.
+use mathlib.Core.Path.{refl}
+use Rattle.roletable.specs.Deeds.{plan, column, first}
+use Rattle.roletable.proofs.RolePromise.{let-in, kept-out, marks-call, marks-barred}
+use borrow.Author.Needs.{needs}
+use Rattle.roles.proofs.marks_set.Statement.{statement}
+use Rattle.roles.proofs.marks_set.Tie as tie
+
+may-plan-requires : tie.Need-may-plan-requires
+may-plan-requires c κs = search needs
+
+marks-set-requires : tie.Need-marks-set-requires
+marks-set-requires c κs = search needs
+
+same-length : tie.Need-same-length
+same-length c = search needs
+
+returns : tie.Need-returns
+unfolding column first
+returns c = marks-call _ _ _ _ _ (let-in _ plan _ (c .before .before .before .before .before .may-plan .ensures) refl (c .before .before .before .before .if1 .taken)) (c .before .before .marks-set .ensures)
+
+returns-2 : tie.Need-returns-2
+unfolding column first
+returns-2 c = marks-barred _ _ _ (kept-out _ plan _ (c .before .may-plan .ensures) (c .if1 .left))
+
+pub marks-set-spec : {M : Type 1} → statement M
+marks-set-spec =
+    tie.close
+    (tie.spec
+    may-plan-requires
+    marks-set-requires
+    same-length
+    returns
+    returns-2)

@@ -1,0 +1,38 @@
+-- `roles::see_limits` meets its contract. Assumes nothing.
+use mathlib.Core.Path.{refl}
+use Rattle.roletable.specs.Deeds.{plan, column, first}
+use Rattle.roletable.proofs.RolePromise.{let-in, kept-out, limits-call, limits-barred}
+use borrow.Author.Needs.{needs}
+use Rattle.roles.proofs.see_limits.Statement.{statement}
+use Rattle.roles.proofs.see_limits.Tie as tie
+
+may-plan-requires : tie.Need-may-plan-requires
+may-plan-requires c κs = search needs
+
+see-limits-requires : tie.Need-see-limits-requires
+see-limits-requires c κs = search needs
+
+same-length : tie.Need-same-length
+same-length c = search needs
+
+same-length-2 : tie.Need-same-length-2
+same-length-2 c = search needs
+
+returns : tie.Need-returns
+unfolding column first
+returns c = limits-call _ _ _ _ _ _ _ (let-in _ plan _ (c .before .before .before .before .before .before .before .before .may-plan .ensures) refl (c .before .before .before .before .before .before .before .if1 .taken)) (c .before .before .before .before .see-limits .ensures)
+
+returns-2 : tie.Need-returns-2
+unfolding column first
+returns-2 c = limits-barred _ _ _ _ (kept-out _ plan _ (c .before .may-plan .ensures) (c .if1 .left))
+
+pub see-limits-spec : {M : Type 1} → statement M
+see-limits-spec =
+    tie.close
+    (tie.spec
+    may-plan-requires
+    see-limits-requires
+    same-length
+    same-length-2
+    returns
+    returns-2)

@@ -1,0 +1,46 @@
+-- `work_case::see_limits` meets its contract. Assumes nothing.
+use mathlib.Core.Path.{sym, _∙_}
+use Rattle.work_store.proofs.OpenStore.{opened}
+use Rattle.work_store.proofs.LimitLaws.{limits-closed, limits-work}
+use borrow.Author.Needs.{needs}
+use Rattle.work_case.proofs.see_limits.Statement.{statement}
+use Rattle.work_case.proofs.see_limits.Tie as tie
+
+open-store-requires : tie.Need-open-store-requires
+open-store-requires c κs = search needs
+
+enum-told : tie.Need-enum-told
+enum-told c = search needs
+
+enum-known-m : tie.Need-enum-known-m
+enum-known-m c = search needs
+
+show-limits-requires : tie.Need-show-limits-requires
+show-limits-requires c κs = opened _ _ _ (sym (c .before .before .before .before .before .open-store .ensures) ∙ c .before .before .before .m .given .1)
+
+returns : tie.Need-returns
+returns c = limits-closed _ _ _ (sym (c .before .before .open-store .ensures) ∙ c .enum-told .given .1)
+
+same-length : tie.Need-same-length
+same-length c = search needs
+
+same-length-2 : tie.Need-same-length-2
+same-length-2 c = search needs
+
+returns-2 : tie.Need-returns-2
+returns-2 c =
+    let s = c .before .before .before .before .show-limits .ensures in
+    limits-work _ _ _ (sym (c .before .before .before .before .before .before .before .before .before .before .open-store .ensures) ∙ c .before .before .before .before .before .before .before .before .m .given .1) _ _ _ _ _ (s .0) (s .1 .0) (s .1 .1)
+
+pub see-limits-spec : {M : Type 1} → statement M
+see-limits-spec =
+    tie.close
+    (tie.spec
+    open-store-requires
+    enum-told
+    enum-known-m
+    show-limits-requires
+    returns
+    same-length
+    same-length-2
+    returns-2)
