@@ -1,23 +1,8 @@
 // The usual cause of refusal 21, where the byte at its place tells it.
-use crate::place::record_at;
 use file_io::message::say;
-
-// The byte at an offset, or 0 where there is none.
-pub fn byte_at(bytes: &[u8], at: usize) -> u8 {
-    if at < bytes.len() { bytes[at] } else { 0 }
-}
-
-// The byte so many bytes before an offset, or 0 where there is none.
-pub fn byte_before(bytes: &[u8], at: usize, back: usize) -> u8 {
-    if at < back {
-        return 0;
-    }
-    byte_at(bytes, at - back)
-}
-
-pub fn is_digit(b: u8) -> bool {
-    (47 < b) & (b < 58)
-}
+use file_io::place::byte_at;
+use file_io::place::byte_before;
+use file_io::place::record_at;
 
 // A letter of the Latin alphabet, or a byte of a letter that is none of these.
 fn is_letter(b: u8) -> bool {

@@ -3,7 +3,6 @@
 mod arguments;
 mod cause;
 pub mod file;
-mod place;
 pub mod refusal;
 pub mod rewriting;
 

@@ -1,17 +1,17 @@
 // One sentence for each refusal: what it means and where to look.
-use crate::cause::byte_at;
-use crate::cause::byte_before;
-use crate::cause::is_digit;
 use crate::cause::say_cause;
-use crate::place::field_at;
-use crate::place::field_start;
-use crate::place::next;
-use crate::place::record_at;
-use crate::place::record_end;
 use csv_table::table::tariff_stands;
 use file_io::message::say;
 use file_io::message::say_number;
 use file_io::message::say_with;
+use file_io::place::byte_at;
+use file_io::place::byte_before;
+use file_io::place::field_at;
+use file_io::place::field_start;
+use file_io::place::is_digit;
+use file_io::place::next;
+use file_io::place::record_at;
+use file_io::place::record_end;
 use plan_files::planned::Printed;
 
 // Refusal 4: a supply by its source, or a demand by its terminal.
