@@ -1,28 +1,56 @@
-/* Case A as a working case that owns its store: each call of the object, and what it says after a refused opening and after closing. */
+/* Case A as a working case that owns its store: each call of the object, what it says after a refused opening and after closing, and that
+   each store is given back once, cleared. */
+#include <stdint.h>
+#include <stdlib.h>
+
+static void *watched_malloc(size_t bytes);
+static void watched_free(void *store);
+#define malloc watched_malloc
+#define free watched_free
 #include "yadvorkhul_case.h"
+#undef malloc
+#undef free
 
 #include <inttypes.h>
 #include <stdio.h>
 
 #define CELLS(a) (sizeof(a) / sizeof((a)[0]))
 
-static void say(const struct yadvorkhul_case *work, const char *what, uint64_t answer) {
-    if (answer == 0) printf("%s: done\n", what);
-    else printf("%s: refusal %" PRIu64 " at place %" PRIu64 "\n", what, answer, work->place);
+static size_t taken, given_back, uncleared, last_bytes;
+
+static void *watched_malloc(size_t bytes) {
+    taken++;
+    last_bytes = bytes;
+    return malloc(bytes);
 }
 
-static void plan(struct yadvorkhul_case *work, size_t role) {
+/* All stores of this program are of one size. */
+static void watched_free(void *store) {
+    size_t k, left = 0;
+    for (k = 0; store && k < last_bytes; k++) left += ((unsigned char *)store)[k] != 0;
+    given_back += store != NULL;
+    uncleared += left != 0;
+    free(store);
+}
+
+static void say(const char *what, struct yadvorkhul_told told) {
+    if (told.refusal == 0) printf("%s: done\n", what);
+    else printf("%s: refusal %" PRIu64 " at place %" PRIu64 "\n", what, told.refusal, told.place);
+}
+
+static void plan(const struct yadvorkhul_case *work, size_t role) {
     uint64_t lanes[6], splits[YADVORKHUL_MOST_SPLITS];
     int64_t freights[YADVORKHUL_MOST_SPLITS];
     struct yadvorkhul_planned planned;
-    uint64_t answer = yadvorkhul_case_plan(work, role, &planned, lanes, CELLS(lanes), splits, CELLS(splits), freights, CELLS(freights));
-    if (answer) say(work, "planned", answer);
+    struct yadvorkhul_told told =
+        yadvorkhul_case_plan(work, role, &planned, lanes, CELLS(lanes), splits, CELLS(splits), freights, CELLS(freights));
+    if (told.refusal) say("planned", told);
     else
         printf("planned: split %" PRIu64 ", total %" PRId64 ", freight %" PRId64 ", stops %" PRIu64 "\n", planned.split, planned.total,
                planned.freight, planned.stops);
 }
 
-static uint64_t open_case(struct yadvorkhul_case *work, size_t m, uint64_t demand) {
+static struct yadvorkhul_told open_case(struct yadvorkhul_case *work, size_t m, uint64_t demand) {
     const int64_t costs[] = {2, 6, 5, 3, 1, 4};
     const uint64_t supplies[] = {3, 3, 1}, table[] = {99, 20, 24, 20}, ceilings[] = {4000, 4000, 4000, 4000, 4000, 4000};
     uint64_t demands[] = {3, 2};
@@ -32,34 +60,40 @@ static uint64_t open_case(struct yadvorkhul_case *work, size_t m, uint64_t deman
 }
 
 int main(void) {
-    struct yadvorkhul_case work;
+    struct yadvorkhul_case work = YADVORKHUL_CASE_NONE;
     uint64_t supplies[4] = {0, 0, 0, 77}, demands[2], table[6] = {0, 0, 0, 0, 0, 77};
     int64_t costs[6];
-    say(&work, "33 sources", open_case(&work, 33, 2));
-    say(&work, "demand 4,001", open_case(&work, 3, 4001));
-    say(&work, "mark where no case was entered", yadvorkhul_case_mark(&work, YADVORKHUL_PLANNER, 1));
-    say(&work, "case A", open_case(&work, 3, 2));
+    yadvorkhul_case_close(&work);
+    say("33 sources", open_case(&work, 33, 2));
+    say("demand 4,001", open_case(&work, 3, 4001));
+    say("mark where no case was entered", yadvorkhul_case_mark(&work, YADVORKHUL_PLANNER, 1));
+    say("case A", open_case(&work, 3, 2));
     plan(&work, YADVORKHUL_PLANNER);
-    say(&work, "mark 3", yadvorkhul_case_mark(&work, YADVORKHUL_PLANNER, 3));
-    say(&work, "depot, demand of terminal 2 to 3", yadvorkhul_case_edit_demand(&work, YADVORKHUL_DEPOT, 2, 3));
+    say("mark 3", yadvorkhul_case_mark(&work, YADVORKHUL_PLANNER, 3));
+    say("depot, demand of terminal 2 to 3", yadvorkhul_case_edit_demand(&work, YADVORKHUL_DEPOT, 2, 3));
     plan(&work, YADVORKHUL_PLANNER);
-    say(&work, "supply of plant 1 to 4", yadvorkhul_case_edit_supply(&work, YADVORKHUL_PLANNER, 1, 4));
-    say(&work, "cost from 3 to 2 to -40", yadvorkhul_case_edit_cost(&work, YADVORKHUL_PLANNER, 3, 2, -40));
-    say(&work, "plant, entry 4 to 50", yadvorkhul_case_edit_entry(&work, YADVORKHUL_PLANT, 4, 50));
-    say(&work, "entry 5", yadvorkhul_case_edit_entry(&work, YADVORKHUL_PLANNER, 5, 50));
+    say("supply of plant 1 to 4", yadvorkhul_case_edit_supply(&work, YADVORKHUL_PLANNER, 1, 4));
+    say("cost from 3 to 2 to -40", yadvorkhul_case_edit_cost(&work, YADVORKHUL_PLANNER, 3, 2, -40));
+    say("plant, entry 4 to 50", yadvorkhul_case_edit_entry(&work, YADVORKHUL_PLANT, 4, 50));
+    say("entry 5", yadvorkhul_case_edit_entry(&work, YADVORKHUL_PLANNER, 5, 50));
     plan(&work, YADVORKHUL_PLANNER);
     plan(&work, YADVORKHUL_DEPOT);
-    say(&work, "reader, tariff", yadvorkhul_case_see_tariff(&work, YADVORKHUL_READER, costs, CELLS(costs), supplies, CELLS(supplies), demands, CELLS(demands)));
+    say("reader, tariff", yadvorkhul_case_see_tariff(&work, YADVORKHUL_READER, costs, CELLS(costs), supplies, CELLS(supplies), demands, CELLS(demands)));
     printf("tariff: last cost %" PRId64 ", first supply %" PRIu64 ", second demand %" PRIu64 ", a later cell %" PRIu64 "\n", costs[5], supplies[0],
            demands[1], supplies[3]);
-    say(&work, "reader, table", yadvorkhul_case_see_table(&work, YADVORKHUL_READER, table, CELLS(table)));
-    say(&work, "plant, table", yadvorkhul_case_see_table(&work, YADVORKHUL_PLANT, table, CELLS(table)));
+    say("reader, table", yadvorkhul_case_see_table(&work, YADVORKHUL_READER, table, CELLS(table)));
+    say("plant, table", yadvorkhul_case_see_table(&work, YADVORKHUL_PLANT, table, CELLS(table)));
     printf("table: entry 4 is %" PRIu64 ", a later cell %" PRIu64 "\n", table[4], table[5]);
-    say(&work, "back to 2", yadvorkhul_case_go_back(&work, YADVORKHUL_PLANNER, 2));
-    say(&work, "back to 3", yadvorkhul_case_go_back(&work, YADVORKHUL_PLANNER, 3));
+    say("back to 2", yadvorkhul_case_go_back(&work, YADVORKHUL_PLANNER, 2));
+    say("back to 3", yadvorkhul_case_go_back(&work, YADVORKHUL_PLANNER, 3));
+    plan(&work, YADVORKHUL_PLANNER);
+    say("opened once more, demand 4,001", open_case(&work, 3, 4001));
+    plan(&work, YADVORKHUL_PLANNER);
+    say("opened once more, demand 3", open_case(&work, 3, 3));
     plan(&work, YADVORKHUL_PLANNER);
     yadvorkhul_case_close(&work);
-    say(&work, "mark after closing", yadvorkhul_case_mark(&work, YADVORKHUL_PLANNER, 3));
+    say("mark after closing", yadvorkhul_case_mark(&work, YADVORKHUL_PLANNER, 3));
     yadvorkhul_case_close(&work);
+    printf("stores: %zu taken, %zu given back, %zu of them not cleared\n", taken, given_back, uncleared);
     return 0;
 }

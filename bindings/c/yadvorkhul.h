@@ -1,8 +1,11 @@
 /* The proved two-plant production and freight planner, for C and C++.
 
-   The archive target/staticlib/libyadvorkhul.a, which `rt staticlib yadvorkhul` writes, defines the functions. Nothing checks these
-   declarations against the Rattle source (crates/yadvorkhul/src): a slice there is a pointer and then a length here, and
-   a usize is a size_t of 64 bits. */
+   The archive target/staticlib/libyadvorkhul.a, which `bindings/archive` writes, defines the functions. tools/check-declarations
+   compares these declarations with the Rattle source (crates/yadvorkhul/src): a slice there is a pointer and then a length
+   here, and a usize is a size_t of 64 bits.
+
+   Threads may call these functions beside each other: they keep no state. The proof assumes that nobody else writes a slice
+   during the call that it is lent to; of a store this is so where no edit, mark or return runs beside another call on it. */
 #ifndef YADVORKHUL_H
 #define YADVORKHUL_H
 

@@ -4,6 +4,7 @@ import contextlib
 import io
 import json
 import os
+import shutil
 import subprocess
 import sys
 import tempfile
@@ -57,6 +58,27 @@ class Command(unittest.TestCase):
                 status, printed, said = run("plan", path)
                 self.assertEqual((status, printed), (2, ""))
                 self.assertIn("is not a case in JSON", said)
+
+    def test_json_that_is_no_case(self):
+        """One sentence and status 2, whatever the file is."""
+        with tempfile.TemporaryDirectory() as folder:
+            path = os.path.join(folder, "case.json")
+            case = b'"costs": [[2, 6], [5, 3], [1, 4]], "supplies": [3, 3, 1], "demands": [3, 2], "table": [99, 20, 24, 20]'
+            for data, sentence in (
+                (b"[" * 100_000, "brackets stand more than 8 deep"),
+                (b" " * 4_000_001, "longer than 4,000,000 bytes"),
+                (b'{"sources": 5, ' + case + b"}", "sources: a list or null is wanted, not a whole number"),
+                (b'{"sources": "abc", ' + case + b"}", "sources: a list or null is wanted, not a text"),
+                (b'{"table": [1], ' + case + b"}", "the key 'table' stands twice"),
+                (b'{"title": "\\ud800", ' + case + b"}", "a lone surrogate"),
+            ):
+                with open(path, "wb") as out:
+                    out.write(data)
+                for words in (("plan", path), ("page", path, "-o", os.path.join(folder, "plan.html"))):
+                    status, printed, said = run(*words)
+                    self.assertEqual((status, printed, said.count("\n")), (2, "", 1), said)
+                    self.assertIn(sentence, said)
+                self.assertEqual(os.listdir(folder), ["case.json"])
 
     def test_refusal(self):
         with tempfile.TemporaryDirectory() as folder:
@@ -163,6 +185,18 @@ class Command(unittest.TestCase):
                 status, printed, said = asked(lines, odd)
                 self.assertEqual((status, printed), (1, "refusal,place\r\n30,0\r\n"))
             self.assertEqual(asked(lines, "0004"), (0, due, ""))
+
+    def test_page_is_written_over_no_input(self):
+        with tempfile.TemporaryDirectory() as folder:
+            tariff, table = (shutil.copy(path, folder) for path in files("case_a"))
+            page = os.path.join(folder, "plan.html")
+            for words in (("-o", tariff), ("-o", table), ("-o", page, "--picture", tariff), ("-o", page, "--picture", page), ("-o", folder)):
+                status, printed, said = run("page", tariff, table, *words)
+                self.assertEqual((status, printed, said.count("\n")), (2, "", 1), said)
+                self.assertEqual(sorted(os.listdir(folder)), ["production.csv", "tariff.csv"])
+            for path, other in zip((tariff, table), files("case_a")):
+                with open(path, "rb") as one, open(other, "rb") as two:
+                    self.assertEqual(one.read(), two.read())
 
     def test_page_without_libraries(self):
         for name in ("jinja2", "matplotlib"):

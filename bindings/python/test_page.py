@@ -8,6 +8,8 @@ import json
 import os
 import random
 import re
+import subprocess
+import sys
 import tempfile
 import unittest
 
@@ -225,6 +227,55 @@ class Pages(unittest.TestCase):
         self.refused("hostile", b"<script>alert(1)</script>")
         self.assertEqual((self.text("pre mark"), len(self.texts("script"))), ("<", 0))
 
+    def in_order(self, selector):
+        """Whether the signs of an element's text stand from left to right."""
+        script = """(selector => {
+          const text = document.querySelector(selector).firstChild, range = document.createRange(), lefts = [];
+          for (let k = 0; k < text.length; k++) { range.setStart(text, k); range.setEnd(text, k + 1); lefts.push(range.getBoundingClientRect().left); }
+          return lefts.every((left, k) => k === 0 || lefts[k - 1] < left);
+        })"""
+        return self.browser.run(f"{script}({json.dumps(selector)})")
+
+    def test_names_do_not_turn_numbers_round(self):
+        """A name with a mark that turns the direction of writing, and a path with one."""
+        shown = page(season()._replace(sources=["Gra\u202esse", "Holz\u2067minden"], title="Autumn \u202e"))
+        self.show("turned", shown)
+        numbers = ("#next-split", "#next-total", "#next-more", "#split", "#rest")
+        self.assertEqual([self.in_order(selector) for selector in numbers], [True] * 5)
+        self.show("turned-bare", shown.replace("<bdi>", "").replace("</bdi>", ""))  # the test of the test
+        self.assertFalse(all(self.in_order(selector) for selector in numbers))
+        self.show("turned-path", files_page(File(TARIFF, "tar\u202eiff.csv", b"2;6"), File(PRODUCTION, "p", b"1")))
+        self.assertEqual(self.texts("#sentence bdi, h2 bdi, header bdi"), ["No plan", "tar\u202eiff.csv", "p", "tar\u202eiff.csv", "tar\u202eiff.csv"])
+
+    def test_names_are_copied_as_text(self):
+        case = Case(**A, sources=["=1+1", "\t-2", "@x"], terminals=["a\tb\r\nc", '+"d"'])
+        self.show("copied", page(case))
+        self.browser.run("document.addEventListener('copy', () => { window.copied = document.activeElement.value; })")
+        self.browser.run("document.getElementById('copy').focus()")
+        self.browser.press("Enter", text="\r")
+        rows = [row.split("\t") for row in self.browser.run("window.copied").split("\n")]
+        due = [["1", "1", "'=1+1", "a b c", "3", "2", "6"], ["2", "2", "' -2", "\"'+\"\"d\"\"\"", "1", "3", "3"], ["3", "2", "'@x", "\"'+\"\"d\"\"\"", "1", "4", "4"], [""]]
+        self.assertEqual(rows[1:], due)
+
+    def test_policy(self):
+        """No script runs but the page's own, and a refusal has none."""
+        text = page(A)
+        policy = re.search('Content-Security-Policy" content="([^"]*)"', text).group(1)
+        for part in ("default-src &#39;none&#39;", "base-uri &#39;none&#39;", "form-action &#39;none&#39;", "script-src &#39;sha256-"):
+            self.assertIn(part, policy.replace("'", "&#39;"))
+        path = os.path.join(self.folder, "policy.html")
+        for shown in (text, page({**A, "table": [1]})):
+            with open(path, "w", encoding="utf-8", newline="\n") as out:
+                out.write(shown.replace("</main>", "</main><script>window.ran = true</script>"))
+            self.browser.open(path)
+            self.assertEqual((self.browser.run("window.ran === undefined"), len(self.browser.errors)), (True, 1))
+
+    def test_path_that_is_no_text(self):
+        tariff = File(TARIFF, os.fsdecode(b"tar\xff.csv"), b"2;6")
+        text = files_page(tariff, File(PRODUCTION, "p", b"1"))
+        text.encode("utf-8")
+        self.assertIn("<bdi>tar\\xff.csv</bdi>", text)
+
     def test_narrow(self):
         for name, text in (("season", page(season())), ("refusal", files_page(File(TARIFF, "a/long/" * 20 + "tariff.csv", b"x" * 500), File(PRODUCTION, "p", b"1")))):
             self.show(name, text, width=360, height=740)
@@ -297,6 +348,32 @@ class Pages(unittest.TestCase):
                 out.write(body)
             self.browser.open(path)
             self.assertNotEqual(self.browser.errors, [])
+
+
+class Pictures(unittest.TestCase):
+    def picture(self, settings):
+        """The picture, made in a folder with a matplotlibrc that says this."""
+        with tempfile.TemporaryDirectory() as folder:
+            if settings is not None:
+                with open(os.path.join(folder, "matplotlibrc"), "wb") as out:
+                    out.write(settings)
+            words = ["page", *(os.path.abspath(file.path) for file in example("case_a")), "-o", "plan.html", "--picture", "plan.svg"]
+            here = {**os.environ, "PYTHONPATH": os.path.dirname(os.path.abspath(__file__))}
+            done = subprocess.run([sys.executable, "-m", "yadvorkhul", *words], cwd=folder, env=here, capture_output=True)
+            if done.returncode:
+                return done.returncode, done.stderr.decode(), sorted(os.listdir(folder))
+            with open(os.path.join(folder, "plan.svg"), "rb") as stream:
+                return stream.read()
+
+    def test_settings_of_the_folder_are_not_taken(self):
+        due = self.picture(None)
+        self.assertIn(b"<svg", due)
+        self.assertEqual(self.picture(b"axes.facecolor: red\nfont.size: 40\naxes.titlesize: 40\nsvg.fonttype: path\nbackend: nothing\n"), due)
+
+    def test_settings_that_are_no_text(self):
+        status, said, left = self.picture(b"\xff\xfe\x00")
+        self.assertEqual((status, left), (3, ["matplotlibrc"]))
+        self.assertIn("the page needs matplotlib, which this Python cannot load", said)
 
 
 class Curves(unittest.TestCase):

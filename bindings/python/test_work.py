@@ -2,6 +2,8 @@
 
 import copy
 import doctest
+import gc
+import pickle
 import random
 import unittest
 
@@ -185,6 +187,40 @@ class Refusals(unittest.TestCase):
             self.assertEqual(told(work.edit_supply, role, 1, 3), None if role == 1 else (31, 0))
             if role != 1:
                 self.refused(31, 0, work.mark, role, 9)  # 31 before 24
+
+
+class Store(unittest.TestCase):
+    def test_copies_have_a_store_of_their_own(self):
+        work = WorkingCase(**A)
+        work.mark(1, 3)
+        work.edit_demand(1, 2, 3)
+        for other in (copy.copy(work), copy.deepcopy(work)):
+            self.assertEqual(other.plan(1), work.plan(1))
+            other.go_back(1, 3)
+            other.edit_entry(1, 0, 7)
+            self.assertEqual((other.plan(1).total, other.see_table(1)[0]), (33, 7))
+            self.assertEqual((work.plan(1).total, work.see_table(1)[0]), (36, 99))
+
+    def test_is_not_pickled(self):
+        with self.assertRaisesRegex(TypeError, "its store holds every entry"):
+            pickle.dumps(WorkingCase(**A))
+
+    def test_closing_clears(self):
+        with WorkingCase(**A) as work:
+            store = work._store
+            self.assertIn(99, store[:])
+        self.assertEqual(set(store), {0})
+        for call in (work.plan, work.see_tariff, work.see_table):
+            self.assertEqual(told(call, Role.PLANNER), (11, 0))
+        work.close()
+
+    def test_the_end_of_the_object_clears(self):
+        work = WorkingCase(**A)
+        other = copy.copy(work)
+        stores = [work._store, other._store]
+        del work, other
+        gc.collect()
+        self.assertEqual([set(store) for store in stores], [{0}, {0}])
 
 
 class Outsiders(unittest.TestCase):

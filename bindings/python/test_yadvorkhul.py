@@ -1,12 +1,17 @@
 """Tests of the Python module: the paper's cases, refusals, lent lists cell by cell, and a listing of all plans."""
 
+import array
+import concurrent.futures
+import copy
 import doctest
 import itertools
+import pickle
 import random
 import unittest
 
 import yadvorkhul
 from yadvorkhul import Refusal, bounds, bounds_into, plan, plan_into
+from yadvorkhul.files import TARIFF, File, FileRefusal
 
 A = dict(costs=[[2, 6], [5, 3], [1, 4]], supplies=[3, 3, 1], demands=[3, 2], table=[99, 20, 24, 20])
 
@@ -146,10 +151,75 @@ class Cases(unittest.TestCase):
                 plan(**{**A, "costs": [[2, 6], [5, 3], [1, odd]]})
         self.refused(4, 5, demands=[3, (1 << 64) - 1])
 
+    def test_whole_numbers_of_other_kinds(self):
+        """What is a whole number by `operator.index` is taken, in whatever holds it."""
+
+        class Whole:
+            def __init__(self, number):
+                self.number = number
+
+            def __index__(self):
+                return self.number
+
+        due = plan(**A)
+        self.assertEqual(plan([[Whole(c) for c in row] for row in A["costs"]], map(Whole, A["supplies"]), (3, Whole(2)), A["table"]), due)
+        self.assertEqual(plan(**{**A, "supplies": array.array("l", A["supplies"]), "table": tuple(A["table"])}), due)
+        self.assertEqual(plan(**A, runs=(Whole(2), Whole(2))).split, 2)
+        self.assertEqual(yadvorkhul.rates(Whole(3)), [0, 100, 141, 173])
+        for odd in (Whole(-1), Whole(1 << 64)):
+            with self.assertRaises(TypeError):
+                plan(**{**A, "demands": [3, odd]})
+
+    def test_numpy(self):
+        try:
+            import numpy
+        except ImportError:
+            self.skipTest("NumPy is not there (Debian: python3-numpy)")
+        due = plan(**A)
+        for kind in (numpy.int64, numpy.uint8, numpy.int32):
+            self.assertEqual(plan(**{name: numpy.array(numbers, dtype=kind) for name, numbers in A.items()}), due)
+            self.assertEqual(plan(**{**A, "demands": [kind(3), 2]}), due)
+        with self.assertRaisesRegex(TypeError, "^not a whole number from 0 to 18446744073709551615: 2.5$"):
+            plan(**{**A, "demands": numpy.array([2.5, 3])})
+        with self.assertRaises(TypeError):
+            plan(**{**A, "demands": numpy.array([True, False])})
+
+    def test_runs_are_two(self):
+        for odd in ((), (1,), (1, 1, 1)):
+            with self.assertRaisesRegex(TypeError, "^the least runs are two numbers, one for each plant, not "):
+                plan(**A, runs=odd)
+
     def test_doc(self):
         failed, tried = doctest.testmod(yadvorkhul, verbose=False, optionflags=doctest.IGNORE_EXCEPTION_DETAIL)
         self.assertEqual(failed, 0)
         self.assertGreater(tried, 3)
+
+
+def refused_case(demand):
+    return plan(**{**A, "demands": [3, demand]})
+
+
+class Copies(unittest.TestCase):
+    def refusals(self):
+        yield Refusal(4, 5)
+        yield yadvorkhul.FlowRefusal(29, 3)
+        yield FileRefusal(21, 7, File(TARIFF, "tariff.csv", b"2;3"))
+
+    def test_copied_and_pickled(self):
+        for refusal in self.refusals():
+            for other in (copy.copy(refusal), copy.deepcopy(refusal), pickle.loads(pickle.dumps(refusal))):
+                self.assertIs(type(other), type(refusal))
+                self.assertEqual((str(other), vars(other)), (str(refusal), vars(refusal)))
+
+    def test_process_pool(self):
+        """One refused case must not break the pool for the others."""
+        with concurrent.futures.ProcessPoolExecutor(max_workers=1) as pool:
+            jobs = [pool.submit(refused_case, demand) for demand in (2, 4001, 2)]
+            self.assertEqual(jobs[0].result(timeout=60).total, 33)
+            with self.assertRaises(Refusal) as caught:
+                jobs[1].result(timeout=60)
+            self.assertEqual((caught.exception.number, caught.exception.place), (4, 5))
+            self.assertEqual(jobs[2].result(timeout=60).total, 33)
 
 
 class Lent(unittest.TestCase):

@@ -1,8 +1,8 @@
 //! Builds the proved static library and links it.
 //!
-//! `rt staticlib yadvorkhul` is run in the root of the repository. It proves the crate and what it depends on (what lies below it is
-//! not proved again where nothing changed) and writes target/staticlib/libyadvorkhul.a. Where the environment names a folder in
-//! YADVORKHUL_LIB, the archive of that folder is linked instead and `rt` is not run.
+//! `bindings/archive` is run. It proves the crate and what it depends on and writes target/staticlib/libyadvorkhul.a; where nothing
+//! changed since, it does nothing. Where the environment names a folder in YADVORKHUL_LIB, the archive of that folder is linked instead
+//! and nothing is proved.
 
 use std::path::{Path, PathBuf};
 use std::process::Command;
@@ -18,12 +18,12 @@ fn main() {
     println!("cargo:rustc-link-lib=static=yadvorkhul");
 }
 
-/// Runs `rt staticlib yadvorkhul` and answers the folder of the archive.
+/// Runs `bindings/archive` and answers the folder of the archive.
 fn prove() -> PathBuf {
     let here = PathBuf::from(std::env::var_os("CARGO_MANIFEST_DIR").expect("set by cargo"));
     let root = here.join("../..").canonicalize().expect("the repository's root");
     println!("cargo:rerun-if-changed={}", root.join("crates.txt").display());
-    for name in below_ffi(&root) {
+    for name in below_archive(&root) {
         for part in ["src", "specs", "proofs"] {
             let folder = root.join("crates").join(&name).join(part);
             if Path::new(&folder).exists() {
@@ -31,16 +31,16 @@ fn prove() -> PathBuf {
             }
         }
     }
-    let status = Command::new("rt").args(["staticlib", "yadvorkhul"]).current_dir(&root).status();
+    let status = Command::new("bindings/archive").current_dir(&root).status();
     match status {
         Ok(status) if status.success() => root.join("target/staticlib"),
-        Ok(status) => panic!("`rt staticlib yadvorkhul` in the repository's root ended with {status}"),
-        Err(error) => panic!("`rt` could not be run ({error}): the Rattle kit must be on the PATH, or YADVORKHUL_LIB name the folder of libyadvorkhul.a"),
+        Ok(status) => panic!("`bindings/archive` ended with {status}: the Rattle kit's `rt` must be on the PATH, or YADVORKHUL_LIB name the folder of libyadvorkhul.a"),
+        Err(error) => panic!("`bindings/archive` could not be run: {error}"),
     }
 }
 
 /// `yadvorkhul` and every crate of the repository that it depends on, as crates.txt has it.
-fn below_ffi(root: &Path) -> Vec<String> {
+fn below_archive(root: &Path) -> Vec<String> {
     let text = std::fs::read_to_string(root.join("crates.txt")).expect("crates.txt in the repository's root");
     let lines: Vec<(&str, &str)> = text.lines().filter_map(|line| line.split('#').next()?.split_once(':')).collect();
     let mut names = vec![String::from("yadvorkhul")];

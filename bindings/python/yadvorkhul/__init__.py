@@ -51,13 +51,19 @@ A network in DIMACS form, one of whose arcs has a table of costs, is planned by 
 
 `page(case)` gives a page for a browser and for paper, `python3 -m yadvorkhul --help` shows the same functions as a command.
 
-The shared object is made from the proved archive by `bindings/python/build`. Nothing checks the declarations here against
-the Rattle source.
+The shared object is made from the proved archive by `bindings/python/build`. `tools/check-declarations` compares the declarations
+here with the Rattle source.
+
+Threads may call all of this: the functions keep no state, and each call lends arrays of its own.
 """
 
+import array
 import ctypes
-import os
-from typing import List, NamedTuple, Optional, Tuple
+import itertools
+import operator
+from typing import Any, Iterable, List, Mapping, MutableSequence, NamedTuple, Optional, SupportsIndex, Tuple, Union
+
+from .archive import load
 
 __all__ = ["bounds", "bounds_into", "plan", "plan_into", "rates", "rates_into", "Bounds", "Plan", "Refusal", "SHORT_REPORT"]
 __all__ += ["Case", "page", "offers"]
@@ -106,6 +112,22 @@ class Refusal(ValueError):
         at = f" at place {place}" if place or number in (9, 28) else ""
         super().__init__(f"refusal {number}{at}: {_MEANINGS.get(number, 'unknown')}")
 
+    def __reduce__(self):
+        """Copied and pickled with all that it says: a process pool hands it back as it is."""
+        return _again, (type(self), self.args, self.__dict__)
+
+
+def _again(kind, arguments, said):
+    """An exception of this kind as it was, made without asking for its parameters."""
+    refusal = kind.__new__(kind, *arguments)
+    refusal.__dict__.update(said)
+    return refusal
+
+
+Numbers = Iterable[SupportsIndex]  # whole numbers: ints, NumPy's integers and arrays
+Rows = Iterable[Iterable[SupportsIndex]]  # a row of numbers for each source
+Cells = MutableSequence[int]  # a list that is lent, and changed in the cells that are written
+
 
 class Plan(NamedTuple):
     """The cheapest plan that is due: of those at the split the one that has the smaller amount at the first lane, in row order, where
@@ -145,7 +167,7 @@ class Case(NamedTuple):
         return plan(*self[:6])
 
 
-def page(case) -> str:
+def page(case: Union[Case, Mapping[str, Any]]) -> str:
     """One HTML page, with nothing outside it, of the plan of a case or of its refusal. The case is a `Case` or a mapping with its
     fields. Needs Jinja2, and Matplotlib for the picture."""
     from .pages import case_page
@@ -155,14 +177,12 @@ def page(case) -> str:
 
 def offers(symbol: str) -> bool:
     """Whether the archive that the shared object was made of has this C function."""
-    return hasattr(_library, symbol)
+    return _library.offers(symbol)
 
 
-def _load():
-    path = os.environ.get("YADVORKHUL_SO") or os.path.join(os.path.dirname(os.path.abspath(__file__)), "libyadvorkhul.so")
-    if not os.path.exists(path):
-        raise ImportError("libyadvorkhul.so is not there: run bindings/python/build, or name it in YADVORKHUL_SO")
-    return ctypes.CDLL(path)
+def archive_missing() -> str:
+    """Why there is no shared object to call, in a sentence; empty where it is there."""
+    return _library.missing
 
 
 def _declared(function, kinds):
@@ -177,7 +197,7 @@ _READ = [ctypes.c_int64] + [ctypes.c_uint64] * 4  # costs; supplies, demands, ce
 _WRITTEN = [ctypes.c_uint64] * 2 + [ctypes.c_int64, ctypes.c_uint64, ctypes.c_int64]  # plan, splits; freights; report; worth
 _BOUNDS_READ = _READ + [ctypes.c_uint64]  # the high table too
 _BOUNDS_WRITTEN = [ctypes.c_uint64] * 2 + [ctypes.c_int64]  # answers, report; worth
-_library = _load()
+_library = load()
 _plan = _declared(_library.yadvorkhul_plan, _READ + _WRITTEN)
 _bounds = _declared(_library.yadvorkhul_bounds, _BOUNDS_READ + _BOUNDS_WRITTEN)
 _rates = _library.yadvorkhul_rates
@@ -185,35 +205,94 @@ _rates.argtypes = [ctypes.c_uint64, ctypes.POINTER(ctypes.c_uint64), ctypes.c_si
 _rates.restype = ctypes.c_uint64
 
 
+_CODES = {ctypes.c_uint64: "Q", ctypes.c_int64: "q"}
+_RANGES = {ctypes.c_uint64: (0, 1 << 64), ctypes.c_int64: (-1 << 63, 1 << 63)}
+
+
+def _number(kind, number) -> int:
+    """The whole number. One that does not fit a cell is an error, and is not cut down to one that does."""
+    low, high = _RANGES[kind]
+    try:
+        whole = operator.index(number)
+    except TypeError:
+        whole = high
+    if isinstance(number, bool) or not low <= whole < high:
+        raise TypeError(f"not a whole number from {low} to {high - 1}: {number!r}")
+    return whole
+
+
+def _listed(numbers) -> list:
+    """The items as a list; of an array as Python's own numbers."""
+    return numbers.tolist() if hasattr(numbers, "tolist") else list(numbers)
+
+
 def _cells(kind, numbers):
-    """An array of the numbers. A number that does not fit a cell is an error, and is not cut down to one that does."""
-    numbers = list(numbers)
-    low, high = (-1 << 63, 1 << 63) if kind is ctypes.c_int64 else (0, 1 << 64)
-    for number in numbers:
-        if isinstance(number, bool) or not isinstance(number, int) or not low <= number < high:
-            raise TypeError(f"not a whole number from {low} to {high - 1}: {number!r}")
-    # one cell more, so that the pointer of an empty slice points at something
-    return (kind * (len(numbers) + 1))(*numbers), len(numbers)
+    """An array of the numbers, exactly as long as they are, and its length."""
+    numbers = _listed(numbers)
+    if not set(map(type, numbers)) <= {int}:
+        numbers = [_number(kind, number) for number in numbers]
+    try:
+        cells = array.array(_CODES[kind], numbers)
+    except OverflowError:
+        cells = None
+    if cells is None:  # the one that does not fit is named
+        cells = array.array(_CODES[kind], [_number(kind, number) for number in numbers])
+    # one cell where there is none, so that the pointer of an empty slice points at something
+    return (kind * max(1, len(cells))).from_buffer(cells or array.array(_CODES[kind], [0])), len(numbers)
+
+
+def _parts(slices) -> list:
+    """Pointers and lengths, in turn, of arrays with their lengths."""
+    return [part for pair in slices for part in pair]
 
 
 def _call(function, numbers, read_kinds, read, written_kinds, lent):
     """Calls a function on lent lists. Each of the last ones is changed in the cells that it writes. Answers its number."""
     read = [_cells(kind, cells) for kind, cells in zip(read_kinds, read)]
     written = [_cells(kind, cells) for kind, cells in zip(written_kinds, lent)]
-    _cells(ctypes.c_uint64, numbers)
-    answer = function(*numbers, *(part for pair in read + written for part in pair))
+    numbers = [_number(ctypes.c_uint64, number) for number in numbers]
+    answer = function(*numbers, *_parts(read + written))
     for cells, (now, length) in zip(lent, written):
         cells[:] = now[:length]
     return answer
 
 
-def plan_into(m, n, run1, run2, costs, supplies, demands, ceilings, table, plan, splits, freights, report, worth):
+def plan_into(
+    m: SupportsIndex,
+    n: SupportsIndex,
+    run1: SupportsIndex,
+    run2: SupportsIndex,
+    costs: Numbers,
+    supplies: Numbers,
+    demands: Numbers,
+    ceilings: Numbers,
+    table: Numbers,
+    plan: Cells,
+    splits: Cells,
+    freights: Cells,
+    report: Cells,
+    worth: Cells,
+) -> int:
     """The planner on lent lists. Each of the last five is changed in the cells that the planner writes. Answers its number."""
     read = (costs, supplies, demands, ceilings, table)
     return _call(_plan, [m, n, run1, run2], _READ, read, _WRITTEN, [plan, splits, freights, report, worth])
 
 
-def bounds_into(m, n, run1, run2, costs, supplies, demands, ceilings, low, high, answers, report, worth):
+def bounds_into(
+    m: SupportsIndex,
+    n: SupportsIndex,
+    run1: SupportsIndex,
+    run2: SupportsIndex,
+    costs: Numbers,
+    supplies: Numbers,
+    demands: Numbers,
+    ceilings: Numbers,
+    low: Numbers,
+    high: Numbers,
+    answers: Cells,
+    report: Cells,
+    worth: Cells,
+) -> int:
     """Which splits can be the cheapest, on lent lists. Each of the last three is changed in the cells that are written."""
     read = (costs, supplies, demands, ceilings, low, high)
     return _call(_bounds, [m, n, run1, run2], _BOUNDS_READ, read, _BOUNDS_WRITTEN, [answers, report, worth])
@@ -221,12 +300,39 @@ def bounds_into(m, n, run1, run2, costs, supplies, demands, ceilings, low, high,
 
 def _lanes(rows, m, n):
     """The numbers of m rows of n, one row after the other; rows of other lengths must not pass for a table of the right size."""
-    rows = [list(row) for row in rows]
+    rows = [row if type(row) is list else list(row) for row in _listed(rows)]
     even = len(rows) == m and all(len(row) == n for row in rows)
-    return [number for row in rows for number in row] if even else []
+    return list(itertools.chain.from_iterable(rows)) if even else []
 
 
-def plan(costs, supplies, demands, table, runs=(0, 0), ceilings=None) -> Plan:
+_WIDE = (ctypes.c_uint64 * (MOST_SOURCES * MOST_TERMINALS))(*[MOST_AMOUNT] * (MOST_SOURCES * MOST_TERMINALS))  # only read
+
+
+def _two(runs) -> Tuple[int, int]:
+    """The two least runs."""
+    runs = _listed(runs)
+    if len(runs) != 2:
+        raise TypeError(f"the least runs are two numbers, one for each plant, not {len(runs)}")
+    return _number(ctypes.c_uint64, runs[0]), _number(ctypes.c_uint64, runs[1])
+
+
+def _entered(costs, supplies, demands, runs, ceilings):
+    """The numbers and the slices that each planning function begins with: m, n and the runs; then costs, supplies, demands, ceilings.
+    Where there are no ceilings 4,000 stands on every lane, which no plan passes."""
+    supplies, demands = _cells(ctypes.c_uint64, supplies), _cells(ctypes.c_uint64, demands)
+    m, n = supplies[1], demands[1]
+    lanes = min(m, MOST_SOURCES) * min(n, MOST_TERMINALS)
+    wide = (_WIDE, lanes) if ceilings is None else _cells(ctypes.c_uint64, _lanes(ceilings, m, n))
+    costs = _cells(ctypes.c_int64, _lanes(costs, m, n))
+    return (m, n, *_two(runs)), [costs, supplies, demands, wide], lanes
+
+
+def _rows(cells, m, n) -> List[List[int]]:
+    """The cells of m rows of n."""
+    return [cells[i * n : (i + 1) * n] for i in range(m)]
+
+
+def plan(costs: Rows, supplies: Numbers, demands: Numbers, table: Numbers, runs: Numbers = (0, 0), ceilings: Optional[Rows] = None) -> Plan:
     """The plan, or a `Refusal`.
 
     costs     a row for each source: its unit cost to each terminal, below 0 for a rebate
@@ -237,51 +343,47 @@ def plan(costs, supplies, demands, table, runs=(0, 0), ceilings=None) -> Plan:
     runs      the least that each of the two plants must make, at most its supply; 0 for none
     ceilings  a row for each source: the most that its lane to each terminal carries; 0 closes it; None for no bound
     """
-    supplies, demands = list(supplies), list(demands)
-    m, n = len(supplies), len(demands)
-    run1, run2 = runs
-    cells = min(m, MOST_SOURCES) * min(n, MOST_TERMINALS)
-    wide = [MOST_AMOUNT] * cells if ceilings is None else _lanes(ceilings, m, n)
-    amounts = [0] * cells
-    splits, freights = [0] * MOST_SPLITS, [0] * MOST_SPLITS
-    report, worth = [0] * REPORT_CELLS, [0] * WORTH_CELLS
-    lanes = _lanes(costs, m, n)
-    number = plan_into(m, n, run1, run2, lanes, supplies, demands, wide, table, amounts, splits, freights, report, worth)
+    numbers, read, lanes = _entered(costs, supplies, demands, runs, ceilings)
+    read.append(_cells(ctypes.c_uint64, table))
+    # arrays of this call alone: another thread may plan meanwhile
+    amounts, splits, freights = (ctypes.c_uint64 * max(1, lanes))(), (ctypes.c_uint64 * MOST_SPLITS)(), (ctypes.c_int64 * MOST_SPLITS)()
+    report, worth = (ctypes.c_uint64 * REPORT_CELLS)(), (ctypes.c_int64 * WORTH_CELLS)()
+    written = [(amounts, lanes), (splits, MOST_SPLITS), (freights, MOST_SPLITS), (report, REPORT_CELLS), (worth, WORTH_CELLS)]
+    number = _plan(*numbers, *_parts(read + written))
     if number != 0:
         raise Refusal(number, report[0])
     (split, count), (total, freight) = report, worth
-    by_source = [amounts[i * n : (i + 1) * n] for i in range(m)]
-    return Plan(split, total, freight, by_source, list(zip(splits[:count], freights[:count])))
+    return Plan(split, total, freight, _rows(amounts, numbers[0], numbers[1]), list(zip(splits[:count], freights[:count])))
 
 
-def rates_into(most, to):
+def rates_into(most: SupportsIndex, to: Cells) -> int:
     """Writes 100 times the square root of y, rounded down, for y from 0 to most, into the first items of a list. Answers 0; or 4
     where most is above 4,000, or 11 where the list is too short, and then writes nothing."""
     cells, length = _cells(ctypes.c_uint64, to)
-    _cells(ctypes.c_uint64, [most])
-    answer = _rates(most, cells, length)
+    answer = _rates(_number(ctypes.c_uint64, most), cells, length)
     to[:] = cells[:length]
     return answer
 
 
-def rates(supply) -> List[int]:
+def rates(supply: SupportsIndex) -> List[int]:
     """A production table for a plant 1 of this supply, at most 4,000: 100 times the square root of its output, rounded down."""
-    table = [0] * (min(supply, MOST_AMOUNT) + 1)
-    number = rates_into(supply, table)
+    most = _number(ctypes.c_uint64, supply)
+    table = [0] * (min(most, MOST_AMOUNT) + 1)
+    number = rates_into(most, table)
     if number != 0:
         raise Refusal(number, 1)
     return table
 
 
-def bounds(costs, supplies, demands, low, high, runs=(0, 0), ceilings=None) -> Bounds:
+def bounds(
+    costs: Rows, supplies: Numbers, demands: Numbers, low: Numbers, high: Numbers, runs: Numbers = (0, 0), ceilings: Optional[Rows] = None
+) -> Bounds:
     """Which splits can be the cheapest with entries between the low and the high table, or a `Refusal`; the rest as for `plan`."""
-    supplies, demands = list(supplies), list(demands)
-    m, n = len(supplies), len(demands)
-    run1, run2 = runs
-    wide = [MOST_AMOUNT] * (min(m, MOST_SOURCES) * min(n, MOST_TERMINALS)) if ceilings is None else _lanes(ceilings, m, n)
-    answers, report, worth = [0] * MOST_SPLITS, [0] * REPORT_CELLS, [0] * WORTH_CELLS
-    lanes = _lanes(costs, m, n)
-    number = bounds_into(m, n, run1, run2, lanes, supplies, demands, wide, low, high, answers, report, worth)
+    numbers, read, _ = _entered(costs, supplies, demands, runs, ceilings)
+    read += [_cells(ctypes.c_uint64, low), _cells(ctypes.c_uint64, high)]
+    answers, report, worth = (ctypes.c_uint64 * MOST_SPLITS)(), (ctypes.c_uint64 * REPORT_CELLS)(), (ctypes.c_int64 * WORTH_CELLS)()
+    written = [(answers, MOST_SPLITS), (report, REPORT_CELLS), (worth, WORTH_CELLS)]
+    number = _bounds(*numbers, *_parts(read + written))
     if number != 0:
         raise Refusal(number, report[0])
     (first, count), (smallest, largest) = report, worth

@@ -5,13 +5,16 @@ not balance.
 """
 
 import base64
+import hashlib
 import os
 import re
-from typing import List, NamedTuple, Optional
+from typing import Any, Callable, Iterable, List, NamedTuple, Optional, Tuple
 
 from . import MOST_AMOUNT, Case, Plan, Refusal
+from .cases import check_names
 from .curve import Curve, curve_of
 from .files import File, FileRefusal, plan_text, read_case
+from .outputs import shown
 from .refusals import explain
 from .words import counted, grouped, increase, percent
 
@@ -29,7 +32,7 @@ class MissingLibrary(ImportError):
     """A library that only the page needs is not there."""
 
 
-def _needed(name: str):
+def _needed(name: str) -> Any:
     import importlib
 
     try:
@@ -39,6 +42,8 @@ def _needed(name: str):
             f"the page needs {name}, which this Python does not have. On Debian: {INSTALL}, then run it by /usr/bin/python3. "
             "`plan` works without it."
         ) from error
+    except Exception as error:  # such as a matplotlibrc of the current folder that is no text
+        raise MissingLibrary(f"the page needs {name}, which this Python cannot load: {error}") from error
 
 
 class Lane(NamedTuple):
@@ -78,7 +83,7 @@ def _lane(case: Case, plan: Plan, i: int, j: int) -> Lane:
     return Lane(i + 1, j + 1, amount, unit, amount * unit, bound, amount > 0 and amount == bound)
 
 
-def _names(given, count: int, default) -> List[str]:
+def _names(given: Optional[Iterable[str]], count: int, default: Callable[[int], str]) -> List[str]:
     given = list(given or [])
     return [given[i] if i < len(given) else default(i) for i in range(count)]
 
@@ -140,13 +145,33 @@ def _signs(text: str):
     return Markup(re.sub("\u2039(\\w+)\u203a", r'<span class="sign">\1</span>', str(escape(text))))
 
 
+def _isolated(sentence: str, paths: Iterable[str]):
+    """A sentence with a capital, its paths set apart: a mark in them that turns the direction of writing must not reach the numbers."""
+    from markupsafe import Markup, escape
+
+    found = escape(sentence[0].upper() + sentence[1:])
+    for path in sorted(set(paths), key=len, reverse=True):
+        found = Markup(found.replace(escape(path), Markup(f"<bdi>{escape(shown(path))}</bdi>")))
+    return found
+
+
+TEMPLATES = os.path.join(os.path.dirname(os.path.abspath(__file__)), "templates")
+
+
+def _script() -> Tuple[str, str]:
+    """The script of the page, and the source that its security policy names: no other script runs."""
+    with open(os.path.join(TEMPLATES, "copy.js"), encoding="utf-8") as stream:
+        script = stream.read()
+    digest = base64.b64encode(hashlib.sha256(script.encode()).digest()).decode()
+    return script, f"'sha256-{digest}'"
+
+
 def _environment():
     jinja2 = _needed("jinja2")
-    folder = os.path.join(os.path.dirname(os.path.abspath(__file__)), "templates")
     environment = jinja2.Environment(
-        loader=jinja2.FileSystemLoader(folder), autoescape=True, trim_blocks=True, lstrip_blocks=True, undefined=jinja2.StrictUndefined
+        loader=jinja2.FileSystemLoader(TEMPLATES), autoescape=True, trim_blocks=True, lstrip_blocks=True, undefined=jinja2.StrictUndefined
     )
-    environment.filters.update(number=grouped, signs=_signs)
+    environment.filters.update(number=grouped, signs=_signs, isolated=_isolated, path=shown)
     environment.globals.update(percent=percent, increase=increase, counted=counted)
     return environment
 
@@ -164,7 +189,7 @@ def picture(case: Case, plan: Plan) -> str:
     return svg(curve_of(plan, case.table), plan.stops) + "\n"
 
 
-def plan_page(case: Case, plan: Plan, read_from=()) -> str:
+def plan_page(case: Case, plan: Plan, read_from: Iterable[str] = ()) -> str:
     """The page of a plan; `read_from` names the files that the case was read from."""
     environment = _environment()
     _needed("matplotlib")
@@ -173,6 +198,7 @@ def plan_page(case: Case, plan: Plan, read_from=()) -> str:
     curve = curve_of(plan, case.table)
     rows, columns = _grid(case, plan)
     beside = _beside(rows)
+    script, script_source = _script()
     return environment.get_template("plan.html").render(
         case=case,
         title=case.title or "Production and freight plan",
@@ -194,6 +220,8 @@ def plan_page(case: Case, plan: Plan, read_from=()) -> str:
         broad=svg(curve, plan.stops, 8.4, "broad"),
         slim=svg(curve, plan.stops, 4.2, "slim"),
         plan_file=_data(plan_text(case, plan)),
+        script=script,
+        script_source=script_source,
     )
 
 
@@ -202,11 +230,12 @@ def refusal_page(refusal: Refusal, case: Optional[Case] = None, tariff: Optional
     told = explain(refusal, case, tariff, production)
     title = case.title if case and case.title else "No plan"
     files = [file.path for file in (tariff, production) if file]
-    return _environment().get_template("refusal.html").render(title=title, told=told, read_from=files)
+    return _environment().get_template("refusal.html").render(title=title, told=told, read_from=files, script_source="'none'")
 
 
 def case_page(case: Case, tariff: Optional[File] = None, production: Optional[File] = None) -> str:
     """The page of a case, planned or refused."""
+    check_names(case)
     try:
         plan = case.plan()
     except Refusal as refusal:

@@ -90,7 +90,10 @@ def svg(curve: Curve, stops, width: float = 8.4, name: str = "picture") -> str:
     from matplotlib.figure import Figure
 
     settings = {"svg.fonttype": "none", "svg.hashsalt": name, "font.family": "DejaVu Sans"}
-    with matplotlib.rc_context(settings):
+    with matplotlib.rc_context():
+        # from Matplotlib's own defaults, whatever a matplotlibrc of the current folder or of the user says
+        matplotlib.rcdefaults()
+        matplotlib.rcParams.update(settings)
         figure = Figure(figsize=(width, 7.2), constrained_layout=True)
         FigureCanvasAgg(figure)
         total, freight, production = figure.subplots(3, 1, sharex=True, gridspec_kw={"height_ratios": [2.2, 1.2, 1.2]})

@@ -16,14 +16,19 @@
     yadvorkhul.Refusal: refusal 31: the role may not do this
 
 Sources, terminals and marks are counted from 1, entries from 0.
+
+Threads may share a working case: each call has a report of its own and is alone on the object while it runs. What several calls do
+together, such as an edit and the plan after it, is for the caller to guard.
 """
 
 import ctypes
 import enum
-from typing import List, NamedTuple
+import threading
+import weakref
+from typing import List, NamedTuple, Optional, SupportsIndex
 
-from . import MOST_AMOUNT, MOST_SOURCES, MOST_SPLITS, MOST_TERMINALS, REPORT_CELLS, WORTH_CELLS
-from . import Plan, Refusal, _cells, _lanes, _library, _READ
+from . import MOST_SPLITS, REPORT_CELLS, WORTH_CELLS
+from . import Numbers, Plan, Refusal, Rows, _cells, _entered, _library, _number, _parts, _READ, _rows
 
 _CELL, _SIGNED, _SIZE = ctypes.c_uint64, ctypes.c_int64, ctypes.c_size_t
 
@@ -70,96 +75,133 @@ _see_tariff = _function("see_tariff", [_SIZE], [_CELL, _SIGNED, _CELL, _CELL, _C
 _see_table = _function("see_table", [_SIZE], [_CELL, _CELL, _CELL])
 
 
-def store_cells(m, n) -> int:
+def _report():
+    """A report of its own for each call: what one call is told must not reach another thread."""
+    return (_CELL * REPORT_CELLS)()
+
+
+def store_cells(m: SupportsIndex, n: SupportsIndex) -> int:
     """How many cells a store for m sources and n terminals must have; 0 where no case has that size."""
-    _cells(_CELL, [m, n])
-    return _store_cells(m, n)
+    return _store_cells(_number(_CELL, m), _number(_CELL, n))
+
+
+def _clear(store):
+    """Empties a store: it holds every entry."""
+    ctypes.memset(store, 0, ctypes.sizeof(store))
 
 
 class WorkingCase:
     """A working case that takes edits, marks and returns. It owns its store; a role, a `Role` or its number, is handed to every call. That
-    it is the role of the person who asks is for the caller to see to. A call that is refused raises a `Refusal` and changes nothing."""
+    it is the role of the person who asks is for the caller to see to. A call that is refused raises a `Refusal` and changes nothing.
 
-    def __init__(self, costs, supplies, demands, table, runs=(0, 0), ceilings=None):
+    `close`, the end of a `with`, and the object's own end clear the store. A closed case is refused by 11. A copy has a store of its own."""
+
+    def __init__(
+        self, costs: Rows, supplies: Numbers, demands: Numbers, table: Numbers, runs: Numbers = (0, 0), ceilings: Optional[Rows] = None
+    ):
         """Enters a case, the parameters as for `plan`: refused by the tests 1 to 6, with 23 and 26. Balance and entries are judged when it
         is planned. No mark is set."""
-        supplies, demands = list(supplies), list(demands)
-        m, n = len(supplies), len(demands)
-        run1, run2 = runs
-        wide = [MOST_AMOUNT] * (min(m, MOST_SOURCES) * min(n, MOST_TERMINALS)) if ceilings is None else _lanes(ceilings, m, n)
-        self._m, self._n = m, n
-        self._length = store_cells(m, n)
-        self._store = (_CELL * (self._length + 1))()
-        self._report = (_CELL * REPORT_CELLS)()
-        _cells(_CELL, [run1, run2])
-        read = [_cells(kind, cells) for kind, cells in zip(_READ, (_lanes(costs, m, n), supplies, demands, wide, table))]
-        parts = [part for pair in read for part in pair]
-        self._told(_enter(m, n, run1, run2, *parts, self._store, self._length, self._report, REPORT_CELLS))
+        numbers, read, _ = _entered(costs, supplies, demands, runs, ceilings)
+        read.append(_cells(_CELL, table))
+        m, n = numbers[:2]
+        self._own(m, n, store_cells(m, n))
+        self._alone(_enter, (*numbers, *_parts(read)), report=_report())
 
-    def __repr__(self):
+    def _own(self, m: int, n: int, length: int):
+        """Takes a store, which is cleared when the object ends."""
+        self._m, self._n, self._length = m, n, length
+        self._store = (_CELL * (length + 1))()
+        self._lock = threading.RLock()
+        weakref.finalize(self, _clear, self._store)
+
+    def __repr__(self) -> str:
         """No cell: the store holds every entry."""
         return f"WorkingCase of {self._m} sources and {self._n} terminals"
 
-    def _told(self, number):
+    def __copy__(self) -> "WorkingCase":
+        """A working case as this one is now, marks too, with a store of its own."""
+        other = object.__new__(type(self))
+        other._own(self._m, self._n, self._length)
+        with self._lock:
+            ctypes.memmove(other._store, self._store, ctypes.sizeof(self._store))
+        return other
+
+    def __deepcopy__(self, memo) -> "WorkingCase":
+        return self.__copy__()
+
+    def __reduce_ex__(self, protocol):
+        raise TypeError("a working case is not pickled: its store holds every entry")
+
+    def __enter__(self) -> "WorkingCase":
+        return self
+
+    def __exit__(self, *error) -> None:
+        self.close()
+
+    def close(self) -> None:
+        """Clears the store. The case is gone; every later call is refused by 11."""
+        with self._lock:
+            _clear(self._store)
+
+    def _alone(self, function, numbers, *lent, report):
+        """Makes one call, alone on the object: its numbers, the store, lent arrays. `report` is one of these, or the last."""
+        lent = lent if any(cells is report for cells in lent) else lent + (report,)
+        parts = [part for cells in lent for part in (cells, len(cells))]
+        with self._lock:
+            number = function(*numbers, self._store, self._length, *parts)
         if number != 0:
-            raise Refusal(number, self._report[0])
+            raise Refusal(number, report[0])
 
-    def _call(self, name, *numbers):
-        for kind, number in zip(_CALLS[name], numbers):
-            _cells(_SIGNED if kind is _SIGNED else _CELL, [number])
-        self._told(_calls[name](*numbers, self._store, self._length, self._report, REPORT_CELLS))
+    def _call(self, name: str, *numbers: SupportsIndex):
+        whole = [_number(kind if kind is _SIGNED else _CELL, number) for kind, number in zip(_CALLS[name], numbers)]
+        self._alone(_calls[name], whole, report=_report())
 
-    def edit_demand(self, role, terminal, value):
+    def edit_demand(self, role: SupportsIndex, terminal: SupportsIndex, value: SupportsIndex) -> None:
         """Alters the demand of a terminal."""
         self._call("edit_demand", role, terminal, value)
 
-    def edit_supply(self, role, source, value):
+    def edit_supply(self, role: SupportsIndex, source: SupportsIndex, value: SupportsIndex) -> None:
         """Alters the supply of a source. Another first supply lengthens the table with zeros, or cuts it."""
         self._call("edit_supply", role, source, value)
 
-    def edit_cost(self, role, source, terminal, value):
+    def edit_cost(self, role: SupportsIndex, source: SupportsIndex, terminal: SupportsIndex, value: SupportsIndex) -> None:
         """Alters the unit cost of the lane from a source to a terminal."""
         self._call("edit_cost", role, source, terminal, value)
 
-    def edit_entry(self, role, split, value):
+    def edit_entry(self, role: SupportsIndex, split: SupportsIndex, value: SupportsIndex) -> None:
         """Alters the entry at a split. It may be any number."""
         self._call("edit_entry", role, split, value)
 
-    def mark(self, role, mark):
+    def mark(self, role: SupportsIndex, mark: SupportsIndex) -> None:
         """Sets a mark, 1 to 8: it holds the whole case as it is now."""
         self._call("set_mark", role, mark)
 
-    def go_back(self, role, mark):
+    def go_back(self, role: SupportsIndex, mark: SupportsIndex) -> None:
         """Makes the case what it was when the mark was last set; all marks keep theirs."""
         self._call("go_back", role, mark)
 
-    def _lent(self, function, role, *lent):
+    def _lent(self, function, role: SupportsIndex, *lent, report):
         """Calls a function that reads the store, on lent arrays."""
-        _cells(_CELL, [role])
-        parts = [part for cells in lent for part in (cells, len(cells))]
-        self._told(function(role, self._store, self._length, *parts))
+        self._alone(function, (_number(_CELL, role),), *lent, report=report)
 
-    def plan(self, role) -> Plan:
+    def plan(self, role: SupportsIndex) -> Plan:
         """The plan of the case as it is now: what a case entered afresh would get."""
-        m, n = self._m, self._n
-        amounts, splits, freights = (_CELL * (m * n))(), (_CELL * MOST_SPLITS)(), (_SIGNED * MOST_SPLITS)()
-        worth = (_SIGNED * WORTH_CELLS)()
-        self._lent(_plan_case, role, amounts, splits, freights, self._report, worth)
-        (split, count), (total, freight) = self._report, worth
-        return Plan(split, total, freight, self._rows(amounts), list(zip(splits[:count], freights[:count])))
+        amounts, splits, freights = (_CELL * (self._m * self._n))(), (_CELL * MOST_SPLITS)(), (_SIGNED * MOST_SPLITS)()
+        report, worth = _report(), (_SIGNED * WORTH_CELLS)()
+        self._lent(_plan_case, role, amounts, splits, freights, report, worth, report=report)
+        (split, count), (total, freight) = report, worth
+        return Plan(split, total, freight, _rows(amounts, self._m, self._n), list(zip(splits[:count], freights[:count])))
 
-    def _rows(self, cells):
-        return [cells[i * self._n : (i + 1) * self._n] for i in range(self._m)]
-
-    def see_tariff(self, role) -> Tariff:
+    def see_tariff(self, role: SupportsIndex) -> Tariff:
         """Unit costs, supplies and demands as they are now."""
         costs, supplies, demands = (_SIGNED * (self._m * self._n))(), (_CELL * self._m)(), (_CELL * self._n)()
-        self._lent(_see_tariff, role, costs, supplies, demands, self._report)
-        return Tariff(self._rows(costs), list(supplies), list(demands))
+        self._lent(_see_tariff, role, costs, supplies, demands, report=_report())
+        return Tariff(_rows(costs, self._m, self._n), list(supplies), list(demands))
 
-    def see_table(self, role) -> List[int]:
+    def see_table(self, role: SupportsIndex) -> List[int]:
         """The entries as they are now, one more than the first supply."""
         table = (_CELL * MOST_SPLITS)()
-        self._lent(_see_table, role, table, self._report)
-        # whoever may see the table may see the tariff, which has the table's length
-        return table[: self.see_tariff(role).supplies[0] + 1]
+        with self._lock:
+            self._lent(_see_table, role, table, report=_report())
+            # whoever may see the table may see the tariff, which has the table's length
+            return table[: self.see_tariff(role).supplies[0] + 1]

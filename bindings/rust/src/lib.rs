@@ -65,8 +65,8 @@
 //! A [`WorkingCase`] takes edits, marks and returns, each call with the [`Role`] of who asks, and is planned as it is then. A network in DIMACS
 //! form, one of whose arcs has a table of costs, is planned by [`flow`].
 //!
-//! What is proved are the functions behind [`plan_into`], [`rates_into`], [`bounds_into`], [`flow_into`] and those of [`work`]. Nothing checks
-//! their declarations here against the Rattle source; the tests of this crate compare the planner with an independent one on many cases, each
+//! What is proved are the functions behind [`plan_into`], [`rates_into`], [`bounds_into`], [`flow_into`] and those of [`work`].
+//! `tools/check-declarations` compares their declarations here with the Rattle source; the tests of this crate compare the planner with an independent one on many cases, each
 //! rate with its rule, the bounds with all tables between them, random histories of a working case with whole copies, and the flow with all
 //! flows and with another method.
 
@@ -410,7 +410,7 @@ impl Case {
 }
 
 impl Plan {
-    /// Drums from source i to terminal j, both counted from 0.
+    /// Drums from source i to terminal j, both counted from 0. Panics where the case lacks the source or the terminal.
     ///
     /// ```
     /// # let case = yadvorkhul::Case {
@@ -421,7 +421,9 @@ impl Plan {
     /// ```
     pub fn amount(&self, source: usize, terminal: usize) -> u64 {
         assert!(terminal < self.terminals, "terminal {terminal} of {}", self.terminals);
-        self.amounts[source * self.terminals + terminal]
+        // not by source × terminals + terminal: of a huge source that product wraps where overflow is not checked
+        let row = self.rows().nth(source);
+        row.unwrap_or_else(|| panic!("source {source} of {}", self.amounts.len() / self.terminals))[terminal]
     }
 
     /// The amounts of each source in turn.

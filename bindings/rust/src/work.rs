@@ -326,8 +326,8 @@ pub struct Tariff {
     pub demands: Vec<u64>,
 }
 
-/// A working case that takes edits, marks and returns. It owns its store; a role is handed to every call. That it is the role of the
-/// person who asks is for the caller to see to.
+/// A working case that takes edits, marks and returns. It owns its store, which is cleared when the object ends; a role is handed to every
+/// call. That it is the role of the person who asks is for the caller to see to.
 ///
 /// ```
 /// use yadvorkhul::{Case, Role, WorkingCase};
@@ -343,11 +343,32 @@ pub struct Tariff {
 /// assert_eq!(work.see_table(Role::Depot).unwrap_err().number, 31); // not for a depot
 /// assert_eq!(work.see_tariff(Role::Reader).unwrap().demands, [3, 2]);
 /// ```
+///
+/// Threads may share it: planning and seeing only read the store. An edit, a mark or a return wants the object for itself, so it
+/// cannot run beside another call; behind a lock such as `RwLock` threads may do that too. This does not compile:
+///
+/// ```compile_fail,E0596
+/// # use yadvorkhul::{Case, Role, WorkingCase};
+/// fn edit_what_is_shared(work: &WorkingCase) {
+///     work.edit_demand(Role::Depot, 2, 3).unwrap();
+/// }
+/// ```
 #[derive(Clone)]
 pub struct WorkingCase {
     store: Vec<u64>,
     sources: usize,
     terminals: usize,
+}
+
+/// Clears the store before it is given back: it holds every entry.
+impl Drop for WorkingCase {
+    fn drop(&mut self) {
+        for cell in &mut self.store {
+            // Safety: the cell is borrowed exclusively. Written so, it is not left out as a write that nobody reads.
+            unsafe { std::ptr::write_volatile(cell, 0) };
+        }
+        std::sync::atomic::compiler_fence(std::sync::atomic::Ordering::SeqCst);
+    }
 }
 
 /// Shows no cell: the store holds every entry.

@@ -290,3 +290,11 @@ fn bounds_of_totals() {
     planned(&full(1_000_000, 1_000_000_000), 4_000, 129_000_000_000, 4_000, &[128_000_000_000]);
     planned(&full(-1_000_000, 0), 4_000, -128_000_000_000, 4_000, &[-128_000_000_000]);
 }
+
+/// A huge source must not be taken for another one, in release neither: its row's first cell by a product would wrap to 0.
+#[test]
+#[should_panic(expected = "source 9223372036854775808 of 3")]
+fn amount_of_a_huge_source() {
+    let case = Case { costs: vec![2, 6, 5, 3, 1, 4], supplies: vec![3, 3, 1], demands: vec![3, 2], table: vec![99, 20, 24, 20], ..Case::default() };
+    case.plan().unwrap().amount(1 << 63, 1);
+}
