@@ -67,7 +67,7 @@ from .archive import load
 
 __all__ = ["bounds", "bounds_into", "plan", "plan_into", "rates", "rates_into", "Bounds", "Plan", "Refusal", "SHORT_REPORT"]
 __all__ += ["Case", "page", "offers"]
-__all__ += ["Role", "Tariff", "WorkingCase"]
+__all__ += ["Limits", "Role", "Tariff", "WorkingCase"]
 __all__ += ["flow", "flow_into", "Arc", "Flow", "FlowRefusal"]
 
 MOST_SOURCES = 32
@@ -390,5 +390,5 @@ def bounds(
     return Bounds(first, [mark == 1 for mark in answers[:count]], smallest, largest)
 
 
-from .work import Role, Tariff, WorkingCase  # noqa: E402  (it uses what stands above)
+from .work import Limits, Role, Tariff, WorkingCase  # noqa: E402  (it uses what stands above)
 from .networks import Arc, Flow, FlowRefusal, flow, flow_into  # noqa: E402  it uses what is declared above
