@@ -50,6 +50,16 @@ static void plan(const struct yadvorkhul_case *work, size_t role) {
                planned.freight, planned.stops);
 }
 
+static void plan_mark(const struct yadvorkhul_case *work, size_t role, size_t mark) {
+    uint64_t lanes[6], splits[YADVORKHUL_MOST_SPLITS];
+    int64_t freights[YADVORKHUL_MOST_SPLITS];
+    struct yadvorkhul_planned planned;
+    struct yadvorkhul_told told = yadvorkhul_case_plan_mark(work, role, mark, &planned, lanes, CELLS(lanes), splits, CELLS(splits), freights,
+                                                            CELLS(freights));
+    if (told.refusal) say("planned a mark", told);
+    else printf("planned mark %zu: split %" PRIu64 ", total %" PRId64 "\n", mark, planned.split, planned.total);
+}
+
 static struct yadvorkhul_told open_case(struct yadvorkhul_case *work, size_t m, uint64_t demand) {
     const int64_t costs[] = {2, 6, 5, 3, 1, 4};
     const uint64_t supplies[] = {3, 3, 1}, table[] = {99, 20, 24, 20}, ceilings[] = {4000, 4000, 4000, 4000, 4000, 4000};
@@ -62,7 +72,9 @@ static struct yadvorkhul_told open_case(struct yadvorkhul_case *work, size_t m, 
 int main(void) {
     struct yadvorkhul_case work = YADVORKHUL_CASE_NONE;
     uint64_t supplies[4] = {0, 0, 0, 77}, demands[2], table[6] = {0, 0, 0, 0, 0, 77};
+    uint64_t runs[3] = {5, 5, 77}, ceilings[7] = {0, 0, 0, 0, 0, 0, 77}, marks[9] = {5, 5, 5, 5, 5, 5, 5, 5, 77};
     int64_t costs[6];
+    size_t k;
     yadvorkhul_case_close(&work);
     say("33 sources", open_case(&work, 33, 2));
     say("demand 4,001", open_case(&work, 3, 4001));
@@ -84,6 +96,20 @@ int main(void) {
     say("reader, table", yadvorkhul_case_see_table(&work, YADVORKHUL_READER, table, CELLS(table)));
     say("plant, table", yadvorkhul_case_see_table(&work, YADVORKHUL_PLANT, table, CELLS(table)));
     printf("table: entry 4 is %" PRIu64 ", a later cell %" PRIu64 "\n", table[4], table[5]);
+    say("planner, limits", yadvorkhul_case_see_limits(&work, YADVORKHUL_PLANNER, runs, CELLS(runs), ceilings, CELLS(ceilings)));
+    printf("limits: second run %" PRIu64 ", last ceiling %" PRIu64 ", later cells %" PRIu64 " and %" PRIu64 "\n", runs[1], ceilings[5], runs[2],
+           ceilings[6]);
+    say("reader, limits", yadvorkhul_case_see_limits(&work, YADVORKHUL_READER, runs, CELLS(runs), ceilings, CELLS(ceilings)));
+    say("planner, marks", yadvorkhul_case_marks(&work, YADVORKHUL_PLANNER, marks, CELLS(marks)));
+    printf("marks:");
+    for (k = 0; k < CELLS(marks); k++) printf(" %" PRIu64, marks[k]);
+    printf("\n");
+    say("depot, marks", yadvorkhul_case_marks(&work, YADVORKHUL_DEPOT, marks, CELLS(marks)));
+    plan_mark(&work, YADVORKHUL_PLANNER, 3);
+    plan_mark(&work, YADVORKHUL_PLANNER, 2);
+    plan_mark(&work, YADVORKHUL_PLANNER, 9);
+    plan_mark(&work, YADVORKHUL_DEPOT, 3);
+    plan(&work, YADVORKHUL_PLANNER);
     say("back to 2", yadvorkhul_case_go_back(&work, YADVORKHUL_PLANNER, 2));
     say("back to 3", yadvorkhul_case_go_back(&work, YADVORKHUL_PLANNER, 3));
     plan(&work, YADVORKHUL_PLANNER);

@@ -13,8 +13,8 @@
    A refused call changes nothing. An object begins as YADVORKHUL_CASE_NONE. It stays with whoever may see the entries: its
    store holds them all. It is not copied: two copies would own one store.
 
-   Threads. Different objects have nothing in common. On one object the calls that take it as const (planning, seeing the
-   tariff, seeing the table) may run beside each other. Opening, closing, edits, marks and returns run alone: no other call
+   Threads. Different objects have nothing in common. On one object the calls that take it as const (planning and seeing) may
+   run beside each other. Opening, closing, edits, marks and returns run alone: no other call
    on that object may run meanwhile, so guard it with a lock, such as a pthread_rwlock_t. The proof assumes that nobody else
    writes a lent slice during a call: a planner beside an edit may read anything, and past its table. */
 #ifndef YADVORKHUL_CASE_H
@@ -177,6 +177,41 @@ static inline struct yadvorkhul_told yadvorkhul_case_see_table(const struct yadv
                                                                uint64_t *table, size_t table_cells) {
     uint64_t report[YADVORKHUL_REPORT_CELLS], none, *store = yadvorkhul_case_store(work, &none);
     uint64_t answer = yadvorkhul_see_table(role, store, yadvorkhul_case_cells(work), table, table_cells, report,
+                                           YADVORKHUL_REPORT_CELLS);
+    return yadvorkhul_case_told(answer, report);
+}
+
+/* Plans the case that a mark holds, without going back. */
+static inline struct yadvorkhul_told yadvorkhul_case_plan_mark(const struct yadvorkhul_case *work, size_t role, size_t mark,
+                                                               struct yadvorkhul_planned *planned, uint64_t *plan,
+                                                               size_t plan_cells, uint64_t *splits, size_t splits_cells,
+                                                               int64_t *freights, size_t freights_cells) {
+    uint64_t report[YADVORKHUL_REPORT_CELLS], none, *store = yadvorkhul_case_store(work, &none);
+    int64_t worth[YADVORKHUL_WORTH_CELLS];
+    uint64_t answer = yadvorkhul_plan_mark(role, mark, store, yadvorkhul_case_cells(work), plan, plan_cells, splits, splits_cells,
+                                           freights, freights_cells, report, YADVORKHUL_REPORT_CELLS, worth, YADVORKHUL_WORTH_CELLS);
+    if (answer == 0) {
+        planned->split = report[0];
+        planned->stops = report[1];
+        planned->total = worth[0];
+        planned->freight = worth[1];
+    }
+    return yadvorkhul_case_told(answer, report);
+}
+
+static inline struct yadvorkhul_told yadvorkhul_case_see_limits(const struct yadvorkhul_case *work, size_t role, uint64_t *runs,
+                                                                size_t runs_cells, uint64_t *ceilings, size_t ceilings_cells) {
+    uint64_t report[YADVORKHUL_REPORT_CELLS], none, *store = yadvorkhul_case_store(work, &none);
+    uint64_t answer = yadvorkhul_see_limits(role, store, yadvorkhul_case_cells(work), runs, runs_cells, ceilings, ceilings_cells,
+                                            report, YADVORKHUL_REPORT_CELLS);
+    return yadvorkhul_case_told(answer, report);
+}
+
+/* Which marks are set: 1 or 0 in the first eight cells of marks. */
+static inline struct yadvorkhul_told yadvorkhul_case_marks(const struct yadvorkhul_case *work, size_t role, uint64_t *marks,
+                                                           size_t marks_cells) {
+    uint64_t report[YADVORKHUL_REPORT_CELLS], none, *store = yadvorkhul_case_store(work, &none);
+    uint64_t answer = yadvorkhul_marks_set(role, store, yadvorkhul_case_cells(work), marks, marks_cells, report,
                                            YADVORKHUL_REPORT_CELLS);
     return yadvorkhul_case_told(answer, report);
 }

@@ -117,6 +117,12 @@ class Histories(unittest.TestCase):
                 self.assertEqual(told(work.plan, Role.PLANNER), fresh, model.case)
                 self.assertEqual(work.see_tariff(Role.PLANNER), tuple(model.case[k] for k in ("costs", "supplies", "demands")))
                 self.assertEqual(work.see_table(Role.PLANNER), model.case["table"])
+                self.assertEqual(work.see_limits(Role.PLANNER), (model.case["runs"], model.case["ceilings"]))
+                self.assertEqual(work.marks(Role.PLANNER), sorted(model.marks))
+                mark = draw.randint(1, 8)
+                held = model.marks.get(mark)
+                kept = told(plan, *(held[k] for k in ("costs", "supplies", "demands", "table", "runs", "ceilings"))) if held else (25, mark)
+                self.assertEqual(told(work.plan_mark, Role.PLANNER, mark), kept)
                 for answer in (found, fresh):
                     number = 0 if answer is None or len(answer) == 5 else answer[0]
                     met[number] = met.get(number, 0) + 1
@@ -150,6 +156,7 @@ class Refusals(unittest.TestCase):
         for mark in (0, 9, (1 << 64) - 1):
             self.refused(24, 0, work.mark, 1, mark)
             self.refused(24, 0, work.go_back, 1, mark)
+            self.refused(24, 0, work.plan_mark, 1, mark)
         self.refused(24, 0, work.edit_demand, 1, 3, 1)
         self.refused(24, 0, work.edit_supply, 1, 4, 1)
         self.refused(24, 0, work.edit_cost, 1, 1, 3, 1)
@@ -181,12 +188,14 @@ class Refusals(unittest.TestCase):
             work.mark(1, 1)
             deeds = [(1, work.edit_demand, 1, 3), (1, work.edit_supply, 2, 3), (2, work.edit_cost, 1, 1, 2), (3, work.edit_entry, 0, 99)]
             deeds += [(4, work.see_tariff), (5, work.see_table), (6, work.plan), (7, work.mark, 2), (8, work.go_back, 1)]
+            deeds += [(6, work.see_limits), (6, work.marks), (6, work.plan_mark, 1)]  # they count as planning
             for deed, call, *numbers in deeds:
                 refused = told(call, role, *numbers) == (31, 0)
                 self.assertEqual(refused, deed not in allowed.get(role, ()), (role, deed))
             self.assertEqual(told(work.edit_supply, role, 1, 3), None if role == 1 else (31, 0))
             if role != 1:
                 self.refused(31, 0, work.mark, role, 9)  # 31 before 24
+                self.refused(31, 0, work.plan_mark, role, 9)
 
 
 class Store(unittest.TestCase):
@@ -210,9 +219,40 @@ class Store(unittest.TestCase):
             store = work._store
             self.assertIn(99, store[:])
         self.assertEqual(set(store), {0})
-        for call in (work.plan, work.see_tariff, work.see_table):
+        for call in (work.plan, work.see_tariff, work.see_table, work.see_limits, work.marks):
             self.assertEqual(told(call, Role.PLANNER), (11, 0))
+        self.assertEqual(told(work.plan_mark, Role.PLANNER, 1), (11, 0))
         work.close()
+
+    def test_only_a_signed_store_holds_a_case(self):
+        """Any other number in the cell of the signature, and every call is refused by 11."""
+        work = WorkingCase(**A)
+        own = work._store[10]
+        for other in (0, 7, own - 1, own + 1):
+            work._store[10] = other
+            for call in (work.plan, work.see_tariff, work.see_table, work.see_limits, work.marks):
+                self.assertEqual(told(call, Role.PLANNER), (11, 0), other)
+            self.assertEqual(told(work.mark, Role.PLANNER, 1), (11, 0))
+        work._store[10] = own
+        self.assertEqual((work.plan(1).total, work.marks(1)), (33, []))
+
+    def test_a_case_is_rebuilt_from_what_is_seen(self):
+        draw = random.Random(6)
+        for _ in range(50):
+            case = drawn_case(draw)
+            work = WorkingCase(**case)
+            costs, supplies, demands = work.see_tariff(1)
+            runs, ceilings = work.see_limits(1)
+            self.assertEqual(dict(costs=costs, supplies=supplies, demands=demands, table=work.see_table(1), runs=runs, ceilings=ceilings), case)
+
+    def test_a_mark_is_planned_and_nothing_changes(self):
+        work = WorkingCase(**A)
+        for mark in (3, 8):
+            work.mark(1, mark)
+            work.edit_demand(1, 2, 3)
+        before = work._store[:]
+        self.assertEqual([work.plan_mark(1, mark).total for mark in (3, 8)], [33, 36])
+        self.assertEqual((work.marks(1), work.plan(1).total, work._store[:] == before), ([3, 8], 36, True))
 
     def test_the_end_of_the_object_clears(self):
         work = WorkingCase(**A)
@@ -234,7 +274,7 @@ class Outsiders(unittest.TestCase):
                 work.mark(1, 2)
                 work.edit_entry(1, 0, draw.getrandbits(64))
             for _ in range(12):
-                role, kind = draw.choice((Role.DEPOT, Role.DEPOT, Role.DEPOT, Role.READER)), draw.choice(("call", "call", "see_tariff", "see_table", "plan"))
+                role, kind = draw.choice((Role.DEPOT, Role.DEPOT, Role.DEPOT, Role.READER)), draw.choice(("call", "call", "call", "see_tariff", "see_tariff", "see_table", "plan", "see_limits", "marks"))
                 kind, numbers = drawn_call(draw, case) if kind == "call" else (kind, ())
                 first, second = (told(getattr(work, kind), role, *numbers) for work in pair)
                 self.assertEqual(first, second, (role, kind, numbers))

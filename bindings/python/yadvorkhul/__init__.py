@@ -67,7 +67,7 @@ from .archive import load
 
 __all__ = ["bounds", "bounds_into", "plan", "plan_into", "rates", "rates_into", "Bounds", "Plan", "Refusal", "SHORT_REPORT"]
 __all__ += ["Case", "page", "offers", "version", "__version__"]
-__all__ += ["Role", "Tariff", "WorkingCase"]
+__all__ += ["Limits", "Role", "Tariff", "WorkingCase"]
 __all__ += ["flow", "flow_into", "Arc", "Flow", "FlowRefusal"]
 __all__ += ["File", "FileRefusal", "Printed", "bounds_files", "flow_files", "plan_files", "read_table", "tidy_files", "write_case"]
 
@@ -405,6 +405,6 @@ def bounds(
     return Bounds(first, [mark == 1 for mark in answers[:count]], smallest, largest)
 
 
-from .work import Role, Tariff, WorkingCase  # noqa: E402  (it uses what stands above)
+from .work import Limits, Role, Tariff, WorkingCase  # noqa: E402  (it uses what stands above)
 from .networks import Arc, Flow, FlowRefusal, flow, flow_into  # noqa: E402  it uses what is declared above
 from .files import File, FileRefusal, Printed, bounds_files, flow_files, plan_files, read_table, tidy_files, write_case  # noqa: E402

@@ -11,6 +11,10 @@
     33
     >>> work.see_tariff(Role.READER).demands
     [3, 2]
+    >>> work.marks(Role.PLANNER), work.plan_mark(Role.PLANNER, 3).total
+    ([3], 33)
+    >>> work.see_limits(Role.PLANNER).runs
+    [0, 0]
     >>> work.see_table(Role.DEPOT)
     Traceback (most recent call last):
     yadvorkhul.Refusal: refusal 31: the role may not do this
@@ -32,6 +36,8 @@ from . import Numbers, Plan, Refusal, Rows, _cells, _entered, _library, _number,
 
 _CELL, _SIGNED, _SIZE = ctypes.c_uint64, ctypes.c_int64, ctypes.c_size_t
 
+MOST_MARKS = 8  # marks are numbered from 1 up to this
+
 
 class Role(enum.IntEnum):
     """Who calls."""
@@ -48,6 +54,13 @@ class Tariff(NamedTuple):
     costs: List[List[int]]  # a row for each source
     supplies: List[int]
     demands: List[int]
+
+
+class Limits(NamedTuple):
+    """What no edit alters: with tariff and table all of a case."""
+
+    runs: List[int]  # the least runs of plants 1 and 2
+    ceilings: List[List[int]]  # a row for each source
 
 
 def _function(name, numbers, slices):
@@ -73,6 +86,9 @@ _calls = {name: _function(name, numbers, [_CELL] * 2) for name, numbers in _CALL
 _plan_case = _function("plan_case", [_SIZE], [_CELL, _CELL, _CELL, _SIGNED, _CELL, _SIGNED])
 _see_tariff = _function("see_tariff", [_SIZE], [_CELL, _SIGNED, _CELL, _CELL, _CELL])
 _see_table = _function("see_table", [_SIZE], [_CELL, _CELL, _CELL])
+_see_limits = _function("see_limits", [_SIZE], [_CELL, _CELL, _CELL, _CELL])
+_marks_set = _function("marks_set", [_SIZE], [_CELL, _CELL, _CELL])
+_plan_mark = _function("plan_mark", [_SIZE] * 2, [_CELL, _CELL, _CELL, _SIGNED, _CELL, _SIGNED])
 
 
 def _report():
@@ -184,13 +200,34 @@ class WorkingCase:
         """Calls a function that reads the store, on lent arrays."""
         self._alone(function, (_number(_CELL, role),), *lent, report=report)
 
-    def plan(self, role: SupportsIndex) -> Plan:
-        """The plan of the case as it is now: what a case entered afresh would get."""
+    def _planned(self, function, *numbers: SupportsIndex) -> Plan:
+        """Calls a function that plans from the store."""
         amounts, splits, freights = (_CELL * (self._m * self._n))(), (_CELL * MOST_SPLITS)(), (_SIGNED * MOST_SPLITS)()
         report, worth = _report(), (_SIGNED * WORTH_CELLS)()
-        self._lent(_plan_case, role, amounts, splits, freights, report, worth, report=report)
+        whole = [_number(_CELL, number) for number in numbers]
+        self._alone(function, whole, amounts, splits, freights, report, worth, report=report)
         (split, count), (total, freight) = report, worth
         return Plan(split, total, freight, _rows(amounts, self._m, self._n), list(zip(splits[:count], freights[:count])))
+
+    def plan(self, role: SupportsIndex) -> Plan:
+        """The plan of the case as it is now: what a case entered afresh would get."""
+        return self._planned(_plan_case, role)
+
+    def plan_mark(self, role: SupportsIndex, mark: SupportsIndex) -> Plan:
+        """The plan of the case that a mark holds, without going back. Refused as going back is. The planner's alone."""
+        return self._planned(_plan_mark, role, mark)
+
+    def marks(self, role: SupportsIndex) -> List[int]:
+        """The marks that are set. The planner's alone."""
+        flags = (_CELL * MOST_MARKS)()
+        self._lent(_marks_set, role, flags, report=_report())
+        return [mark for mark, flag in enumerate(flags, 1) if flag]
+
+    def see_limits(self, role: SupportsIndex) -> Limits:
+        """Least runs and ceilings. The planner's alone."""
+        runs, ceilings = (_CELL * 2)(), (_CELL * (self._m * self._n))()
+        self._lent(_see_limits, role, runs, ceilings, report=_report())
+        return Limits(list(runs), _rows(ceilings, self._m, self._n))
 
     def see_tariff(self, role: SupportsIndex) -> Tariff:
         """Unit costs, supplies and demands as they are now."""

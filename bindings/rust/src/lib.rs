@@ -81,7 +81,7 @@ pub mod work;
 pub use flow::{flow, flow_into, Arc, Flow, FlowRefusal, MOST_ARCS, MOST_NODES};
 pub use rates::{rates, rates_into};
 pub use refusal::Refusal;
-pub use work::{Role, Tariff, WorkingCase};
+pub use work::{Limits, Role, Tariff, WorkingCase};
 
 /// Most sources of a case: two plants and thirty depots.
 pub const MOST_SOURCES: usize = 32;

@@ -121,6 +121,42 @@ extern "C" {
         report: *mut u64,
         report_len: usize,
     ) -> u64;
+    fn yadvorkhul_see_limits(
+        role: usize,
+        store: *const u64,
+        store_len: usize,
+        runs: *mut u64,
+        runs_len: usize,
+        ceilings: *mut u64,
+        ceilings_len: usize,
+        report: *mut u64,
+        report_len: usize,
+    ) -> u64;
+    fn yadvorkhul_marks_set(
+        role: usize,
+        store: *const u64,
+        store_len: usize,
+        marks: *mut u64,
+        marks_len: usize,
+        report: *mut u64,
+        report_len: usize,
+    ) -> u64;
+    fn yadvorkhul_plan_mark(
+        role: usize,
+        mark: usize,
+        store: *const u64,
+        store_len: usize,
+        plan: *mut u64,
+        plan_len: usize,
+        splits: *mut u64,
+        splits_len: usize,
+        freights: *mut i64,
+        freights_len: usize,
+        report: *mut u64,
+        report_len: usize,
+        worth: *mut i64,
+        worth_len: usize,
+    ) -> u64;
 }
 
 // Safety of all calls below: no callee has a `requires`, each holds for any numbers and any slice lengths. It reads and writes only within the
@@ -305,6 +341,70 @@ pub fn see_table_into(role: usize, store: &[u64], table: &mut [u64], report: &mu
     }
 }
 
+/// Copies the two least runs and the ceilings of a lent store; later cells keep their contents.
+pub fn see_limits_into(role: usize, store: &[u64], runs: &mut [u64], ceilings: &mut [u64], report: &mut [u64]) -> u64 {
+    unsafe {
+        yadvorkhul_see_limits(
+            role,
+            store.as_ptr(),
+            store.len(),
+            runs.as_mut_ptr(),
+            runs.len(),
+            ceilings.as_mut_ptr(),
+            ceilings.len(),
+            report.as_mut_ptr(),
+            report.len(),
+        )
+    }
+}
+
+/// Writes 1 for each mark of a lent store that is set, else 0, into the first [`MOST_MARKS`] cells of `marks`.
+pub fn marks_set_into(role: usize, store: &[u64], marks: &mut [u64], report: &mut [u64]) -> u64 {
+    unsafe {
+        yadvorkhul_marks_set(
+            role,
+            store.as_ptr(),
+            store.len(),
+            marks.as_mut_ptr(),
+            marks.len(),
+            report.as_mut_ptr(),
+            report.len(),
+        )
+    }
+}
+
+/// Plans the case that a mark of a lent store holds, without going back, with the cells of [`crate::plan_into`].
+#[allow(clippy::too_many_arguments)]
+pub fn plan_mark_into(
+    role: usize,
+    mark: usize,
+    store: &[u64],
+    plan: &mut [u64],
+    splits: &mut [u64],
+    freights: &mut [i64],
+    report: &mut [u64],
+    worth: &mut [i64],
+) -> u64 {
+    unsafe {
+        yadvorkhul_plan_mark(
+            role,
+            mark,
+            store.as_ptr(),
+            store.len(),
+            plan.as_mut_ptr(),
+            plan.len(),
+            splits.as_mut_ptr(),
+            splits.len(),
+            freights.as_mut_ptr(),
+            freights.len(),
+            report.as_mut_ptr(),
+            report.len(),
+            worth.as_mut_ptr(),
+            worth.len(),
+        )
+    }
+}
+
 /// Who calls.
 #[derive(Clone, Copy, Debug, PartialEq, Eq)]
 pub enum Role {
@@ -324,6 +424,13 @@ pub struct Tariff {
     pub costs: Vec<i64>,
     pub supplies: Vec<u64>,
     pub demands: Vec<u64>,
+}
+
+/// What no edit of a working case alters: the least runs of plants 1 and 2, and the ceilings in row order. With tariff and table it is all of a case.
+#[derive(Clone, Debug, PartialEq, Eq)]
+pub struct Limits {
+    pub runs: [u64; 2],
+    pub ceilings: Vec<u64>,
 }
 
 /// A working case that takes edits, marks and returns. It owns its store, which is cleared when the object ends; a role is handed to every
@@ -446,27 +553,54 @@ impl WorkingCase {
         self.call(|store, report| go_back_into(role as usize, mark, store, report))
     }
 
-    /// The plan of the case as it is now: what a case entered afresh would get.
-    pub fn plan(&self, role: Role) -> Result<Plan, Refusal> {
+    /// Makes a call that plans from the store.
+    fn planned(
+        &self,
+        make: impl FnOnce(&[u64], &mut [u64], &mut [u64], &mut [i64], &mut [u64], &mut [i64]) -> u64,
+    ) -> Result<Plan, Refusal> {
         // Room for any case: refusal 11 cannot arise.
         let mut amounts = vec![0; self.sources * self.terminals];
         let mut splits = vec![0; MOST_AMOUNT as usize + 1];
         let mut freights = vec![0; MOST_AMOUNT as usize + 1];
         let (mut report, mut worth) = ([0; REPORT_CELLS], [0; WORTH_CELLS]);
-        let number = plan_case_into(
-            role as usize,
-            &self.store,
-            &mut amounts,
-            &mut splits,
-            &mut freights,
-            &mut report,
-            &mut worth,
-        );
+        let number = make(&self.store, &mut amounts, &mut splits, &mut freights, &mut report, &mut worth);
         self.told(number, report)?;
         let ([split, count], [total, freight]) = (report, worth);
         let stops = splits.iter().zip(&freights).take(count as usize);
         let stops = stops.map(|(&split, &freight)| Stop { split, freight }).collect();
         Ok(Plan { split, total, freight, amounts, stops, terminals: self.terminals })
+    }
+
+    /// The plan of the case as it is now: what a case entered afresh would get.
+    pub fn plan(&self, role: Role) -> Result<Plan, Refusal> {
+        self.planned(|store, plan, splits, freights, report, worth| {
+            plan_case_into(role as usize, store, plan, splits, freights, report, worth)
+        })
+    }
+
+    /// The plan of the case that a mark holds, without going back. Refused as going back is. The planner's alone.
+    pub fn plan_mark(&self, role: Role, mark: usize) -> Result<Plan, Refusal> {
+        self.planned(|store, plan, splits, freights, report, worth| {
+            plan_mark_into(role as usize, mark, store, plan, splits, freights, report, worth)
+        })
+    }
+
+    /// The marks that are set. The planner's alone.
+    pub fn marks(&self, role: Role) -> Result<Vec<usize>, Refusal> {
+        let mut flags = [0; MOST_MARKS];
+        let mut report = [0; REPORT_CELLS];
+        let number = marks_set_into(role as usize, &self.store, &mut flags, &mut report);
+        self.told(number, report)?;
+        Ok((1..=MOST_MARKS).filter(|mark| flags[mark - 1] != 0).collect())
+    }
+
+    /// Least runs and ceilings. The planner's alone.
+    pub fn see_limits(&self, role: Role) -> Result<Limits, Refusal> {
+        let mut limits = Limits { runs: [0; 2], ceilings: vec![0; self.sources * self.terminals] };
+        let mut report = [0; REPORT_CELLS];
+        let number = see_limits_into(role as usize, &self.store, &mut limits.runs, &mut limits.ceilings, &mut report);
+        self.told(number, report)?;
+        Ok(limits)
     }
 
     /// Unit costs, supplies and demands as they are now.

@@ -148,6 +148,31 @@ fn planned(role: usize, store: &[u64], cells: usize) -> Planned {
     (number, plan, splits, freights, report, worth)
 }
 
+fn planned_mark(role: usize, mark: usize, store: &[u64], cells: usize) -> Planned {
+    let (mut plan, mut splits, mut freights) = (untouched(1, cells), untouched(2, 64), untouched_signed(3, 64));
+    let (mut report, mut worth) = (untouched(4, 4), untouched_signed(5, 5));
+    let number = plan_mark_into(role, mark, store, &mut plan, &mut splits, &mut freights, &mut report, &mut worth);
+    (number, plan, splits, freights, report, worth)
+}
+
+/// A refusal: nothing is written but its place.
+fn refused_plan(number: u64, place: u64, cells: usize) -> Planned {
+    let report = [&[place], &untouched(4, 4)[1..]].concat();
+    (number, untouched(1, cells), untouched(2, 64), untouched_signed(3, 64), report, untouched_signed(5, 5))
+}
+
+fn limits(role: usize, store: &[u64], cells: (usize, usize)) -> (u64, Vec<u64>, Vec<u64>, Vec<u64>) {
+    let (mut runs, mut ceilings, mut report) = (untouched(6, cells.0), untouched(7, cells.1), untouched(4, 3));
+    let number = see_limits_into(role, store, &mut runs, &mut ceilings, &mut report);
+    (number, runs, ceilings, report)
+}
+
+fn flags(role: usize, store: &[u64], cells: usize) -> (u64, Vec<u64>, Vec<u64>) {
+    let (mut marks, mut report) = (untouched(6, cells), untouched(4, 3));
+    let number = marks_set_into(role, store, &mut marks, &mut report);
+    (number, marks, report)
+}
+
 /// The case of the model, planned afresh.
 fn afresh(case: &Lent) -> Planned {
     let a = Lent { plan_cells: case.m * case.n, split_cells: 64, freight_cells: 64, ..case.clone() }.call();
@@ -193,6 +218,20 @@ fn histories() {
             let seen = tariff(PLANNER, &store, (c.m * c.n, c.m, c.n));
             assert_eq!(seen, (0, c.costs.clone(), c.supplies.clone(), c.demands.clone(), untouched(4, 3)), "tariff");
             assert_eq!(table(PLANNER, &store, c.table.len()), (0, c.table.clone(), untouched(4, 3)), "table");
+            assert_eq!(
+                limits(PLANNER, &store, (2, c.m * c.n)),
+                (0, vec![c.run1, c.run2], c.ceilings.clone(), untouched(4, 3)),
+                "limits"
+            );
+            let set = (1..9).map(|k| model.marks[k].is_some() as u64).collect();
+            assert_eq!(flags(PLANNER, &store, 8), (0, set, untouched(4, 3)), "marks");
+            let mark = random.size(0, 9);
+            let told = match model.marks.get(mark).filter(|_| mark > 0) {
+                None => refused_plan(24, 0, c.m * c.n),
+                Some(None) => refused_plan(25, mark as u64, c.m * c.n),
+                Some(Some(held)) => afresh(held),
+            };
+            assert_eq!(planned_mark(PLANNER, mark, &store, c.m * c.n), told, "mark {mark}; {c:?}");
         }
     }
     for number in [0, 4, 5, 7, 8, 9, 23, 24, 25] {
@@ -243,6 +282,24 @@ fn marks() {
     assert_eq!(tariff(PLANNER, &store, (6, 3, 2)).3, [3, 2]);
     assert_eq!(answer(Back(1), PLANNER, &mut store), (0, 0));
     assert_eq!(tariff(PLANNER, &store, (6, 3, 2)).3, [4, 2]);
+}
+
+#[test]
+fn marks_of_the_object() {
+    let case = as_case(&Lent::a());
+    let mut work = WorkingCase::enter(&case).unwrap();
+    assert_eq!(work.marks(Role::Planner).unwrap(), []);
+    work.mark(Role::Planner, 3).unwrap();
+    work.edit_demand(Role::Depot, 2, 3).unwrap();
+    work.mark(Role::Planner, 8).unwrap();
+    assert_eq!(work.marks(Role::Planner).unwrap(), [3, 8]);
+    assert_eq!(work.plan_mark(Role::Planner, 3).unwrap().total, 33);
+    assert_eq!(work.plan_mark(Role::Planner, 8).unwrap(), work.plan(Role::Planner).unwrap());
+    assert_eq!(work.plan_mark(Role::Planner, 4).unwrap_err().number, 25);
+    let limits = work.see_limits(Role::Planner).unwrap();
+    assert_eq!((limits.runs, Some(limits.ceilings)), (case.runs, case.ceilings));
+    assert_eq!(work.see_limits(Role::Reader).unwrap_err().number, 31);
+    assert_eq!(work.marks(Role::Plant).unwrap_err().number, 31);
 }
 
 #[test]
@@ -298,7 +355,10 @@ fn entering() {
 #[test]
 fn stores_that_hold_no_case() {
     let calls = [Demand(1, 1), Supply(1, 1), Cost(1, 1, 1), Entry(0, 1), Mark(1), Back(1)];
-    for mut store in [vec![], vec![7; 9], vec![0; 40_000], vec![33; 80_000], entered(&Lent::a())[..36_000].to_vec()] {
+    let mut unsigned = entered(&Lent::a());
+    unsigned[10] -= 1;
+    let short = entered(&Lent::a())[..36_000].to_vec();
+    for mut store in [vec![], vec![7; 9], vec![0; 40_000], vec![7; 80_000], vec![33; 80_000], unsigned, short] {
         for call in calls {
             assert_eq!(answer(call, PLANNER, &mut store), (11, 0));
             assert_eq!(answer(call, OUTSIDERS[1], &mut store), (31, 0));
@@ -306,6 +366,9 @@ fn stores_that_hold_no_case() {
         assert_eq!(planned(PLANNER, &store, 6).0, 11);
         assert_eq!(tariff(PLANNER, &store, (6, 3, 2)).0, 11);
         assert_eq!(table(PLANNER, &store, 4_001).0, 11);
+        assert_eq!(limits(PLANNER, &store, (2, 6)).0, 11);
+        assert_eq!(flags(PLANNER, &store, 8).0, 11);
+        assert_eq!(planned_mark(PLANNER, 1, &store, 6).0, 11);
     }
 }
 
@@ -329,6 +392,16 @@ fn short_slices() {
     );
     assert_eq!(table(PLANNER, &store, 6).1[4..], untouched(6, 6)[4..]);
     assert_eq!(planned(PLANNER, &store, 5).0, 11);
+    let eleven = || [&[0], &untouched(4, 3)[1..]].concat();
+    for (r, c) in [(1, 6), (2, 5), (0, 0)] {
+        assert_eq!(limits(PLANNER, &store, (r, c)), (11, untouched(6, r), untouched(7, c), eleven()));
+    }
+    assert_eq!(flags(PLANNER, &store, 7), (11, untouched(6, 7), eleven()));
+    let seen = limits(PLANNER, &store, (3, 8));
+    assert_eq!((&seen.1[2..], &seen.2[6..]), (&untouched(6, 3)[2..], &untouched(7, 8)[6..]));
+    assert_eq!(flags(PLANNER, &store, 9).1[8..], untouched(6, 9)[8..]);
+    assert_eq!(see_limits_into(PLANNER, &store, &mut [7; 2], &mut [7; 6], &mut [7]), SHORT_REPORT);
+    assert_eq!(marks_set_into(PLANNER, &store, &mut [7; 8], &mut [7]), SHORT_REPORT);
     // A report or a worth of fewer than two cells: nothing is done.
     let before = store.clone();
     for call in [Demand(1, 1), Supply(1, 1), Cost(1, 1, 1), Entry(0, 1), Mark(1), Back(1)] {
@@ -385,6 +458,11 @@ fn roles() {
         assert_eq!(tariff(role, &store, (6, 3, 2)).0, if allowed(role, 4) { 0 } else { 31 });
         assert_eq!(table(role, &store, 4).0, if allowed(role, 5) { 0 } else { 31 });
         assert_eq!(planned(role, &store, 6).0, if allowed(role, 6) { 0 } else { 31 });
+        // Three operations count as planning.
+        assert_eq!(limits(role, &store, (2, 6)).0, if allowed(role, 6) { 0 } else { 31 });
+        assert_eq!(flags(role, &store, 8).0, if allowed(role, 6) { 0 } else { 31 });
+        assert_eq!(planned_mark(role, 1, &store, 6).0, if allowed(role, 6) { 0 } else { 31 });
+        assert_eq!(planned_mark(role, 9, &store, 6).0, if allowed(role, 6) { 24 } else { 31 });
     }
 }
 
