@@ -208,15 +208,7 @@ pub fn read_case(tariff: &[u8], production: &[u8]) -> Result<Case, FileRefusal> 
     let mut demands = vec![0; MOST_TERMINALS];
     let mut table = vec![0; STORED_ENTRIES];
     let mut report = [0; READ_CELLS];
-    let number = read_case_into(
-        tariff,
-        production,
-        &mut costs,
-        &mut supplies,
-        &mut demands,
-        &mut table,
-        &mut report,
-    );
+    let number = read_case_into(tariff, production, &mut costs, &mut supplies, &mut demands, &mut table, &mut report);
     if number != 0 {
         let file = [Faulty::Neither, Faulty::Tariff, Faulty::Production][report[1] as usize];
         return Err(FileRefusal { number, place: report[0], file });
@@ -341,7 +333,12 @@ pub fn flow_files(network: &[u8], arc: &[u8], table: &[u8]) -> Printed {
 }
 
 /// Both texts by their lengths, or the refusal.
-fn texts(number: u64, mut tariff: Vec<u8>, mut production: Vec<u8>, report: [u64; REPORT_CELLS]) -> Result<(Vec<u8>, Vec<u8>), FileRefusal> {
+fn texts(
+    number: u64,
+    mut tariff: Vec<u8>,
+    mut production: Vec<u8>,
+    report: [u64; REPORT_CELLS],
+) -> Result<(Vec<u8>, Vec<u8>), FileRefusal> {
     if number != 0 {
         return Err(FileRefusal { number, place: report[0], file: Faulty::Neither });
     }
@@ -379,7 +376,8 @@ pub fn write_case(case: &Case) -> Result<(Vec<u8>, Vec<u8>), FileRefusal> {
 /// Two files in the one form of their case, as the program `tidy` writes them. A refusal by 20 to 22 does not say which file it is about:
 /// [`read_case`] does.
 pub fn tidy_files(tariff: &[u8], production: &[u8]) -> Result<(Vec<u8>, Vec<u8>), FileRefusal> {
-    let (mut new_tariff, mut new_production, mut report) = (vec![0; LONGEST_FILE], vec![0; LONGEST_FILE], [0; REPORT_CELLS]);
+    let (mut new_tariff, mut new_production, mut report) =
+        (vec![0; LONGEST_FILE], vec![0; LONGEST_FILE], [0; REPORT_CELLS]);
     let number = unsafe {
         yadvorkhul_tidy_files(
             tariff.as_ptr(),

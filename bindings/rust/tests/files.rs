@@ -19,9 +19,13 @@ fn version_is_the_crates() {
 fn case_a_is_read_printed_and_written() {
     let case = read_case(T, P).unwrap();
     assert_eq!(case.costs, [2, 6, 5, 3, 1, 4]);
-    assert_eq!((&case.supplies[..], &case.demands[..], &case.table[..]), (&[3, 3, 1][..], &[3, 2][..], &[99, 20, 24, 20][..]));
+    assert_eq!(
+        (&case.supplies[..], &case.demands[..], &case.table[..]),
+        (&[3, 3, 1][..], &[3, 2][..], &[99, 20, 24, 20][..])
+    );
     let printed = plan_files(T, P);
-    let due = "source,terminal,amount,cost\r\n0,0,3,20\r\n1,1,3,6\r\n1,2,0,0\r\n2,1,0,0\r\n2,2,1,3\r\n3,1,0,0\r\n3,2,1,4\r\n";
+    let due =
+        "source,terminal,amount,cost\r\n0,0,3,20\r\n1,1,3,6\r\n1,2,0,0\r\n2,1,0,0\r\n2,2,1,3\r\n3,1,0,0\r\n3,2,1,4\r\n";
     assert_eq!((printed.number, printed.place, std::str::from_utf8(&printed.text).unwrap()), (0, 0, due));
     let (tariff, production) = write_case(&case).unwrap();
     assert_eq!(tariff, [T, b"\r\n"].concat());
@@ -31,7 +35,10 @@ fn case_a_is_read_printed_and_written() {
     assert_eq!(bounds.text, b"smallest,largest\r\n33,34\r\nsplit,possible\r\n1,1\r\n2,0\r\n3,1\r\n");
     let network = b"p min 2 2\nn 1 3\nn 2 -3\na 1 2 0 2 5\na 1 2 0 3 1\n";
     let flow = flow_files(network, b"2", b"0\r\n4\r\n6\r\n20");
-    assert_eq!((flow.number, &flow.text[..]), (0, &b"total\r\n11\r\nstart,end,flow,cost\r\n1,2,1,5\r\n1,2,2,6\r\n"[..]));
+    assert_eq!(
+        (flow.number, &flow.text[..]),
+        (0, &b"total\r\n11\r\nstart,end,flow,cost\r\n1,2,1,5\r\n1,2,2,6\r\n"[..])
+    );
     assert_eq!(flow_files(network, b"two", b"0\r\n4\r\n6\r\n20").number, 30);
     assert_eq!(flow_files(b"p min 2 2\r\n", b"2", P).text, b"refusal,place\r\n29,1\r\n");
 }
