@@ -79,7 +79,7 @@ class Screen(unittest.TestCase):
     def run_script(self, script, *given):
         return self.browser.execute_script(script, *given)
 
-    def until(self, true, seconds=15):
+    def until(self, true, seconds=40):
         end = time.monotonic() + seconds
         while time.monotonic() < end:
             try:
@@ -311,7 +311,7 @@ class Screen(unittest.TestCase):
         for link in self.all("#panel-files .files a"):
             link.click()
             name = link.text
-            self.until(lambda: os.path.exists(os.path.join(folder, name)), 30)
+            self.until(lambda: os.path.exists(os.path.join(folder, name)), 120)  # the page draws a picture
         with open(os.path.join(folder, "production.csv"), "rb") as stream:
             self.assertEqual(len(stream.read().split(b"\r\n")), 1502)
         self.planner.do(["edit_entry", 1, 10**10])
@@ -340,7 +340,7 @@ class Screen(unittest.TestCase):
     def test_what_others_do_comes(self):
         self.come_as("anna")
         self.planner.do(["edit_demand", 1, 170])
-        self.until(lambda: self.one('.lanes td[data-at="12,0"]').text == "170", 10)
+        self.until(lambda: self.one('.lanes td[data-at="12,0"]').text == "170")
 
     def test_depot_and_reader_see_no_cost_of_production(self):
         for name, editable in (("dora", 30 + 11), ("rita", 0)):

@@ -178,7 +178,7 @@ class SharedCase:
         return {field: case[field] for field in ("title", "sources", "terminals")}
 
     def limits(self, role: Role):
-        """Least runs and ceilings; a deed of whoever may plan."""
+        """Least runs and ceilings; a deed of whoever may plan. No edit alters them, so an archive without the call needs none."""
         if hasattr(self.work, "see_limits"):
             return self.work.see_limits(role)
         _allowed(answer(self.work.plan, role)[1])
@@ -195,11 +195,10 @@ class SharedCase:
 
     def case(self, role: Role) -> Case:
         """The case as it is now, for whoever may see all of it."""
-        runs, ceilings = self.limits(role)
-        tariff = self.work.see_tariff(role)
-        names = self.names()
-        table = self.work.see_table(role)
-        return Case(*tariff, table, runs, ceilings, names["title"], names["sources"], names["terminals"])
+        with self.lock:
+            runs, ceilings = self.limits(role)
+            tariff, table = self.work.see_tariff(role), self.work.see_table(role)
+            return Case(*tariff, table, runs, ceilings, **self.names())
 
     def marked(self, role: Role) -> Dict[int, Marked]:
         """What each mark holds: the steps done again in a second store, which then goes back to it. Kept until a mark is set."""
@@ -208,8 +207,15 @@ class SharedCase:
         key = tuple((mark, seq) for mark, (_, seq) in self.history.marks().items())
         if key not in self._marked:
             again = replayed(self.history)
-            self._marked = {key: {mark: _held(again, role, mark) for mark in found}}
+            self._marked = {key: {mark: self._held(again, role, mark) for mark in found}}
         return self._marked[key]
+
+    def _held(self, again: WorkingCase, role: Role, mark: int) -> Marked:
+        """What a mark holds, by the second store; its plan by the first one where the archive plans a mark."""
+        again.go_back(role, mark)
+        planned = (self.work.plan_mark, role, mark) if hasattr(self.work, "plan_mark") else (again.plan, role)
+        plan, refusal = answer(*planned)
+        return Marked(again.see_tariff(role), again.see_table(role), plan, refusal)
 
     def outcome(self, role: Role, count: int) -> Optional[int]:
         """The least total after the first steps, None where there is no plan. Asked of the proved role table each time."""
@@ -225,12 +231,6 @@ def _allowed(refusal: Optional[Refusal]):
     """31 goes on to whoever asked; what else there is to say is no matter of roles."""
     if refusal is not None and refusal.number == 31:
         raise refusal
-
-
-def _held(work: WorkingCase, role: Role, mark: int) -> Marked:
-    work.go_back(role, mark)
-    plan, refusal = answer(work.plan, role)
-    return Marked(work.see_tariff(role), work.see_table(role), plan, refusal)
 
 
 def _naming(names: Dict[int, str]) -> dict:

@@ -40,7 +40,10 @@ function make(panel, desk) {
   // Fetched first, so that a refusal is a sentence on the page and not a file.
   async function save(event, path, name) {
     event.preventDefault();
+    const link = event.target;
+    link.setAttribute("aria-busy", "true");
     const response = await fetch(path, { credentials: "same-origin", cache: "no-store" });
+    link.removeAttribute("aria-busy");
     if (!response.ok) {
       const told = await response.json();
       return desk.wrong(told.refused?.sentence ?? told.sentence);
