@@ -79,7 +79,7 @@ fn find_path(
 {
     advance(m, n, drained, cost, columns, x, serves, pot, up, rows, cols);
     let mut path = Path {
-        dist: [0u32; 96],
+        dist: *pot,
         prev: [0u32; 96],
         count: 0,
         gap: 0,
@@ -87,7 +87,6 @@ fn find_path(
     };
     let traced = follow(m, n, cost, cap, x, pot, up, limit, &mut path.prev);
     if 0 < traced.count {
-        path.dist = *pot;
         path.count = traced.count;
         path.delta = traced.amount;
         return path;
