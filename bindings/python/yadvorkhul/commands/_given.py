@@ -19,13 +19,18 @@ def json_of(parser):
     parser.add_argument("--json", action="store_true", help="print the answer, or the refusal's number and place, as JSON")
 
 
+def named(arguments):
+    """The paths of the files, those that are meant where none is named too."""
+    return arguments.files or ["tariff.csv", "production.csv"]
+
+
 def given(arguments):
     """The files named: None and the two files, or the case of a JSON file and None twice."""
-    named = arguments.files or ["tariff.csv", "production.csv"]
-    if len(named) == 1:
-        return json_case(named[0]), None, None
-    if len(named) == 2:
-        return None, open_file(TARIFF, named[0]), open_file(PRODUCTION, named[1])
+    paths = named(arguments)
+    if len(paths) == 1:
+        return json_case(paths[0]), None, None
+    if len(paths) == 2:
+        return None, open_file(TARIFF, paths[0]), open_file(PRODUCTION, paths[1])
     raise WrongUse("give a tariff and a production table, or one .json file")
 
 
