@@ -41,7 +41,7 @@ class Marked(NamedTuple):
     refusal: Optional[Refusal]
 
 
-def _entered(case: dict) -> WorkingCase:
+def entered(case: dict) -> WorkingCase:
     return WorkingCase(*(case[field] for field in ("costs", "supplies", "demands", "table")), tuple(case["runs"]), case["ceilings"])
 
 
@@ -53,7 +53,7 @@ def _repeat(work: WorkingCase, role: int, call: list):
 def replayed(history: History, count: Optional[int] = None) -> WorkingCase:
     """A working case of its own with all that the first steps did."""
     case, steps = history.since_entry(count)
-    work = _entered(case)
+    work = entered(case)
     for step in steps:
         for call in step.calls:
             _repeat(work, step.role, call)
@@ -152,9 +152,9 @@ class SharedCase:
         with self.lock:
             if self._answered(who, identity):
                 return
-            entered = _entered(case)
+            fresh = entered(case)
             self._note({"do": "enter", "user": who.name, "role": int(who.role), "case": case, **_identity(identity)})
-            self.work = entered
+            self.work = fresh
 
     def publish(self, who: Person, identity: str):
         """Freezes the lanes of the plan for everybody to see, without costs."""
