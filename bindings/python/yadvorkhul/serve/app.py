@@ -5,6 +5,7 @@ import sys
 import time
 import traceback
 
+import waitress
 from flask import Flask, Response, g, request
 from werkzeug.exceptions import HTTPException
 
@@ -91,8 +92,6 @@ def _logging():
 
 def make_server(app: Flask, port: int, proxy: str = ""):
     """A server that listens already, and serves by its `run`."""
-    import waitress
-
     _logging()
     behind = dict(trusted_proxy=ADDRESS, trusted_proxy_headers={"x-forwarded-for"}) if proxy else {}
     return waitress.create_server(

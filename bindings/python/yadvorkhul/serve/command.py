@@ -1,5 +1,6 @@
 """The subcommands `serve` and `user`: their arguments, and what they say."""
 
+import contextlib
 import getpass
 import os
 import re
@@ -13,6 +14,18 @@ PORT = 8421
 
 def users_file() -> str:
     return os.environ.get("YADVORKHUL_USERS", USERS)
+
+
+@contextlib.contextmanager
+def _libraries():
+    """What only the server needs may be missing."""
+    try:
+        yield
+    except ModuleNotFoundError as error:
+        raise ImportError(
+            f"the server needs Flask and Waitress, and this Python has no {error.name}. On Debian: apt-get install -y python3-flask "
+            "python3-waitress, then run it by /usr/bin/python3."
+        ) from error
 
 
 def add_serve(parser):
@@ -32,8 +45,8 @@ def _say(sentence: str):
 
 
 def run_serve(arguments) -> int:
-    from .start import CannotStart, journal_beside, start
-
+    with _libraries():
+        from .start import CannotStart, journal_beside, start
     if not 0 < arguments.port < 65536:
         return _wrong("serve", "the port is a number from 1 to 65,535")
     if arguments.behind_proxy and not re.fullmatch(r"[A-Za-z0-9.-]+(:[0-9]{1,5})?", arguments.behind_proxy):
@@ -77,8 +90,8 @@ def _asked_word() -> str:
 
 
 def _people():
-    from . import people
-
+    with _libraries():
+        from . import people
     return people
 
 

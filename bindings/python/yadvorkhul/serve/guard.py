@@ -65,7 +65,7 @@ def _signed_in() -> Tuple[Optional[Session], Optional[Entry]]:
     return (session, entry) if at.sessions.stands(session, entry) else (None, None)
 
 
-def _equal(one: str, other: str) -> bool:
+def equal(one: str, other: str) -> bool:
     return hmac.compare_digest(one.encode(), other.encode())
 
 
@@ -79,7 +79,7 @@ def _check_write():
         abort(403, "The request comes from another site.")
     if request.content_length is None or request.content_length > MOST_BODY:
         abort(413, "The request is longer than 1 MB.")
-    if g.session is not None and not _equal(_token(), g.session.token):
+    if g.session is not None and not equal(_token(), g.session.token):
         abort(403, "The token of the page does not fit; load the page again.")
 
 

@@ -13,7 +13,7 @@ from ..files import FileRefusal
 from ..refusals import explain
 from . import asked, out, views
 from .cases import case_of, case_of_files
-from .guard import _equal, server, who
+from .guard import equal, server, who
 from .people import PeopleError
 from .shared import Refused
 
@@ -73,7 +73,7 @@ def sign_in_form():
 def sign_in():
     at = server()
     before = request.cookies.get(at.cookie + "-form", "")
-    if not before or not _equal(request.form.get("token", ""), at.sessions.form_token(before)):
+    if not before or not equal(request.form.get("token", ""), at.sessions.form_token(before)):
         return _sign_in_page(403, "This form was too old. Please try again.")
     name, address = request.form.get("name", "")[:80].strip(), request.remote_addr or ""
     wait = max(at.by_name.left(name), at.by_address.left(address))

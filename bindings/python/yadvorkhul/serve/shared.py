@@ -7,7 +7,7 @@ after any run of calls gives what the case of that history entered afresh gives 
 import threading
 from typing import Dict, List, NamedTuple, Optional
 
-from .. import Case, Plan, Refusal, Role, Tariff, WorkingCase
+from .. import Case, Plan, Refusal, Role, Tariff, WorkingCase, offers
 from .history import History, folded
 from .journal import Journal, JournalError, NotWritten
 
@@ -41,7 +41,7 @@ class Marked(NamedTuple):
     refusal: Optional[Refusal]
 
 
-def _entered(case: dict) -> WorkingCase:
+def entered(case: dict) -> WorkingCase:
     return WorkingCase(*(case[field] for field in ("costs", "supplies", "demands", "table")), tuple(case["runs"]), case["ceilings"])
 
 
@@ -53,11 +53,16 @@ def _repeat(work: WorkingCase, role: int, call: list):
 def replayed(history: History, count: Optional[int] = None) -> WorkingCase:
     """A working case of its own with all that the first steps did."""
     case, steps = history.since_entry(count)
-    work = _entered(case)
+    work = entered(case)
     for step in steps:
         for call in step.calls:
             _repeat(work, step.role, call)
     return work
+
+
+def _offered(call: str, symbol: str = "") -> bool:
+    """Whether the package and the archive that it was built of both have a call; older ones do not."""
+    return hasattr(WorkingCase, call) and offers(f"yadvorkhul_{symbol or call}")
 
 
 def answer(call, *numbers):
@@ -152,9 +157,9 @@ class SharedCase:
         with self.lock:
             if self._answered(who, identity):
                 return
-            entered = _entered(case)
+            fresh = entered(case)
             self._note({"do": "enter", "user": who.name, "role": int(who.role), "case": case, **_identity(identity)})
-            self.work = entered
+            self.work = fresh
 
     def publish(self, who: Person, identity: str):
         """Freezes the lanes of the plan for everybody to see, without costs."""
@@ -179,7 +184,7 @@ class SharedCase:
 
     def limits(self, role: Role):
         """Least runs and ceilings; a deed of whoever may plan. No edit alters them, so an archive without the call needs none."""
-        if hasattr(self.work, "see_limits"):
+        if _offered("see_limits"):
             return self.work.see_limits(role)
         _allowed(answer(self.work.plan, role)[1])
         case = self.history.case
@@ -188,7 +193,7 @@ class SharedCase:
 
     def marks(self, role: Role) -> List[int]:
         """The marks that are set; a deed of whoever may plan."""
-        if hasattr(self.work, "marks"):
+        if _offered("marks", "marks_set"):
             return self.work.marks(role)
         _allowed(answer(self.work.plan, role)[1])
         return list(self.history.marks())
@@ -213,7 +218,7 @@ class SharedCase:
     def _held(self, again: WorkingCase, role: Role, mark: int) -> Marked:
         """What a mark holds, by the second store; its plan by the first one where the archive plans a mark."""
         again.go_back(role, mark)
-        planned = (self.work.plan_mark, role, mark) if hasattr(self.work, "plan_mark") else (again.plan, role)
+        planned = (self.work.plan_mark, role, mark) if _offered("plan_mark") else (again.plan, role)
         plan, refusal = answer(*planned)
         return Marked(again.see_tariff(role), again.see_table(role), plan, refusal)
 

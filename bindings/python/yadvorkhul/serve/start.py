@@ -10,7 +10,7 @@ from .app import ADDRESS, make_app, make_server
 from .cases import fields
 from .journal import JournalError, Opened, create, open_journal
 from .people import People, PeopleError
-from .shared import SharedCase, _entered
+from .shared import SharedCase, entered
 
 
 class CannotStart(Exception):
@@ -49,7 +49,7 @@ def journal_beside(files: List[str]) -> str:
 
 def _new(path: str, case: dict) -> Opened:
     try:
-        _entered(case)
+        entered(case)
     except Refusal as refusal:
         raise CannotStart(str(refusal)) from refusal
     return create(path, {"do": "enter", "user": "", "case": case})

@@ -150,7 +150,7 @@ def bounds_refused(refusal: Refusal, case: Case, low: List[int], high: List[int]
 # the whole ---------------------------------------------------------------------------------------------------------------------------
 
 
-def _plan_parts(shared: SharedCase, role: Role, tariff: Tariff, table: List[int]) -> dict:
+def _plan_parts(shared: SharedCase, role: Role, table: List[int]) -> dict:
     """Plan, limits, marks, and what the last step did to the total; nothing where the role may not plan."""
     plan, refusal = answer(shared.work.plan, role)
     if refusal is not None and refusal.number == NO_DEED:
@@ -193,7 +193,7 @@ def state(shared: SharedCase, role: Role) -> dict:
         table, _ = answer(shared.work.see_table, role)
         if table is not None:
             told["table"] = table_part(table)
-        told.update(_plan_parts(shared, role, tariff, table))
+        told.update(_plan_parts(shared, role, table))
         if role == Role.PLANNER:
             told.update(_turns(shared))
         if shared.history.published is not None:
