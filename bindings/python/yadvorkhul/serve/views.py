@@ -164,7 +164,7 @@ def _plan_parts(shared: SharedCase, role: Role, table: List[int]) -> dict:
     else:
         found["refused"] = refusal_part(refusal, shared.case(role))
     shared.outcomes[shared.history.last.seq] = plan.total if plan else None
-    if len(shared.history.steps) > 1:
+    if len(shared.history.steps) > 1 and shared.history.last.case is None:
         found["before"] = {"total": shared.outcome(role, len(shared.history.steps) - 1)}
     return found
 

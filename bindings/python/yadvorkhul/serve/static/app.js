@@ -17,6 +17,11 @@ const LOOK = 4000; // milliseconds between two looks at what others did
 
 const part = (id) => document.getElementById(id);
 
+// What two states of one case have alike: names and sizes.
+function shapeOf({ title, sources, terminals, tariff }) {
+  return JSON.stringify([title, sources, terminals, tariff.supplies.length, tariff.demands.length]);
+}
+
 class Desk {
   constructor() {
     this.view = { state: null, marks: new Map(), base: 0, before: null };
@@ -146,7 +151,9 @@ class Desk {
   async take(state, mine) {
     const old = this.view.state;
     if (old && old.tag === state.tag) return;
-    if (old?.plan) this.view.before = old;
+    // what another case had is no change of this one
+    if (old && shapeOf(old) !== shapeOf(state)) this.view.before = null;
+    else if (old?.plan) this.view.before = old;
     this.view.state = state;
     await this.loadMarks();
     this.draw();

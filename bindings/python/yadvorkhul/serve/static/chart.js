@@ -3,7 +3,8 @@
 import { group } from "./numbers.js";
 
 const SVG = "http://www.w3.org/2000/svg";
-const SPACE = { left: 74, right: 16, top: 14, bottom: 34 };
+const SPACE = { right: 16, top: 14, bottom: 34 };
+const LETTER = 7; // pixels of a digit of an axis
 
 function shape(name, attributes, text) {
   const made = document.createElementNS(SVG, name);
@@ -55,6 +56,7 @@ export class Chart {
     const room = Math.max(1, (high - low) * 0.08);
     this.low = low - room;
     this.high = high + room;
+    this.left = 22 + LETTER * Math.max(...ticks(this.low, this.high, 4).map((t) => group(t).length));
     this.svg.replaceChildren();
     this.frame();
     this.lines();
@@ -69,7 +71,7 @@ export class Chart {
 
   x(split) {
     const span = this.last - this.first;
-    return span ? SPACE.left + ((split - this.first) / span) * (this.width - SPACE.left - SPACE.right) : (this.width + SPACE.left) / 2;
+    return span ? this.left + ((split - this.first) / span) * (this.width - this.left - SPACE.right) : (this.width + this.left) / 2;
   }
 
   y(value) {
@@ -78,8 +80,8 @@ export class Chart {
 
   frame() {
     for (const t of ticks(this.low, this.high, 4)) {
-      this.svg.append(shape("line", { class: "rule", x1: SPACE.left, x2: this.width - SPACE.right, y1: this.y(t), y2: this.y(t) }));
-      this.svg.append(shape("text", { class: "tick", x: SPACE.left - 8, y: this.y(t) + 4, "text-anchor": "end" }, group(t)));
+      this.svg.append(shape("line", { class: "rule", x1: this.left, x2: this.width - SPACE.right, y1: this.y(t), y2: this.y(t) }));
+      this.svg.append(shape("text", { class: "tick", x: this.left - 8, y: this.y(t) + 4, "text-anchor": "end" }, group(t)));
     }
     const base = this.height - SPACE.bottom;
     for (const t of ticks(this.first, this.last, this.width > 600 ? 8 : 4)) {
@@ -120,7 +122,7 @@ export class Chart {
       const { x, y } = point;
       if (!point.text) continue;
       const half = point.text.length * 3.4;
-      const middle = Math.max(SPACE.left + half, Math.min(this.width - SPACE.right - half, x));
+      const middle = Math.max(this.left + half, Math.min(this.width - SPACE.right - half, x));
       const covers = (at) => placed.some((p) => Math.abs(p.x - middle) < p.half + half + 6 && Math.abs(p.y - at) < 14);
       const free = [y + 22, y - 14].find((at) => at < this.height - SPACE.bottom - 2 && !covers(at)) ?? (point.always ? y - 14 : undefined);
       if (free === undefined) continue;
@@ -144,7 +146,7 @@ export class Chart {
   point(event) {
     const box = this.svg.getBoundingClientRect();
     const inside = ((event.clientX - box.left) / box.width) * this.width;
-    const share = (inside - SPACE.left) / (this.width - SPACE.left - SPACE.right);
+    const share = (inside - this.left) / (this.width - this.left - SPACE.right);
     this.show(Math.max(this.first, Math.min(this.last, Math.round(this.first + share * (this.last - this.first)))));
   }
 

@@ -162,7 +162,7 @@ function make(panel, desk) {
   function drawRivals(plan, now) {
     const made = plan.amounts[0].concat(plan.amounts[1]).reduce((a, b) => a + b, 0);
     const count = plan.rivals.length + plan.more_rivals;
-    rivals.firstChild.textContent = count ? `${group(count)} other local ${count === 1 ? "minimum" : "minima"} of the total; the best ${plan.rivals[0][3] ? signed(plan.rivals[0][3]) : "equal"}` : "No other local minimum: from any other split a small change is cheaper or as cheap";
+    rivals.firstChild.textContent = count ? `${group(count)} other local ${count === 1 ? "minimum" : "minima"} of the total; the best ${plan.rivals[0][3] ? signed(plan.rivals[0][3]) : "equal"}` : now.values.length > 1 ? "No other local minimum: from any other split a small change is cheaper or as cheap" : "No other split is possible";
     const row = (cells, kind) => element("tr", { class: kind }, ...cells.map((text) => element("td", {}, text)));
     const span = (a, b) => (a === b ? group(a) : `${group(a)} to ${group(b)}`);
     const rows = [[plan.split, plan.split, plan.total, 0], ...plan.rivals].map(([a, b, total, more], k) =>
