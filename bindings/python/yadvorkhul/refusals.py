@@ -2,7 +2,7 @@
 
 from typing import List, NamedTuple, Optional, Tuple
 
-from . import Case, Refusal
+from . import Case, Refusal, causes
 from .dimacs import cause_of_limits, cause_of_line, cause_of_none
 from .files import COMMA, CR, LF, MINUS, NINE, QUOTE, TARIFF, ZERO, File, FileRefusal, formed, read_records
 from .words import counted, grouped
@@ -186,7 +186,7 @@ def _explain_file(refusal: FileRefusal) -> Explained:
     elif number == 20:
         sentence = f"{name} is longer than 65,536 bytes."
     elif number == 21:
-        spot = spot_of(file, place, place + 1, cause_of(file.data, place))
+        spot = spot_of(file, place, place + 1, causes.told(file.kind, file.data, place) or cause_of(file.data, place))
         at = f"record {spot.record}, field {spot.field}, offset {place} counted from 0"
         ends = place >= len(file.data)
         sentence = f"{name} ends too soon: {at}." if ends else f"{name} has a byte that cannot stand there: {at}."
@@ -199,7 +199,8 @@ def _explain_file(refusal: FileRefusal) -> Explained:
             low, high, cause = odd[wanted].start, odd[-1].end, "a field too many, perhaps after a decimal comma; numbers are whole"
         else:
             low, high, cause = odd[-1].end, odd[-1].end + 1, "the end of a record that has too few fields"
-        spot = spot_of(file, low, max(high, low + 1), cause)
+        told = causes.told_fields(file.kind, file.data, file.data.split(b"\r\n")[place - 1])
+        spot = spot_of(file, low, max(high, low + 1), told or cause)
     return Explained(number, place, sentence, _ADVICE[number], [], spot)
 
 
@@ -216,6 +217,14 @@ def _balance(case: Case) -> List[Tuple[str, str]]:
     facts = [("all demands", demand), ("all depot stock", stock), ("so the plants must make", demand - stock)]
     facts += [("the plants can make", sum(case.supplies[:2])), ("the plants' least runs", sum(case.runs))]
     return [(name, grouped(number)) for name, number in facts]
+
+
+def _no_plan(number: int, case: Case, sentence: str) -> str:
+    """Refusal 7 or 8 with its sums, 27 with its cut where the sums of one show it."""
+    from .cut import cut_sentence, sums_sentence
+
+    cause = cut_sentence(case) if number == 27 else sums_sentence(case, number)
+    return f"{sentence[:-1]}: {cause}." if cause else sentence
 
 
 def explain_case(refusal: Refusal, case: Case, tariff: Optional[File] = None, production: Optional[File] = None) -> Explained:
@@ -244,7 +253,7 @@ def explain_case(refusal: Refusal, case: Case, tariff: Optional[File] = None, pr
         facts = [("entries", grouped(len(case.table))), ("supply of plant 1", grouped(case.supplies[0]))]
         facts += [("entries wanted", grouped(case.supplies[0] + 1))]
     elif number in (7, 8, 27):
-        facts = _balance(case)
+        sentence, facts = _no_plan(number, case, sentence), _balance(case)
     elif number == 9:
         sentence = f"the entry of split {place} is above 1,000,000,000."
         facts = [(f"entry of split {place}", grouped(case.table[place]))]
@@ -297,6 +306,13 @@ def _line_spot(file: File, number: int, cause: str) -> Spot:
     return Spot(file, low, number, 1, _name(data, low), cause, _lines(data, low, max(high, low + 1)))
 
 
+def _network_cut(file: File) -> str:
+    from .cut import network_cut
+    from .dimacs import read
+
+    return network_cut(read(file.data.split(b"\n")))
+
+
 def explain_network(refusal: Refusal, file: File, place: int, table: List[int]) -> Explained:
     """Refusal 27, 29 or 30 of a network, its named arc and the table; or one of a file."""
     if isinstance(refusal, FileRefusal):
@@ -311,6 +327,7 @@ def explain_network(refusal: Refusal, file: File, place: int, table: List[int]) 
         cause = cause_of_limits(file.data, place, table)
         sentence = f"{name}, the named arc or the table is outside the limits" + (f": there is {cause}." if cause else ".")
     else:
-        cause = cause_of_none(file.data)
-        sentence = f"no flow of {name} meets the supplies within the ceilings" + (f": there is {cause}." if cause else ".")
+        plain = cause_of_none(file.data)
+        cause = f"there is {plain}" if plain else _network_cut(file)
+        sentence = f"no flow of {name} meets the supplies within the ceilings" + (f": {cause}." if cause else ".")
     return Explained(number, line, sentence, _NETWORK_ADVICE[number], [], spot)
