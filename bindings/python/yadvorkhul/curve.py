@@ -1,6 +1,6 @@
 """The total at every split, read off the stops of the freight curve, which is straight between two of them."""
 
-from typing import List, NamedTuple, Optional
+from typing import List, NamedTuple, Optional, Tuple
 
 from . import Plan
 
@@ -51,6 +51,17 @@ def valleys(splits: List[Split]) -> List[Valley]:
         if falls_before and rises_after:
             found.append(Valley(splits[start], splits[i - 1], splits[start].total - least))
         start = i
+    return found
+
+
+def within(curve: Curve, thousandths: int = 1) -> List[Tuple[int, int]]:
+    """The splits whose total is at most so many thousandths above the least, as stretches from first to last."""
+    most = curve.given.total + abs(curve.given.total) * thousandths // 1000
+    found: List[Tuple[int, int]] = []
+    for s in curve.splits:
+        if s.total <= most:
+            first = found.pop()[0] if found and found[-1][1] == s.split - 1 else s.split
+            found.append((first, s.split))
     return found
 
 

@@ -8,6 +8,7 @@ from .. import Refusal
 from ..console import DONE, emit
 from ..files import LONGEST, NETWORK, PRODUCTION, FileRefusal, flow_text, open_file, read_records, refusal_text
 from ..refusals import explain_network
+from ._flow_more import draw, more_of, tidy
 from ._say import told
 
 ORDER = 50
@@ -19,6 +20,7 @@ def add(parser):
     parser.add_argument("network", help="the network in DIMACS form: c, p min, n and a lines")
     parser.add_argument("arc", help="the arc whose cost the table replaces, by its place among the a lines, from 1")
     parser.add_argument("table", help="the costs of that arc, in the form of a production table: an entry for each flow from 0 to its ceiling")
+    more_of(parser)
 
 
 def _formed(network):
@@ -33,7 +35,7 @@ def _formed(network):
 
 
 def run(arguments) -> int:
-    network, entries = open_file(NETWORK, arguments.network), []
+    network, entries = tidy(open_file(NETWORK, arguments.network), arguments), []
     # as in the program `flow`: what is not one to four digits names no arc
     arc = int(arguments.arc) if re.fullmatch("[0-9]{1,4}", arguments.arc) else 0
     try:
@@ -43,5 +45,6 @@ def run(arguments) -> int:
     except Refusal as refusal:
         emit(refusal_text(refusal).encode())
         return told(explain_network(refusal, network, arc, entries))
+    draw(arguments, network, found, arc, entries)
     emit(flow_text(found, arc, entries).encode())
     return DONE
