@@ -24,6 +24,7 @@ INSTALL = "apt-get install -y python3-jinja2 python3-matplotlib"
 ROOM = 150  # millimetres that the terminals have beside each other on paper, and the sums of the rows with them
 SUMS = 46  # millimetres that the sums take
 LETTER, EDGE = 1.35, 3.2  # millimetres of a letter of 7 points, and of the edges of a cell
+TALL = 18  # sources beyond which unit cost and cost stand beside each other on paper, so that a part fits on a page
 FEW = 6  # terminals of a table that is printed in larger letters
 WITHIN_SHOWN = 6  # stretches of splits that are nearly as cheap
 RIVALS_SHOWN = 12
@@ -129,8 +130,9 @@ def _data(text: str) -> str:
 
 def _blocks(rows: List[Row]):
     """Terminals by parts that fit on paper, by the longest number of a lane; the first one leaves room for the sums of the rows."""
-    lanes = [lane for row in rows for lane in row.lanes if lane.amount]
-    most = max([len(f"= {grouped(lane.cost)}") for lane in lanes] + [len(f"\u00d7 {grouped(lane.unit)}") for lane in lanes] + [5])
+    parts = [(f"\u00d7 {grouped(lane.unit)}", f"= {grouped(lane.cost)}") for row in rows for lane in row.lanes if lane.amount]
+    beside = len(rows) > TALL
+    most = max([len(" ".join(pair)) if beside else max(map(len, pair)) for pair in parts] + [5])
     wide = most * LETTER + EDGE
     n, first, later = len(rows[0].lanes), int((ROOM - SUMS) // wide), int(ROOM // wide)
     ends = [0, min(n, max(2, first))]
@@ -256,6 +258,7 @@ def plan_page(case: Case, plan: Plan, read_from: Iterable[str] = ()) -> str:
         blocks=blocks,
         wide=len(blocks) > 1,
         few=len(columns) <= FEW,
+        tall=len(rows) > TALL,
         used=[lane for row in rows for lane in row.lanes if lane.amount],
         bounded=any(lane.ceiling is not None for row in rows for lane in row.lanes),
         within=within(curve),
