@@ -1,6 +1,7 @@
 """Tests of many cases: order, refusals, wrong lines, stopping and going on, the summary, and two Dask workers."""
 
 import contextlib
+import importlib.util
 import io
 import json
 import os
@@ -89,20 +90,24 @@ class Files(unittest.TestCase):
             return stream.read().split("\n")[:-1]
 
     def test_command(self):
-        page = self.path("summary.html")
-        status, said = told("batch", self.source, "--case", SEASON, "-o", self.output, "--cores", "2", "--summary", page)
+        status, said = told("batch", self.source, "--case", SEASON, "-o", self.output, "--cores", "2")
         self.assertEqual((status, self.got()), (0, self.due), said)
         self.assertFalse(os.path.exists(self.output + ".state"))
         found = summary(self.output)
         self.assertEqual((found.lines, len(found.totals), found.wrong, sum(found.refusals.values())), (1500, 1498, 1, 1))
-        with open(page, encoding="utf-8") as stream:
-            text = stream.read()
-        self.assertIn('id="planned">1,498<', text)
-        often = max(found.splits.values())
-        self.assertIn(f"<td>{often:,}</td>", text)
         self.assertEqual(told("batch", self.source, "--case", SEASON, "-o", self.output)[0], 2)  # it is finished
         self.assertEqual(self.got(), self.due)
         self.assertEqual(told("batch", self.source, "--case", SEASON, "-o", self.source)[0], 2)
+
+    @unittest.skipUnless(importlib.util.find_spec("matplotlib") and importlib.util.find_spec("jinja2"), "the page needs Jinja2 and Matplotlib")
+    def test_summary(self):
+        page = self.path("summary.html")
+        self.assertEqual(told("batch", self.source, "--case", SEASON, "-o", self.output, "--summary", page)[0], 0)
+        with open(page, encoding="utf-8") as stream:
+            text = stream.read()
+        self.assertIn('id="planned">1,498<', text)
+        often = max(summary(self.output).splits.values())
+        self.assertIn(f"<td>{often:,}</td>", text)
 
     def test_going_on(self):
         """Stopped in the midst of a line, it goes on where it was, and no answer is planned twice."""

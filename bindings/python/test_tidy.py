@@ -1,6 +1,7 @@
 """Tests of `flow --tidy`, of the drawing of a network, and of the page of bounds from the command."""
 
 import contextlib
+import importlib.util
 import io
 import os
 import shutil
@@ -79,6 +80,7 @@ class Tidy(unittest.TestCase):
             self.assertIn(f">{k}: {arc.flow} of {arc.ceiling}<", drawn)
         self.assertEqual(run("flow", NETWORK, "1", TABLE, "--drawing", NETWORK)[0], 2)
 
+    @unittest.skipUnless(importlib.util.find_spec("matplotlib") and importlib.util.find_spec("jinja2"), "the page needs Jinja2 and Matplotlib")
     def test_bounds_page(self):
         paths = [os.path.join(EXAMPLES, "case_a", name) for name in ("tariff.csv", "production.csv")]
         page = os.path.join(self.folder, "bounds.html")
