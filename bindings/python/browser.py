@@ -101,7 +101,7 @@ class Browser:
 
     def press(self, key, code=None, text=""):
         for kind in ("keyDown", "keyUp"):
-            self.call("Input.dispatchKeyEvent", type=kind, key=key, code=code or key, windowsVirtualKeyCode={"Tab": 9, "Enter": 13}[key], text=text if kind == "keyDown" else "")
+            self.call("Input.dispatchKeyEvent", type=kind, key=key, code=code or key, windowsVirtualKeyCode={"Tab": 9, "Enter": 13, "ArrowLeft": 37, "ArrowRight": 39}[key], text=text if kind == "keyDown" else "")
 
     def screenshot(self, path, whole=True):
         image = self.call("Page.captureScreenshot", format="png", captureBeyondViewport=whole)

@@ -14,10 +14,13 @@ import tempfile
 import unittest
 
 from browser import Browser, found
-from yadvorkhul import Case, Refusal, page, plan
+from yadvorkhul import Case, Refusal, __version__, bounds, page, plan
+from yadvorkhul.again import one_more
+from yadvorkhul.compare import compare, side
 from yadvorkhul.curve import curve_of
 from yadvorkhul.files import PRODUCTION, TARIFF, File, open_file, plan_text, read_case
-from yadvorkhul.pages import files_page
+from yadvorkhul.forms import fingerprint, plan_fingerprint
+from yadvorkhul.pages import bounds_page, compare_page, files_page
 
 EXAMPLES = os.path.join(os.path.dirname(os.path.abspath(__file__)), "..", "..", "examples")
 A = dict(costs=[[2, 6], [5, 3], [1, 4]], supplies=[3, 3, 1], demands=[3, 2], table=[99, 20, 24, 20])
@@ -45,7 +48,7 @@ def large():
 
 def number(text):
     """A number as a page shows it."""
-    return int(text.replace(",", "").replace("\u2212", "-").replace("+", ""))
+    return 0 if text == "\u00b7" else int(text.replace(",", "").replace("\u2212", "-").replace("+", ""))
 
 
 @unittest.skipUnless(found(), "chromium is not there")
@@ -98,14 +101,14 @@ class Pages(unittest.TestCase):
         amounts = [number(x) for x in self.texts("#lanes .amount")]
         self.assertEqual([amounts[i * n : (i + 1) * n] for i in range(m)], due.amounts)
         units = [number(x) for x in self.texts("#lanes .unit")]
-        self.assertEqual(units, [c for row in case.costs for c in row])
+        self.assertEqual(units, [c for cs, xs in zip(case.costs, due.amounts) for c, x in zip(cs, xs) if x])
         worth = [x * c for xs, cs in zip(due.amounts, case.costs) for x, c in zip(xs, cs) if x]
         self.assertEqual([number(x) for x in self.texts("#lanes .cost .cost, #lanes td .cost")], worth)
         self.assertEqual([number(x) for x in self.texts("#lanes td.sent")], [sum(row) for row in due.amounts])
-        self.assertEqual([number(x) for x in self.texts("#lanes tr.got td")[:n]], list(case.demands))
-        self.assertEqual([number(x) for x in self.texts("#lanes tr.demand td")[:n]], list(case.demands))
+        self.assertEqual([number(x) for x in self.texts("#lanes tr.got td.to")], list(case.demands))
+        self.assertEqual([number(x) for x in self.texts("#lanes tr.demand td.to")], list(case.demands))
         self.assertEqual(sum(number(x) for x in self.texts("#lanes td.freight")), due.freight)
-        self.assertEqual(sum(number(x) for x in self.texts("#lanes tr.cost td")[:n]), due.freight)
+        self.assertEqual(sum(number(x) for x in self.texts("#lanes tr.cost td.to")), due.freight)
         full = [f"{i + 1},{j + 1}" for i in range(m) for j in range(n) if case.ceilings and 0 < due.amounts[i][j] == case.ceilings[i][j] < 4000]
         self.assertEqual(self.browser.run("Array.from(document.querySelectorAll('#lanes td.full')).map(c => c.dataset.lane)"), full)
         empty = sum(x == 0 for row in due.amounts for x in row)
@@ -128,12 +131,21 @@ class Pages(unittest.TestCase):
             self.assertEqual(row[4:], [row[2] + row[3], row[2] + row[3] - due.total])
         totals = {row[0]: row[4] for row in every}
         self.assertEqual(min((t, y) for y, t in totals.items()), (due.total, due.split))
-        others = [(t, y) for y, t in totals.items() if y != due.split]
-        if others:
-            best = min(others)
-            self.assertEqual((number(self.text("#next-total")), number(self.text("#next-split"))), best)
-            self.assertEqual(number(self.text("#next-more").split()[0]), best[0] - due.total)
+        if len(totals) > 1:
+            self.check_within(totals, due)
         self.check_minima(totals, due)
+
+    def check_within(self, totals, due):
+        """The stretches of splits within 0.1 % of the total."""
+        near = {y for y, t in totals.items() if 1000 * (t - due.total) <= abs(due.total)}
+        told = self.text("#within").split(" and ")[0]
+        shown = set()
+        for part in told.split(", "):
+            ends = [number(x) for x in part.split(" to ")]
+            shown |= set(range(ends[0], ends[-1] + 1))
+        self.assertLessEqual(shown, near)
+        if " and " not in self.text("#within"):
+            self.assertEqual(shown, near)
 
     def check_minima(self, totals, due):
         """Each row of the table of local minima has higher totals on both sides, and no split that has is missing."""
@@ -164,8 +176,9 @@ class Pages(unittest.TestCase):
         case = read_case(tariff, production)
         self.check_plan("case_a", case, files_page(tariff, production))
         self.check_forced(case, case.plan())
-        self.assertEqual(self.text("#next-more"), "+1 (3.03\u00a0%)")
+        self.assertEqual(self.text("#within"), "3")
         self.assertEqual(self.table("#minima tbody tr")[1][0], "1")
+        self.assertEqual(self.table("#minima tbody tr")[1][5:], ["+1", "3.03\u00a0%"])
 
     def test_report(self):
         tariff, production = example("report", "rates.csv")
@@ -190,7 +203,7 @@ class Pages(unittest.TestCase):
     def test_ties_and_single_splits(self):
         tied = Case(**{**A, "table": [99, 20, 24, 21]})
         self.check_plan("tie", tied, page(tied))
-        self.assertEqual((self.text("#ties"), self.text("#next-more")), ("2", "+0"))
+        self.assertEqual((self.text("#ties"), self.text("#within")), ("2", "1, 3"))
         single = Case(**{**A, "supplies": [3, 1, 1]})
         self.check_plan("single", single, page(single))
         flat = Case([[1, 1]] * 2, [6, 6], [3, 3], [5] * 7)
@@ -240,8 +253,8 @@ class Pages(unittest.TestCase):
         """A name with a mark that turns the direction of writing, and a path with one."""
         shown = page(season()._replace(sources=["Gra\u202esse", "Holz\u2067minden"], title="Autumn \u202e"))
         self.show("turned", shown)
-        numbers = ("#next-split", "#next-total", "#next-more", "#split", "#rest")
-        self.assertEqual([self.in_order(selector) for selector in numbers], [True] * 5)
+        numbers = ("#within", "#split", "#rest", "td.use")
+        self.assertEqual([self.in_order(selector) for selector in numbers], [True] * 4)
         self.show("turned-bare", shown.replace("<bdi>", "").replace("</bdi>", ""))  # the test of the test
         self.assertFalse(all(self.in_order(selector) for selector in numbers))
         self.show("turned-path", files_page(File(TARIFF, "tar\u202eiff.csv", b"2;6"), File(PRODUCTION, "p", b"1")))
@@ -298,8 +311,11 @@ class Pages(unittest.TestCase):
             self.browser.call("Emulation.setEmulatedMedia", media="print")
             sizes = self.browser.run("Array.from(document.querySelectorAll('div.paper table.lanes')).map(t => [t.offsetWidth, t.offsetHeight])")
             words = self.browser.run("Array.from(document.querySelectorAll('dd')).every(d => d.scrollWidth <= d.parentElement.clientWidth)")
+            letters = "Array.from(document.querySelectorAll('div.paper table.lanes *')).map(x => parseFloat(getComputedStyle(x).fontSize))"
+            smallest = self.browser.run(f"Math.min(...{letters})")
             self.browser.call("Emulation.setEmulatedMedia", media="")
-            self.assertGreater(len(sizes), 3)
+            self.assertGreaterEqual(round(smallest * 72 / 96, 2), 7)  # points
+            self.assertGreaterEqual(len(sizes), 3)
             self.assertLessEqual(max(wide for wide, _ in sizes), 703)
             self.assertLessEqual(max(high for _, high in sizes), 1031)
             self.assertTrue(words)
@@ -319,6 +335,70 @@ class Pages(unittest.TestCase):
         self.browser.press("Enter", text="\r")
         self.assertTrue(self.browser.run("document.querySelector('details').open"))
         self.assertEqual(self.browser.errors, [])
+
+    def test_about(self):
+        """Runs, use of the plants, currency, date, version and both fingerprints."""
+        case = season()._replace(currency="EUR", date="17 November 2026")
+        due = case.plan()
+        self.show("about", page(case))
+        made = sum(case.demands) - sum(case.supplies[2:])
+        self.assertEqual([x.split(",  ")[0].rsplit(", ", 1)[0] for x in self.texts("td.use")], [f"{x:,} of {a:,}" for x, a in zip((due.split, made - due.split), case.supplies)])
+        self.assertEqual([number(x) for x in self.texts("td.run")], list(case.runs))
+        self.assertEqual((self.text("#currency"), self.text("#date")), ("EUR", "17 November 2026"))
+        self.assertEqual(self.browser.run("[document.getElementById('case-print').title, document.getElementById('plan-print').title]"), [fingerprint(case), plan_fingerprint(case, due)])
+        self.assertIn(f"yadvorkhul {__version__}", self.text("#about"))
+        self.assertIn("drums that Grasse makes", " ".join(self.texts("figure svg text")))
+
+    def test_one_more(self):
+        """Each change that is shown is that of planning again."""
+        case = season()
+        self.show("one-more", page(case))
+        shown = self.browser.run("Array.from(document.querySelectorAll('.help li span')).map(x => x.textContent)")
+        due = sorted(drum.change for drum in one_more(case) if drum.change)
+        self.assertEqual(sorted(number(x) for x in shown), due)
+        self.assertIn("below 70,747", " ".join(self.texts(".help li")))
+
+    def test_pointer(self):
+        """The numbers under the pointer and by the arrow keys are those of the list of every split."""
+        case = season()
+        self.show("pointer", page(case))
+        every = {int(row[0]): row for row in self.table("#splits tbody tr")}
+        box = self.browser.run("(() => { const s = document.querySelector('.broad svg'), b = s.getBoundingClientRect(), d = s.dataset; return [b.left + (Number(d.left) + Number(d.right)) / 2 / s.viewBox.baseVal.width * b.width, b.top + 20]; })()")
+        self.browser.call("Input.dispatchMouseEvent", type="mouseMoved", x=box[0], y=box[1])
+        told = self.text("#pointed")
+        split = number(re.search("Grasse\\W* ([0-9,]+), ", told).group(1))
+        low, high = min(every), max(every)
+        self.assertLessEqual(abs(split - (low + high) / 2), 2)
+        self.assertIn(f"total {int(every[split][4]):,}", told)
+        self.browser.run("document.querySelector('figure').focus()")
+        for _ in range(2):
+            self.browser.press("ArrowRight")
+        self.assertIn(f"total {int(every[split + 2][4]):,}", self.text("#pointed"))
+        self.assertEqual(self.browser.errors, [])
+
+    def test_bounds(self):
+        """The page of bounds: counts and stretches are the proved function's."""
+        case = season()
+        high = [entry + 900 for entry in case.table]
+        found = bounds(*case[:4], high, case.runs, case.ceilings)
+        self.show("bounds", bounds_page(case, high, found))
+        self.assertEqual([number(self.text("#" + name)) for name in ("smallest", "largest")], [found.smallest, found.largest])
+        marks = [row[1] == "yes" for row in self.table("#splits tbody tr")]
+        self.assertEqual(marks, found.possible)
+        shown = set()
+        for part in self.text("#possible").split(", "):
+            ends = [number(x) for x in part.split(" to ")]
+            shown |= set(range(ends[0], ends[-1] + 1))
+        self.assertEqual(shown, {found.first + k for k, can in enumerate(found.possible) if can})
+
+    def test_compare(self):
+        one, other = season(), season()._replace(ceilings=None)
+        self.show("compare", compare_page(compare(side("a", one), side("b", other))))
+        results = [[number(x) for x in row[1:3]] for row in self.table("#results tbody tr")]
+        self.assertEqual(results[-1], [one.plan().total, other.plan().total])
+        self.assertEqual(len(self.table("#inputs tbody tr")), 11)
+        differ = sum(x != y for xs, ys in zip(one.plan().amounts, other.plan().amounts) for x, y in zip(xs, ys))
+        self.assertEqual(len(self.table("#lanes-differ tbody tr")), differ)
 
     def test_contrast(self):
         """Each text against what it stands on, by the rule of WCAG 2: at least 4.5 to 1."""

@@ -174,6 +174,9 @@ def compare(one: Side, other: Side) -> Compared:
     """What differs between two cases and their plans."""
     size = lambda side: (len(side.case.supplies), len(side.case.demands))
     alike = size(one) == size(other)
+    if alike:  # the names of the other where the first has none
+        named = {field: getattr(one.case, field) or getattr(other.case, field) for field in ("sources", "terminals")}
+        one = one._replace(case=one.case._replace(**named))
     inputs = _differing(_numbers(one.case), _numbers(other.case)) if alike else []
     if not alike:
         inputs = [Row(name, a, b) for name, a, b in zip(("sources", "terminals"), size(one), size(other)) if a != b]

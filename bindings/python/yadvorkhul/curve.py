@@ -54,6 +54,17 @@ def valleys(splits: List[Split]) -> List[Valley]:
     return found
 
 
+def within(curve: Curve, thousandths: int = 1) -> List[Tuple[int, int]]:
+    """The splits whose total is at most so many thousandths above the least, as stretches from first to last."""
+    most = curve.given.total + abs(curve.given.total) * thousandths // 1000
+    found: List[Tuple[int, int]] = []
+    for s in curve.splits:
+        if s.total <= most:
+            first = found.pop()[0] if found and found[-1][1] == s.split - 1 else s.split
+            found.append((first, s.split))
+    return found
+
+
 def curve_of(plan: Plan, table: Sequence[int]) -> Curve:
     low = plan.stops[0][0]
     splits = [Split(y, table[y], f, f + table[y]) for y, f in enumerate(freights(plan.stops), low)]

@@ -10,21 +10,25 @@ import os
 import re
 from typing import Any, Callable, Iterable, List, NamedTuple, Optional, Tuple
 
-from . import MOST_AMOUNT, Case, Plan, Refusal
+from . import MOST_AMOUNT, Case, Plan, Refusal, __version__
+from .again import Drum, one_more
 from .cases import check_names
-from .curve import Curve, curve_of
-from .files import File, plan_text, read_case
+from .curve import Curve, curve_of, within
+from .files import File, FileRefusal, plan_text, read_case
+from .forms import fingerprint, plan_fingerprint, spoken
 from .outputs import shown
 from .refusals import explain
 from .words import counted, grouped, increase, percent
 
 INSTALL = "apt-get install -y python3-jinja2 python3-matplotlib"
-WIDE = 8  # terminals that fit beside each other on paper, at most
-NARROW = 5  # and at least, where unit costs and costs are long
-ROOM = 155  # letters of unit costs and costs that fit beside each other on paper
-FEW = 4  # terminals of a table that is printed in larger letters
-SUMS = 2  # terminals whose place the sums of the rows take
+ROOM = 150  # millimetres that the terminals have beside each other on paper, and the sums of the rows with them
+SUMS = 46  # millimetres that the sums take
+LETTER, EDGE = 1.35, 3.2  # millimetres of a letter of 7 points, and of the edges of a cell
+TALL = 18  # sources beyond which unit cost and cost stand beside each other on paper, so that a part fits on a page
+FEW = 6  # terminals of a table that is printed in larger letters
+WITHIN_SHOWN = 6  # stretches of splits that are nearly as cheap
 RIVALS_SHOWN = 12
+OFTEN_SHOWN = 30  # splits of a batch
 STOPS_SHOWN = 60
 
 
@@ -85,7 +89,7 @@ def _lane(case: Case, plan: Plan, i: int, j: int) -> Lane:
 
 def _names(given: Optional[Iterable[str]], count: int, default: Callable[[int], str]) -> List[str]:
     given = list(given or [])
-    return [given[i] if i < len(given) else default(i) for i in range(count)]
+    return [given[i] if i < len(given) and given[i] else default(i) for i in range(count)]
 
 
 def _source_name(i: int) -> str:
@@ -124,18 +128,58 @@ def _data(text: str) -> str:
     return "data:text/csv;charset=utf-8;base64," + base64.b64encode(text.encode()).decode()
 
 
-def _beside(rows: List[Row]) -> int:
-    """Terminals that fit beside each other on paper, by the longest unit cost and cost of a lane."""
-    most = max(len(f"{grouped(lane.unit)} = {grouped(lane.cost)}") for row in rows for lane in row.lanes)
-    return max(NARROW, min(WIDE, ROOM // (most + 5)))
-
-
-def _blocks(n: int, beside: int):
-    """Terminals by parts that fit on paper, the last one with room for the sums of the rows."""
-    parts = -(-(n + SUMS) // beside)
-    size, more = divmod(n + SUMS, parts)
-    ends = [k * size + min(k, more) for k in range(parts)] + [n]
+def _blocks(rows: List[Row]):
+    """Terminals by parts that fit on paper, by the longest number of a lane; the first one leaves room for the sums of the rows."""
+    parts = [(f"\u00d7 {grouped(lane.unit)}", f"= {grouped(lane.cost)}") for row in rows for lane in row.lanes if lane.amount]
+    beside = len(rows) > TALL
+    most = max([len(" ".join(pair)) if beside else max(map(len, pair)) for pair in parts] + [5])
+    wide = most * LETTER + EDGE
+    n, first, later = len(rows[0].lanes), int((ROOM - SUMS) // wide), int(ROOM // wide)
+    ends = [0, min(n, max(2, first))]
+    while ends[-1] < n:
+        ends.append(min(n, ends[-1] + later))
     return [range(a, b) for a, b in zip(ends, ends[1:])]
+
+
+class Help(NamedTuple):
+    """One drum more (of a run: less), in words."""
+
+    name: str
+    now: int
+    change: Optional[int]
+    words: str  # instead of a change
+
+
+def _help(drum: Drum, rows: List[Row], columns: List[Column]) -> Help:
+    source, terminal = (names[k - 1].name if k else "" for names, k in ((rows, drum.source), (columns, drum.terminal)))
+    name = f"{source} \u2192 {terminal}" if drum.kind == "ceiling" else source or terminal
+    words = ""
+    if drum.below is not None:
+        words = f"worth it if the entry for {grouped(drum.asked)} is below {grouped(drum.below)}" if drum.below > 0 else "worth nothing at any entry"
+    elif drum.change is None:
+        words = f"no plan (refusal {drum.refusal})"
+    return Help(name, drum.now, drum.change, words)
+
+
+_HELPS = (
+    (("ceiling",), "One drum more on a lane that is full or closed"),
+    (("demand",), "One drum more of demand"),
+    (("supply", "stock"), "One drum more that a plant can make, or that a depot holds"),
+    (("run",), "A least run one drum lower"),
+)
+
+
+def _helps(case: Case, plan: Plan, rows: List[Row], columns: List[Column]):
+    """What one drum more would change, by kinds; the lanes that help most come first."""
+    drums = one_more(case, plan)
+    found = []
+    for kinds, title in _HELPS:
+        some = [_help(drum, rows, columns) for drum in drums if drum.kind in kinds]
+        if kinds == ("ceiling",):
+            some.sort(key=lambda one: one.change if one.change is not None else 0)
+        if some:
+            found.append((title, some))
+    return found
 
 
 def _signs(text: str):
@@ -186,7 +230,7 @@ def picture(case: Case, plan: Plan) -> str:
     _needed("matplotlib")
     from .picture import svg
 
-    return svg(curve_of(plan, case.table), plan.stops) + "\n"
+    return svg(curve_of(plan, case.table), plan.stops, plant=_names(case.sources, 1, lambda _: "plant 1")[0]) + "\n"
 
 
 def plan_page(case: Case, plan: Plan, read_from: Iterable[str] = ()) -> str:
@@ -198,8 +242,9 @@ def plan_page(case: Case, plan: Plan, read_from: Iterable[str] = ()) -> str:
 
     curve = curve_of(plan, case.table)
     rows, columns = _grid(case, plan)
-    beside = _beside(rows)
+    blocks = _blocks(rows)
     script, script_source = _script()
+    prints = fingerprint(case), plan_fingerprint(case, plan)
     return environment.get_template("plan.html").render(
         case=case,
         why=why_cheapest(case, plan),
@@ -210,20 +255,92 @@ def plan_page(case: Case, plan: Plan, read_from: Iterable[str] = ()) -> str:
         made=rows[0].sent + rows[1].sent,
         rows=rows,
         columns=columns,
-        blocks=_blocks(len(columns), beside),
-        wide=len(columns) > beside,
-        long=beside < WIDE,
-        few=len(columns) <= FEW and beside == WIDE,
+        blocks=blocks,
+        wide=len(blocks) > 1,
+        few=len(columns) <= FEW,
+        tall=len(rows) > TALL,
         used=[lane for row in rows for lane in row.lanes if lane.amount],
         bounded=any(lane.ceiling is not None for row in rows for lane in row.lanes),
+        within=within(curve),
+        within_shown=WITHIN_SHOWN,
+        helps=_helps(case, plan, rows, columns),
+        prints=[(spoken(one), one) for one in prints],
+        version=__version__,
         rivals=_rivals(curve),
         rivals_shown=RIVALS_SHOWN,
         stops_shown=STOPS_SHOWN,
-        broad=svg(curve, plan.stops, 8.4, "broad"),
-        slim=svg(curve, plan.stops, 4.2, "slim"),
+        broad=svg(curve, plan.stops, 8.4, "broad", rows[0].name),
+        slim=svg(curve, plan.stops, 4.2, "slim", rows[0].name),
         plan_file=_data(plan_text(case, plan)),
         script=script,
         script_source=script_source,
+    )
+
+
+def compare_page(found) -> str:
+    """The page of two cases beside each other, a `Compared`."""
+    environment = _environment()
+    _needed("matplotlib")
+    from .picture import two_curves
+
+    planned = [side for side in found.sides if side.plan]
+    name = _names(found.sides[0].case.sources, 1, lambda _: "plant 1")[0]
+    letters = [letter for letter, side in zip("AB", found.sides) if side.plan]
+    drawn = two_curves([curve_of(side.plan, side.case.table) for side in planned], letters, plant=name) if planned else ""
+    prints = [(what, spoken(one), spoken(other), one == other) for what, one, other in found.prints]
+    return environment.get_template("compare.html").render(
+        title="Two plans beside each other", found=found, picture=drawn, prints=prints, version=__version__, script_source="'none'"
+    )
+
+
+def batch_page(found, source: str, case: Optional[Case] = None) -> str:
+    """The page of many answers, a `batch.Summary`."""
+    environment = _environment()
+    _needed("matplotlib")
+    from . import _MEANINGS
+    from .picture import histograms
+
+    name = _names(case.sources if case else None, 1, lambda _: "Plant 1")[0]
+    often = sorted(found.splits.items(), key=lambda pair: (-pair[1], pair[0]))[:OFTEN_SHOWN]
+    return environment.get_template("batch.html").render(
+        title="Many cases",
+        found=found,
+        source=source,
+        case_title=case.title if case else "",
+        name=name,
+        often=often,
+        meanings=_MEANINGS,
+        picture=histograms(found.splits, found.totals, plant=name) if found.totals else "",
+        version=__version__,
+        script_source="'none'",
+    )
+
+
+def bounds_page(case: Case, high: List[int], found) -> str:
+    """The page of what can be the cheapest between two tables, a `Bounds`; the case has the low one."""
+    environment = _environment()
+    _needed("matplotlib")
+    from .curve import freights
+    from .picture import band
+
+    name = _names(case.sources, 1, lambda _: "Plant 1")[0]
+    curve = freights(case.plan().stops)
+    if len(curve) != len(found.possible):
+        raise ValueError("the splits of the plan and of the bounds do not agree")
+    stretches: List[Tuple[int, int]] = []
+    for split in (found.first + k for k, can in enumerate(found.possible) if can):
+        first = stretches.pop()[0] if stretches and stretches[-1][1] == split - 1 else split
+        stretches.append((first, split))
+    return environment.get_template("bounds.html").render(
+        title=case.title or "What can be the cheapest",
+        name=name,
+        found=found,
+        count=sum(found.possible),
+        stretches=stretches,
+        rows=[(found.first + k, can, f + case.table[found.first + k], f + high[found.first + k]) for k, (can, f) in enumerate(zip(found.possible, curve))],
+        picture=band(found.first, found.possible, curve, case.table, high, plant=name),
+        version=__version__,
+        script_source="'none'",
     )
 
 

@@ -1,7 +1,10 @@
 """The picture of a plan: total, freight and production over the splits, as SVG. Needs Matplotlib."""
 
+import contextlib
+import html
 import io
 import re
+import warnings
 from typing import Sequence, Tuple
 
 from .curve import Curve
@@ -83,20 +86,46 @@ def _settle(figure, axes, marked):
             text.remove()
 
 
-def svg(curve: Curve, stops: Sequence[Tuple[int, int]], width: float = 8.4, name: str = "picture") -> str:
-    """The picture as an `svg` element, so many inches wide; its words are text. Two pictures on a page have two names."""
+@contextlib.contextmanager
+def _canvas(width: float, height: float, name: str):
+    """A figure from Matplotlib's own defaults, whatever a matplotlibrc of the current folder or of the user says."""
     import matplotlib
-    from matplotlib import ticker
     from matplotlib.backends.backend_agg import FigureCanvasAgg
     from matplotlib.figure import Figure
 
     settings = {"svg.fonttype": "none", "svg.hashsalt": name, "font.family": "DejaVu Sans"}
-    with matplotlib.rc_context():
-        # from Matplotlib's own defaults, whatever a matplotlibrc of the current folder or of the user says
+    with matplotlib.rc_context(), warnings.catch_warnings():
+        warnings.simplefilter("ignore")  # a name may have letters that the font lacks; the browser has them
         matplotlib.rcdefaults()
         matplotlib.rcParams.update(settings)
-        figure = Figure(figsize=(width, 7.2), constrained_layout=True)
+        figure = Figure(figsize=(width, height), constrained_layout=True)
         FigureCanvasAgg(figure)
+        yield figure
+
+
+def _drawn(figure) -> str:
+    out = io.StringIO()
+    figure.savefig(out, format="svg", metadata={"Date": None, "Creator": None})
+    return out.getvalue()
+
+
+def _axis(axes, plant: str):
+    """What the splits are, by the name of the plant."""
+    shown = "".join(c if c.isprintable() else " " for c in plant)
+    axes.set_xlabel(f"drums that {shown} makes", fontsize=9, color=INK, parse_math=False)
+
+
+def _scale(figure, axes, low: int, high: int) -> str:
+    """Where the first and the last split stand in the picture, for what is read under the pointer."""
+    left, right = (axes.transData.transform((split, 0))[0] * 72 / figure.dpi for split in (low, high))
+    return f' data-low="{low}" data-high="{high}" data-left="{left:.2f}" data-right="{right:.2f}"'
+
+
+def svg(curve: Curve, stops: Sequence[Tuple[int, int]], width: float = 8.4, name: str = "picture", plant: str = "plant 1") -> str:
+    """The picture as an `svg` element, so many inches wide; its words are text. Two pictures on a page have two names."""
+    with _canvas(width, 7.2, name) as figure:
+        from matplotlib import ticker
+
         total, freight, production = figure.subplots(3, 1, sharex=True, gridspec_kw={"height_ratios": [2.2, 1.2, 1.2]})
         for axes, title in ((total, "Total"), (freight, "Freight, with its stops"), (production, "Production table")):
             _frame(axes, title, ticker, width > 6)
@@ -106,11 +135,73 @@ def svg(curve: Curve, stops: Sequence[Tuple[int, int]], width: float = 8.4, name
         _lines(production, curve, [s.production for s in curve.splits], GREY)
         for axes in (total, freight, production):
             axes.axvline(curve.given.split, color=GREEN, linewidth=0.8, linestyle=(0, (4, 3)), zorder=0)
-        production.set_xlabel("drums that plant 1 makes", fontsize=9, color=INK)
+        _axis(production, plant)
         _settle(figure, total, [valley.first for valley in curve.valleys])
-        out = io.StringIO()
-        figure.savefig(out, format="svg", metadata={"Date": None, "Creator": None})
-    return _embedded(out.getvalue(), _words(curve))
+        drawn = _drawn(figure)
+        scale = _scale(figure, production, curve.splits[0].split, curve.splits[-1].split)
+    return _embedded(drawn, _words(curve), scale)
+
+
+def two_curves(curves, names, width: float = 8.4, name: str = "both", plant: str = "plant 1") -> str:
+    """The totals of two cases in one picture, each with the split given."""
+    with _canvas(width, 4.4, name) as figure:
+        from matplotlib import ticker
+
+        axes = figure.subplots()
+        _frame(axes, "Total", ticker, width > 6)
+        for curve, color, label, style in zip(curves, (BLUE, ORANGE), names, ("-", (0, (5, 2)))):
+            axes.plot([s.split for s in curve.splits], [s.total for s in curve.splits], color=color, linewidth=1.9, linestyle=style, label=label)
+            axes.plot([curve.given.split], [curve.given.total], marker="*", markersize=13, color=color)
+            _label(axes, curve.given, f"{label}: {grouped(curve.given.split)}, {grouped(curve.given.total)}", color, weight="bold")
+        axes.legend(loc="best", fontsize=8, frameon=False)
+        _axis(axes, plant)
+        drawn = _drawn(figure)
+    words = "; ".join(f"{label}: least total {grouped(c.given.total)} at {c.given.split}" for c, label in zip(curves, names))
+    return _embedded(drawn, f"Two totals over the splits. {words}.")
+
+
+def histograms(splits, totals, width: float = 8.4, name: str = "batch", plant: str = "plant 1") -> str:
+    """How often each split is the cheapest, and how the totals are spread."""
+    with _canvas(width, 5.6, name) as figure:
+        from matplotlib import ticker
+
+        above, below = figure.subplots(2, 1)
+        _frame(above, "Cases by split", ticker, width > 6)
+        _frame(below, "Cases by total", ticker, width > 6)
+        spread = max(splits) - min(splits)
+        above.bar(list(splits), list(splits.values()), width=max(0.8, spread / 120), color=BLUE)
+        if not spread:
+            above.set_xlim(min(splits) - 1, min(splits) + 1)
+        below.hist(totals, bins=min(60, len(set(totals)) + 1), color=GREEN)
+        _axis(above, plant)
+        below.set_xlabel("total", fontsize=9, color=INK)
+        drawn = _drawn(figure)
+    return _embedded(drawn, f"Cases by split and by total: {len(totals)} cases, {len(splits)} splits.")
+
+
+def band(first: int, possible, freights, low, high, width: float = 8.4, name: str = "band", plant: str = "plant 1") -> str:
+    """The total at each split between its least and its greatest, and the splits that can be the cheapest."""
+    with _canvas(width, 4.6, name) as figure:
+        from matplotlib import ticker
+
+        axes = figure.subplots()
+        _frame(axes, "Total, from its least to its greatest", ticker, width > 6)
+        splits = list(range(first, first + len(possible)))
+        least, most = ([f + table[y] for y, f in zip(splits, freights)] for table in (low, high))
+        axes.fill_between(splits, least, most, color=BLUE, alpha=0.22, linewidth=0)
+        dots = dict(marker="o", markersize=3.2) if len(splits) <= MOST_DOTS else {}
+        axes.plot(splits, least, color=BLUE, linewidth=1.2, **dots)
+        axes.plot(splits, most, color=BLUE, linewidth=1.2, **dots)
+        best = min(most)
+        axes.axhline(best, color=GREEN, linewidth=0.9, linestyle=(0, (4, 3)))
+        chosen = [(y, value) for y, value, can in zip(splits, least, possible) if can]
+        axes.plot([y for y, _ in chosen], [value for _, value in chosen], linestyle="", marker="o", markersize=4, color=ORANGE)
+        if len(splits) == 1:
+            axes.set_xlim(first - 1, first + 1)
+        _axis(axes, plant)
+        drawn = _drawn(figure)
+        scale = _scale(figure, axes, splits[0], splits[-1])
+    return _embedded(drawn, f"Totals between two bounds; {len(chosen)} of {len(splits)} splits can be the cheapest.", scale)
 
 
 def _words(curve: Curve) -> str:
@@ -121,11 +212,11 @@ def _words(curve: Curve) -> str:
     )
 
 
-def _embedded(text: str, words: str) -> str:
+def _embedded(text: str, words: str, more: str = "") -> str:
     """The `svg` element alone, as wide as its place, with words for those who do not see it."""
     text = text[text.index("<svg") :]
     text = re.sub(r"<metadata>.*?</metadata>", "", text, flags=re.DOTALL)
     text = re.sub(r'<g id="[^"]*"', "<g", text)
     head, rest = text.split(">", 1)
     head = re.sub(r' (width|height)="[^"]*"', "", head)
-    return f'{head} role="img" aria-label="{words}">{rest}'.strip()
+    return f'{head} role="img" aria-label="{html.escape(words)}"{more}>{rest}'.strip()

@@ -2,7 +2,7 @@
 
 from typing import List, NamedTuple, Optional, Tuple
 
-from . import Case, Refusal
+from . import Case, Refusal, causes
 from .dimacs import cause_of_limits, cause_of_line, cause_of_none
 from .files import TARIFF, File, FileRefusal
 from .words import counted, grouped
@@ -206,7 +206,7 @@ def _explain_file(refusal: FileRefusal) -> Explained:
     elif number == 20:
         sentence = f"{name} is longer than 65,536 bytes."
     elif number == 21:
-        spot = spot_of(file, place, place + 1, cause_of(file.data, place))
+        spot = spot_of(file, place, place + 1, causes.told(file.kind, file.data, place) or cause_of(file.data, place))
         at = f"record {spot.record}, field {spot.field}, offset {place} counted from 0"
         ends = place >= len(file.data)
         sentence = f"{name} ends too soon: {at}." if ends else f"{name} has a byte that cannot stand there: {at}."
@@ -218,7 +218,8 @@ def _explain_file(refusal: FileRefusal) -> Explained:
             low, high, cause = odd[wanted][0], odd[-1][1], "a field too many, perhaps after a decimal comma; numbers are whole"
         else:
             low, high, cause = odd[-1][1], odd[-1][1] + 1, "the end of a record that has too few fields"
-        spot = spot_of(file, low, max(high, low + 1), cause)
+        told = causes.told_fields(file.kind, file.data, file.data.split(b"\r\n")[place - 1])
+        spot = spot_of(file, low, max(high, low + 1), told or cause)
     return Explained(number, place, sentence, _ADVICE[number], [], spot)
 
 
@@ -241,6 +242,14 @@ def _explain_size(refusal: Refusal, tariff: File) -> Explained:
     """Refusal 1 or 2 of two files: the counts are those of the tariff's records and fields, no number was read."""
     facts = [("sources", grouped(_records(tariff.data) - 1)), ("terminals", grouped(len(_fields(tariff.data, 1)) - 1))]
     return Explained(refusal.number, refusal.place, str(refusal).split(": ", 1)[1] + ".", _ADVICE[refusal.number], facts, None)
+
+
+def _no_plan(number: int, case: Case, sentence: str) -> str:
+    """Refusal 7 or 8 with its sums, 27 with its cut where the sums of one show it."""
+    from .cut import cut_sentence, sums_sentence
+
+    cause = cut_sentence(case) if number == 27 else sums_sentence(case, number)
+    return f"{sentence[:-1]}: {cause}." if cause else sentence
 
 
 def explain_case(refusal: Refusal, case: Optional[Case], tariff: Optional[File] = None, production: Optional[File] = None) -> Explained:
@@ -271,7 +280,7 @@ def explain_case(refusal: Refusal, case: Optional[Case], tariff: Optional[File] 
         facts = [("entries", grouped(_records(production.data) if production else len(case.table))), ("supply of plant 1", grouped(case.supplies[0]))]
         facts += [("entries wanted", grouped(case.supplies[0] + 1))]
     elif number in (7, 8, 27):
-        facts = _balance(case)
+        sentence, facts = _no_plan(number, case, sentence), _balance(case)
     elif number == 9:
         sentence = f"the entry of split {place} is above 1,000,000,000."
         facts = [(f"entry of split {place}", grouped(case.table[place]))]
@@ -324,6 +333,13 @@ def _line_spot(file: File, number: int, cause: str) -> Spot:
     return Spot(file, low, number, 1, _name(data, low), cause, _lines(data, low, max(high, low + 1)))
 
 
+def _network_cut(file: File) -> str:
+    from .cut import network_cut
+    from .dimacs import read
+
+    return network_cut(read(file.data.split(b"\n")))
+
+
 def explain_network(refusal: Refusal, file: File, place: int, table: List[int]) -> Explained:
     """Refusal 27, 29 or 30 of a network, its named arc and the table; or one of a file."""
     if isinstance(refusal, FileRefusal):
@@ -338,6 +354,7 @@ def explain_network(refusal: Refusal, file: File, place: int, table: List[int]) 
         cause = cause_of_limits(file.data, place, table)
         sentence = f"{name}, the named arc or the table is outside the limits" + (f": there is {cause}." if cause else ".")
     else:
-        cause = cause_of_none(file.data)
-        sentence = f"no flow of {name} meets the supplies within the ceilings" + (f": there is {cause}." if cause else ".")
+        plain = cause_of_none(file.data)
+        cause = f"there is {plain}" if plain else _network_cut(file)
+        sentence = f"no flow of {name} meets the supplies within the ceilings" + (f": {cause}." if cause else ".")
     return Explained(number, line, sentence, _NETWORK_ADVICE[number], [], spot)

@@ -7,10 +7,20 @@ from ..console import REFUSED, emit, say
 from ..refusals import Explained
 
 
+def _pointed(found: Explained):
+    """The line of the place, and a caret below the place."""
+    for line in found.spot.lines if found.spot else []:
+        if line.marked:
+            number = f"{line.number:>6}: "
+            say(number + line.before + line.marked + line.after)
+            say(" " * (len(number) + len(line.before)) + "^" * len(line.marked))
+
+
 def told(found: Explained) -> int:
-    """The sentence with the place, its usual cause and what to do."""
+    """The sentence with the place, its usual cause and what to do; then the line with a caret."""
     cause = f" Here stands {found.spot.cause}." if found.spot and found.spot.cause else ""
     say(f"Refusal {found.number}: {found.sentence}{cause} {found.advice}")
+    _pointed(found)
     return REFUSED
 
 

@@ -6,6 +6,7 @@ from .. import Refusal
 from ..console import DONE, emit
 from ..files import PRODUCTION, TARIFF, bounds_files, handed, open_file, read_case, read_table
 from ..refusals import explain_bounds
+from ._bounds_page import page_of, page_writable, write_page
 from ._given import json_of
 from ._say import emit_json, emit_refusal, told
 
@@ -19,6 +20,7 @@ def add(parser):
     parser.add_argument("low", help="the production table of the lowest entries")
     parser.add_argument("high", help="the production table of the highest entries")
     json_of(parser)
+    page_of(parser)
 
 
 def _explained(number: int, place: int, files) -> int:
@@ -41,8 +43,11 @@ def _as_json(files):
 
 
 def run(arguments) -> int:
+    page_writable(arguments)
     files = open_file(TARIFF, arguments.tariff), open_file(PRODUCTION, arguments.low), open_file(PRODUCTION, arguments.high)
     printed = bounds_files(*map(handed, files))
+    if not printed.number and arguments.output:
+        write_page(arguments.output, read_case(files[0], files[1]), read_table(files[2]))
     if printed.number and arguments.json:
         emit_refusal(Refusal(printed.number, printed.place))
     elif arguments.json:

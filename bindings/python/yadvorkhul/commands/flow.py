@@ -10,6 +10,7 @@ from ..console import DONE, emit
 from ..files import LONGEST, NETWORK, PRODUCTION, FileRefusal, flow_files, handed, open_file, read_table
 from ..networks import FlowRefusal
 from ..refusals import explain_network
+from ._flow_more import draw, more_of, tidy
 from ._given import json_of
 from ._say import emit_json, emit_refusal, told
 
@@ -23,6 +24,7 @@ def add(parser):
     parser.add_argument("arc", help="the arc whose cost the table replaces, by its place among the a lines, from 1")
     parser.add_argument("table", help="the costs of that arc, in the form of a production table: an entry for each flow from 0 to its ceiling")
     json_of(parser)
+    more_of(parser)
 
 
 def _place(arc: str) -> int:
@@ -48,8 +50,11 @@ def _as_json(network, arc: str, table):
 
 
 def run(arguments) -> int:
-    network, table = open_file(NETWORK, arguments.network), open_file(PRODUCTION, arguments.table)
+    network, table = tidy(open_file(NETWORK, arguments.network), arguments), open_file(PRODUCTION, arguments.table)
     printed = flow_files(handed(network), os.fsencode(arguments.arc), handed(table))
+    if not printed.number and arguments.drawing:
+        entries = read_table(table)
+        draw(arguments, network, yadvorkhul.flow(network.data, _place(arguments.arc), entries), _place(arguments.arc), entries)
     if printed.number and arguments.json:
         emit_refusal(Refusal(printed.number, printed.place))
     elif arguments.json:

@@ -13,6 +13,7 @@ from .. import Refusal
 from . import guard, views
 from .guard import MOST_BODY, Server
 from .journal import NotWritten
+from .more import more
 from .people import People, PeopleError
 from .routes import refused, routes
 from .sessions import Sessions, Waiting
@@ -69,6 +70,7 @@ def make_app(shared: SharedCase, people: People, port: int, proxy: str = "") -> 
     guard.install(app)
     app.after_request(_noted)
     app.register_blueprint(routes)
+    app.register_blueprint(more)
     app.register_error_handler(Refusal, refused)
     app.register_error_handler(OutOfDate, lambda error: _sentence(f"{str(error)[0].upper()}{str(error)[1:]}.", 409))
     app.register_error_handler(NotWritten, lambda error: _sentence(f"{str(error)[0].upper()}{str(error)[1:]}.", 507))

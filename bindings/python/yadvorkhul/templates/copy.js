@@ -21,3 +21,52 @@ document.getElementById("copy").addEventListener("click", function () {
   this.focus();
   document.getElementById("copied").textContent = done ? "Copied " + (rows.length - 1) + " lanes." : "Select the list below and copy it.";
 });
+// What stands under the pointer: the split there, read off the list of every split.
+(function () {
+  var told = document.getElementById("pointed"), names = JSON.parse(told.dataset.names), made = Number(told.dataset.made);
+  var rows = document.querySelectorAll("#splits tbody tr"), figure = told.closest("figure"), first = told.textContent, at = null;
+  function group(text) { return String(text).replace("-", "\u2212").replace(/\B(?=(\d{3})+(?!\d))/g, ","); }
+  function mark(svg, split) {
+    var d = svg.dataset, low = Number(d.low), high = Number(d.high), left = Number(d.left), right = Number(d.right);
+    var line = svg.querySelector(".pointed");
+    if (!line) {
+      line = document.createElementNS("http://www.w3.org/2000/svg", "line");
+      line.setAttribute("class", "pointed");
+      line.setAttribute("stroke", "#57606a");
+      line.setAttribute("y1", "0");
+      line.setAttribute("y2", svg.viewBox.baseVal.height);
+      svg.appendChild(line);
+    }
+    var x = high === low ? left : left + (split - low) / (high - low) * (right - left);
+    line.setAttribute("x1", x);
+    line.setAttribute("x2", x);
+  }
+  function show(split) {
+    var svgs = figure.querySelectorAll("svg"), low = Number(svgs[0].dataset.low);
+    at = Math.max(low, Math.min(low + rows.length - 1, split));
+    var cells = Array.prototype.map.call(rows[at - low].cells, function (cell) { return group(cell.textContent); });
+    var more = cells[5] === "0" ? "" : " (+" + cells[5] + ")";
+    told.textContent = "\u2068" + names[0] + "\u2069 " + cells[0] + ", \u2068" + names[1] + "\u2069 " + group(made - at) + ": production " + cells[2] + ", freight " + cells[3] + ", total " + cells[4] + more;
+    Array.prototype.forEach.call(svgs, function (svg) { mark(svg, at); });
+  }
+  Array.prototype.forEach.call(figure.querySelectorAll("svg"), function (svg) {
+    svg.addEventListener("pointermove", function (event) {
+      var box = svg.getBoundingClientRect(), d = svg.dataset, left = Number(d.left), right = Number(d.right);
+      var x = (event.clientX - box.left) / box.width * svg.viewBox.baseVal.width;
+      var share = right === left ? 0 : (x - left) / (right - left);
+      show(Math.round(Number(d.low) + share * (Number(d.high) - Number(d.low))));
+    });
+  });
+  figure.addEventListener("keydown", function (event) {
+    var step = { ArrowLeft: -1, ArrowRight: 1 }[event.key];
+    if (!step) return;
+    event.preventDefault();
+    var given = Number(document.getElementById("split").textContent.replace(/[^0-9]/g, ""));
+    show(at === null ? given : at + step);
+  });
+  figure.addEventListener("pointerleave", function () {
+    at = null;
+    told.textContent = first;
+    Array.prototype.forEach.call(figure.querySelectorAll(".pointed"), function (line) { if (line !== told) line.remove(); });
+  });
+})();

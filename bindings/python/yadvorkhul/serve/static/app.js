@@ -7,12 +7,13 @@ import planTab from "./tab-plan.js";
 import productionTab from "./tab-production.js";
 import compareTab from "./tab-compare.js";
 import boundsTab from "./tab-bounds.js";
+import moreTab from "./tab-more.js";
 import publishedTab from "./tab-published.js";
 import filesTab from "./tab-files.js";
 import logTab from "./tab-log.js";
 
 // Each tab has an id, a label, shows(state), and make(panel, desk), which gives update(view). A further tab is one entry more.
-const TABS = [planTab, productionTab, compareTab, boundsTab, publishedTab, filesTab, logTab];
+const TABS = [planTab, productionTab, compareTab, moreTab, boundsTab, publishedTab, filesTab, logTab];
 const LOOK = 4000; // milliseconds between two looks at what others did
 
 const part = (id) => document.getElementById(id);

@@ -1,0 +1,189 @@
+"""Tests of many cases: order, refusals, wrong lines, stopping and going on, the summary, and two Dask workers."""
+
+import contextlib
+import importlib.util
+import io
+import json
+import os
+import random
+import shutil
+import subprocess
+import sys
+import tempfile
+import unittest
+
+from yadvorkhul import Case, Refusal, command
+from yadvorkhul.batch import Batch, CannotGoOn, answers, begin, chunks, run, summary
+from yadvorkhul.cases import read_case
+from yadvorkhul.forms import case_fields, case_json
+
+HERE = os.path.dirname(os.path.abspath(__file__))
+EXAMPLES = os.path.join(HERE, "..", "..", "examples")
+SEASON = os.path.join(EXAMPLES, "season", "season.json")
+A = Case([[2, 6], [5, 3], [1, 4]], [3, 3, 1], [3, 2], [99, 20, 24, 20])
+
+
+def changes(count, seed=5):
+    draw = random.Random(seed)
+    lines = [f"demand {draw.randint(1, 30)} = {draw.randint(20, 160)}" for _ in range(count)]
+    lines[count // 2] = "demand 1 = 4001"
+    lines[count // 3] = "demand 99 = 1"
+    return lines
+
+
+def told(*words):
+    out, errors = io.BytesIO(), io.StringIO()
+    with contextlib.redirect_stdout(io.TextIOWrapper(out)), contextlib.redirect_stderr(errors):
+        return command.main(list(words)), errors.getvalue()
+
+
+class Lines(unittest.TestCase):
+    def test_cases(self):
+        """A case a line: what `plan` gives, a refusal, and what is no case, each on its own line."""
+        other = A._replace(demands=[3, 3])
+        lines = [json.dumps(case_fields(case)) for case in (A, other, A._replace(demands=[9, 9]))] + ["{}", "", "[1", '{"x": "\udc80"}']
+        found = [json.loads(line) for line in answers(lines)]
+        self.assertEqual(found[:3], [{"split": 3, "total": 33}, {"split": 3, "total": 36}, {"refusal": 8, "place": 0}])
+        self.assertEqual([list(one) for one in found[3:]], [["wrong"]] * 4)
+        whole = json.loads(answers(lines[:1], plans=True)[0])
+        self.assertEqual((whole["freight"], whole["amounts"]), (A.plan().freight, A.plan().amounts))
+
+    def test_changes(self):
+        """Changes a line: what the changed case gives, entered afresh; a change does not stay for the next line."""
+        case = read_case(SEASON)
+        for line, answer in zip(changes(30), answers(changes(30), case)):
+            found = json.loads(answer)
+            _, place, _, value = line.split()
+            if int(place) > 30:
+                self.assertIn("there is no demand 99", found["wrong"])
+                continue
+            demands = list(case.demands)
+            demands[int(place) - 1] = int(value)
+            try:
+                plan = case._replace(demands=demands).plan()
+                self.assertEqual(found, {"split": plan.split, "total": plan.total})
+            except Refusal as refusal:
+                self.assertEqual(found, {"refusal": refusal.number, "place": refusal.place})
+        self.assertEqual(answers(['"demand 2 = 3"', "demand 2 = 3", "", '"x'], A)[:2], ['{"split": 3, "total": 36}'] * 2)
+        self.assertEqual(json.loads(answers(["demand 2 = 3"], A, True)[0])["amounts"], A._replace(demands=[3, 3]).plan().amounts)
+
+    def test_chunks(self):
+        self.assertEqual(list(chunks("abcde", 2)), [["a", "b"], ["c", "d"], ["e"]])
+
+
+class Files(unittest.TestCase):
+    def setUp(self):
+        self.folder = tempfile.mkdtemp(prefix="yadvorkhul-batch-")
+        self.addCleanup(shutil.rmtree, self.folder)
+        self.lines = changes(1500)
+        self.source, self.output = self.path("lines.txt"), self.path("answers.jsonl")
+        with open(self.source, "w", encoding="utf-8") as out:
+            out.write("\n".join(self.lines) + "\n")
+        self.case = read_case(SEASON)
+        self.due = answers(self.lines, self.case)
+
+    def path(self, name):
+        return os.path.join(self.folder, name)
+
+    def got(self):
+        with open(self.output, encoding="utf-8") as stream:
+            return stream.read().split("\n")[:-1]
+
+    def test_command(self):
+        status, said = told("batch", self.source, "--case", SEASON, "-o", self.output, "--cores", "2")
+        self.assertEqual((status, self.got()), (0, self.due), said)
+        self.assertFalse(os.path.exists(self.output + ".state"))
+        found = summary(self.output)
+        self.assertEqual((found.lines, len(found.totals), found.wrong, sum(found.refusals.values())), (1500, 1498, 1, 1))
+        self.assertEqual(told("batch", self.source, "--case", SEASON, "-o", self.output)[0], 2)  # it is finished
+        self.assertEqual(self.got(), self.due)
+        self.assertEqual(told("batch", self.source, "--case", SEASON, "-o", self.source)[0], 2)
+
+    @unittest.skipUnless(importlib.util.find_spec("matplotlib") and importlib.util.find_spec("jinja2"), "the page needs Jinja2 and Matplotlib")
+    def test_summary(self):
+        page = self.path("summary.html")
+        self.assertEqual(told("batch", self.source, "--case", SEASON, "-o", self.output, "--summary", page)[0], 0)
+        with open(page, encoding="utf-8") as stream:
+            text = stream.read()
+        self.assertIn('id="planned">1,498<', text)
+        often = max(summary(self.output).splits.values())
+        self.assertIn(f"<td>{often:,}</td>", text)
+
+    def test_going_on(self):
+        """Stopped in the midst of a line, it goes on where it was, and no answer is planned twice."""
+        batch = Batch(self.source, self.output, self.case, False)
+        self.assertEqual(begin(batch), 0)
+
+        class Stop(Exception):
+            pass
+
+        def stop(count):
+            raise Stop
+
+        with self.assertRaises(Stop):
+            run(batch, 0, 2, stop)
+        done = len(self.got())
+        self.assertEqual((done, self.got()), (400, self.due[:400]))
+        with open(self.output, "ab") as out:
+            out.write(b'{"split": 1')
+        self.assertEqual(begin(batch), 400)
+        counted = []
+        self.assertEqual(run(batch, 400, 2, counted.append), 1500)
+        self.assertEqual((sum(counted), self.got()), (1100, self.due))
+
+    def test_other_lines(self):
+        """Answers to something else are not touched."""
+        batch = Batch(self.source, self.output, self.case, False)
+        begin(batch)
+        with open(self.output, "ab") as out:
+            out.write(b"kept\n")
+        for other in (batch._replace(plans=True), batch._replace(case=A), batch._replace(case=None)):
+            with self.assertRaises(CannotGoOn):
+                begin(other)
+        with open(self.source, "a", encoding="utf-8") as out:
+            out.write("demand 1 = 5\n")
+        with self.assertRaises(CannotGoOn):
+            begin(batch)
+        self.assertEqual(self.got(), ["kept"])
+
+    def test_killed(self):
+        """Killed at any moment: started again, the answers are the same."""
+        words = [sys.executable, "-m", "yadvorkhul", "batch", self.source, "--case", SEASON, "-o", self.output, "--cores", "1"]
+        first = subprocess.Popen(words, cwd=HERE, stderr=subprocess.DEVNULL, start_new_session=True)
+        try:
+            while first.poll() is None and not (os.path.exists(self.output) and os.path.getsize(self.output)):
+                pass
+        finally:
+            if first.poll() is None:
+                os.killpg(first.pid, 9)
+            first.wait()
+        unfinished = os.path.exists(self.output + ".state")  # else it was too quick for us
+        status, _ = told("batch", self.source, "--case", SEASON, "-o", self.output, "--cores", "1")
+        self.assertEqual((status, self.got()), (0 if unfinished else 2, self.due))
+
+    @unittest.skipUnless(shutil.which("python3"), "python3 is not there")
+    def test_dask(self):
+        """The same answers by two local Dask workers."""
+        try:
+            import distributed  # noqa: F401
+        except ImportError:
+            self.skipTest("python3-distributed is not there")
+        words = [sys.executable, os.path.join(EXAMPLES, "batch_dask.py"), SEASON, self.source, self.output]
+        done = subprocess.run(words, cwd=HERE, env={**os.environ, "PYTHONPATH": HERE}, capture_output=True, timeout=240)
+        self.assertEqual(done.returncode, 0, done.stderr.decode()[-2000:])
+        self.assertIn("4 parts by 2 workers", done.stdout.decode())
+        self.assertEqual(self.got(), self.due)
+
+
+class Forms(unittest.TestCase):
+    def test_lines_of_a_file(self):
+        """A case as it is written for a line is a case."""
+        with tempfile.TemporaryDirectory() as folder:
+            path = os.path.join(folder, "a.json")
+            with open(path, "w", encoding="utf-8") as out:
+                out.write(case_json(A))
+            self.assertEqual(read_case(path), A)
+
+
+if __name__ == "__main__":
+    unittest.main()

@@ -1,0 +1,241 @@
+"""Many cases, one a line: all cores, order kept, a refusal a line like any other; stopped and started again it goes on where it was.
+
+`answers` is the whole work on some lines, from text to text. Whoever has more than one machine hands it to an engine that exists
+(examples/batch_dask.py).
+
+    >>> from yadvorkhul import Case
+    >>> case = Case([[2, 6], [5, 3], [1, 4]], [3, 3, 1], [3, 2], [99, 20, 24, 20])
+    >>> answers(["demand 2 = 3", "demand 1 = 4001"], case)
+    ['{"split": 3, "total": 36}', '{"refusal": 4, "place": 4}']
+"""
+
+import collections
+import hashlib
+import json
+import os
+from typing import Dict, Iterable, Iterator, List, NamedTuple, Optional
+
+from . import Case, Refusal
+from .again import Again, NotAChange
+from .cases import NotACase, parse_case
+from .forms import fingerprint
+
+CHUNK = 400  # lines that a worker takes at a time
+AHEAD = 4  # chunks for each worker that are under way
+FORM = "yadvorkhul batch 1"
+
+
+class CannotGoOn(ValueError):
+    """Answers that are there already and are not of these cases, in a sentence."""
+
+
+# some lines --------------------------------------------------------------------------------------------------------------------------
+
+
+def _planned(plan, plans: bool) -> str:
+    told = {"split": plan.split, "total": plan.total}
+    if plans:
+        told.update(freight=plan.freight, amounts=plan.amounts)
+    return json.dumps(told)
+
+
+def _refused(number: int, place: int) -> str:
+    return f'{{"refusal": {number}, "place": {place}}}'
+
+
+def _wrong(error: Exception) -> str:
+    return json.dumps({"wrong": str(error)})
+
+
+def _of_case(line: str, plans: bool) -> str:
+    try:
+        return _planned(parse_case(line.encode("utf-8", "surrogatepass")).plan(), plans)
+    except Refusal as refusal:
+        return _refused(refusal.number, refusal.place)
+    except NotACase as error:
+        return _wrong(error)
+
+
+def _text(line: str) -> str:
+    """A change as it stands, or as a text in JSON."""
+    if not line.startswith('"'):
+        return line
+    try:
+        found = json.loads(line)
+    except ValueError as error:
+        raise NotAChange(f"the line is not JSON: {error}") from error
+    return found
+
+
+def _of_change(again: Again, line: str, plans: bool) -> str:
+    try:
+        changes = again.changes(_text(line))
+        if plans:
+            return _planned(again.plan(changes), True)
+    except NotAChange as error:
+        return _wrong(error)
+    except Refusal as refusal:
+        return _refused(refusal.number, refusal.place)
+    number, place, total = again.totals(changes)
+    return _refused(number, place) if number else f'{{"split": {place}, "total": {total}}}'
+
+
+def _answers(lines: List[str], again: Optional[Again], plans: bool) -> List[str]:
+    if again is None:
+        return [_of_case(line, plans) for line in lines]
+    return [_of_change(again, line, plans) for line in lines]
+
+
+def answers(lines: List[str], case: Optional[Case] = None, plans: bool = False) -> List[str]:
+    """The answer to each line, a line of JSON: a case a line, or changes of the one case that is given."""
+    return _answers(lines, None if case is None else Again(case), plans)
+
+
+# a file ------------------------------------------------------------------------------------------------------------------------------
+
+
+class Batch(NamedTuple):
+    source: str  # the file of lines
+    output: str
+    case: Optional[Case]  # that each line changes; None where each line is a case
+    plans: bool
+
+    @property
+    def state(self) -> str:
+        return self.output + ".state"
+
+
+def _identity(batch: Batch) -> Dict:
+    """What the answers are answers to."""
+    digest = hashlib.sha256()
+    with open(batch.source, "rb") as stream:
+        for part in iter(lambda: stream.read(1 << 20), b""):
+            digest.update(part)
+    return {"form": FORM, "lines": digest.hexdigest(), "case": batch.case and fingerprint(batch.case), "plans": batch.plans}
+
+
+def _whole_lines(path: str) -> int:
+    """How many answers are whole; a torn last one is cut off."""
+    count, end = 0, 0
+    with open(path, "rb+") as stream:
+        for line in stream:
+            if line.endswith(b"\n"):
+                count, end = count + 1, end + len(line)
+        stream.truncate(end)
+    return count
+
+
+def begin(batch: Batch) -> int:
+    """How many lines are answered already. Answers to something else are not touched."""
+    identity = _identity(batch)
+    if not os.path.exists(batch.output):
+        with open(batch.state, "w", encoding="utf-8") as out:
+            json.dump(identity, out)
+        with open(batch.output, "xb"):
+            return 0
+    if not os.path.exists(batch.state):
+        raise CannotGoOn(f"{batch.output} is there already, and is not unfinished; name another file, or take it away")
+    with open(batch.state, encoding="utf-8") as stream:
+        try:
+            before = json.load(stream)
+        except ValueError:
+            before = None
+    if before != identity:
+        raise CannotGoOn(f"{batch.output} holds answers to other lines, another case or another form; name another file, or take it away")
+    return _whole_lines(batch.output)
+
+
+def _lines(path: str) -> Iterator[str]:
+    with open(path, encoding="utf-8", errors="surrogateescape", newline="\n") as stream:
+        for line in stream:
+            yield line.rstrip("\r\n")
+
+
+def count_lines(path: str) -> int:
+    with open(path, "rb") as stream:
+        return sum(1 for _ in stream)
+
+
+def chunks(lines: Iterable[str], size: int = CHUNK) -> Iterator[List[str]]:
+    part: List[str] = []
+    for line in lines:
+        part.append(line)
+        if len(part) == size:
+            yield part
+            part = []
+    if part:
+        yield part
+
+
+_worker: Dict = {}  # of this process: the case in its arrays
+
+
+def _start(case: Optional[Case], plans: bool):
+    import signal
+
+    signal.signal(signal.SIGINT, signal.SIG_IGN)  # the parent ends its workers
+    _worker.update(again=None if case is None else Again(case), plans=plans)
+
+
+def _work(lines: List[str]) -> str:
+    return "".join(answer + "\n" for answer in _answers(lines, _worker["again"], _worker["plans"]))
+
+
+def _in_order(pool, parts: Iterator[List[str]], ahead: int):
+    """The answers of each part, in the order of the parts; no more are read than are soon worked on."""
+    under_way = collections.deque()
+    for part in parts:
+        under_way.append((len(part), pool.apply_async(_work, (part,))))
+        if len(under_way) >= ahead:
+            count, one = under_way.popleft()
+            yield count, one.get()
+    for count, one in under_way:
+        yield count, one.get()
+
+
+def run(batch: Batch, done: int, cores: int, progress=None) -> int:
+    """Answers the lines that are left, and says by `progress` how many at a time. Gives the count of all."""
+    import itertools
+    import multiprocessing
+
+    parts = chunks(itertools.islice(_lines(batch.source), done, None))
+    with multiprocessing.get_context("fork").Pool(cores, _start, (batch.case, batch.plans)) as pool:
+        with open(batch.output, "ab") as out:
+            for count, text in _in_order(pool, parts, cores * AHEAD):
+                out.write(text.encode())
+                out.flush()
+                done += count
+                if progress:
+                    progress(count)
+    os.unlink(batch.state)
+    return done
+
+
+# a summary ---------------------------------------------------------------------------------------------------------------------------
+
+
+class Summary(NamedTuple):
+    lines: int
+    splits: Dict[int, int]  # how often each split is the cheapest
+    totals: List[int]
+    refusals: Dict[int, int]
+    wrong: int
+
+
+def summary(path: str) -> Summary:
+    """What a file of answers says as a whole."""
+    splits: Dict[int, int] = collections.Counter()
+    refusals: Dict[int, int] = collections.Counter()
+    totals, wrong, lines = [], 0, 0
+    with open(path, encoding="utf-8") as stream:
+        for line in stream:
+            answer = json.loads(line)
+            lines += 1
+            if "refusal" in answer:
+                refusals[answer["refusal"]] += 1
+            elif "wrong" in answer:
+                wrong += 1
+            else:
+                splits[answer["split"]] += 1
+                totals.append(answer["total"])
+    return Summary(lines, dict(splits), sorted(totals), dict(refusals), wrong)

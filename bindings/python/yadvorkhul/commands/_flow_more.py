@@ -1,0 +1,36 @@
+"""What `flow` does beside planning: tidying its file, drawing its network."""
+
+from ..console import WrongUse, say
+from ..dimacs import read
+from ..outputs import BadOutput, check_outputs, write_whole
+
+
+def more_of(parser):
+    parser.add_argument("--tidy", action="store_true", help="put CR LF, tabs, blanks at the ends and empty lines of the network right first, and say so")
+    parser.add_argument("--drawing", metavar="SVG", help="write a drawing of the network with its flow (needs graphviz)")
+
+
+def tidy(network, arguments):
+    """The network's file, tidied where that is asked for."""
+    from ..tidy import NotCovered, tidied
+
+    try:
+        check_outputs([arguments.drawing], [arguments.network, arguments.table])
+        if not arguments.tidy or network.data is None:
+            return network
+        data, said = tidied(network.data)
+    except (NotCovered, BadOutput) as error:
+        raise WrongUse(str(error)) from error
+    for what in said:
+        say(f"tidied: {what}")
+    return network._replace(data=data)
+
+
+def draw(arguments, network, found, place: int, table):
+    """Writes the drawing where one is asked for."""
+    if arguments.drawing:
+        from ..drawing import dot_text, drawn
+
+        paid = table[found.arcs[place - 1].flow]
+        write_whole(arguments.drawing, drawn(dot_text(read(network.data.split(b"\n")), found, place, paid)))
+        say(f"written: {arguments.drawing}")
