@@ -160,7 +160,7 @@ class Command(unittest.TestCase):
 
     @unittest.skipUnless(importlib.util.find_spec("argcomplete"), "python3-argcomplete is not there")
     def test_completion(self):
-        for line, due in (("yadvorkhul b", "bounds"), ("yadvorkhul plan --j", "--json")):
+        for line, due in (("yadvorkhul bo", "bounds"), ("yadvorkhul plan --j", "--json")):
             asked = {"COMP_LINE": line, "COMP_POINT": str(len(line)), "_ARGCOMPLETE": "1", "_ARGCOMPLETE_IFS": "\v"}
             command = f'"{sys.executable}" -m yadvorkhul 8>&1 9>/dev/null >/dev/null'
             done = subprocess.run(["sh", "-c", command], cwd=HERE, capture_output=True, env={**os.environ, **asked})

@@ -66,7 +66,7 @@ class Tidy(unittest.TestCase):
         status, _, said = run("flow", self.path(other), "1", TABLE, "--tidy")
         self.assertEqual((status, "a largest flow is not covered" in said), (2, True))
         status, _, said = run("flow", self.path(other), "1", TABLE)
-        self.assertEqual((status, "asks for a largest flow: that is not covered" in said), (1, True))
+        self.assertEqual((status, "p max; networks are p min" in said, "a largest flow is not covered" in said), (1, True, True))
 
     @unittest.skipUnless(shutil.which("dot"), "graphviz is not there")
     def test_drawing(self):

@@ -5,7 +5,6 @@ The program `flow` names the same causes in the same words (crate `flow_command`
 import re
 from typing import List, NamedTuple, Tuple
 
-from .tidy import kind_of
 
 _NUMBER, _INTEGER = rb"(0|[1-9][0-9]{0,9})", rb"(0|-?[1-9][0-9]{0,9})"
 _FORMS = {
@@ -63,14 +62,12 @@ def cause_of_line(data: bytes, number: int) -> str:
         return f"the end of the file after {len(found.arcs)} of {found.said} a lines" if said else "the end of the file before the p line"
     if not line:
         return "a blank line"
-    if kind_of(line):
-        return f"{line.split()[1].decode()}, which asks for {kind_of(line)}: that is not covered, p min is"
     if line.endswith(b"\r"):
-        return "a line that ends in CR LF; lines end in LF alone (`flow --tidy` puts it right)"
+        return "a line that ends in CR LF; lines end in LF alone"
     if b"\t" in line:
-        return "a tab; fields are parted by spaces (`flow --tidy` puts it right)"
+        return "a tab; fields are parted by spaces"
     if line.startswith(b" ") or line.endswith(b" "):
-        return "a space at an end of the line (`flow --tidy` puts it right)"
+        return "a space at an end of the line"
     kind = line[:1]
     if line.startswith(b"\xef\xbb\xbf"):
         return "a byte order mark; save the file as plain text without one"

@@ -26,6 +26,19 @@ def tidy(network, arguments):
     return network._replace(data=data)
 
 
+def hint(network):
+    """Says what `--tidy` would put right in a network that is not of the form, or that its kind is not covered."""
+    from ..tidy import NotCovered, tidied
+
+    try:
+        said = tidied(network.data or b"")[1]
+    except NotCovered as error:
+        say(str(error))
+        return
+    if said:
+        say(f"`flow --tidy` would put right: {'; '.join(said)}.")
+
+
 def draw(arguments, network, found, place: int, table):
     """Writes the drawing where one is asked for."""
     if arguments.drawing:

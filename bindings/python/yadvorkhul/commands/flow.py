@@ -10,7 +10,7 @@ from ..console import DONE, emit
 from ..files import LONGEST, NETWORK, PRODUCTION, FileRefusal, flow_files, handed, open_file, read_table
 from ..networks import FlowRefusal
 from ..refusals import explain_network
-from ._flow_more import draw, more_of, tidy
+from ._flow_more import draw, hint, more_of, tidy
 from ._given import json_of
 from ._say import emit_json, emit_refusal, told
 
@@ -41,7 +41,10 @@ def _explained(number: int, place: int, network, arc: str, table) -> int:
         refusal = FileRefusal(number, place, table)
     elif number == 30:
         entries = read_table(table)
-    return told(explain_network(refusal, network, _place(arc), entries))
+    status = told(explain_network(refusal, network, _place(arc), entries))
+    if number == 29:
+        hint(network)
+    return status
 
 
 def _as_json(network, arc: str, table):
