@@ -143,6 +143,13 @@ class Screen(unittest.TestCase):
         self.assertEqual(self.focused(), "12,0")  # the last row: there is none below
         self.shot("typed")
 
+    def test_fast_typing_loses_nothing(self):
+        self.come_as("anna")
+        self.focus(2, 30)
+        self.keys("91", Keys.ENTER, "62", Keys.ENTER, "113", Keys.ENTER, "84", Keys.ENTER)
+        self.until(lambda: self.state()["tariff"]["supplies"][2:6] == [91, 62, 113, 84])
+        self.until(lambda: self.focused() == "6,30")
+
     def test_escape_leaves_it(self):
         self.come_as("anna")
         self.focus(12, 3)
@@ -158,10 +165,9 @@ class Screen(unittest.TestCase):
         self.keys("4001", Keys.ENTER)
         self.until(lambda: self.one("#wrong").is_displayed())
         self.assertEqual(self.one("#wrong").text, "Demand of Marseille: a whole number from 0 to 4,000, please. 4,001 is above that.")
-        self.assertTrue(self.all('.lanes td[data-at="12,1"].wrong'))
-        self.assertEqual(self.one("td.editing input").get_attribute("aria-invalid"), "true")
+        self.until(lambda: self.all('.lanes td[data-at="12,1"].wrong.editing input[aria-invalid="true"]'))
         self.shot("refused")
-        self.keys("100", Keys.ENTER)  # the editor stayed, with what was typed selected
+        self.keys("100", Keys.ENTER)  # the editor is back, with what was typed selected
         self.until(lambda: self.state()["tariff"]["demands"][1] == 100)
         self.until(lambda: not self.one("#wrong").is_displayed())
         self.focus(12, 2)
@@ -177,7 +183,7 @@ class Screen(unittest.TestCase):
         self.until(lambda: self.state()["tariff"]["costs"] != before)
         costs = self.state()["tariff"]["costs"]
         self.assertEqual([row[4:6] for row in costs[2:4]], [[7, 8], [1009, -10]])
-        self.assertIn("3 more changes", self.one("#effect").text)
+        self.until(lambda: "3 more changes" in self.one("#effect").text)
         for text, word in (
             ("1\t2\n3\tx", "row 2, column 2"),
             ("1\t2\n3", "not equally long"),
@@ -217,7 +223,7 @@ class Screen(unittest.TestCase):
         self.until(lambda: self.state()["tariff"]["demands"][0] == 200)
         self.one("#redo").click()
         self.until(lambda: self.state()["tariff"]["costs"][0][1] == 55)
-        self.assertEqual(self.one("#redo").get_attribute("aria-disabled"), "true")
+        self.until(lambda: self.one("#redo").get_attribute("aria-disabled") == "true")
 
     def test_marks_and_comparing(self):
         self.come_as("anna")
@@ -251,9 +257,9 @@ class Screen(unittest.TestCase):
         self.assertIn("100 entries at its end are cut off", self.one("#question").text)
         self.shot("asks")
         self.keys(Keys.ESCAPE)
-        time.sleep(0.3)
+        self.until(lambda: self.run_script("return document.activeElement.matches('td.editing input')"))
         self.assertEqual(self.state()["tariff"]["supplies"][0], 1500)
-        self.keys(Keys.ENTER)  # the editor is still there
+        self.keys(Keys.ENTER)  # the editor is back, with what was typed
         self.until(lambda: self.one("#question").get_attribute("open"))
         self.one("#question-yes").click()
         self.until(lambda: len(self.state()["table"]) == 1401)
@@ -377,6 +383,7 @@ class Screen(unittest.TestCase):
         Screen.signed_in = None
         self.browser.delete_all_cookies()
         self.browser.get(f"http://127.0.0.1:{self.running.port}/")
+        self.until(lambda: self.run_script("return document.activeElement.name") == "name")
         self.keys("anna", Keys.TAB, WORD, Keys.ENTER)
         self.until(lambda: self.all("[role=tab]"))
         Screen.signed_in = "anna"

@@ -162,7 +162,7 @@ export class Grid {
     td.append(input);
     input.focus();
     if (text === null) input.select();
-    input.addEventListener("blur", () => this.editing?.input === input && !input.readOnly && this.finish(null));
+    input.addEventListener("blur", () => this.editing?.input === input && this.finish(null));
   }
 
   keyInEditor(event) {
@@ -191,38 +191,31 @@ export class Grid {
     this.draw(r, c);
   }
 
-  // Ends an edit: it is taken, or the editor stays with what was typed.
+  // Ends an edit. The next cell can be typed into at once; where the edit is refused, the editor comes back with what was typed.
   async finish(next) {
     const { r, c, input, old } = this.editing;
-    const value = parse(input.value);
-    if (value === old) {
-      this.close();
-      if (next) this.go(...next);
-      return;
-    }
-    if (value === null) {
-      this.wrong(`\u201c${input.value}\u201d is no whole number.`);
-      return this.stay(next, r, c);
-    }
-    input.readOnly = true;
+    const typed = input.value, value = parse(typed);
+    if (value === null) this.wrong(`\u201c${typed}\u201d is no whole number.`);
+    this.close();
+    if (value !== null && next) this.go(...next);
+    if (value === old) return;
+    if (value === null) return this.again(r, c, typed, next);
+    const td = this.td(r, c);
+    td.replaceChildren(element("span", { class: "pending" }, typed));
     const taken = await this.commit([{ r, c, value }]);
-    input.readOnly = false;
-    if (!taken) return this.stay(next, r, c);
-    if (this.editing?.input === input) this.close();
-    if (next) this.go(...next);
+    if (this.cells[r]?.[c] !== td) return; // another case, another grid
+    this.keys[r][c] = null;
+    this.draw(r, c);
+    if (!taken) this.again(r, c, typed, next);
   }
 
-  stay(next, r, c) {
-    const input = this.editing?.input;
-    if (!input) return;
-    if (next) {
-      input.setAttribute("aria-invalid", "true");
-      input.focus();
-      input.select();
-    } else {
-      this.close();
-      this.outline(r, c);
-    }
+  again(r, c, typed, next) {
+    if (this.editing || !next) return this.outline(r, c);
+    this.go(r, c);
+    this.begin(typed);
+    this.outline(r, c);
+    this.editing.input.setAttribute("aria-invalid", "true");
+    this.editing.input.select();
   }
 
   copy(event) {
