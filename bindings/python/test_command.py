@@ -13,7 +13,8 @@ import unittest
 from unittest import mock
 
 import yadvorkhul
-from yadvorkhul import command
+from yadvorkhul import Case, command
+from yadvorkhul.forms import fingerprints
 
 HERE = os.path.dirname(os.path.abspath(__file__))
 EXAMPLES = os.path.join(HERE, "..", "..", "examples")
@@ -187,6 +188,8 @@ class Command(unittest.TestCase):
     def test_json(self):
         case = dict(split=3, total=33, freight=13, amounts=[[3, 0], [0, 1], [0, 1]], stops=[[1, 14], [2, 11], [3, 13]])
         status, printed, said = run("plan", "--json", *files("case_a"))
+        entered = Case([[2, 6], [5, 3], [1, 4]], [3, 3, 1], [3, 2], [99, 20, 24, 20])
+        case.update(fingerprints(entered, entered.plan()))
         self.assertEqual((status, json.loads(printed), said), (0, case, ""))
         tariff, low = files("case_a")
         status, printed, _ = run("bounds", tariff, low, low, "--json")

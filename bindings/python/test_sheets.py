@@ -13,6 +13,7 @@ import zipfile
 
 from yadvorkhul import Case, command
 from yadvorkhul.cases import read_case
+from yadvorkhul.files import write_case
 from yadvorkhul.forms import case_json, fingerprint, limits_text, plan_fingerprint, production_text, read_again, spoken, tariff_text
 from yadvorkhul.imports import import_book, import_files
 from yadvorkhul.sheets import BadSheet, Cell, Notes, column_name, whole
@@ -177,6 +178,11 @@ class Forms(unittest.TestCase):
                 with open(path, "rb") as stream:
                     self.assertEqual(stream.read().rstrip(b"\r\n"), text.encode().rstrip(b"\r\n"))
             self.assertEqual(read_again(found), found)
+
+    def test_texts_are_the_proved_writer_s(self):
+        """What is written here is what the archive writes, wherever it writes."""
+        for case in (A, NAMED, season(), A._replace(costs=[[-2, 6], [5, 0], [1, -1_000_000]])):
+            self.assertEqual(write_case(case), (tariff_text(case).encode(), production_text(case).encode()))
 
     def test_fingerprints(self):
         """Equal numbers, equal fingerprints; any number more or less makes another."""

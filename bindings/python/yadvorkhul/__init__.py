@@ -65,8 +65,6 @@ from typing import Any, Iterable, List, Mapping, MutableSequence, NamedTuple, Op
 
 from .archive import load
 
-__version__ = "1.0.0"
-
 __all__ = ["bounds", "bounds_into", "plan", "plan_into", "rates", "rates_into", "Bounds", "Plan", "Refusal", "SHORT_REPORT"]
 __all__ += ["Case", "page", "offers", "version", "__version__"]
 __all__ += ["Limits", "Role", "Tariff", "WorkingCase"]

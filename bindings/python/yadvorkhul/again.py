@@ -8,7 +8,7 @@
 
 import ctypes
 import re
-from typing import Dict, List, NamedTuple, Optional, Tuple
+from typing import Dict, List, NamedTuple, Optional, Sequence, Tuple
 
 from . import MOST_AMOUNT, MOST_SPLITS, REPORT_CELLS, WORTH_CELLS, Case, Plan, Refusal, _cells, _entered, _parts, _plan, _rows, _RANGES
 
@@ -85,7 +85,7 @@ class Again:
         first, second = self._runs
         return _plan(*self._size, first, second, *self._fixed)
 
-    def totals(self, changes) -> Tuple[int, int, int]:
+    def totals(self, changes: Sequence[Change]) -> Tuple[int, int, int]:
         """The case with these changes: 0, split and total; or the refusal's number, its place and 0. Then all is as it was."""
         slices, before = self._slices, []
         for which, cell, value in changes:
@@ -97,7 +97,7 @@ class Again:
             cells[cell] = value
         return (number, self._report[0], 0) if number else (0, self._report[0], self._worth[0])
 
-    def plan(self, changes) -> Plan:
+    def plan(self, changes: Sequence[Change]) -> Plan:
         """The whole plan with these changes, or a `Refusal`."""
         number, place, total = self.totals(changes)
         if number:

@@ -13,7 +13,7 @@ import collections
 import hashlib
 import json
 import os
-from typing import Dict, Iterable, Iterator, List, NamedTuple, Optional
+from typing import Callable, Dict, Iterable, Iterator, List, NamedTuple, Optional
 
 from . import Case, Refusal
 from .again import Again, NotAChange
@@ -193,7 +193,7 @@ def _in_order(pool, parts: Iterator[List[str]], ahead: int):
         yield count, one.get()
 
 
-def run(batch: Batch, done: int, cores: int, progress=None) -> int:
+def run(batch: Batch, done: int, cores: int, progress: Optional[Callable[[int], object]] = None) -> int:
     """Answers the lines that are left, and says by `progress` how many at a time. Gives the count of all."""
     import itertools
     import multiprocessing

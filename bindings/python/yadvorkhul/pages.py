@@ -8,17 +8,21 @@ import base64
 import hashlib
 import os
 import re
-from typing import Any, Callable, Iterable, List, NamedTuple, Optional, Tuple
+from typing import TYPE_CHECKING, Any, Callable, Iterable, List, NamedTuple, Optional, Tuple
 
-from . import MOST_AMOUNT, Case, Plan, Refusal, __version__
+from . import MOST_AMOUNT, Bounds, Case, Plan, Refusal, __version__
 from .again import Drum, one_more
 from .cases import check_names
 from .curve import Curve, curve_of, within
-from .files import File, FileRefusal, plan_text, read_case
+from .files import File, plan_text, read_case
 from .forms import fingerprint, plan_fingerprint, spoken
 from .outputs import shown
 from .refusals import explain
 from .words import counted, grouped, increase, percent
+
+if TYPE_CHECKING:
+    from .batch import Summary
+    from .compare import Compared
 
 INSTALL = "apt-get install -y python3-jinja2 python3-matplotlib"
 ROOM = 150  # millimetres that the terminals have beside each other on paper, and the sums of the rows with them
@@ -277,7 +281,7 @@ def plan_page(case: Case, plan: Plan, read_from: Iterable[str] = ()) -> str:
     )
 
 
-def compare_page(found) -> str:
+def compare_page(found: "Compared") -> str:
     """The page of two cases beside each other, a `Compared`."""
     environment = _environment()
     _needed("matplotlib")
@@ -293,7 +297,7 @@ def compare_page(found) -> str:
     )
 
 
-def batch_page(found, source: str, case: Optional[Case] = None) -> str:
+def batch_page(found: "Summary", source: str, case: Optional[Case] = None) -> str:
     """The page of many answers, a `batch.Summary`."""
     environment = _environment()
     _needed("matplotlib")
@@ -316,7 +320,7 @@ def batch_page(found, source: str, case: Optional[Case] = None) -> str:
     )
 
 
-def bounds_page(case: Case, high: List[int], found) -> str:
+def bounds_page(case: Case, high: List[int], found: Bounds) -> str:
     """The page of what can be the cheapest between two tables, a `Bounds`; the case has the low one."""
     environment = _environment()
     _needed("matplotlib")

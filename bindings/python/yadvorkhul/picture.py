@@ -5,7 +5,7 @@ import html
 import io
 import re
 import warnings
-from typing import Sequence, Tuple
+from typing import Dict, Sequence, Tuple
 
 from .curve import Curve
 from .words import grouped, increase
@@ -142,7 +142,7 @@ def svg(curve: Curve, stops: Sequence[Tuple[int, int]], width: float = 8.4, name
     return _embedded(drawn, _words(curve), scale)
 
 
-def two_curves(curves, names, width: float = 8.4, name: str = "both", plant: str = "plant 1") -> str:
+def two_curves(curves: Sequence[Curve], names: Sequence[str], width: float = 8.4, name: str = "both", plant: str = "plant 1") -> str:
     """The totals of two cases in one picture, each with the split given."""
     with _canvas(width, 4.4, name) as figure:
         from matplotlib import ticker
@@ -160,7 +160,7 @@ def two_curves(curves, names, width: float = 8.4, name: str = "both", plant: str
     return _embedded(drawn, f"Two totals over the splits. {words}.")
 
 
-def histograms(splits, totals, width: float = 8.4, name: str = "batch", plant: str = "plant 1") -> str:
+def histograms(splits: Dict[int, int], totals: Sequence[int], width: float = 8.4, name: str = "batch", plant: str = "plant 1") -> str:
     """How often each split is the cheapest, and how the totals are spread."""
     with _canvas(width, 5.6, name) as figure:
         from matplotlib import ticker
@@ -179,7 +179,16 @@ def histograms(splits, totals, width: float = 8.4, name: str = "batch", plant: s
     return _embedded(drawn, f"Cases by split and by total: {len(totals)} cases, {len(splits)} splits.")
 
 
-def band(first: int, possible, freights, low, high, width: float = 8.4, name: str = "band", plant: str = "plant 1") -> str:
+def band(
+    first: int,
+    possible: Sequence[bool],
+    freights: Sequence[int],
+    low: Sequence[int],
+    high: Sequence[int],
+    width: float = 8.4,
+    name: str = "band",
+    plant: str = "plant 1",
+) -> str:
     """The total at each split between its least and its greatest, and the splits that can be the cheapest."""
     with _canvas(width, 4.6, name) as figure:
         from matplotlib import ticker

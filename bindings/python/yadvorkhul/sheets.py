@@ -9,7 +9,7 @@ import io
 import os
 import re
 import zipfile
-from typing import Any, Dict, List, NamedTuple, Optional, Tuple
+from typing import Any, Dict, Iterable, List, NamedTuple, Optional, Tuple
 
 INSTALL = "apt-get install -y python3-openpyxl python3-defusedxml"
 MOST_ROWS, MOST_COLUMNS = 20_000, 500
@@ -43,11 +43,11 @@ class Notes:
         self.seen: Dict[str, Tuple[str, int]] = {}
         self.thousands = set(thousands)
 
-    def say(self, sentence: str):
+    def say(self, sentence: str) -> None:
         if sentence not in self.lines:
             self.lines.append(sentence)
 
-    def count(self, what: str, where: str):
+    def count(self, what: str, where: str) -> None:
         first, count = self.seen.get(what, (where, 0))
         self.seen[what] = first, count + 1
 
@@ -76,7 +76,7 @@ def _sheet(name: str, rows: List[List[Cell]]) -> Sheet:
 # workbooks -----------------------------------------------------------------------------------------------------------------------
 
 
-def load(path: str, values: bool):
+def load(path: str, values: bool) -> Any:
     """A workbook, with the stored values of its formulas or with the formulas."""
     try:
         import openpyxl
@@ -213,7 +213,7 @@ _GROUPED = re.compile(r"-?[1-9][0-9]{0,2}(?:([ \u00a0\u202f\u2009'\u2019,.])[0-9
 _SIGNS = {",": "a comma", ".": "a point"}
 
 
-def gather_thousands(sheets, notes: Notes):
+def gather_thousands(sheets: Iterable[Sheet], notes: Notes) -> None:
     """A number such as 1,234,567 shows what its sign means in all of these sheets."""
     for sheet in sheets:
         for cell in (cell for row in sheet.rows for cell in row):

@@ -3,6 +3,7 @@
 from .. import Refusal
 from ..console import DONE, emit
 from ..files import handed, plan_files, plan_text, read_case, refusal_text
+from ..forms import fingerprints
 from ..refusals import explain
 from ._given import files_of, given, json_of
 from ._say import emit_json, emit_refusal, told
@@ -24,7 +25,7 @@ def _emit(arguments, case, plan, tariff, production):
     if arguments.json and isinstance(plan, Refusal):
         emit_refusal(plan)
     elif arguments.json:
-        emit_json(plan._asdict())
+        emit_json({**plan._asdict(), **fingerprints(case, plan)})
     elif tariff:
         emit(plan_files(handed(tariff), handed(production)).text)
     else:
