@@ -6,6 +6,7 @@ import os
 import random
 import tempfile
 import unittest
+from unittest import mock
 
 from yadvorkhul import Case, Refusal, command
 from yadvorkhul.cut import cut_of, cut_sentence, network_cut, sums_sentence
@@ -118,6 +119,13 @@ class Cuts(unittest.TestCase):
             sent = [split, made - split] + case.supplies[2:]
             lanes = sum(case.ceilings[i][j] for i in range(len(sent)) for j in cut.terminals if i not in cut.sources)
             self.assertGreater(sum(case.demands[j] for j in cut.terminals), sum(sent[i] for i in cut.sources) + lanes)
+
+    def test_a_wrong_cut_is_not_told(self):
+        """The sums are checked: a set of nodes that is no cut gives no sentence."""
+        case = Case([[1, 1]] * 3, [50, 50, 40], [30, 30], [0] * 51, ceilings=[[WIDE] * 2, [WIDE] * 2, [10, 15]])
+        for prices in ([0] * 5, [1] * 5, [0, 0, 0, 1, 0], [0, 0, 1, 1, 1]):
+            with mock.patch("yadvorkhul.cut._cut", lambda *_: prices):
+                self.assertEqual((cut_of(case), cut_sentence(case)), (None, ""))
 
     def test_network(self):
         lines = [b"p min 3 2", b"n 1 9", b"n 3 -9", b"a 1 2 0 20 1", b"a 2 3 0 4 1"]

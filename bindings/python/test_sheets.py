@@ -190,6 +190,7 @@ class Forms(unittest.TestCase):
         self.assertEqual(fingerprint(NAMED), due)
         self.assertEqual(fingerprint(A._replace(title="x", ceilings=[[4000, 4000]] * 3)), due)
         self.assertEqual(limits_text(A), "")
+        self.assertNotEqual(fingerprint(A._replace(ceilings=[[4001, 4000]] + [[4000] * 2] * 2)), due)  # which is refused by 26
         others = [A._replace(runs=(1, 0)), A._replace(ceilings=[[4000, 3999]] + [[4000] * 2] * 2), A._replace(demands=[2, 3])]
         others += [A._replace(table=[99, 20, 24, 21]), A._replace(costs=[[2, 6], [5, 3], [1, -4]]), A._replace(supplies=[3, 2, 2])]
         self.assertEqual(len({fingerprint(other) for other in others} | {due}), 7)

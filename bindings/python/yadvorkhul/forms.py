@@ -38,7 +38,7 @@ def read_again(case: Case) -> Case:
 
 def limits_text(case: Case) -> str:
     """The least runs and the ceilings; nothing where there are none, by whatever numbers that is said."""
-    ceilings = [[min(one, MOST_AMOUNT) for one in row] for row in case.ceilings or []]
+    ceilings = [list(row) for row in case.ceilings or []]
     if not any(case.runs) and all(one == MOST_AMOUNT for row in ceilings for one in row):
         return ""
     return _records([case.runs] + (ceilings or [[MOST_AMOUNT] * len(case.demands) for _ in case.supplies]))
