@@ -1,79 +1,79 @@
 #!/usr/bin/env python3
-"""Checks the certificate of an answer by whole numbers alone; it knows neither the planner nor its package. What it checks, and why that is enough:
-
-1. The certificate holds the case, the plan and prices. That the plan is a plan of the case, with this split and total, is adding up.
-2. Why is no plan cheaper? Say that a drum is worth p_i at source i and q_j at terminal j. Any prices will do, wherever they come from.
-3. At split y plant 1 sends y drums, plant 2 the rest, a depot its stock; terminal j gets b_j. So the drums of every plan at y gain the same
-4. worth, whatever its lanes: the sum of q_j b_j less the sum of p_i sent_i(y). Of that gain a lane of unit cost c_ij leaves us q_j - p_i - c_ij
-5. a drum: at most this times its ceiling k_ij if it is above 0, else at most nothing. Freight is the gain less what is left to us, therefore
-6.     freight >= bound(y) = sum of q_j b_j - sum of p_i sent_i(y) + sum of min(0, c_ij + p_i - q_j) k_ij
-7. With unit costs 0 freight is 0, so a bound above 0 says that there is no plan at y. At each split either this is shown, or bound + entry
-8. is at least the total, and above it where y is smaller than the plan's split: no plan is cheaper, none with a smaller split as cheap.
-9. The one plan: a plan's amounts, lane after lane, are the digits of a number in base 4,001. With unit costs made finer by each lane's digit
-10. the bound meets this plan's finer freight: every other plan at its split is dearer, or equally cheap and a greater number."""
+"""Checks certificates by whole numbers alone; knows neither the planner nor its package. What it checks, and why that is enough:
+1. A certificate holds a case, prices, and a plan or a refusal. That the plan is one of the case, with this split and total, is adding up.
+2. Why is no plan cheaper? Say that a drum is worth p_i at source i and q_j at terminal j: any whole numbers will do.
+3. Both plants together make d drums, the demand less the depots' stock; at split y they send y and d - y, a depot its stock.
+4. So the drums of all plans at y gain the same worth on their way: the sum of q_j b_j (b_j: demand) less the sum of p_i sent_i.
+5. On lane i, j a drum gains q_j - p_i and costs c_ij; if that leaves us something, it does so at most k_ij times (the lane's ceiling).
+6. Hence every plan at y has freight >= bound(y) = sum of q_j b_j - sum of p_i sent_i + sum of min(0, c_ij + p_i - q_j) k_ij.
+7. At unit costs 0 a bound above 0 shows: no plan at y. Else bound + entry must reach the total, and pass it if y < the plan's split.
+8. Each y that keeps runs and supplies is looked at. Refusal 7: d is below both runs; 8: above both supplies; 27: no such y has a plan.
+9. The one plan: a unit cost becomes c 4001^L + 4001^t (L lanes, t of them after this one); the bound must meet the plan's finer freight.
+10. Amounts are below 4,001, so they are digits, together less than 4001^L: money goes first, then fewer drums where plans first differ."""
 import json, sys
-
-def line(case, costs, p, q):
-    """The bound at split y is base + rise * y."""
+def need(holds, sentence):
+    if not holds: raise ValueError(sentence)
+def once(pairs): return need(len(dict(pairs)) == len(pairs), "a name stands twice in one part") or dict(pairs)
+def parts(of, what, names):
+    need(type(of) is dict and set(of) == set(names.split()), f"{what} must have these parts and no other: {names}")
+    return [of[name] for name in names.split()]
+def row(v, size, low=-2**63, high=2**63): return type(v) is list and len(v) == size and all(type(x) is int and low <= x <= high for x in v)
+def rows(v, m, n, low, high): return type(v) is list and len(v) == m and all(row(cells, n, low, high) for cells in v)
+def times(u, v): return sum(x * y for r, s in zip(u, v) for x, y in zip(r, s))
+def line(case, costs, p, q):  # the bound at split y is base + rise * y: both are returned
     a, b, k = case["supplies"], case["demands"], case["ceilings"]
-    base = sum(u * v for u, v in zip(q, b)) - p[1] * (sum(b) - sum(a[2:])) - sum(u * v for u, v in zip(p[2:], a[2:]))
-    return base + sum(min(0, costs[i][j] + p[i] - q[j]) * k[i][j] for i in range(len(a)) for j in range(len(b))), p[1] - p[0]
-
-def whole(numbers, low=-2**63, high=2**63): return all(type(v) is int and low <= v <= high for v in numbers)
-def cells(rows): return [v for row in rows for v in row]
-def shaped(rows, m, n): return len(rows) == m and all(type(row) is list and len(row) == n for row in rows)
-
-def formed(c, a, b, table, runs, k):  # is it a case within the planner's ranges? (An entry is judged where there may be a plan.)
-    return (2 <= len(a) <= 32 and 1 <= len(b) <= 64 and shaped(c, len(a), len(b)) and shaped(k, len(a), len(b)) and len(runs) == 2
-            and whole(cells(c), -10**6, 10**6) and whole(a + b + cells(k) + runs, 0, 4000) and runs[0] <= a[0] and runs[1] <= a[1]
-            and len(table) == a[0] + 1 and whole(table, 0, 2**64 - 1))
-
-def plan_wrong(c, a, b, table, runs, k, x, split, total):
-    if not shaped(x, len(a), len(b)) or not whole(cells(x), 0, 4000) or not whole([split, total]): return "the plan is no table of whole drums"
-    sent = [sum(row) for row in x]
-    if not (runs[0] <= sent[0] <= a[0] and runs[1] <= sent[1] <= a[1] and sent[2:] == a[2:]): return "a source sends what it may not"
-    if [sum(column) for column in zip(*x)] != b: return "a terminal does not get its demand"
-    if any(v > u for v, u in zip(cells(x), cells(k))): return "a lane carries more than its ceiling"
-    if (split, total) != (sent[0], table[sent[0]] + sum(u * v for u, v in zip(cells(c), cells(x)))): return "split or total is not the plan's own"
-
-def one_wrong(case, x, one, m, n):  # the first lane has the greatest digit; the prices' digits add up along a tree of lanes
-    top, digit = 4001 ** (m * n), [[4001 ** (m * n - 1 - i * n - j) for j in range(n)] for i in range(m)]
-    fine = [[u * top + v for u, v in zip(*rows)] for rows in zip(case["costs"], digit)]
-    price, more = one["sources"] + one["terminals"], [0] * (m + n)
-    if len(price) != m + n or not whole(price + cells(one["tree"])): return "prices of the one plan are missing"
-    for u, v in one["tree"]: more[v] = more[u] + digit[u][v - m] if u < m else more[u] - digit[v][u - m]
-    price = [u * top + v for u, v in zip(price, more)]
+    base = times([q], [b]) - p[1] * (sum(b) - sum(a[2:])) - times([p[2:]], [a[2:]])
+    return base + times([[min(0, c + u - v) for c, v in zip(r, q)] for r, u in zip(costs, p)], k), p[1] - p[0]
+def check_plan(c, a, b, table, runs, k, x, split, total):
+    need(rows(x, len(a), len(b), 0, 4000), "the plan is no table of whole drums")
+    sent, got = [sum(drums) for drums in x], [sum(drums) for drums in zip(*x)]
+    need(all(runs[i] <= sent[i] <= a[i] for i in (0, 1)), "a plant makes less than its least run, or more than its supply")
+    need(sent[2:] == a[2:] and got == b, "a depot does not send its stock, or a terminal does not get its demand")
+    need(all(v <= most for pair in zip(x, k) for v, most in zip(*pair)), "a lane carries more than its ceiling")
+    need(row([split, total], 2) and [split, total] == [sent[0], table[sent[0]] + times(c, x)], "split or total is not the plan's own")
+def check_one(case, x, one, m, n):  # the prices' digits add up along a tree of lanes; node i is source i, node m + j terminal j
+    p, q, tree = parts(one, "one", "sources terminals tree")
+    need(row(p, m) and row(q, n) and type(tree) is list and len(tree) < m + n and rows(tree, len(tree), 2, 0, m + n - 1)
+         and all((u < m) != (v < m) for u, v in tree), "the one plan needs a whole price for each node and a tree of lanes")
+    top, digit, more = 4001 ** (m * n), [[4001 ** (m * n - 1 - i * n - j) for j in range(n)] for i in range(m)], [0] * (m + n)
+    for u, v in tree: more[v] = more[u] + digit[u][v - m] if u < m else more[u] - digit[v][u - m]
+    fine, price = [[c * top + t for c, t in zip(*pair)] for pair in zip(case["costs"], digit)], [v * top + t for v, t in zip(p + q, more)]
     base, rise = line(case, fine, price[:m], price[m:])
-    if base + rise * sum(x[0]) < sum(u * v for u, v in zip(cells(fine), cells(x))): return "another plan of this split may be due"
-
-def check(cert):  # None, or a sentence that says what is wrong
-    case, x, split, total = cert["case"], cert["plan"], cert["split"], cert["total"]
-    c, a, b, table, runs, k = parts = [case[name] for name in ("costs", "supplies", "demands", "table", "runs", "ceilings")]
-    if not formed(*parts): return "the case is not of the form, or out of range"
-    m, n, d = len(a), len(b), sum(b) - sum(a[2:])
-    wrong = plan_wrong(*parts, x, split, total) if x is not None else None
-    if x is None and cert["refusal"] != (7 if d < sum(runs) else 8 if d > a[0] + a[1] else 27): wrong = "it is another refusal"
-    low, high = max(runs[0], d - a[1]), min(a[0], d - runs[1])
-    unseen = set(range(low, high + 1))  # every split within supplies and least runs
-    for piece in cert["pieces"] if not wrong else []:
-        p, q, none = piece["sources"], piece["terminals"], piece["none"] is True
-        if len(p) != m or len(q) != n or not whole(p + q): return "prices are missing"
+    need(base + rise * sum(x[0]) >= times(fine, x), "another plan of this split may be due")
+def check(cert):  # nothing, or a ValueError that says what is wrong
+    form, case, refusal, x, split, total, pieces, one = parts(cert, "a certificate", "form case refusal plan split total pieces one")
+    need(form == "yadvorkhul certificate 1" and type(pieces) is list, "its form is not yadvorkhul certificate 1, with a list of pieces")
+    c, a, b, table, runs, k = numbers = parts(case, "the case", "costs supplies demands table runs ceilings")
+    m, n = (len(v) if type(v) is list else 0 for v in (a, b))
+    need(2 <= m <= 32 and 1 <= n <= 64 and row(a, m, 0, 4000) and row(b, n, 0, 4000) and rows(c, m, n, -10**6, 10**6)
+         and rows(k, m, n, 0, 4000) and row(runs, 2, 0, 4000) and runs[0] <= a[0] and runs[1] <= a[1]
+         and row(table, a[0] + 1, 0, 2**64 - 1), "the case is not of the form, or out of range")
+    d, some = sum(b) - sum(a[2:]), x is not None
+    number = None if some else 7 if d < sum(runs) else 8 if d > a[0] + a[1] else 27
+    need(type(refusal) is type(number) and refusal == number, "it is another refusal, or there is a plan beside it")
+    if some: check_plan(*numbers, x, split, total)
+    else: need([split, total, one] == [None] * 3, "a refusal has null for split, total and one")
+    low, high = max(runs[0], d - a[1]), min(a[0], d - runs[1]); unseen = set(range(low, high + 1))  # the splits to look at
+    for piece in pieces:
+        first, last, none, p, q = parts(piece, "a piece", "from to none sources terminals")
+        need(row(p, m) and row(q, n) and row([first, last], 2) and type(none) is bool, "a piece lacks a price or a proper from, to, none")
         base, rise = line(case, [[0] * n] * m if none else c, p, q)
-        for y in range(max(low, piece["from"]), min(high, piece["to"]) + 1):
-            if none and base + rise * y <= 0 or not none and x is None: return f"split {y} is not shown to have no plan"
-            if not none and (table[y] > 10**9 or base + rise * y + table[y] < total + (y < split)): return f"a plan at split {y} may be due"
+        for y in range(max(low, first), min(high, last) + 1):
+            need(base + rise * y > 0 if none else some, f"split {y} is not shown to have no plan")
+            need(none or table[y] <= 10**9 and base + rise * y + table[y] >= total + (y < split), f"a plan at split {y} may be due")
             unseen.discard(y)
-    return wrong or (f"split {min(unseen)} is not looked at" if unseen else one_wrong(case, x, cert["one"], m, n) if x else None)
-
+    need(not unseen, f"split {min(unseen, default=0)} is not looked at")
+    if some: check_one(case, x, one, m, n)
 def told(text):  # whether it is right, and a sentence with the case's size and total, for the reader to compare
-    try: cert = json.loads(text); wrong = check(cert)
-    except Exception as error: wrong = f"not a certificate: {error!r}"
-    if wrong: return False, f"NOT RIGHT: {wrong}"
-    case, answer = cert["case"], "no plan, refusal {refusal}" if cert["plan"] is None else "plant 1 makes {split:,}, total {total:,}: no plan is cheaper"
-    size = len(case["supplies"]), len(case["demands"]), sum(case["demands"])
-    return True, "right: {} sources, {} terminals, {:,} drums demanded: ".format(*size) + answer.format(**cert)
-
+    try: cert = json.loads(text, object_pairs_hook=once); check(cert)
+    except (ValueError, RecursionError) as error: return False, f"NOT RIGHT: {'it is no JSON, ' * hasattr(error, 'lineno')}{error}"
+    a, b = cert["case"]["supplies"], cert["case"]["demands"]
+    answer = "no plan, refusal {refusal}" if cert["plan"] is None else "plant 1 makes {split:,}, total {total:,}: no plan is cheaper"
+    return True, f"right: {len(a)} sources, {len(b)} terminals, {sum(b):,} drums demanded: " + answer.format(**cert)
 if __name__ == "__main__":
-    try: right, sentence = told(open(sys.argv[1], encoding="utf-8").read())
-    except (OSError, IndexError, ValueError) as error: right, sentence = False, f"usage: check_certificate.py CERTIFICATE.json ({error})"
-    sys.exit(print(sentence) or not right)
+    status = 0 if sys.argv[1:] else print("usage: check_certificate.py CERTIFICATE.json ...") or 1
+    for path in sys.argv[1:]:
+        try: right, sentence = told(open(path, encoding="utf-8").read())
+        except (OSError, UnicodeError) as error: right, sentence = False, f"NOT RIGHT: it cannot be read ({error})"
+        status |= print(f"{path}: {sentence}".encode("utf-8", "backslashreplace").decode()) or not right
+    sys.exit(status)

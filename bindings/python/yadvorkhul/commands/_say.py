@@ -24,9 +24,17 @@ def told(found: Explained) -> int:
     return REFUSED
 
 
+def json_line(answer: dict) -> bytes:
+    return (json.dumps(answer) + "\n").encode()
+
+
+def json_refusal(refusal: Refusal) -> bytes:
+    return json_line({"refusal": refusal.number, "place": refusal.place})
+
+
 def emit_json(answer: dict):
-    emit((json.dumps(answer) + "\n").encode())
+    emit(json_line(answer))
 
 
 def emit_refusal(refusal: Refusal):
-    emit_json({"refusal": refusal.number, "place": refusal.place})
+    emit(json_refusal(refusal))

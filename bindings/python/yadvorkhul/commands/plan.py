@@ -6,7 +6,7 @@ from ..files import handed, plan_files, plan_text, read_case, refusal_text
 from ..forms import fingerprints
 from ..refusals import explain
 from ._given import files_of, given, json_of
-from ._say import emit_json, emit_refusal, told
+from ._say import json_line, json_refusal, told
 from .certify import certified, certified_refusal, writable
 
 ORDER = 10
@@ -20,16 +20,13 @@ def add(parser):
     parser.add_argument("--certify", metavar="CERT", help="write a certificate of the answer too, and check it")
 
 
-def _emit(arguments, case, plan, tariff, production):
-    """The plan or the refusal that was found."""
-    if arguments.json and isinstance(plan, Refusal):
-        emit_refusal(plan)
-    elif arguments.json:
-        emit_json({**plan._asdict(), **fingerprints(case, plan)})
-    elif tariff:
-        emit(plan_files(handed(tariff), handed(production)).text)
-    else:
-        emit((refusal_text(plan) if isinstance(plan, Refusal) else plan_text(case, plan)).encode())
+def _text(arguments, case, plan, tariff, production) -> bytes:
+    """The plan or the refusal that was found, as it is printed."""
+    if arguments.json:
+        return json_refusal(plan) if isinstance(plan, Refusal) else json_line({**plan._asdict(), **fingerprints(case, plan)})
+    if tariff:
+        return plan_files(handed(tariff), handed(production)).text
+    return (refusal_text(plan) if isinstance(plan, Refusal) else plan_text(case, plan)).encode()
 
 
 def run(arguments) -> int:
@@ -40,11 +37,13 @@ def run(arguments) -> int:
         case = case or read_case(tariff, production)
         plan = case.plan()
     except Refusal as refusal:
-        _emit(arguments, case, refusal, tariff, production)
+        printed = _text(arguments, case, refusal, tariff, production)
+        emit(printed)
         if arguments.certify is not None:
-            certified_refusal(refusal, case, arguments.certify)
+            certified_refusal(refusal, case, arguments.certify, printed)
         return told(explain(refusal, case, tariff, production))
-    _emit(arguments, case, plan, tariff, production)
+    printed = _text(arguments, case, plan, tariff, production)
+    emit(printed)
     if arguments.certify is not None:
-        certified(case, arguments.certify)
+        certified(case, arguments.certify, printed)
     return DONE
