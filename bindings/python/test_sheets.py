@@ -320,6 +320,30 @@ class Books(Folder):
             shown = [row for row in rows if row[-1] in ("TRUE", "FALSE")]
             self.assertEqual({row[-1] for row in shown} == {"TRUE"}, due == "TRUE")
 
+    @unittest.skipUnless(shutil.which("ssconvert"), "gnumeric is not there")
+    def test_certificate_is_tied(self):
+        """Amounts, split, total and the splits listed are tied to the case and the plan: a wrong one is not TRUE."""
+        case = A._replace(runs=(1, 1), ceilings=[[4, 4]] * 3)
+        self.path("t.xlsx", export_book(case, case.plan()))
+        lane, sums = "no lane is below 0 or above its ceiling", "freight and production are the total given"
+        for change, tie in (
+            ({}, None), ({"certificate!B1": 2}, "plant 1 sends the split given"), ({"certificate!B2": -49_967}, sums), ({"plan!B2": 2, "plan!B3": 1}, sums),
+            ({"runs!B2": 4}, "plant 1 keeps run and supply"), ({"runs!B3": 2}, "plant 2 keeps run and supply"), ({"plan!B4": 1}, "each depot sends its stock"),
+            ({"plan!B2": 2}, "each terminal gets its demand"), ({"plan!B2": 4, "plan!C2": -1}, lane), ({"ceilings!A1": 2}, lane),
+            ({"certificate!A10": 2}, "the first split is the lowest"), ({"runs!B3": 2}, "the last split is the highest"),
+            ({"certificate!A11": 1, "certificate!A12": 1}, "no split between is left out"),
+        ):  # fmt: skip
+            book = openpyxl.load_workbook(self.path("t.xlsx"))
+            for place, value in change.items():
+                sheet, cell = place.split("!")
+                book[sheet][cell].value = value
+            book.save(self.path("u.xlsx"))
+            subprocess.run(["ssconvert", "-S", self.path("u.xlsx"), self.path("u-%s.csv")], check=True, capture_output=True)
+            with open(self.path("u-certificate.csv"), encoding="utf-8") as stream:
+                rows = [line.strip().replace('"', "").split(",") for line in stream]
+            self.assertEqual(rows[3][1], "FALSE" if change else "TRUE", change)
+            self.assertEqual([row[-1] for row in rows if row[0] == tie], ["FALSE"] if change else [], (change, tie))
+
     def test_export_command(self):
         out = self.path("plan.xlsx")
         self.assertEqual(run("export", os.path.join(EXAMPLES, "case_a", "tariff.csv"), os.path.join(EXAMPLES, "case_a", "production.csv"), "-o", out)[0], 0)

@@ -254,6 +254,29 @@ def _cells(place: _Place, k: int, first: int) -> Cells:
     )
 
 
+def _ties(place: _Place, entries: int, start: int, last: int):
+    """Formulas that tie split, total and the splits listed to the case and to the sheet `plan`, each with what it says."""
+    m, n = place.m, place.n
+    end = column_name(n)
+    plan, line = f"plan!$B$2:${end}${m + 1}", lambda i: f"SUM(plan!$B${i + 2}:${end}${i + 2})"
+    supply = lambda i: place.area("tariff", i, n, i, n).split(":")[0]
+    down = lambda j: f"SUM(plan!${column_name(j + 1)}$2:${column_name(j + 1)}${m + 1})"
+    costs, ceilings = (place.area(sheet, 0, 0, m - 1, n - 1) for sheet in ("tariff", "ceilings"))
+    yield "plant 1 sends the split given", f"{line(0)}=$B$1"
+    yield "freight and production are the total given", f"SUMPRODUCT({costs},{plan})+INDEX(production!$B$2:$B${entries + 1},$B$1+1)=$B$2"
+    for i in (0, 1):
+        yield f"plant {i + 1} keeps run and supply", f"AND({line(i)}>=runs!$B${i + 2},{line(i)}<={supply(i)})"
+    yield "each depot sends its stock", f"AND({','.join(['TRUE'] + [f'{line(i)}={supply(i)}' for i in range(2, m)])})"
+    demand = lambda j: place.area("tariff", m, j, m, j).split(":")[0]
+    yield "each terminal gets its demand", f"AND({','.join(f'{down(j)}={demand(j)}' for j in range(n))})"
+    yield "no lane is below 0 or above its ceiling", f"SUMPRODUCT(({plan}>{ceilings})+({plan}<0))=0"
+    yield "the first split is the lowest", f"$A${start}=MAX(runs!$B$2,$B$3-{supply(1)})"
+    yield "the last split is the highest", f"$A${last}=MIN({supply(0)},$B$3-runs!$B$3)"
+    if start < last:
+        step = f"$A${start + 1}:$A${last}-$A${start}:$A${last - 1}"
+        yield "no split between is left out", f"SUMPRODUCT(({step}<0)+({step}>1))=0"
+
+
 def _certificate_sheet(book, case: Case, plan: Plan, place: _Place, sources, terminals):
     """Why no plan is cheaper, as formulas over the other sheets: a line for each set of prices, then one for each split."""
     found = why(certificate(case, plan))
@@ -269,7 +292,11 @@ def _certificate_sheet(book, case: Case, plan: Plan, place: _Place, sources, ter
     start = 8 + len(found.pieces)
     _put(sheet, 4, 1, "no plan is cheaper")
     last = start + sum(len(piece.bounds) for piece in found.pieces) - 1
-    _formula(sheet, 4, 2, f"AND($F${start}:$F${last})")
+    ties = list(_ties(place, len(case.table), start, last))
+    _formula(sheet, 4, 2, f"AND($F${start}:$F${last},$F${last + 2}:$F${last + 1 + len(ties)})")
+    for k, (name, formula) in enumerate(ties, last + 2):
+        _put(sheet, k, 1, name)
+        _formula(sheet, k, 6, formula)
     _row(sheet, 5, ["piece", "from split", "to split", "no plan there", "bound = base", "+ rise × split"], _HEAD)
     for k, piece in enumerate(found.pieces):
         cells = _cells(place, k, first)
@@ -282,7 +309,7 @@ def _certificate_sheet(book, case: Case, plan: Plan, place: _Place, sources, ter
         for bound in piece.bounds:
             _row(sheet, row, [bound.split, k + 1])
             _formula(sheet, row, 3, bound_formula(f"$E${6 + k}", f"$F${6 + k}", f"A{row}"))
-            _formula(sheet, row, 4, f"production!$B${bound.split + 2}")
+            _formula(sheet, row, 4, f"INDEX(production!$B$2:$B${len(case.table) + 1},A{row}+1)")
             _formula(sheet, row, 5, f"C{row}+D{row}")
             _formula(sheet, row, 6, shown_formula(f"C{row}", f"D{row}", "$B$2", f"A{row}", "$B$1", piece.none))
             row += 1
