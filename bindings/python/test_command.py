@@ -108,6 +108,17 @@ class Command(unittest.TestCase):
                 self.assertEqual((status, printed), (3, ""))
                 self.assertIn(f"no yadvorkhul_{symbol}", said)
 
+    def test_lacking_with_options(self):
+        """What is missing is said whatever options there are; where nothing is, an option that is none is a wrong use."""
+        nowhere = {**os.environ, "YADVORKHUL_SO": "/nonexist"}
+        for words in (["page", "t", "p", "-o", "z"], ["plan", "--json", "t"], ["flow", "n", "-1", "t", "--drawing=x"]):
+            done = subprocess.run([sys.executable, "-m", "yadvorkhul", *words], cwd=HERE, env=nowhere, capture_output=True)
+            self.assertEqual((done.returncode, done.stdout), (3, b""), words)
+            self.assertIn(f"yadvorkhul {words[0]}: nonexist is not there".encode(), done.stderr)
+        status, printed, said = run("plan", *files("case_a"), "--jsonn")
+        self.assertEqual((status, printed), (2, ""))
+        self.assertIn("unrecognized arguments: --jsonn", said)
+
     def test_no_shared_object(self):
         for path in ("/nowhere/lib.so", __file__):
             done = subprocess.run(
@@ -217,6 +228,11 @@ class Command(unittest.TestCase):
             self.assertEqual(printed, f"file,bytes\r\n{paths[2]},27\r\n{paths[3]},16\r\n")
             with open(paths[2], "rb") as tariff, open(paths[3], "rb") as production:
                 self.assertEqual((tariff.read(), production.read()), (b"2,6,3\r\n5,3,3\r\n1,4,1\r\n3,2,\r\n", b"99\r\n20\r\n24\r\n20\r\n"))
+            # names as fields of RFC 4180
+            odd = [os.path.join(folder, name) for name in ("a,1", 'b"2', "c\r3", "d\n4", "e 5", "f;6")]
+            for k, (one, other) in enumerate((('"%s/a,1"', '"%s/b""2"'), ('"%s/c\r3"', '"%s/d\n4"'), ("%s/e 5", "%s/f;6"))):
+                due = f"file,bytes\r\n{one % folder},27\r\n{other % folder},16\r\n"
+                self.assertEqual(run("tidy", *paths[:2], *odd[2 * k : 2 * k + 2]), (0, due, ""))
             # over no file; both or none
             status, printed, said = run("tidy", *paths)
             self.assertEqual((status, printed), (2, ""))

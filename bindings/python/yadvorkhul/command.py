@@ -78,7 +78,7 @@ def parser() -> argparse.ArgumentParser:
             one.add_argument("rest", nargs="*", help=argparse.SUPPRESS)
         else:
             module.add(one)
-        one.set_defaults(run=_lacking(lacks) if lacks else module.run)
+        one.set_defaults(run=_lacking(lacks) if lacks else module.run, lacks=lacks)
     return whole
 
 
@@ -95,7 +95,9 @@ def _completed(whole):
 def _run(words) -> int:
     whole = parser()
     _completed(whole)
-    arguments = whole.parse_args(words)
+    arguments, rest = whole.parse_known_args(words)
+    if rest and not arguments.lacks:  # what a subcommand lacks is said whatever it is given
+        whole.error(f"unrecognized arguments: {' '.join(rest)}")
     return arguments.run(arguments)
 
 
