@@ -90,6 +90,16 @@ class Command(unittest.TestCase):
             self.assertEqual((status, printed), (1, "refusal,place\r\n21,5\r\n"))
             self.assertIn("record 1, field 3, offset 5", said)
             self.assertIn("LF without CR", said)
+            table = os.path.join(folder, "table.csv")
+            for data, printed, sentence in (
+                (b"1\r\n2\r\n", "6,0", f"the production file {table} has 2 entries, not 4."),
+                (b"9\r\n20\r\n1000000001\r\n1", "9,2", f"the entry of split 2 (record 3 of the production file {table}) is above 1,000,000,000."),
+            ):
+                with open(table, "wb") as out:
+                    out.write(data)
+                status, shown, said = run("plan", files("case_a")[0], table)
+                self.assertEqual((status, shown), (1, f"refusal,place\r\n{printed}\r\n"))
+                self.assertIn(sentence, said)
             status, printed, said = run("plan", os.path.join(folder, "none.csv"), files("case_a")[1])
             self.assertEqual((status, printed), (1, "refusal,place\r\n20,0\r\n"))
 
@@ -207,7 +217,7 @@ class Command(unittest.TestCase):
         self.assertEqual((status, json.loads(printed)), (0, dict(first=1, possible=[False, False, True], smallest=33, largest=33)))
         status, printed, said = run("bounds", tariff, low, tariff, "--json")
         self.assertEqual((status, json.loads(printed)), (1, dict(refusal=21, place=25)))
-        self.assertIn(f"the production file {tariff} has a byte that cannot stand there", said)
+        self.assertIn(f"the high file {tariff} has a byte that cannot stand there", said)
         network, table = (os.path.join(EXAMPLES, "pipeline", name) for name in ("network.min", "table.csv"))
         status, printed, _ = run("flow", network, "1", table, "--json")
         found = json.loads(printed)
@@ -269,7 +279,10 @@ class Command(unittest.TestCase):
                 (b"99\r\n", True, "28,0", f"the high file {path} has 1 entry, the low one 4."),
                 (b"99\r\n20\r\n23\r\n20\r\n", True, "28,2", f"the entry of split 2 (record 3 of the high file {path}), 23, is below the low one, 24."),
                 (b"99\r\n20\r\n1000000001\r\n20\r\n", True, "28,2", "1,000,000,001, is above 1,000,000,000."),
-                (b"99\r\n2;0", True, "21,5", f"{path} has a byte that cannot stand there: record 2, field 1, offset 5 counted from 0."),
+                (b"99\r\n2;0", True, "21,5", f"the high file {path} has a byte that cannot stand there: record 2, field 1, offset 5 counted from 0."),
+                (b"99\r\n2;0", False, "21,5", f"the low file {path} has a byte that cannot stand there: record 2, field 1, offset 5 counted from 0."),
+                (b"99,1\r\n", False, "22,1", f"record 1 of the low file {path} has 2 fields; each has 1."),
+                (b"9" * 65_537, True, "20,0", f"the high file {path} is longer than 65,536 bytes."),
             ):
                 status, out, said = asked(data, high)
                 self.assertEqual((status, out), (1, f"refusal,place\r\n{printed}\r\n"))
@@ -300,7 +313,7 @@ class Command(unittest.TestCase):
             self.assertIn("a sum of all supplies of -1", said)
             status, printed, said = asked(lines, "4", os.path.join(folder, "none.csv"))
             self.assertEqual((status, printed), (1, "refusal,place\r\n20,0\r\n"))
-            self.assertIn("none.csv cannot be opened", said)
+            self.assertIn(f"the table file {os.path.join(folder, 'none.csv')} cannot be opened", said)
             status, printed, said = run("flow", os.path.join(folder, "none.min"), "4", table)
             self.assertEqual((status, printed), (1, "refusal,place\r\n20,0\r\n"))
             self.assertIn("the network file", said)
@@ -309,9 +322,10 @@ class Command(unittest.TestCase):
             self.assertEqual((status, printed), (1, "refusal,place\r\n29,2\r\n"))
             status, printed, _ = asked(lines, "9", os.path.join(folder, "none.csv"))
             self.assertEqual((status, printed), (1, "refusal,place\r\n20,0\r\n"))
-            for odd in ("one", "", "12345", "\u0664"):
+            for odd in ("one", "", "12345", "\u0664", "1x", "-1", "00001", "0", "0099"):
                 status, printed, said = asked(lines, odd)
                 self.assertEqual((status, printed), (1, "refusal,place\r\n30,0\r\n"))
+                self.assertIn('there is arc %s as the named one; the file has 5.' % (odd or '""'), said)
             self.assertEqual(asked(lines, "0004"), (0, due, ""))
 
     def test_page_is_written_over_no_input(self):

@@ -13,6 +13,7 @@ import yadvorkhul
 
 from . import commands
 from .console import BROKEN, LACKING, WRONG_USE, Broken, WrongUse, emit, say
+from .outputs import NotWritten
 
 
 class _Parser(argparse.ArgumentParser):
@@ -107,7 +108,7 @@ def _ended(kind, error) -> int:
         status, sentence = WRONG_USE, str(error)
     elif isinstance(error, ImportError):
         status, sentence = LACKING, str(error)
-    elif isinstance(error, Broken):
+    elif isinstance(error, (Broken, NotWritten)):
         status, sentence = BROKEN, str(error)
     elif isinstance(error, OSError) and error.filename is not None:
         status, sentence = WRONG_USE, f"{error.strerror}: {error.filename}"
