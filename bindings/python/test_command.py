@@ -90,6 +90,16 @@ class Command(unittest.TestCase):
             self.assertEqual((status, printed), (1, "refusal,place\r\n21,5\r\n"))
             self.assertIn("record 1, field 3, offset 5", said)
             self.assertIn("LF without CR", said)
+            table = os.path.join(folder, "table.csv")
+            for data, printed, sentence in (
+                (b"1\r\n2\r\n", "6,0", f"the production file {table} has 2 entries, not 4."),
+                (b"9\r\n20\r\n1000000001\r\n1", "9,2", f"the entry of split 2 (record 3 of the production file {table}) is above 1,000,000,000."),
+            ):
+                with open(table, "wb") as out:
+                    out.write(data)
+                status, shown, said = run("plan", files("case_a")[0], table)
+                self.assertEqual((status, shown), (1, f"refusal,place\r\n{printed}\r\n"))
+                self.assertIn(sentence, said)
             status, printed, said = run("plan", os.path.join(folder, "none.csv"), files("case_a")[1])
             self.assertEqual((status, printed), (1, "refusal,place\r\n20,0\r\n"))
 
@@ -107,6 +117,17 @@ class Command(unittest.TestCase):
                 status, printed, said = run_here(name, "1", "2", "3")
                 self.assertEqual((status, printed), (3, ""))
                 self.assertIn(f"no yadvorkhul_{symbol}", said)
+
+    def test_lacking_with_options(self):
+        """What is missing is said whatever options there are; where nothing is, an option that is none is a wrong use."""
+        nowhere = {**os.environ, "YADVORKHUL_SO": "/nonexist"}
+        for words in (["page", "t", "p", "-o", "z"], ["plan", "--json", "t"], ["flow", "n", "-1", "t", "--drawing=x"]):
+            done = subprocess.run([sys.executable, "-m", "yadvorkhul", *words], cwd=HERE, env=nowhere, capture_output=True)
+            self.assertEqual((done.returncode, done.stdout), (3, b""), words)
+            self.assertIn(f"yadvorkhul {words[0]}: nonexist is not there".encode(), done.stderr)
+        status, printed, said = run("plan", *files("case_a"), "--jsonn")
+        self.assertEqual((status, printed), (2, ""))
+        self.assertIn("unrecognized arguments: --jsonn", said)
 
     def test_no_shared_object(self):
         for path in ("/nowhere/lib.so", __file__):
@@ -196,7 +217,7 @@ class Command(unittest.TestCase):
         self.assertEqual((status, json.loads(printed)), (0, dict(first=1, possible=[False, False, True], smallest=33, largest=33)))
         status, printed, said = run("bounds", tariff, low, tariff, "--json")
         self.assertEqual((status, json.loads(printed)), (1, dict(refusal=21, place=25)))
-        self.assertIn(f"the production file {tariff} has a byte that cannot stand there", said)
+        self.assertIn(f"the high file {tariff} has a byte that cannot stand there", said)
         network, table = (os.path.join(EXAMPLES, "pipeline", name) for name in ("network.min", "table.csv"))
         status, printed, _ = run("flow", network, "1", table, "--json")
         found = json.loads(printed)
@@ -217,6 +238,11 @@ class Command(unittest.TestCase):
             self.assertEqual(printed, f"file,bytes\r\n{paths[2]},27\r\n{paths[3]},16\r\n")
             with open(paths[2], "rb") as tariff, open(paths[3], "rb") as production:
                 self.assertEqual((tariff.read(), production.read()), (b"2,6,3\r\n5,3,3\r\n1,4,1\r\n3,2,\r\n", b"99\r\n20\r\n24\r\n20\r\n"))
+            # names as fields of RFC 4180
+            odd = [os.path.join(folder, name) for name in ("a,1", 'b"2', "c\r3", "d\n4", "e 5", "f;6")]
+            for k, (one, other) in enumerate((('"%s/a,1"', '"%s/b""2"'), ('"%s/c\r3"', '"%s/d\n4"'), ("%s/e 5", "%s/f;6"))):
+                due = f"file,bytes\r\n{one % folder},27\r\n{other % folder},16\r\n"
+                self.assertEqual(run("tidy", *paths[:2], *odd[2 * k : 2 * k + 2]), (0, due, ""))
             # over no file; both or none
             status, printed, said = run("tidy", *paths)
             self.assertEqual((status, printed), (2, ""))
@@ -253,7 +279,10 @@ class Command(unittest.TestCase):
                 (b"99\r\n", True, "28,0", f"the high file {path} has 1 entry, the low one 4."),
                 (b"99\r\n20\r\n23\r\n20\r\n", True, "28,2", f"the entry of split 2 (record 3 of the high file {path}), 23, is below the low one, 24."),
                 (b"99\r\n20\r\n1000000001\r\n20\r\n", True, "28,2", "1,000,000,001, is above 1,000,000,000."),
-                (b"99\r\n2;0", True, "21,5", f"{path} has a byte that cannot stand there: record 2, field 1, offset 5 counted from 0."),
+                (b"99\r\n2;0", True, "21,5", f"the high file {path} has a byte that cannot stand there: record 2, field 1, offset 5 counted from 0."),
+                (b"99\r\n2;0", False, "21,5", f"the low file {path} has a byte that cannot stand there: record 2, field 1, offset 5 counted from 0."),
+                (b"99,1\r\n", False, "22,1", f"record 1 of the low file {path} has 2 fields; each has 1."),
+                (b"9" * 65_537, True, "20,0", f"the high file {path} is longer than 65,536 bytes."),
             ):
                 status, out, said = asked(data, high)
                 self.assertEqual((status, out), (1, f"refusal,place\r\n{printed}\r\n"))
@@ -284,7 +313,7 @@ class Command(unittest.TestCase):
             self.assertIn("a sum of all supplies of -1", said)
             status, printed, said = asked(lines, "4", os.path.join(folder, "none.csv"))
             self.assertEqual((status, printed), (1, "refusal,place\r\n20,0\r\n"))
-            self.assertIn("none.csv cannot be opened", said)
+            self.assertIn(f"the table file {os.path.join(folder, 'none.csv')} cannot be opened", said)
             status, printed, said = run("flow", os.path.join(folder, "none.min"), "4", table)
             self.assertEqual((status, printed), (1, "refusal,place\r\n20,0\r\n"))
             self.assertIn("the network file", said)
@@ -293,9 +322,10 @@ class Command(unittest.TestCase):
             self.assertEqual((status, printed), (1, "refusal,place\r\n29,2\r\n"))
             status, printed, _ = asked(lines, "9", os.path.join(folder, "none.csv"))
             self.assertEqual((status, printed), (1, "refusal,place\r\n20,0\r\n"))
-            for odd in ("one", "", "12345", "\u0664"):
+            for odd in ("one", "", "12345", "\u0664", "1x", "-1", "00001", "0", "0099"):
                 status, printed, said = asked(lines, odd)
                 self.assertEqual((status, printed), (1, "refusal,place\r\n30,0\r\n"))
+                self.assertIn('there is arc %s as the named one; the file has 5.' % (odd or '""'), said)
             self.assertEqual(asked(lines, "0004"), (0, due, ""))
 
     def test_page_is_written_over_no_input(self):

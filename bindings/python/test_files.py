@@ -65,6 +65,13 @@ class Reader(unittest.TestCase):
         self.assertEqual(printed(tariff, production), due)
         self.assertEqual(plan_files(tariff, production), (number, place, due))
 
+    def test_what_is_no_file(self):
+        good = File(PRODUCTION, "p", P)
+        for call in (lambda odd: read_table(odd), lambda odd: read_case(odd, good), lambda odd: read_case(good, odd)):
+            for odd, kind in ((5, "int"), ("p.csv", "str"), (b"1", "bytes"), (None, "NoneType")):
+                with self.assertRaisesRegex(TypeError, f"^a File is wanted, as open_file gives one, not {kind}$"):
+                    call(odd)
+
     def test_case_a(self):
         case = read_case(*files(T, P))
         self.assertEqual(case[:4], ([[2, 6], [5, 3], [1, 4]], [3, 3, 1], [3, 2], [99, 20, 24, 20]))

@@ -2,11 +2,13 @@
 
 import os
 import stat
+import subprocess
+import sys
 import tempfile
 import unittest
 from unittest import mock
 
-from yadvorkhul.outputs import BadOutput, check_outputs, shown, write_whole
+from yadvorkhul.outputs import BadOutput, NotWritten, check_outputs, shown, write_whole
 
 
 class Whole(unittest.TestCase):
@@ -37,6 +39,32 @@ class Whole(unittest.TestCase):
         self.assertEqual((self.read(), os.listdir(self.folder)), ("old", ["plan.html"]))
         with self.assertRaises(OSError):
             write_whole(os.path.join(self.folder, "none", "plan.html"), "new")
+
+    def test_what_fails_is_named_as_it_was_given(self):
+        given = os.path.join(self.folder, "link", "..", "none", "plan.html")
+        with self.assertRaises(OSError) as caught:
+            write_whole(given, "new")
+        self.assertEqual((caught.exception.filename, isinstance(caught.exception, NotWritten)), (given, False))
+        with mock.patch("os.replace", side_effect=OSError(28, "No space left on device", "x.part")):
+            with self.assertRaisesRegex(NotWritten, "/plan.html was not written: No space left on device$"):
+                write_whole(self.path, "new")
+        self.assertEqual(os.listdir(self.folder), [])
+
+    @unittest.skipUnless(os.path.exists("/dev/full") and os.path.exists("/dev/stdout"), "there is no /dev/full")
+    def test_devices(self):
+        with self.assertRaisesRegex(NotWritten, "^/dev/full was not written: No space left on device$"):
+            write_whole("/dev/full", "new")
+        script = "import yadvorkhul.command, sys; sys.exit(yadvorkhul.command.main(sys.argv[1:]))"
+        here = os.path.dirname(os.path.abspath(__file__))
+        for output, status, printed, said in (
+            ("/dev/full", 4, b"", b"yadvorkhul: /dev/full was not written: No space left on device"),
+            ("no/such", 2, b"", b"yadvorkhul: No such file or directory: no/such"),
+            ("/dev/stdout", 0, b"{\n", b"written: /dev/stdout"),
+        ):
+            words = [sys.executable, "-c", script, "import", "../../examples/case_a/tariff.csv", "../../examples/case_a/production.csv", "-o", output]
+            done = subprocess.run(words, cwd=here, capture_output=True)
+            self.assertEqual((done.returncode, done.stdout[:2]), (status, printed), done.stderr)
+            self.assertIn(said, done.stderr)
 
     def test_links_and_devices_stay(self):
         link = os.path.join(self.folder, "link.html")

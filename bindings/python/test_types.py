@@ -7,6 +7,8 @@ import unittest
 
 PACKAGE = os.path.join(os.path.dirname(os.path.abspath(__file__)), "yadvorkhul")
 NOT_OFFERED = {"__main__.py", "command.py", "console.py", "archive.py"}  # the command's own; `commands/` too
+# A program of its own that is read by people and handed on as one file: it imports nothing of the package and is no part of what it offers.
+ALONE = {"check_certificate.py"}
 
 
 def offered(tree):
@@ -34,9 +36,18 @@ def untyped(path):
 
 class Types(unittest.TestCase):
     def test_every_parameter(self):
-        paths = [path for path in glob.glob(os.path.join(PACKAGE, "*.py")) if os.path.basename(path) not in NOT_OFFERED]
+        paths = [path for path in glob.glob(os.path.join(PACKAGE, "*.py")) if os.path.basename(path) not in NOT_OFFERED | ALONE]
         self.assertGreater(len(paths), 8)
         self.assertEqual([fault for path in sorted(paths) for fault in untyped(path)], [])
+
+    def test_alone(self):
+        """What is left out as a program of its own is one."""
+        for name in ALONE:
+            with open(os.path.join(PACKAGE, name), encoding="utf-8") as stream:
+                text = stream.read()
+            imported = [node for node in ast.walk(ast.parse(text)) if isinstance(node, (ast.Import, ast.ImportFrom))]
+            names = {alias.name for node in imported for alias in node.names if isinstance(node, ast.Import)}
+            self.assertTrue(text.startswith("#!") and names <= {"json", "sys"} and not any(isinstance(node, ast.ImportFrom) for node in imported), name)
 
     def test_marked(self):
         self.assertTrue(os.path.exists(os.path.join(PACKAGE, "py.typed")))

@@ -7,7 +7,9 @@ import doctest
 import itertools
 import pickle
 import random
+import types
 import unittest
+import warnings
 
 import yadvorkhul
 from yadvorkhul import Refusal, bounds, bounds_into, plan, plan_into
@@ -166,7 +168,9 @@ class Cases(unittest.TestCase):
         self.assertEqual(plan(**{**A, "supplies": array.array("l", A["supplies"]), "table": tuple(A["table"])}), due)
         self.assertEqual(plan(**A, runs=(Whole(2), Whole(2))).split, 2)
         self.assertEqual(yadvorkhul.rates(Whole(3)), [0, 100, 141, 173])
-        for odd in (Whole(-1), Whole(1 << 64)):
+        truth = Whole(1)  # as NumPy's bool is
+        truth.dtype = types.SimpleNamespace(kind="b")
+        for odd in (Whole(-1), Whole(1 << 64), truth):
             with self.assertRaises(TypeError):
                 plan(**{**A, "demands": [3, odd]})
 
@@ -183,6 +187,11 @@ class Cases(unittest.TestCase):
             plan(**{**A, "demands": numpy.array([2.5, 3])})
         with self.assertRaises(TypeError):
             plan(**{**A, "demands": numpy.array([True, False])})
+        with warnings.catch_warnings():
+            warnings.simplefilter("ignore")
+            for given in ({"demands": [3, numpy.bool_(True)]}, {"costs": [[2, 6], [5, 3], [1, numpy.bool_(False)]]}, {"runs": (numpy.bool_(True), 0)}):
+                with self.assertRaisesRegex(TypeError, "^not a whole number from "):
+                    plan(**{**A, **given})
 
     def test_runs_are_two(self):
         for odd in ((), (1,), (1, 1, 1)):

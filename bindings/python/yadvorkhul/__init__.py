@@ -224,6 +224,11 @@ _CODES = {ctypes.c_uint64: "Q", ctypes.c_int64: "q"}
 _RANGES = {ctypes.c_uint64: (0, 1 << 64), ctypes.c_int64: (-1 << 63, 1 << 63)}
 
 
+def _numpy_bool(number) -> bool:
+    """Whether it is NumPy's bool, which is no number either; some of its versions give it out as one."""
+    return getattr(getattr(number, "dtype", None), "kind", "") == "b"
+
+
 def _number(kind, number) -> int:
     """The whole number. One that does not fit a cell is an error, and is not cut down to one that does."""
     low, high = _RANGES[kind]
@@ -231,7 +236,7 @@ def _number(kind, number) -> int:
         whole = operator.index(number)
     except TypeError:
         whole = high
-    if isinstance(number, bool) or not low <= whole < high:
+    if isinstance(number, bool) or _numpy_bool(number) or not low <= whole < high:
         raise TypeError(f"not a whole number from {low} to {high - 1}: {number!r}")
     return whole
 

@@ -13,6 +13,7 @@ import yadvorkhul
 
 from . import commands
 from .console import BROKEN, LACKING, WRONG_USE, Broken, WrongUse, emit, say
+from .outputs import NotWritten
 
 
 class _Parser(argparse.ArgumentParser):
@@ -78,7 +79,7 @@ def parser() -> argparse.ArgumentParser:
             one.add_argument("rest", nargs="*", help=argparse.SUPPRESS)
         else:
             module.add(one)
-        one.set_defaults(run=_lacking(lacks) if lacks else module.run)
+        one.set_defaults(run=_lacking(lacks) if lacks else module.run, lacks=lacks)
     return whole
 
 
@@ -95,7 +96,9 @@ def _completed(whole):
 def _run(words) -> int:
     whole = parser()
     _completed(whole)
-    arguments = whole.parse_args(words)
+    arguments, rest = whole.parse_known_args(words)
+    if rest and not arguments.lacks:  # what a subcommand lacks is said whatever it is given
+        whole.error(f"unrecognized arguments: {' '.join(rest)}")
     return arguments.run(arguments)
 
 
@@ -105,7 +108,7 @@ def _ended(kind, error) -> int:
         status, sentence = WRONG_USE, str(error)
     elif isinstance(error, ImportError):
         status, sentence = LACKING, str(error)
-    elif isinstance(error, Broken):
+    elif isinstance(error, (Broken, NotWritten)):
         status, sentence = BROKEN, str(error)
     elif isinstance(error, OSError) and error.filename is not None:
         status, sentence = WRONG_USE, f"{error.strerror}: {error.filename}"

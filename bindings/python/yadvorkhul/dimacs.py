@@ -90,8 +90,8 @@ def cause_of_line(data: bytes, number: int) -> str:
     return f"a field that is not as in {_WORDS[kind]}"
 
 
-def cause_of_limits(data: bytes, place: int, table: List[int]) -> str:
-    """What is outside the limits of refusal 30."""
+def cause_of_limits(data: bytes, place: int, table: List[int], named: str = "") -> str:
+    """What is outside the limits of refusal 30; `named` is the text that names the arc, as it was given."""
     found = read(data.split(b"\n"))
     if found.nodes > 32 or len(found.arcs) > 64:
         return f"a network of {found.nodes} nodes and {len(found.arcs)} arcs; there are at most 32 and 64"
@@ -117,7 +117,7 @@ def cause_of_limits(data: bytes, place: int, table: List[int]) -> str:
         if amount > 4000:
             return f"node {node}, whose supply and the ceilings of the arcs into it come to {amount}; amounts go up to 4,000"
     if not 1 <= place <= len(found.arcs):
-        return f"arc {place} as the named one; the file has {len(found.arcs)}"
+        return f"arc {named or place} as the named one; the file has {len(found.arcs)}"
     if len(table) != found.arcs[place - 1][3] + 1:
         return f"a table of {len(table)} entries for arc {place}, whose ceiling is {found.arcs[place - 1][3]}; it wants one for each flow from 0"
     high = [x for x, entry in enumerate(table) if entry > 1_000_000_000]

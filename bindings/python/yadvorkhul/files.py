@@ -81,6 +81,8 @@ def open_file(kind: str, path: str) -> File:
 
 def handed(file: File) -> bytes:
     """The bytes that are lent: of a file that was not read, as in the programs, too many, which is refused by 20."""
+    if not isinstance(file, File):
+        raise TypeError(f"a File is wanted, as open_file gives one, not {type(file).__name__}")
     return bytes(LONGEST + 1) if file.data is None else file.data
 
 

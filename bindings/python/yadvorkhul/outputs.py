@@ -1,11 +1,15 @@
 """Writes a file whole or not at all, and never over what was read."""
 
 import os
-from typing import Iterable, List, Optional, Union
+from typing import BinaryIO, Iterable, List, Optional, Union
 
 
 class BadOutput(ValueError):
     """An output that cannot be written or must not be, in a sentence."""
+
+
+class NotWritten(OSError):
+    """An output that was opened and could not be written, in a sentence."""
 
 
 def shown(path: str) -> str:
@@ -49,13 +53,31 @@ def write_whole(path: str, text: Union[str, bytes]) -> None:
         data = text if isinstance(text, bytes) else text.encode("utf-8")
     except UnicodeEncodeError as error:
         raise BadOutput(f"{shown(path)} is not written: the text holds {text[error.start]!r}, which is no character") from error
-    path = os.path.realpath(path)
-    if _device(path):
-        with open(path, "wb") as out:
-            out.write(data)
-        return
+    try:
+        if _device(path):  # as it was named: what /dev/stdout leads to may have no path
+            with _opened(path, path, "wb") as out:
+                out.write(data)
+        else:
+            _replace(path, data)
+    except OSError as error:
+        if error.filename == path:  # it was not opened
+            raise
+        raise NotWritten(f"{shown(path)} was not written: {error.strerror or error}") from error
+
+
+def _opened(path: str, named: str, mode: str) -> BinaryIO:
+    """A file to write; where it cannot be opened, the path in the error is the one that the caller gave."""
+    try:
+        return open(path, mode)  # type: ignore[return-value]
+    except OSError as error:
+        raise OSError(error.errno, error.strerror, named) from error
+
+
+def _replace(named: str, data: bytes) -> None:
+    """Writes a file beside the one that a path leads to, and puts it in its place."""
+    path = os.path.realpath(named)
     beside = f"{path}.{os.getpid()}.part"
-    out = open(beside, "xb")
+    out = _opened(beside, named, "xb")
     try:
         with out:
             out.write(data)

@@ -5,10 +5,12 @@ not balance.
 """
 
 import base64
+import contextlib
 import hashlib
 import os
 import re
-from typing import TYPE_CHECKING, Any, Callable, Iterable, List, NamedTuple, Optional, Tuple
+import sys
+from typing import TYPE_CHECKING, Any, Callable, Iterable, Iterator, List, NamedTuple, Optional, Tuple
 
 from . import MOST_AMOUNT, Bounds, Case, Plan, Refusal, __version__
 from .again import Drum, one_more
@@ -40,17 +42,42 @@ class MissingLibrary(ImportError):
     """A library that only the page needs is not there."""
 
 
+@contextlib.contextmanager
+def _no_settings(name: str) -> Iterator[None]:
+    """Loads Matplotlib for the first time without the settings of the current folder and of the user, which need not even be text. Those of
+    the folder come first whatever MATPLOTLIBRC says, so where there are some it is left meanwhile."""
+    if name != "matplotlib" or name in sys.modules:
+        yield
+        return
+    before, here = os.environ.get("MATPLOTLIBRC"), None
+    os.environ["MATPLOTLIBRC"] = os.devnull
+    try:
+        if os.path.exists("matplotlibrc"):
+            here = os.open(".", os.O_RDONLY)
+            os.chdir(TEMPLATES)
+        yield
+    finally:
+        if here is not None:
+            os.chdir(here)
+            os.close(here)
+        if before is None:
+            del os.environ["MATPLOTLIBRC"]
+        else:
+            os.environ["MATPLOTLIBRC"] = before
+
+
 def _needed(name: str) -> Any:
     import importlib
 
     try:
-        return importlib.import_module(name)
+        with _no_settings(name):
+            return importlib.import_module(name)
     except ImportError as error:
         raise MissingLibrary(
             f"the page needs {name}, which this Python does not have. On Debian: {INSTALL}, then run it by /usr/bin/python3. "
             "`plan` works without it."
         ) from error
-    except Exception as error:  # such as a matplotlibrc of the current folder that is no text
+    except Exception as error:
         raise MissingLibrary(f"the page needs {name}, which this Python cannot load: {error}") from error
 
 
@@ -203,6 +230,15 @@ def _isolated(sentence: str, paths: Iterable[str]):
     return found
 
 
+_INITIATORS, _END = "\u2066\u2067\u2068", "\u2069"
+
+
+def _apart(text: str) -> str:
+    """A name for an attribute or a title, where no element can set it apart: within an isolate that no mark of its own ends."""
+    bare = text.replace(_END, "")
+    return "\u2068" + bare + _END * (1 + sum(sign in _INITIATORS for sign in bare))
+
+
 TEMPLATES = os.path.join(os.path.dirname(os.path.abspath(__file__)), "templates")
 
 
@@ -219,7 +255,7 @@ def _environment():
     environment = jinja2.Environment(
         loader=jinja2.FileSystemLoader(TEMPLATES), autoescape=True, trim_blocks=True, lstrip_blocks=True, undefined=jinja2.StrictUndefined
     )
-    environment.filters.update(number=grouped, signs=_signs, isolated=_isolated, path=shown)
+    environment.filters.update(number=grouped, signs=_signs, isolated=_isolated, apart=_apart, path=shown)
     environment.globals.update(percent=percent, increase=increase, counted=counted)
     return environment
 

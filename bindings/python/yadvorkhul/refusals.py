@@ -197,9 +197,10 @@ def _fields(data: bytes, record: int) -> List[Tuple[int, int]]:
 # sentences -----------------------------------------------------------------------------------------------------------------------
 
 
-def _explain_file(refusal: FileRefusal) -> Explained:
+def _explain_file(refusal: FileRefusal, called: str = "") -> Explained:
+    """Refusals 20 to 22, of a file that is called by its kind where no other word is given."""
     file, number, place = refusal.file, refusal.number, refusal.place
-    name = f"the {file.kind} file {file.path}"
+    name = f"the {called or file.kind} file {file.path}"
     spot = None
     if number == 20 and file.data is None:
         sentence = f"{name} cannot be opened and read."
@@ -252,6 +253,16 @@ def _no_plan(number: int, case: Case, sentence: str) -> str:
     return f"{sentence[:-1]}: {cause}." if cause else sentence
 
 
+def _length_sentence(case: Case, file: File, called: str) -> str:
+    """Refusal 6 of a file."""
+    return f"the {called} file {file.path} has {counted(_records(file.data), 'entry', 'entries')}, not {grouped(case.supplies[0] + 1)}."
+
+
+def _entry_sentence(place: int, file: File, called: str) -> str:
+    """Refusal 9 of a file."""
+    return f"the entry of split {place} (record {place + 1} of the {called} file {file.path}) is above 1,000,000,000."
+
+
 def explain_case(refusal: Refusal, case: Optional[Case], tariff: Optional[File] = None, production: Optional[File] = None) -> Explained:
     """A refusal of a case, shown in its files where it came from some."""
     if case is None:
@@ -277,12 +288,13 @@ def explain_case(refusal: Refusal, case: Optional[Case], tariff: Optional[File] 
         facts = [(what, grouped(rows[i][j]))]
         spot = _field_spot(tariff, i + 1, j + 1) if number == 5 else None
     elif number == 6:
+        sentence = _length_sentence(case, production, "production") if production else sentence
         facts = [("entries", grouped(_records(production.data) if production else len(case.table))), ("supply of plant 1", grouped(case.supplies[0]))]
         facts += [("entries wanted", grouped(case.supplies[0] + 1))]
     elif number in (7, 8, 27):
         sentence, facts = _no_plan(number, case, sentence), _balance(case)
     elif number == 9:
-        sentence = f"the entry of split {place} is above 1,000,000,000."
+        sentence = _entry_sentence(place, production, "production") if production else f"the entry of split {place} is above 1,000,000,000."
         facts = [(f"entry of split {place}", grouped(case.table[place]))]
         spot = _field_spot(production, place + 1, 1)
     elif number == 23:
@@ -312,15 +324,14 @@ def _explain_high(place: int, low: List[int], high: List[int], file: File) -> Ex
 def explain_bounds(refusal: Refusal, case: Optional[Case], high: List[int], tariff: File, low_file: File, high_file: File) -> Explained:
     """A refusal of a tariff with a low and a high table; the low one stands as the case's own."""
     if isinstance(refusal, FileRefusal):
-        return _explain_file(refusal)
+        return _explain_file(refusal, "high" if refusal.file is high_file else "low" if refusal.file is low_file else "")
     if refusal.number == 28:
         return _explain_high(refusal.place, case.table, high, high_file)
     told = explain_case(refusal, case, tariff, low_file)
     if refusal.number == 6:
-        wanted = grouped(case.supplies[0] + 1)
-        return told._replace(sentence=f"the low file {low_file.path} has {counted(_records(low_file.data), 'entry', 'entries')}, not {wanted}.")
+        return told._replace(sentence=_length_sentence(case, low_file, "low"))
     if refusal.number == 9:
-        return told._replace(sentence=f"the entry of split {refusal.place} (record {refusal.place + 1} of the low file {low_file.path}) is above 1,000,000,000.")
+        return told._replace(sentence=_entry_sentence(refusal.place, low_file, "low"))
     return told
 
 
@@ -340,10 +351,10 @@ def _network_cut(file: File) -> str:
     return network_cut(read(file.data.split(b"\n")))
 
 
-def explain_network(refusal: Refusal, file: File, place: int, table: List[int]) -> Explained:
-    """Refusal 27, 29 or 30 of a network, its named arc and the table; or one of a file."""
+def explain_network(refusal: Refusal, file: File, place: int, table: List[int], named: str = "") -> Explained:
+    """Refusal 27, 29 or 30 of a network, its named arc and the table; or one of a file. `named` is the text that names the arc."""
     if isinstance(refusal, FileRefusal):
-        return _explain_file(refusal)
+        return _explain_file(refusal, "" if refusal.file is file else "table")
     number, line = refusal.number, refusal.place
     name, spot = f"the network file {file.path}", None
     if number == 29:
@@ -351,7 +362,7 @@ def explain_network(refusal: Refusal, file: File, place: int, table: List[int]) 
         text = _shown(file.data[spot.offset :].split(b"\n")[0][:_WIDE])
         sentence = f"line {line} of {name} is not of the form: {text}." if text else f"line {line} of {name} is not of the form: it is empty."
     elif number == 30:
-        cause = cause_of_limits(file.data, place, table)
+        cause = cause_of_limits(file.data, place, table, named)
         sentence = f"{name}, the named arc or the table is outside the limits" + (f": there is {cause}." if cause else ".")
     else:
         plain = cause_of_none(file.data)

@@ -41,7 +41,7 @@ def _explained(number: int, place: int, network, arc: str, table) -> int:
         refusal = FileRefusal(number, place, table)
     elif number == 30:
         entries = read_table(table)
-    status = told(explain_network(refusal, network, _place(arc), entries))
+    status = told(explain_network(refusal, network, _place(arc), entries, arc or '""'))
     if number == 29:
         hint(network)
     return status

@@ -45,6 +45,11 @@ def _write_both(first: str, tariff: bytes, second: str, production: bytes):
         raise
 
 
+def _field(name: bytes) -> bytes:
+    """A name as a field of RFC 4180, as the program prints it."""
+    return b'"' + name.replace(b'"', b'""') + b'"' if any(sign in name for sign in b',"\r\n') else name
+
+
 def _refused(refusal: Refusal, tariff, production) -> int:
     """As `plan` says it, of the same case."""
     case = None
@@ -65,6 +70,6 @@ def run(arguments) -> int:
     _write_both(arguments.new_tariff, texts[0], arguments.new_production, texts[1])
     lines = [b"file,bytes"]
     for path, text in zip((arguments.new_tariff, arguments.new_production), texts):
-        lines.append(os.fsencode(path) + b",%d" % len(text))
+        lines.append(_field(os.fsencode(path)) + b",%d" % len(text))
     emit(b"".join(line + b"\r\n" for line in lines))
     return DONE
