@@ -41,6 +41,8 @@ SPOILED = [  # what is changed, and the sentence
     ({"terminals": {"1": "Paris"}}, "terminals: a list or null is wanted, not an object"),
     ({"title": ["Autumn"]}, "title: a text is wanted, not a list"),
     ({"currency": 5}, "currency: a text is wanted, not a whole number"),
+    ({"currency": "x" * 13}, "currency: at most 12 letters are wanted, not 13"),
+    ({"date": "x" * 41}, "date: at most 40 letters are wanted, not 41"),
     ({"date": None}, "date: a text is wanted, not null"),
     ({"drums": 1}, "'drums' is no field of a case; these are title, currency, date, sources, terminals, supplies, demands, costs, table, runs, ceilings"),
     ({"sources": ["a", "b", "c", "d"]}, "sources: there are 4 names and 3 supplies"),

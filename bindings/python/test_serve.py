@@ -6,12 +6,17 @@ import re
 import subprocess
 import sys
 import tempfile
+import threading
 import time
 import unittest
+from unittest import mock
 
 from yadvorkhul import Role, plan, rates
+from yadvorkhul.serve.cases import case_of
+from yadvorkhul.serve.journal import create
 from yadvorkhul.serve.people import People
 from yadvorkhul.serve.sessions import Sessions, Waiting
+from yadvorkhul.serve.start import CannotStart, opened, start
 
 from serve_kit import A, HERE, NAMES, WORD, Client, Running, season
 
@@ -37,6 +42,7 @@ WRITES = {
     "set mark": ["mark", 1],
     "go back": ["go_back", 1],
 }
+ABOUT = {"title", "currency", "date", "sources", "terminals"}
 READS = {"see tariff": "/tariff", "see table": "/table", "plan": "/plan"}
 
 
@@ -200,6 +206,30 @@ class Calls(WithServer):
         self.assertIn("below", got.told["refused"]["sentence"])
         self.assertEqual(self.paul.get("/rates").told["table"], rates(3))
 
+    def test_a_write_is_for_the_case_that_was_seen(self):
+        was = self.dora.state()["standing"]
+        self.assertEqual(self.dora.do(["edit_demand", 1, 2], standing=was).status, 200)
+        self.assertEqual(self.dora.state()["standing"], was)  # no edit alters it
+        self.anna.post("/import", {"case": {**A, "terminals": ["Nice", "Arles"]}})
+        got = self.dora.do(["edit_demand", 1, 1], standing=was)
+        self.assertEqual((got.status, self.anna.state()["tariff"]["demands"]), (409, A["demands"]))
+        self.assertIn("another case", got.told["sentence"].lower())
+        self.assertEqual(self.anna.post("/publish", {"standing": was}).status, 409)
+        self.assertNotIn("published", self.dora.state())
+        self.assertEqual(self.dora.do(["edit_demand", 1, 1], standing=self.dora.state()["standing"]).status, 200)
+        self.assertEqual(self.dora.do(["edit_demand", 1, 1], standing=5).status, 400)
+
+    def test_an_identity_is_of_one_write(self):
+        self.assertEqual(self.anna.do(["edit_demand", 1, 1], id="one-1").status, 200)
+        self.assertEqual(self.anna.do(["edit_demand", 1, 1], id="one-1").status, 200)
+        for path, body in (("/do", {"calls": [["edit_demand", 1, 2]]}), ("/publish", {}), ("/import", {"case": A}), ("/withdraw", {})):
+            self.assertEqual(self.anna.post(path, {**body, "id": "one-1"}).status, 409, path)
+        self.assertEqual(self.anna.state()["tariff"]["demands"], [1, 2])
+        self.assertEqual(self.anna.post("/publish", {"id": "one-2"}).status, 200)
+        self.anna.do(["edit_demand", 1, 3])
+        self.assertEqual(self.anna.post("/publish", {"id": "one-2"}).status, 200)
+        self.anna.post("/withdraw", {})
+
     def test_unchanged_is_204(self):
         for client in (self.anna, self.dora):
             tag = client.state()["tag"]
@@ -238,8 +268,8 @@ class Files(WithServer):
         told = json.loads(self.anna.get("/out/case.json").body)
         self.assertEqual(plan(*(told[f] for f in ("costs", "supplies", "demands", "table", "runs", "ceilings"))).total, 33)
         self.assertEqual(self.anna.post("/import", {"case": told}).status, 200)
-        self.assertEqual(set(json.loads(self.paul.get("/out/case.json").body)) - {"title", "sources", "terminals"}, {"costs", "supplies", "demands", "table"})
-        self.assertEqual(set(json.loads(self.dora.get("/out/case.json").body)) - {"title", "sources", "terminals"}, {"costs", "supplies", "demands"})
+        self.assertEqual(set(json.loads(self.paul.get("/out/case.json").body)) - ABOUT, {"costs", "supplies", "demands", "table"})
+        self.assertEqual(set(json.loads(self.dora.get("/out/case.json").body)) - ABOUT, {"costs", "supplies", "demands"})
 
     def test_page(self):
         try:
@@ -250,6 +280,38 @@ class Files(WithServer):
         self.assertEqual(got.status, 200)
         self.assertIn(b"<svg", got.body)
         self.assertIn("attachment", dict(got.headers)["Content-Disposition"])
+
+    def test_currency_and_date_are_kept(self):
+        case = {**A, "currency": "EUR", "date": "17 November 2026"}
+        self.assertEqual(self.anna.post("/import", {"case": case}).status, 200)
+        for told in (self.dora.state(), json.loads(self.dora.get("/out/case.json").body), json.loads(self.anna.get("/out/case.json").body)):
+            self.assertEqual((told["currency"], told["date"]), ("EUR", "17 November 2026"))
+        self.assertEqual(self.running.shared.case(Role.PLANNER)[-2:], ("EUR", "17 November 2026"))
+
+    def test_import_of_a_text(self):
+        most = (1 << 64) - 1
+        got = self.anna.post("/import", {"text": json.dumps({**A, "table": [99, 20, 24, most]})})
+        self.assertEqual((got.status, got.told["table"][3]), (200, str(most)))
+        twice = json.dumps(A)[:-1] + ', "table": [1, 1, 1, 1]}'
+        for text, word in ((twice, "stands twice"), ("{", "not JSON"), ("\ufeff" + json.dumps(A), "byte order mark"), (json.dumps({**A, "table": [1.0]}), "whole number")):
+            got = self.anna.post("/import", {"text": text})
+            self.assertEqual(got.status, 422, got)
+            self.assertIn(word, got.told["sentence"])
+        self.assertEqual(self.anna.state()["table"][3], str(most))
+
+    def test_titles_that_nobody_can_read(self):
+        for field in ("title", "currency", "date"):
+            for odd in ("a\u202eb", "a\u0007b", "a\nb", "a\u2066b"):
+                got = self.anna.post("/import", {"case": {**A, field: odd}})
+                self.assertEqual(got.status, 422, (field, odd))
+                self.assertIn("direction", got.told["sentence"])
+        self.assertEqual(self.anna.post("/import", {"case": {**A, "title": "Saison\u00a02026, \u00e9t\u00e9"}}).status, 200)
+
+    def test_half_a_character(self):
+        for body in ({"tariff": "\ud800", "production": "1"}, {"case": {**A, "title": "\udcff"}}, {"text": "\ud800"}, {"\ud800": 1}):
+            got = self.anna.post("/import", body)
+            self.assertEqual((got.status, "half of a character" in got.told["sentence"]), (400, True), body)
+        self.assertEqual(self.anna.post("/import", {"case": {**A, "title": "\U0001f6e2"}}).status, 200)  # two escapes, one character
 
     def test_import(self):
         got = self.anna.post("/import", {"tariff": "2,6,3\r\n5,3,3\r\n1,4,1\r\n3,3,\r\n", "production": "99\r\n20\r\n24\r\n20"})
@@ -312,6 +374,8 @@ class TurnedAway(WithServer):
             (b"\xff\xfe", {}, 400),
             (b"[" * 100_000, {}, 400),
             (b'{"calls": 5}', {}, 400),
+            (b'{"calls": [["edit_demand", 1, 1]], "calls": [["edit_demand", 1, 1]]}', {}, 400),
+            (b'{"calls": [["mark", 1]], "names": {"1": "a", "1": "b"}}', {}, 400),
             (b'{"calls": []}', {}, 400),
             (b'{"calls": [5]}', {}, 400),
             (b'{"calls": [[]]}', {}, 400),
@@ -386,6 +450,39 @@ class TurnedAway(WithServer):
         self.assertEqual(client.form("/sign-out", {"token": "x"}).status, 403)
         self.assertEqual(client.form("/sign-out", {"token": client.token}).status, 303)
         self.assertEqual(client.get("/state").status, 401)
+
+    def test_many_tries_at_once(self):
+        """As many words are looked at as one after the other, whatever form the name has."""
+        running, looked = Running(A), []
+        self.addCleanup(running.close)
+        running.people.add("ren\u00e9", Role.DEPOT, WORD)
+        at = running.app.extensions["yadvorkhul"]
+        check = running.people.signed_in
+
+        def slow(name, word):
+            looked.append(name)
+            time.sleep(0.5)
+            return check(name, word)
+
+        running.people.signed_in = slow
+        clients = [Client(running.port) for _ in range(8)]
+        tokens = [client.form_token("/sign-in") for client in clients]
+        names = ["ren\u00e9", "rene\u0301"] * 4
+        sent = [
+            threading.Thread(target=client.form, args=("/sign-in", {"name": name, "word": "wrong word", "token": token}))
+            for client, token, name in zip(clients, tokens, names)
+        ]
+        for one in sent:
+            one.start()
+        for one in sent:
+            one.join()
+        self.assertEqual(looked, ["ren\u00e9"] * 3)
+        self.assertGreater(at.by_name.left("ren\u00e9"), 0)
+        time.sleep(max(at.by_name.left("ren\u00e9"), at.by_address.left("127.0.0.1")) + 0.1)
+        self.assertEqual(clients[0].sign_in("rene\u0301", WORD).status, 303)
+        self.assertEqual((at.by_name.left("ren\u00e9"), at.by_address.left("127.0.0.1")), (0, 0))
+        for client in clients:
+            client.connection.close()
 
     def test_one_time_word(self):
         word = self.running.people.add("otto", Role.DEPOT)
@@ -485,6 +582,49 @@ class Commands(unittest.TestCase):
             self.assertEqual(self.run_in(folder, "user", "remove", "dora").returncode, 0)
             self.assertEqual(self.run_in(folder, "user", "remove", "dora").returncode, 2)
             self.assertNotIn("dora", self.run_in(folder, "user", "list").stdout)
+
+    def test_loose_file_of_people_is_tightened_and_told(self):
+        with tempfile.TemporaryDirectory() as folder:
+            path = os.path.join(folder, "yadvorkhul-users.json")
+            People(path).add("anna", Role.PLANNER, WORD)
+            for words in (["user", "list"], ["serve", "case.json", "--port", "1"]):
+                with open(os.path.join(folder, "case.json"), "w") as out:
+                    json.dump(A, out)
+                os.chmod(path, 0o644)
+                with mock.patch("waitress.create_server", side_effect=OSError(98, "taken")):
+                    got = self.run_in(folder, *words) if words[0] == "user" else self.start_in(folder, path)
+                self.assertIn("had mode 644; it has 600 now", got.stderr if words[0] == "user" else got)
+                self.assertEqual(os.stat(path).st_mode & 0o777, 0o600)
+
+    def start_in(self, folder, users):
+        """What a start says that gets no port."""
+        said = []
+        with self.assertRaises(CannotStart):
+            start([os.path.join(folder, "case.json")], os.path.join(folder, "case.journal"), users, 1, "", said.append)
+        return "\n".join(said)
+
+    def test_a_torn_line_is_told_whatever_fails(self):
+        with tempfile.TemporaryDirectory() as folder:
+            path, users, file = (os.path.join(folder, name) for name in ("case.journal", "users.json", "case.json"))
+            create(path, {"do": "enter", "user": "", "case": case_of(A)}).journal.close()
+            for text in ("{", '{"costs": 1}', json.dumps({**A, "title": "another"})):
+                with open(path, "ab") as out:
+                    out.write(b"torn")
+                with open(file, "w") as out:
+                    out.write(text)
+                found = opened(path, [file])  # the journal stands, so a bad file does not stop it
+                found.journal.close()
+                self.assertIn("torn", found.told[0])
+                self.assertRegex(found.told[-1], "the journal counts")
+            with open(path, "ab") as out:
+                out.write(b"torn")
+            with mock.patch("waitress.create_server", side_effect=OSError(98, "taken")):
+                self.assertIn("torn", self.start_in(folder, users))
+            with open(path, "ab") as out:
+                out.write(b"torn")
+            with open(users, "w") as out:
+                out.write("{")
+            self.assertIn("torn", self.start_in(folder, users))
 
     def test_serve_says_why_not(self):
         with tempfile.TemporaryDirectory() as folder:

@@ -2,6 +2,7 @@
 names a folder, it gets screenshots. Needs python3-selenium and chromium-driver."""
 
 import base64
+import json
 import os
 import shutil
 import tempfile
@@ -179,7 +180,7 @@ class Screen(unittest.TestCase):
         self.come_as("anna")
         before = self.state()["tariff"]["costs"]
         self.focus(2, 4)
-        self.paste("7\t8\r\n1,009\t\u221210\r\n")
+        self.paste("7\t8\r\n1 009\t\u221210\r\n")
         self.until(lambda: self.state()["tariff"]["costs"] != before)
         costs = self.state()["tariff"]["costs"]
         self.assertEqual([row[4:6] for row in costs[2:4]], [[7, 8], [1009, -10]])
@@ -190,12 +191,61 @@ class Screen(unittest.TestCase):
             ("\t".join("1" * 40), "there is room for"),
             ("1\t2\n3\t1000001", "1,000,001 is outside"),
             ("1\t2\n3\t4.5", "no whole number"),
+            ("1\t2\n3\t1,009", "may be 1009 or a decimal"),
         ):
             self.focus(2, 4)
             self.paste(text)
             self.until(lambda: word in self.one("#wrong").text)
             self.assertEqual(self.state()["tariff"]["costs"], costs, text)
         self.assertTrue(self.all('.lanes td[data-at="3,5"].wrong'))
+
+    def test_a_comma_is_taken_where_the_block_shows_what_it_means(self):
+        self.come_as("paul")
+        self.open_tab("production")
+        self.focus(3, 0, ".entries")
+        self.keys("1", ",", "234", Keys.ENTER)
+        self.until(lambda: "may be 1234 or a decimal" in self.one("#wrong").text)
+        self.keys(Keys.ESCAPE)
+        self.focus(3, 0, ".entries")
+        self.paste("1,234\n5,678")
+        self.until(lambda: "row 1, column 1 of the block may be 1234 or a decimal" in self.one("#wrong").text)
+        self.assertEqual(self.state()["table"][3:5], season()["table"][3:5])
+        self.focus(3, 0, ".entries")
+        self.paste("1,234\n5,678,901\n1'000")
+        self.until(lambda: self.state()["table"][3:6] == [1234, 5678901, 1000])
+
+    def test_an_edit_for_another_case_is_not_taken(self):
+        self.come_as("anna")
+        self.run_script("window.fetched = window.fetch; window.fetch = (path, ...more) => String(path).startsWith('/state') ? new Promise(() => {}) : window.fetched(path, ...more)")
+        case = season()
+        case["terminals"][0], case["terminals"][1] = case["terminals"][1], case["terminals"][0]
+        self.assertEqual(self.planner.post("/import", {"case": case}).status, 200)
+        self.focus(12, 0)
+        self.keys("230", Keys.ENTER)
+        self.until(lambda: "another case" in self.one("#wrong").text.lower())
+        self.assertEqual(self.state()["tariff"]["demands"], case["demands"])
+
+    def test_file_of_a_case_is_read_by_the_server(self):
+        folder = tempfile.mkdtemp(prefix="yadvorkhul-given-")
+        self.addCleanup(shutil.rmtree, folder, True)
+        case = season()
+        self.planner.post("/import", {"case": {**case, "runs": [0, 0], "ceilings": None}})
+        self.come_as("anna")
+        self.open_tab("files")
+        self.assertFalse(self.all("#panel-files .left-out"))
+        case["table"][7] = 2**63 + 1
+        whole = json.dumps(case)
+        for name, text, word in (("twice.json", whole[:-1] + ', "title": "x"}', "stands twice"), ("good.json", whole, "")):
+            with open(os.path.join(folder, name), "w") as out:
+                out.write(text)
+            self.one("#import-files").send_keys(os.path.join(folder, name))
+            self.run_script("[...document.querySelectorAll('#panel-files button')].find((b) => b.textContent.startsWith('Enter')).click()")
+            self.until(lambda: self.one("#question").get_attribute("open"))
+            self.one("#question-yes").click()
+            self.until(lambda: word in self.one("#wrong").text if word else self.state()["table"][7] == str(2**63 + 1))
+            self.run_script("document.querySelector('#import-files').value = ''")
+        self.until(lambda: len(self.all("#panel-files .left-out")) == 2)
+        self.assertIn("case.json has them", self.one("#panel-files .left-out").text)
 
     def test_copy_and_paste_by_keys(self):
         self.come_as("anna")

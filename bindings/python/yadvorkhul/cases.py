@@ -60,6 +60,9 @@ def plain_faults(form: Dict[str, Any], value: Any, path: List[Union[str, int]]) 
             yield Fault(path, "minItems", form["minItems"], value)
         for k, item in enumerate(value):
             yield from plain_faults(form["items"], item, path + [k])
+    elif isinstance(value, str):
+        if len(value) > form.get("maxLength", len(value)):
+            yield Fault(path, "maxLength", form["maxLength"], value)
     elif isinstance(value, int) and not form["minimum"] <= value <= form["maximum"]:
         yield Fault(path, "minimum" if value < form["minimum"] else "maximum", form, value)
 
@@ -83,7 +86,7 @@ def package_faults(form: Dict[str, Any], value: Any) -> Iterator[Fault]:
         yield Fault(list(error.absolute_path), error.validator, error.validator_value, error.instance)
 
 
-_ORDER = ["type", "additionalProperties", "required", "minItems", "maxItems", "minimum", "maximum"]
+_ORDER = ["type", "additionalProperties", "required", "minItems", "maxItems", "maxLength", "minimum", "maximum"]
 
 
 def first_fault(form: Dict[str, Any], faults: Iterable[Fault]) -> Optional[Fault]:
@@ -133,6 +136,8 @@ def _sentence(form: Dict[str, Any], fault: Fault) -> str:
         return f"{next(name for name in form['required'] if name not in found)} is missing"
     if fault.word in ("minItems", "maxItems"):
         return f"{at}two numbers are wanted, one for each plant, not {len(found)}"
+    if fault.word == "maxLength":
+        return f"{at}at most {fault.wanted} letters are wanted, not {len(found)}"
     if fault.word == "minimum" and fault.path[0] != "costs":
         return f"{at}{found} is below 0"
     return f"{at}{found} does not fit a cell of 64 bits"

@@ -1,5 +1,6 @@
 """What stands in a request, each part of its kind; 400 with a sentence for anything else."""
 
+import json
 import re
 from typing import Dict, List
 
@@ -11,12 +12,24 @@ MOST_CALLS = 8000  # of one write: every lane, amount and entry of the largest c
 _DIGITS = re.compile(r"-?[0-9]{1,20}")
 
 
+def _once(pairs) -> dict:
+    found = dict(pairs)
+    if len(found) != len(pairs):
+        abort(400, "A key stands twice in the request.")
+    return found
+
+
 def body() -> dict:
     if request.mimetype != "application/json":
         abort(415, "The request is not JSON.")
+    data = request.get_data()
     try:
-        told = request.get_json(silent=True)
-    except RecursionError:
+        told = json.loads(data.decode("utf-8"), object_pairs_hook=_once)
+        if b"\\ud" in data.lower():  # half a character comes by an escape alone
+            json.dumps(told, ensure_ascii=False).encode("utf-8")
+    except UnicodeEncodeError:
+        abort(400, "The request holds half of a character (a lone surrogate).")
+    except (RecursionError, ValueError):
         told = None
     if not isinstance(told, dict):
         abort(400, "The request is not an object in JSON.")
@@ -62,6 +75,14 @@ def identity(told: dict) -> str:
     found = told.get("id", "")
     if not isinstance(found, str) or not re.fullmatch("[A-Za-z0-9-]{0,40}", found):
         abort(400, "The request has no good identity.")
+    return found
+
+
+def standing(told: dict) -> str:
+    """The case that the sender looked at, as `state` told it; nothing where the caller does not say."""
+    found = told.get("standing", "")
+    if not isinstance(found, str):
+        abort(400, "The request does not say well for which case it is.")
     return found
 
 

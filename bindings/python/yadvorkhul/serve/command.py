@@ -99,6 +99,8 @@ def run_user(arguments) -> int:
     module = _people()
     people = module.People(arguments.users)
     try:
+        for sentence in people.private():
+            say(f"yadvorkhul user: {sentence}")
         if arguments.what == "add":
             role = module.clean_role(arguments.role)
             word = people.add(arguments.name, role, _asked_word() if arguments.ask else None)

@@ -5,6 +5,8 @@ back; a new step forgets those undone.
 """
 
 import bisect
+import hashlib
+import json
 from typing import Dict, List, NamedTuple, Optional, Tuple
 
 
@@ -23,14 +25,14 @@ class History:
         self.steps: List[Step] = []
         self.undone: List[Step] = []
         self.published: Optional[dict] = None
-        self.ids = set()  # user and identity of each write that was answered
+        self.ids: Dict[Tuple[str, str], str] = {}  # by user and identity: what each write that was answered asked for
         self._entered: List[int] = []  # where among the steps a case was entered
         self._marks: Optional[Dict[int, Tuple[str, int]]] = None  # kept until undo, redo or another case
 
     def add(self, record: dict):
         kind = record["do"]
         if record.get("id"):
-            self.ids.add((record["user"], record["id"]))
+            self.ids[record["user"], record["id"]] = wanted(record)
         if kind in ("enter", "calls"):
             self._push(_step(record))
             self.undone.clear()
@@ -87,6 +89,12 @@ class History:
                 found.update({call[1]: step.seq for call in step.calls if call[0] == "mark"})
             self._marks = {mark: (names.get(mark, f"Mark {mark}"), seq) for mark, seq in sorted(found.items())}
         return self._marks
+
+
+def wanted(record: dict) -> str:
+    """What a write asks for, as a hash; what is published is not asked for but found."""
+    parts = [record["do"], record.get("calls"), record.get("names"), record.get("case")]
+    return hashlib.sha256(json.dumps(parts, sort_keys=True).encode()).hexdigest()[:16]
 
 
 def _step(record: dict) -> Step:

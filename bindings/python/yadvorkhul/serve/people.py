@@ -12,7 +12,7 @@ import tempfile
 import threading
 import time
 import unicodedata
-from typing import Dict, NamedTuple, Optional
+from typing import Dict, List, NamedTuple, Optional
 
 from werkzeug.security import check_password_hash, generate_password_hash
 
@@ -39,9 +39,14 @@ class Entry(NamedTuple):
     added: str
 
 
+def kept_name(name: str) -> str:
+    """A name in the form in which names are kept."""
+    return unicodedata.normalize("NFC", name.strip())
+
+
 def clean_name(name: str) -> str:
     """A name as it is kept; an error for one that cannot be."""
-    name = unicodedata.normalize("NFC", name.strip())
+    name = kept_name(name)
     if not 1 <= len(name) <= 40 or not all(letter.isalnum() or letter in "._-" for letter in name):
         raise PeopleError("a name has 1 to 40 letters, digits, points, hyphens and underscores")
     return name
@@ -75,13 +80,26 @@ class People:
             return self._entries
 
     def find(self, name: str) -> Optional[Entry]:
-        return self.entries().get(unicodedata.normalize("NFC", name.strip()))
+        return self.entries().get(kept_name(name))
 
     def signed_in(self, name: str, word: str) -> Optional[Entry]:
         """The person whose name and word these are. One hash is reckoned in any case."""
         entry = self.find(name)
         fits = check_password_hash(entry.hash if entry else _NOBODY, word[:LONGEST])
         return entry if fits else None
+
+    def private(self) -> List[str]:
+        """Nobody but the owner may read or write the file; what had to be altered for it."""
+        try:
+            mode = os.stat(self.path).st_mode & 0o777
+            if mode == 0o600:
+                return []
+            os.chmod(self.path, 0o600)
+        except FileNotFoundError:
+            return []
+        except OSError as error:
+            raise PeopleError(f"the file of people {self.path} cannot be made private: {error.strerror}") from error
+        return [f"the file of people {self.path} had mode {mode:03o}; it has 600 now"]
 
     # changing ----------------------------------------------------------------------------------------------------------------------
 
@@ -98,7 +116,7 @@ class People:
 
     def remove(self, name: str):
         with self._changing() as entries:
-            if entries.pop(unicodedata.normalize("NFC", name), None) is None:
+            if entries.pop(kept_name(name), None) is None:
                 raise PeopleError(f"there is no {name}")
 
     def change_word(self, name: str, word: str):

@@ -12,9 +12,10 @@ from ..cases import NotACase
 from ..files import FileRefusal
 from ..refusals import explain
 from . import asked, out, views
-from .cases import case_of, case_of_files
+from .cases import case_of, case_of_files, case_of_text
 from .guard import equal, server, who
-from .people import PeopleError
+from .people import PeopleError, kept_name
+from .sessions import begin
 from .shared import Refused
 
 routes = Blueprint("routes", __name__)
@@ -75,16 +76,16 @@ def sign_in():
     before = request.cookies.get(at.cookie + "-form", "")
     if not before or not equal(request.form.get("token", ""), at.sessions.form_token(before)):
         return _sign_in_page(403, "This form was too old. Please try again.")
-    name, address = request.form.get("name", "")[:80].strip(), request.remote_addr or ""
-    wait = max(at.by_name.left(name), at.by_address.left(address))
+    name, address = kept_name(request.form.get("name", "")[:80]), request.remote_addr or ""
+    wait = begin((at.by_name, name), (at.by_address, address))
     if wait > 0:
         response = _sign_in_page(429, f"Too many wrong words. Please wait {math.ceil(wait)} s.")
         response.headers["Retry-After"] = str(math.ceil(wait))
         return response
     entry = at.people.signed_in(name, request.form.get("word", ""))
     if entry is None:
-        at.by_name.wrong(name)
-        at.by_address.wrong(address)
+        at.by_name.stay(name)
+        at.by_address.stay(address)
         return _sign_in_page(403, "Name and password do not fit.")
     at.by_name.right(name)
     at.by_address.right(address)
@@ -112,11 +113,12 @@ def new_word_form():
 def new_word():
     at, name = server(), g.entry.name
     again = dict(token=g.session.token, once=g.entry.once)
-    if at.by_name.left(name) > 0:
+    if begin((at.by_name, name)) > 0:
         return _form("password.html", 429, "Too many wrong words. Please wait a little.", **again)
     if at.people.signed_in(name, request.form.get("old", "")) is None:
-        at.by_name.wrong(name)
+        at.by_name.stay(name)
         return _form("password.html", 403, "The present password does not fit.", **again)
+    at.by_name.right(name)
     new = request.form.get("new", "")
     if new != request.form.get("again", ""):
         return _form("password.html", 422, "The new password was not typed alike twice.", **again)
@@ -211,7 +213,7 @@ def do():
     if not calls and not names:
         abort(400, "The request has no call.")
     try:
-        shared().do(who(), calls, names, asked.identity(body))
+        shared().do(who(), calls, names, asked.identity(body), asked.standing(body))
     except Refused as error:
         names = shared().names()
         return refused(error.refusal, index=error.index, **views.call_refused(names, error.refusal, error.call))
@@ -236,15 +238,17 @@ def redo():
 
 @routes.post("/import", endpoint="import")
 def import_case():
-    """Another case: an object with the fields of a case, or the texts of the two files."""
+    """Another case: an object with the fields of a case, the text of a JSON file, or the texts of the two files."""
     planner_only()
     body = asked.body()
     tariff = production = None
     try:
         if "case" in body:
             case = case_of(body["case"])
+        elif "text" in body:
+            case = case_of_text(asked.text(body, "text"))
         else:
-            tariff, production = (asked.text(body, field).encode("utf-8", "surrogateescape") for field in ("tariff", "production"))
+            tariff, production = (asked.text(body, field).encode() for field in ("tariff", "production"))
             case = case_of_files(tariff, production)
         shared().enter(who(), case, asked.identity(body))
     except NotACase as error:
@@ -263,7 +267,8 @@ def _sentence(explained) -> str:
 
 @routes.post("/publish", endpoint="publish")
 def publish():
-    shared().publish(who(), asked.identity(asked.body()))
+    body = asked.body()
+    shared().publish(who(), asked.identity(body), asked.standing(body))
     return state_now()
 
 

@@ -5,7 +5,7 @@ import hmac
 import secrets
 import threading
 import time
-from typing import Dict, NamedTuple, Optional
+from typing import Dict, NamedTuple, Optional, Tuple
 
 from .people import Entry
 
@@ -73,13 +73,35 @@ class Waiting:
             return max(0.0, self._wrong.get(key, (0, 0.0))[1] - self._clock())
 
     def wrong(self, key: str):
+        """One wrong word more."""
+        self._count(key, 1)
+
+    def stay(self, key: str):
+        """The wait of what was counted already, from now on."""
+        self._count(key, 0)
+
+    def _count(self, key: str, more: int):
         with self._lock:
             now = self._clock()
             self._wrong = {k: one for k, one in self._wrong.items() if one[1] + 3600 > now}
-            times = self._wrong.get(key, (0, 0.0))[0] + 1
+            times = self._wrong.get(key, (0, 0.0))[0] + more
             wait = 0.0 if times < _FREE else min(self._longest, 2.0 ** (times - _FREE))
             self._wrong[key] = (times, now + wait)
 
     def right(self, key: str):
         with self._lock:
             self._wrong.pop(key, None)
+
+
+_beginning = threading.Lock()
+
+
+def begin(*kept: Tuple[Waiting, str]) -> float:
+    """Seconds that are left to wait. Where there are none the try counts as wrong before its word is looked at, so that many tries at
+    once are no more than many one after the other; `right` takes it back."""
+    with _beginning:
+        wait = max(waiting.left(key) for waiting, key in kept)
+        if wait <= 0:
+            for waiting, key in kept:
+                waiting.wrong(key)
+        return wait

@@ -4,11 +4,13 @@ The store is what the steps of the history lead to. A step that is refused half 
 after any run of calls gives what the case of that history entered afresh gives (W-204, proved), so nothing else need be kept.
 """
 
+import hashlib
+import json
 import threading
 from typing import Dict, List, NamedTuple, Optional
 
 from .. import Case, Plan, Refusal, Role, Tariff, WorkingCase, offers
-from .history import History, folded
+from .history import History, folded, wanted
 from .journal import Journal, JournalError, NotWritten
 
 CALLS = {"edit_demand": 2, "edit_supply": 2, "edit_cost": 3, "edit_entry": 2, "mark": 1, "go_back": 1}  # and how many numbers each takes
@@ -29,7 +31,7 @@ class Refused(Exception):
 
 
 class OutOfDate(Exception):
-    """What was to be undone or redone is no longer the last step."""
+    """What was to be undone or redone is no longer the last step, or the write was meant for another case."""
 
 
 class Marked(NamedTuple):
@@ -89,15 +91,17 @@ class SharedCase:
 
     # what changes the case ---------------------------------------------------------------------------------------------------------
 
-    def do(self, who: Person, calls: List[list], names: Dict[int, str], identity: str):
+    def do(self, who: Person, calls: List[list], names: Dict[int, str], identity: str, standing: str = ""):
         """All calls of a write, or none. One that was answered before is not done again."""
+        record = {"do": "calls", "user": who.name, "role": int(who.role), "calls": calls, **_naming(names), **_identity(identity)}
         with self.lock:
-            if self._answered(who, identity):
+            if self._answered(record):
                 return
+            self._stands(standing)
             self._do_all(who, calls)
             if names:
                 self._may_name(who, calls)
-            self._note({"do": "calls", "user": who.name, "role": int(who.role), "calls": calls, **_naming(names), **_identity(identity)})
+            self._note(record)
 
     def _do_all(self, who: Person, calls: List[list]):
         done = 0
@@ -119,8 +123,17 @@ class SharedCase:
             self.work = replayed(self.history)
             raise Refused(refusal, len(calls), ["mark", 0])
 
-    def _answered(self, who: Person, identity: str) -> bool:
-        return bool(identity) and (who.name, identity) in self.history.ids
+    def _answered(self, record: dict) -> bool:
+        """Whether the write was answered before. An identity is of one write: with another one it is refused."""
+        before = self.history.ids.get((record["user"], record.get("id", "")))
+        if before is not None and before != wanted(record):
+            raise OutOfDate("this write has the identity of another one; nothing was changed")
+        return before is not None
+
+    def _stands(self, standing: str):
+        """A write names cells by their places: it is for the case that whoever sent it looked at."""
+        if standing and standing != self.standing():
+            raise OutOfDate("another case was entered meanwhile; nothing was changed")
 
     def _note(self, record: dict):
         """The record into the journal, then into the history. Where it does not reach the disk the store is as before."""
@@ -133,7 +146,7 @@ class SharedCase:
     def undo(self, who: Person, of: int, identity: str):
         """Takes the last step away, which must be the one named."""
         with self.lock:
-            if self._answered(who, identity):
+            if self._answered(_turning("undo", who, identity)):
                 return
             if not self.history.may_undo() or self.history.last.seq != of:
                 raise OutOfDate("somebody else changed the case meanwhile; look at it before you undo")
@@ -142,45 +155,56 @@ class SharedCase:
     def redo(self, who: Person, of: int, identity: str):
         """Brings the step back that was undone last, which must be the one named."""
         with self.lock:
-            if self._answered(who, identity):
+            if self._answered(_turning("redo", who, identity)):
                 return
             if not self.history.undone or self.history.undone[-1].seq != of:
                 raise OutOfDate("somebody else changed the case meanwhile; there is nothing to redo")
             self._turn("redo", who, identity)
 
     def _turn(self, kind: str, who: Person, identity: str):
-        self._note({"do": kind, "user": who.name, "role": int(who.role), **_identity(identity)})
+        self._note(_turning(kind, who, identity))
         self.work = replayed(self.history)
 
     def enter(self, who: Person, case: dict, identity: str):
         """Another case in place of this one. Its marks are gone with it, and come back by undo."""
+        record = {"do": "enter", "user": who.name, "role": int(who.role), "case": case, **_identity(identity)}
         with self.lock:
-            if self._answered(who, identity):
+            if self._answered(record):
                 return
             fresh = entered(case)
-            self._note({"do": "enter", "user": who.name, "role": int(who.role), "case": case, **_identity(identity)})
+            self._note(record)
             self.work = fresh
 
-    def publish(self, who: Person, identity: str):
+    def publish(self, who: Person, identity: str, standing: str = ""):
         """Freezes the lanes of the plan for everybody to see, without costs."""
         with self.lock:
-            if self._answered(who, identity):
+            if self._answered(_turning("publish", who, identity)):
                 return
+            self._stands(standing)
             plan, tariff = self.work.plan(who.role), self.work.see_tariff(who.role)
             lanes = {"amounts": plan.amounts, "supplies": tariff.supplies, "demands": tariff.demands, **self.names()}
-            self._note({"do": "publish", "user": who.name, "role": int(who.role), "lanes": lanes, **_identity(identity)})
+            self._note({**_turning("publish", who, identity), "lanes": lanes})
 
     def withdraw(self, who: Person, identity: str):
         with self.lock:
-            if not self._answered(who, identity) and self.history.published is not None:
-                self._note({"do": "withdraw", "user": who.name, "role": int(who.role), **_identity(identity)})
+            record = _turning("withdraw", who, identity)
+            if not self._answered(record) and self.history.published is not None:
+                self._note(record)
 
     # what is read from it ----------------------------------------------------------------------------------------------------------
 
     def names(self) -> dict:
-        """Title and names, which everybody sees."""
+        """Title, currency, date and names, which everybody sees."""
         case = self.history.case
-        return {field: case[field] for field in ("title", "sources", "terminals")}
+        about = {field: case.get(field, "") for field in ("title", "currency", "date")}
+        return {**about, "sources": case["sources"], "terminals": case["terminals"]}
+
+    def standing(self) -> str:
+        """Tells the case that stands from another one, by what everybody sees of it: names and sizes, which no edit alters."""
+        with self.lock:
+            case = self.history.case
+            parts = [self.names(), len(case["supplies"]), len(case["demands"])]
+        return hashlib.sha256(json.dumps(parts, sort_keys=True).encode()).hexdigest()[:16]
 
     def limits(self, role: Role):
         """Least runs and ceilings; a deed of whoever may plan. No edit alters them, so an archive without the call needs none."""
@@ -240,6 +264,11 @@ def _allowed(refusal: Optional[Refusal]):
 
 def _naming(names: Dict[int, str]) -> dict:
     return {"names": {str(mark): name for mark, name in names.items()}} if names else {}
+
+
+def _turning(kind: str, who: Person, identity: str) -> dict:
+    """The record of a write that has nothing but its kind."""
+    return {"do": kind, "user": who.name, "role": int(who.role), **_identity(identity)}
 
 
 def _identity(identity: str) -> dict:

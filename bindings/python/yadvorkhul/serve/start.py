@@ -59,9 +59,21 @@ def _resumed(path: str, files: List[str]) -> Opened:
     opened = open_journal(path)
     calls = len(opened.records) - 1
     opened.told.append(f"the journal {path} goes on, with {calls} record{'' if calls == 1 else 's'} after the case as entered")
-    if files and os.path.exists(files[0]) and read_given(files) != opened.records[0].get("case"):
-        opened.told.append("the files named hold another case than the journal began with; the journal counts. To take them in, import them")
+    if files and os.path.exists(files[0]):
+        opened.told.extend(_beside(files, opened.records[0].get("case")))
     return opened
+
+
+def _beside(files: List[str], case: dict) -> List[str]:
+    """What to say of files that are named beside a journal. The journal counts, so they stop nothing."""
+    try:
+        if read_given(files) == case:
+            return []
+        return ["the files named hold another case than the journal began with; the journal counts. To take them in, import them"]
+    except CannotStart as error:
+        return [f"the files named cannot be read; the journal counts. {error}"]
+    except OSError as error:
+        return [f"the files named cannot be read; the journal counts. {error.strerror}: {error.filename}"]
 
 
 def opened(path: str, files: List[str]) -> Opened:
@@ -86,22 +98,31 @@ def first_planner(people: People) -> List[str]:
     return [f"there was nobody who may sign in; now there is: name planner, one-time word {word} (said this once)"]
 
 
-def start(files: List[str], journal: str, users: str, port: int, proxy: str, say):
-    """Serves until it is stopped."""
-    found = opened(journal, files)
+def _server(found: Opened, users: str, port: int, proxy: str, say):
+    """A server that listens, or a `CannotStart`."""
     people = People(users)
     try:
         shared = SharedCase(found.journal, found.records)
-        for sentence in found.told + first_planner(people):
+        for sentence in people.private() + first_planner(people):
             say(sentence)
-        server = make_server(make_app(shared, people, port, proxy), port, proxy)
+        return make_server(make_app(shared, people, port, proxy), port, proxy)
     except (JournalError, PeopleError) as error:
         raise CannotStart(str(error)) from error
     except OSError as error:
         raise CannotStart(f"port {port} of {ADDRESS}: {error.strerror}") from error
-    say(f"https://{proxy}/ by way of {ADDRESS}:{port}" if proxy else f"http://{ADDRESS}:{port}/")
+
+
+def start(files: List[str], journal: str, users: str, port: int, proxy: str, say):
+    """Serves until it is stopped."""
+    found = opened(journal, files)
     try:
-        server.run()
+        for sentence in found.told:  # first: a line that was dropped is told even where the start fails below
+            say(sentence)
+        server = _server(found, users, port, proxy, say)
+        say(f"https://{proxy}/ by way of {ADDRESS}:{port}" if proxy else f"http://{ADDRESS}:{port}/")
+        try:
+            server.run()
+        finally:
+            server.close()
     finally:
-        server.close()
         found.journal.close()

@@ -186,6 +186,7 @@ def state(shared: SharedCase, role: Role) -> dict:
     """All that the role is shown of the case as it is now."""
     with shared.lock:
         told = dict(shared.names())
+        told["standing"] = shared.standing()
         told["may"] = may(shared, role)
         tariff, _ = answer(shared.work.see_tariff, role)
         if tariff is not None:

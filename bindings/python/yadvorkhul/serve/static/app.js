@@ -18,11 +18,6 @@ const LOOK = 4000; // milliseconds between two looks at what others did
 
 const part = (id) => document.getElementById(id);
 
-// What two states of one case have alike: names and sizes.
-function shapeOf({ title, sources, terminals, tariff }) {
-  return JSON.stringify([title, sources, terminals, tariff.supplies.length, tariff.demands.length]);
-}
-
 class Desk {
   constructor() {
     this.view = { state: null, marks: new Map(), base: 0, before: null };
@@ -111,8 +106,9 @@ class Desk {
   }
 
   async act(calls, refused, names) {
+    const { standing } = this.view.state; // the case that is looked at now: another one may stand when the calls arrive
     if (!(await this.sure(calls))) return false;
-    return this.send("/do", names ? { calls, names } : { calls }, refused);
+    return this.send("/do", names ? { calls, names, standing } : { calls, standing }, refused);
   }
 
   // Before a smaller a_1 cuts entries.
@@ -153,7 +149,7 @@ class Desk {
     const old = this.view.state;
     if (old && old.tag === state.tag) return;
     // what another case had is no change of this one
-    if (old && shapeOf(old) !== shapeOf(state)) this.view.before = null;
+    if (old && old.standing !== state.standing) this.view.before = null;
     else if (old?.plan) this.view.before = old;
     this.view.state = state;
     await this.loadMarks();

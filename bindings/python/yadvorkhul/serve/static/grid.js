@@ -1,6 +1,6 @@
 // A grid of numbers for the keyboard: arrows move, Enter or a digit begins, Enter ends, Escape takes back, a block is pasted whole or not at all.
 
-import { parse } from "./numbers.js";
+import { commasPart, parse, whyNot } from "./numbers.js";
 
 export function element(name, attributes = {}, ...children) {
   const made = document.createElement(name);
@@ -195,7 +195,7 @@ export class Grid {
   async finish(next) {
     const { r, c, input, old } = this.editing;
     const typed = input.value, value = parse(typed);
-    if (value === null) this.wrong(`\u201c${typed}\u201d is no whole number.`);
+    if (value === null) this.wrong(`\u201c${typed}\u201d ${whyNot(typed)}.`);
     this.close();
     if (value !== null && next) this.go(...next);
     if (value === old) return;
@@ -248,13 +248,13 @@ export class Grid {
     if (top + lines.length > this.rows || left + width > this.columns) {
       return this.wrong(`The block is ${lines.length} by ${width}; from here there is room for ${this.rows - top} by ${this.columns - left}. Nothing was changed.`);
     }
-    const changes = [];
+    const changes = [], commas = commasPart(lines.flat());
     for (let i = 0; i < lines.length; i++) {
       for (let j = 0; j < width; j++) {
-        const value = parse(lines[i][j]);
+        const value = parse(lines[i][j], commas);
         if (value === null) {
           this.outline(top + i, left + j);
-          return this.wrong(`\u201c${lines[i][j].slice(0, 20)}\u201d in row ${i + 1}, column ${j + 1} of the block is no whole number. Nothing was changed.`);
+          return this.wrong(`\u201c${lines[i][j].slice(0, 20)}\u201d in row ${i + 1}, column ${j + 1} of the block ${whyNot(lines[i][j])}. Nothing was changed.`);
         }
         if (value !== String(this.cell(top + i, left + j).value)) changes.push({ r: top + i, c: left + j, value });
       }

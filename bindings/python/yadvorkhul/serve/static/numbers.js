@@ -21,10 +21,26 @@ export function percent(more, total) {
   return `${text}\u00a0%`;
 }
 
-// The digits of what a person typed or pasted, or null where it is no whole number. Groups of three may be parted.
-export function parse(text) {
-  const bare = text.trim().replace(/^[\u2212\u2013]/, "-");
-  const digits = /^-?\d{1,3}([,'\u2019\u00a0\u202f ]\d{3})+$/.test(bare) ? bare.replace(/[^\d-]/g, "") : bare;
+const bareOf = (text) => text.trim().replace(/^[\u2212\u2013]/, "-");
+
+// Whether one of the texts shows that a comma parts thousands: with two commas it is no decimal.
+export function commasPart(texts) {
+  return texts.some((text) => /^-?\d{1,3}(,\d{3}){2,}$/.test(bareOf(text)));
+}
+
+// Why a text is no number.
+export function whyNot(text) {
+  const bare = bareOf(text);
+  if (!/^-?\d{1,3},\d{3}$/.test(bare)) return "is no whole number";
+  return `may be ${bare.replace(",", "")} or a decimal; leave the comma out`;
+}
+
+// The digits of what a person typed or pasted, or null where it is no whole number. Groups of three may be parted by a blank or an
+// apostrophe; by a comma where it, or another text of the same block, shows that commas part thousands.
+export function parse(text, commas = commasPart([text])) {
+  const bare = bareOf(text);
+  const parted = commas ? /^-?\d{1,3}([,'\u2019\u00a0\u202f ])\d{3}(\1\d{3})*$/ : /^-?\d{1,3}(['\u2019\u00a0\u202f ])\d{3}(\1\d{3})*$/;
+  const digits = parted.test(bare) ? bare.replace(/[^\d-]/g, "") : bare;
   if (!/^-?\d{1,20}$/.test(digits)) return null;
   return digits.replace(/^(-?)0+(?=\d)/, "$1").replace(/^-0$/, "0");
 }

@@ -3,7 +3,7 @@
 import { post } from "./ask.js";
 import { Chart } from "./chart.js";
 import { element } from "./grid.js";
-import { counted, freights, group, parse, percent } from "./numbers.js";
+import { commasPart, counted, freights, group, parse, percent, whyNot } from "./numbers.js";
 
 function make(panel, desk) {
   const field = (name, label, value) => element("label", {}, `${label} `, element("input", { name, inputmode: "numeric", size: 4, value, autocomplete: "off" }), " %");
@@ -72,9 +72,10 @@ function make(panel, desk) {
   });
 
   pasted.querySelector("button").addEventListener("click", () => {
-    const entries = high.value.trim().split(/\s*\n\s*/).map(parse);
+    const lines = high.value.trim().split(/\s*\n\s*/), commas = commasPart(lines);
+    const entries = lines.map((line) => parse(line, commas));
     const odd = entries.findIndex((entry) => entry === null || entry.startsWith("-"));
-    if (odd >= 0) return desk.wrong(`Line ${odd + 1} of the column is no whole number from 0 on.`);
+    if (odd >= 0) return desk.wrong(`Line ${odd + 1} of the column ${entries[odd] === null ? whyNot(lines[odd]) : "is below 0"}.`);
     ask(state().table.map(String), entries);
   });
 

@@ -10,6 +10,24 @@ const OUT = [
   ["/out/case.json", "case.json", "the case with names, as far as you may see it", (state) => state.tariff],
 ];
 
+const PLAIN = ["tariff.csv", "production.csv"]; // the two files have no place for least runs and ceilings
+
+// What the two files leave out. Who may not see whether there are least runs or ceilings is told what holds for any case.
+function leftOut({ limits }) {
+  if (!limits) return "Least runs and ceilings, where the case has some, are not in it.";
+  const some = limits.runs.some((run) => run > 0) || limits.ceilings?.some((row) => row.some((most) => most < 4000));
+  return some ? "The least runs and ceilings of this case are not in it; case.json has them." : "";
+}
+
+// The letters of a file as they stand, so that the server reads what the command would.
+async function textOf(file) {
+  try {
+    return new TextDecoder("utf-8", { fatal: true, ignoreBOM: true }).decode(await file.arrayBuffer());
+  } catch (error) {
+    throw new Error("The file is not UTF-8.");
+  }
+}
+
 function make(panel, desk) {
   const list = element("ul", { class: "files" });
   const picker = element("input", { type: "file", multiple: true, accept: ".json,.csv,application/json,text/csv", id: "import-files" });
@@ -19,7 +37,7 @@ function make(panel, desk) {
   panel.append(element("h2", {}, "Save"), list, entering);
 
   async function bodyOf(files) {
-    if (files.length === 1 && files[0].name.endsWith(".json")) return { case: JSON.parse(await files[0].text()) };
+    if (files.length === 1 && files[0].name.endsWith(".json")) return { text: await textOf(files[0]) };
     const one = (word) => files.find((file) => file.name.toLowerCase().includes(word));
     const [tariff, production] = [one("tariff") ?? files[0], one("production") ?? files[1]];
     if (files.length !== 2 || tariff === production) throw new Error("Choose one .json file, or a tariff and a production table.");
@@ -31,7 +49,7 @@ function make(panel, desk) {
     try {
       body = await bodyOf([...picker.files]);
     } catch (error) {
-      return desk.wrong(error instanceof SyntaxError ? "The file is not JSON." : error.message);
+      return desk.wrong(error.message);
     }
     const sure = await desk.ask({ title: "Enter this case?", text: "It takes the place of the present case for everybody. Undo brings the present one back.", yes: "Enter" });
     if (sure && (await desk.send("/import", body))) picker.value = "";
@@ -56,8 +74,9 @@ function make(panel, desk) {
   }
 
   function update({ state }) {
+    const left = leftOut(state);
     const shown = OUT.filter(([, , , shows]) => shows(state));
-    list.replaceChildren(...shown.map(([path, name, words]) => element("li", {}, element("a", { href: path, download: name, onclick: (event) => save(event, path, name) }, name), ` ${words}`)));
+    list.replaceChildren(...shown.map(([path, name, words]) => element("li", {}, element("a", { href: path, download: name, onclick: (event) => save(event, path, name) }, name), ` ${words}`, PLAIN.includes(name) && left ? element("span", { class: "left-out" }, `. ${left}`) : "")));
     entering.hidden = state.undo === undefined;
   }
   return { update };

@@ -3,7 +3,7 @@
 import { get } from "./ask.js";
 import { Chart } from "./chart.js";
 import { Grid, element } from "./grid.js";
-import { counted, group, parse, signed } from "./numbers.js";
+import { commasPart, counted, group, parse, signed, whyNot } from "./numbers.js";
 
 function make(panel, desk) {
   const holder = element("div", { class: "curve" });
@@ -60,8 +60,10 @@ function make(panel, desk) {
 
   fill.addEventListener("submit", (event) => {
     event.preventDefault();
-    const [from, to, value, step] = ["from", "to", "value", "step"].map((name) => parse(fill.elements[name].value || "x"));
-    if ([from, to, value, step].includes(null)) return desk.wrong("From, to, entry and step are whole numbers.");
+    const typed = ["from", "to", "value", "step"].map((name) => fill.elements[name].value || "x"), commas = commasPart(typed);
+    const [from, to, value, step] = typed.map((text) => parse(text, commas));
+    const odd = typed.find((text) => parse(text, commas) === null);
+    if (odd !== undefined) return desk.wrong(`From, to, entry and step are whole numbers.${odd === "x" ? "" : ` \u201c${odd}\u201d ${whyNot(odd)}.`}`);
     const [a, b] = [Number(from), Number(to)];
     if (a < 0 || b < a || b >= length) return desk.wrong(`The range lies within 0 to ${group(length - 1)}, from the smaller to the larger.`);
     const calls = [];

@@ -14,7 +14,8 @@ function make(panel, desk) {
   const withdraw = element("button", { type: "button" }, "Withdraw it");
   acts.append(publish, withdraw);
   publish.addEventListener("click", async () => {
-    if (await desk.ask({ title: "Publish this plan?", text: WARNING, yes: "Publish" })) desk.send("/publish", {});
+    const { standing } = desk.view.state;
+    if (await desk.ask({ title: "Publish this plan?", text: WARNING, yes: "Publish" })) desk.send("/publish", { standing });
   });
   withdraw.addEventListener("click", async () => {
     if (await desk.ask({ title: "Withdraw the published plan?", text: "It is no longer shown. Whoever saw it may remember it.", yes: "Withdraw" })) desk.send("/withdraw", {});
