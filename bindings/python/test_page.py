@@ -461,6 +461,21 @@ class Pictures(unittest.TestCase):
     def test_settings_that_are_no_text(self):
         self.assertEqual(self.picture(b"\xff\xfe\x00"), self.picture(None))
 
+    def test_folder_and_environment_stay(self):
+        """Threads draw for the first time in a folder with settings: one page, and the folder and MATPLOTLIBRC are as before."""
+        script = (
+            "import concurrent.futures, os, sys; from yadvorkhul import page; given = dict(costs=[[2], [5]], supplies=[3, 3], demands=[3], table=[9] * 4)\n"
+            "before = os.getcwd(), os.environ.get('MATPLOTLIBRC')\n"
+            "with concurrent.futures.ThreadPoolExecutor(4) as pool: pages = set(pool.map(page, [given] * 4))\n"
+            "sys.exit(len(pages) != 1 or (os.getcwd(), os.environ.get('MATPLOTLIBRC')) != before)"
+        )
+        with tempfile.TemporaryDirectory() as folder:
+            with open(os.path.join(folder, "matplotlibrc"), "wb") as out:
+                out.write(b"\xff\xfe\x00")
+            here = {**os.environ, "PYTHONPATH": os.path.dirname(os.path.abspath(__file__)), "MATPLOTLIBRC": os.path.join(folder, "matplotlibrc")}
+            done = subprocess.run([sys.executable, "-c", script], cwd=folder, env=here, capture_output=True)
+            self.assertEqual((done.returncode, done.stderr), (0, b""))
+
 
 class Curves(unittest.TestCase):
     def test_valleys(self):

@@ -10,6 +10,7 @@ import hashlib
 import os
 import re
 import sys
+import threading
 from typing import TYPE_CHECKING, Any, Callable, Iterable, Iterator, List, NamedTuple, Optional, Tuple
 
 from . import MOST_AMOUNT, Bounds, Case, Plan, Refusal, __version__
@@ -42,6 +43,9 @@ class MissingLibrary(ImportError):
     """A library that only the page needs is not there."""
 
 
+_LOADING = threading.Lock()  # the folder and the environment are the whole process's
+
+
 @contextlib.contextmanager
 def _no_settings(name: str) -> Iterator[None]:
     """Loads Matplotlib for the first time without the settings of the current folder and of the user, which need not even be text. Those of
@@ -70,7 +74,7 @@ def _needed(name: str) -> Any:
     import importlib
 
     try:
-        with _no_settings(name):
+        with _LOADING, _no_settings(name):
             return importlib.import_module(name)
     except ImportError as error:
         raise MissingLibrary(

@@ -4,6 +4,7 @@ import contextlib
 import html
 import io
 import re
+import threading
 import warnings
 from typing import Dict, Sequence, Tuple
 
@@ -86,6 +87,9 @@ def _settle(figure, axes, marked):
             text.remove()
 
 
+_DRAWING = threading.Lock()  # Matplotlib's settings are the whole process's: one picture at a time
+
+
 @contextlib.contextmanager
 def _canvas(width: float, height: float, name: str):
     """A figure from Matplotlib's own defaults, whatever a matplotlibrc of the current folder or of the user says."""
@@ -94,7 +98,7 @@ def _canvas(width: float, height: float, name: str):
     from matplotlib.figure import Figure
 
     settings = {"svg.fonttype": "none", "svg.hashsalt": name, "font.family": "DejaVu Sans"}
-    with matplotlib.rc_context(), warnings.catch_warnings():
+    with _DRAWING, matplotlib.rc_context(), warnings.catch_warnings():
         warnings.simplefilter("ignore")  # a name may have letters that the font lacks; the browser has them
         matplotlib.rcdefaults()
         matplotlib.rcParams.update(settings)
