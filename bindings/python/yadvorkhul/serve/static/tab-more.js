@@ -15,7 +15,7 @@ const spoken = (print) => print.match(/.{4}/g).slice(0, 4).join(" ");
 
 function make(panel, desk) {
   const prints = element("p", { class: "legend" });
-  const tables = element("div", { class: "more" });
+  const tables = element("div", { class: "more scroll", tabindex: 0, role: "region", "aria-label": "What one drum more changes" });
   panel.append(element("p", { class: "legend" }, "What the total would change by, planned again by the proved function with that one number changed: exact for one drum, not for more."), prints, tables);
   let shown = "";
 
