@@ -71,7 +71,14 @@ fn choose(m: usize, n: usize, next: usize, key: &[u32; 96]) -> usize
     nearest(m, n, key)
 }
 
-// Settles node after node, nearest first by reduced costs, up to the first that has room: that node, or 96. The key of a node that
+// What a search has found: the goal (96: none), and for each node its distance and the node before it.
+pub struct Paths {
+    pub goal: usize,
+    pub dist: [u32; 96],
+    pub prev: [u32; 96],
+}
+
+// Settles node after node, nearest first by reduced costs, up to the first that has room, which is the goal. The key of a node that
 // has a label and is not settled comes from its reduced distance, of any other it is SHUT.
 fn explore(
     m: usize,
@@ -85,15 +92,16 @@ fn explore(
     full: &[u32; 96],
     want: &[u32; 96],
     start: usize,
-    dist: &mut [u32; 96],
-    prev: &mut [u32; 96],
-) -> usize
+    blank: Paths,
+) -> Paths
     requires { ⌜ SearchReady (net m n (now cost) (now cap) (now x)) (now pot) start ⌝ }
     requires { ⌜ PlanTagged (net m n (now cost) (now cap) (now x)) (now room) (now full) (now want) ⌝ }
-    requires { ⌜ Blank (now dist) (now prev) ⌝ }
+    requires { ⌜ Blank (blank .dist) (blank .prev) ⌝ }
     requires { ⌜ Covers m n (now x) (now serves) ⌝ }
-    ensures { λ r. ⌜ Answered (net m n (now (cost .entry)) (now (cap .entry)) (now (x .entry))) (now (pot .entry)) (now (room .entry)) start (now (dist .exit)) (now (prev .exit)) r ⌝ }
+    ensures { λ r. ⌜ Answered (net m n (now (cost .entry)) (now (cap .entry)) (now (x .entry))) (now (pot .entry)) (now (room .entry)) start (r .dist) (r .prev) (r .goal) ⌝ }
 {
+    let mut dist = blank.dist;
+    let mut prev = blank.prev;
     let mut key = [SHUT; 96];
     dist[start] = pot[start];
     key[start] = 0;
@@ -101,10 +109,18 @@ fn explore(
     for turn in 0u64..96 {
         let v = choose(m, n, next, &key);
         if v == 96 {
-            return v;
+            return Paths {
+                goal: v,
+                dist,
+                prev,
+            };
         }
         if 0 < room[v] {
-            return v;
+            return Paths {
+                goal: v,
+                dist,
+                prev,
+            };
         }
         let level = key[v];
         key[v] = SHUT;
@@ -121,12 +137,16 @@ fn explore(
             pot,
             full,
             want,
-            dist,
-            prev,
+            &mut dist,
+            &mut prev,
             &mut key,
         );
     }
-    96
+    Paths {
+        goal: 96,
+        dist,
+        prev,
+    }
 }
 
 // 1 where there is no room.
@@ -181,13 +201,6 @@ fn prefer(room: &[u32; 96], x: &[u32; 2048], full: &mut [u32; 96])
     }
 }
 
-// What a search found: the goal (96: none), and for each node its distance and the node before it.
-pub struct Paths {
-    pub goal: usize,
-    pub dist: [u32; 96],
-    pub prev: [u32; 96],
-}
-
 // Cheapest paths from a source to the nearest node that has room.
 pub fn search(
     m: usize,
@@ -206,13 +219,16 @@ pub fn search(
     requires { ⌜ Covers m n (now x) (now serves) ⌝ }
     ensures { λ r. ⌜ Answered (net m n (now (cost .entry)) (now (cap .entry)) (now (x .entry))) (now (pot .entry)) (now (room .entry)) start (r .dist) (r .prev) (r .goal) ⌝ }
 {
+    let blank = Paths {
+        goal: 96,
+        dist: [FAR; 96],
+        prev: [0u32; 96],
+    };
     let mut full = [0u32; 96];
     let mut want = [0u32; 96];
     tag(room, demand, &mut full, &mut want);
     prefer(room, x, &mut full);
-    let mut dist = [FAR; 96];
-    let mut prev = [0u32; 96];
-    let goal = explore(
+    explore(
         m,
         n,
         cost,
@@ -224,8 +240,6 @@ pub fn search(
         &full,
         &want,
         start,
-        &mut dist,
-        &mut prev,
-    );
-    Paths { goal, dist, prev }
+        blank,
+    )
 }

@@ -1,13 +1,18 @@
--- The stretches of an accepted case: from y, t drums along the path of a stretch add t times its cost to f, in the case's own unit costs.
+-- The stretches of an accepted case, one and all: from y, t drums along the path of one add t times its cost to f, in the case's own unit costs.
 -- Assumes nothing.
 use mathlib.Core.Path.{_≡_, sym, _∙_, subst, subst₂}
 use mathlib.Core.List.{List}
-use Prim.Native.Nat.{ℕ, _+_, _*_, _≤_, _<_}
+use Prim.Native.Nat.{ℕ, _+_, _-_, _*_, _≤_, _<_}
 use native.Mathlib.Omega.{arith}
 use lib.IntN.{ℤ, pos}
 use lib.ListN.{getD}
-use Rattle.transport.specs.Plan.{byRow}
+use Rattle.transport.specs.Plan.{Table, byRow}
 use Rattle.transport.specs.Curve.{amountsAt, leastIn}
+use Rattle.transport.specs.theory.AtSplit.{At}
+use Rattle.residual.specs.Cells.{cells}
+use Rattle.residual.specs.Network.{net}
+use Rattle.incumbent.specs.declared.Incumbent.{Incumbent}
+use Rattle.stretch.specs.Stretch.{StretchReady, StretchDone}
 use Rattle.problem.specs.Integer.{Above}
 use Rattle.problem.specs.Freight.{ratesByRow}
 use Rattle.problem.specs.Range.{raisedOf}
@@ -20,9 +25,10 @@ use Rattle.problem.proofs.RaisedLists.{map-at}
 use Rattle.problem.proofs.RaisedFreight.{Raised}
 use Rattle.problem.proofs.RaisedCurve.{lane-in, added, least-above}
 use Rattle.split_range.specs.Range.{amountIn, demandIn}
-use Rattle.sweep.specs.Stretches.{curveOf, Stretches}
+use Rattle.sweep.specs.Stretches.{FreightCurve, curveOf, Stretch, Stretches}
 use Rattle.sweep.specs.Sweep.{Swept}
-use Rattle.sweep.proofs.OwnCosts.{own-stretches}
+use Rattle.sweep.proofs.OwnCosts.{own-stretch, own-stretches}
+use Rattle.sweep.proofs.StretchTurns.{stretch-of}
 use Rattle.planner.specs.CaseCurve.{caseCurve, Climbed}
 use Rattle.planner.proofs.EngineAnswer.{Prepared, Accepts, form-of, fitting-of, sends, curve}
 
@@ -45,21 +51,36 @@ module _ {c : Case} {lo hi all : ℕ} (a : Accepts c lo hi all) {cost cap amount
       subst (λ (g : ℕ → ℕ). Above (1000000 * allDemand c) (leastFreightAt c y) (g y)) (sym (curve a p))
       (least-above f (fitting-of (a .on)) y (omega (arith, a .on .low)) (omega (arith, a .on .high)))
 
-  -- what the sweep climbed by is what the case's curve rises by
-  pub case-stretches : {plus : ℕ} {splits splits' kept : List ℕ} {freights freights' : List ℤ} {y t v k : ℕ}
-      → Swept (c .m) (c .n) (byRow 64 cost) (byRow 64 cap) all (amountIn amounts) (demandIn wants) lo hi (c .table) plus splits freights splits' freights' kept y t v k
-      → Stretches (caseCurve c) (leastSplit c)
+  -- the case's curve up to split h
+  abbrev curveTo : ℕ → FreightCurve
+  curveTo h =
+      curveOf (c .m) (c .n) (ratesByRow (c .n) (c .costs)) (ceiling c) (amountsAt (made c) (λ i. supply c i)) (λ j. demand c j) (leastFreightAt c) h
+
+  -- one stretch: `stretch`, called at a plan x at y with u - y drums left, does one of the case's curve, from x to the plan x' that it leaves
+  pub case-stretch : {pot x table : List ℕ} {y v : ℕ} {best : Incumbent} → lo ≤ y
+      → At (c .m) (c .n) (amountIn amounts) (demandIn wants) y (all - y) (cells x)
+      → StretchReady (net (c .m) (c .n) cost cap x) pot x table y v (hi - y) best
+      → {kept held pot' x' kept' held' : List ℕ} {d y' v' gain loss : ℕ} {best' : Incumbent}
+      → StretchDone (net (c .m) (c .n) cost cap x) table y v (hi - y) best kept held pot' x' kept' held' d y' v' gain loss best'
+      → Stretch (caseCurve c) y (cells x) d (cells x')
   unfolding allDemand
-  case-stretches w =
-      subst₂
-      (λ (h l : ℕ). Stretches
-      (curveOf (c .m) (c .n) (ratesByRow (c .n) (c .costs)) (ceiling c) (amountsAt (made c) (λ i. supply c i)) (λ j. demand c j) (leastFreightAt c) h) l)
-      (a .on .high) (a .on .low)
+  case-stretch {x = x} {y = y} l t r {x' = x'} {d = d} q =
+      subst (λ (h : ℕ). Stretch (curveTo h) y (cells x) d (cells x')) (a .on .high)
+      (own-stretch (f .few-sources) raised (p .ceilings .cells) (sends (a .on .on) p) (p .demands) above l
+      (stretch-of (c .m) (c .n) all hi cost cap x (amountIn amounts) (demandIn wants) t r q))
+
+  -- all: those that led the sweep from the plan x to the plan x' lead there on the case's curve
+  pub case-stretches : {plus : ℕ} {splits x splits' x' kept : List ℕ} {freights freights' : List ℤ} {y t v k : ℕ}
+      → Swept (c .m) (c .n) (byRow 64 cost) (byRow 64 cap) all (amountIn amounts) (demandIn wants) lo hi (c .table) plus splits freights x splits' freights' x' kept y t v k
+      → Stretches (caseCurve c) (leastSplit c) (byRow 64 x) (byRow 64 x')
+  unfolding allDemand
+  case-stretches {x = x} {x' = x'} w =
+      subst₂ (λ (h l : ℕ). Stretches (curveTo h) l (byRow 64 x) (byRow 64 x')) (a .on .high) (a .on .low)
       (own-stretches (f .few-sources) raised (p .ceilings .cells) (sends (a .on .on) p) (p .demands) above (w .stretches))
 
 -- the answer told otherwise
-pub climbed : {c : Case} (o : Outcome) → Stretches (caseCurve c) (leastSplit c) → Climbed c o
-climbed o q = record { stretches = λ s t f k e. q }
+pub climbed : {c : Case} {x x' : Table} (o : Outcome) → Stretches (caseCurve c) (leastSplit c) x x' → Climbed c o
+climbed {x = x} {x' = x'} o q = record { stretches = λ s t f k e. (x, x', q) }
 
 pub not-climbed : (c : Case) (k p : ℕ) → Climbed c (refused k p)
 not-climbed c k p = record { stretches = λ s t f k' e. let z : _≡_ {A = ℕ} 0 1 = cc in absurd (omega arith) }

@@ -270,8 +270,8 @@ module _ {c : Case} {lo hi all : ℕ} (a : Accepts c lo hi all) {cost cap amount
 
   -- ---- the answer
 
-  module _ {plus : ℕ} {splits splits' kept : List ℕ} {freights freights' : List ℤ} {y t v k : ℕ}
-      (w : Swept (c .m) (c .n) (byRow 64 cost) (byRow 64 cap) all (amountIn amounts) (demandIn wants) lo hi (c .table) plus splits freights splits' freights' kept y t v k) where
+  module _ {plus : ℕ} {splits x splits' x' kept : List ℕ} {freights freights' : List ℤ} {y t v k : ℕ}
+      (w : Swept (c .m) (c .n) (byRow 64 cost) (byRow 64 cap) all (amountIn amounts) (demandIn wants) lo hi (c .table) plus splits freights x splits' freights' x' kept y t v k) where
     here : (leastSplit c ≤ bestSplit c) × (bestSplit c ≤ greatestSplit c)
     here = best-in f fit
 

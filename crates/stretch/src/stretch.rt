@@ -51,6 +51,38 @@ fn reach(
     search(m, n, cost, x, cap, serves, pot, &room, demand, 0)
 }
 
+// The path that the search finds, and δ.
+fn search_path(
+    m: usize,
+    n: usize,
+    cost: &[u32; 2048],
+    cap: &[u32; 2048],
+    limit: u32,
+    demand: &[u32; 96],
+    x: &[u32; 2048],
+    serves: &[u32; 64],
+    pot: &[u32; 96],
+    up: &mut [u32; 128],
+) -> Path
+    requires { ⌜ ShiftReady (net m n (now cost) (now cap) (now x)) (now pot) (now x) limit ⌝ }
+    requires { ⌜ Wanted (net m n (now cost) (now cap) (now x)) (now demand) ⌝ }
+    requires { ⌜ Covers m n (now x) (now serves) ⌝ }
+    ensures { λ r. ⌜ PathAhead (net m n (now (cost .entry)) (now (cap .entry)) (now (x .entry))) (now (pot .entry)) (now (x .entry)) limit (r .dist) (r .prev) (r .count) (r .gap) (r .delta) ⌝ }
+{
+    let found = reach(m, n, cost, cap, limit, demand, x, serves, pot, up);
+    let dist = found.dist;
+    let prev = found.prev;
+    let way = measure(&prev, 0, 1, limit, x, cap);
+    let gap = dist[1] - pot[1];
+    Path {
+        dist,
+        prev,
+        count: way.count,
+        gap,
+        delta: way.amount,
+    }
+}
+
 // A cheapest path from plant 1 to plant 2 in the residual network, and δ: its smallest ceiling, or limit if that is less. The tree is cut until its path
 // has room. The path is that of the tree, where it leads there over open and tight arcs: distances on it are those of the potentials. Else one is
 // searched for.
@@ -86,23 +118,12 @@ fn find_path(
         delta: 0,
     };
     let traced = follow(m, n, cost, cap, x, pot, up, limit, &mut path.prev);
-    if 0 < traced.count {
-        path.count = traced.count;
-        path.delta = traced.amount;
-        return path;
+    path.count = traced.count;
+    path.delta = traced.amount;
+    if traced.count == 0 {
+        path = search_path(m, n, cost, cap, limit, demand, x, serves, pot, up);
     }
-    let found = reach(m, n, cost, cap, limit, demand, x, serves, pot, up);
-    let dist = found.dist;
-    let prev = found.prev;
-    let way = measure(&prev, 0, 1, limit, x, cap);
-    let gap = dist[1] - pot[1];
-    Path {
-        dist,
-        prev,
-        count: way.count,
-        gap,
-        delta: way.amount,
-    }
+    path
 }
 
 // Keeps the plan at a split from y on and before next: x, the plan at next, with the drums beyond that split taken back along the path.

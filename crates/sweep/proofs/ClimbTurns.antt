@@ -56,7 +56,7 @@ module _ {m n : ℕ} {cost cap x₀ p₀ : List ℕ} {lo hi v : ℕ} {table : Li
 
     pub ascend-end : {splits'' k kept' : List ℕ} {freights'' : List ℤ} {count' : ℕ} → hi ≤ y → Noted count y value added splits' freights' splits'' freights'' count'
         → k ≡ heldAt (b .split) y x kept → Canonized (net m n cost cap k) kept' → StretchedTo m n cost cap x₀ lo hi y x
-        → Swept m n (cells cost) (cells cap) (bothIn n x₀) (row n (cells x₀)) (col m (cells x₀)) lo hi table added splits freights splits'' freights'' kept' (b .split) (b .total) (b .freight) count'
+        → Swept m n (cells cost) (cells cap) (bothIn n x₀) (row n (cells x₀)) (col m (cells x₀)) lo hi table added splits freights x₀ splits'' freights'' x kept' (b .split) (b .total) (b .freight) count'
     ascend-end {kept' = kept'} h k f held w =
         let e : y ≡ hi = omega (arith, c .high) in
         let o = subst (λ (l : List ℕ). Canonized (net m n cost cap l) kept') f held in
@@ -76,5 +76,5 @@ module _ {m n : ℕ} {cost cap x₀ p₀ : List ℕ} {lo hi v : ℕ} {table : Li
             worth = settled-least (s .ready .terminals) (o .settled) (s .plan .rows) (s .plan .columns) kept-least ∙ sym kept-least ∙ s .plan .worth;
           };
           first = settled-cells (s .ready .terminals) (o .settled) (s .plan .rows) (s .plan .columns) kept-least;
-          stretches = stretched-end r x e w;
+          stretches = stretched-end r s e w;
         }

@@ -110,7 +110,8 @@ module _ {m n k : ℕ} {c : Table} {rates : Rates} (few : m ≤ 32) (raised : Ra
       met : (j : ℕ) → j < n → col m x j ≡ b' j
       met j h = q .columns j h ∙ eb j h
 
-  own-stretch : {y : ℕ} {x : Table} {d : ℕ} {x' : Table} → lo ≤ y → Stretch (curveOf m n (λ i j. pos (c i j)) u r b (λ y. pos (g y)) hi) y x d x'
+  -- a stretch at raised costs is one at the costs themselves
+  pub own-stretch : {y : ℕ} {x : Table} {d : ℕ} {x' : Table} → lo ≤ y → Stretch (curveOf m n (λ i j. pos (c i j)) u r b (λ y. pos (g y)) hi) y x d x'
       → Stretch (curveOf m n rates u' r' b' f hi) y x d x'
   own-stretch {y} {x} {d} {x'} a q = record {
     plan = own-plan a (omega (arith, q .within)) (q .plan);
@@ -136,18 +137,22 @@ module _ {m n k : ℕ} {c : Table} {rates : Rates} (few : m ≤ 32) (raised : Ra
       cost : costAlong rates (q .path) ≡ costAlong (λ i j. pos (c i j)) (q .path)
       cost = cost-stays few raised u' x (q .path) 0 1 (omega arith) (omega arith) ours
 
-  turns-from : (s y : ℕ) (x : Table) → Turns (curveOf m n (λ i j. pos (c i j)) u r b (λ y. pos (g y)) hi) s lo y x → lo ≤ y
+  turns-from : (x₀ : Table) (s y : ℕ) (x : Table) → Turns (curveOf m n (λ i j. pos (c i j)) u r b (λ y. pos (g y)) hi) s lo x₀ y x → lo ≤ y
   unfolding Turns
-  turns-from zero y x q = omega (arith, q)
-  turns-from (suc s) y x q = omega (arith, turns-from s (q .0) (q .1) (q .3), q .5)
+  turns-from x₀ zero y x q = omega (arith, q .0)
+  turns-from x₀ (suc s) y x q = omega (arith, turns-from x₀ s (q .0) (q .1) (q .3), q .5)
 
-  own-turns : (s y : ℕ) (x : Table) → Turns (curveOf m n (λ i j. pos (c i j)) u r b (λ y. pos (g y)) hi) s lo y x
-      → Turns (curveOf m n rates u' r' b' f hi) s lo y x
+  own-turns : (x₀ : Table) (s y : ℕ) (x : Table) → Turns (curveOf m n (λ i j. pos (c i j)) u r b (λ y. pos (g y)) hi) s lo x₀ y x
+      → Turns (curveOf m n rates u' r' b' f hi) s lo x₀ y x
   unfolding Turns
-  own-turns zero y x q = q
-  own-turns (suc s) y x q =
-      (q .0, q .1, q .2, own-turns s (q .0) (q .1) (q .3), own-stretch (turns-from s (q .0) (q .1) (q .3)) (q .4), q .5)
+  own-turns x₀ zero y x q = q
+  own-turns x₀ (suc s) y x q =
+      (q .0, q .1, q .2, own-turns x₀ s (q .0) (q .1) (q .3), own-stretch (turns-from x₀ s (q .0) (q .1) (q .3)) (q .4), q .5)
 
-  -- every stretch at raised costs is one at the costs themselves
-  pub own-stretches : Stretches (curveOf m n (λ i j. pos (c i j)) u r b (λ y. pos (g y)) hi) lo → Stretches (curveOf m n rates u' r' b' f hi) lo
-  own-stretches q = record { plan = q .plan; all = record { count = q .all .count; turns = own-turns (q .all .count) hi (q .plan) (q .all .turns) } }
+  -- so are all, and they lead from the same plan to the same plan
+  pub own-stretches : {x₀ x : Table} → Stretches (curveOf m n (λ i j. pos (c i j)) u r b (λ y. pos (g y)) hi) lo x₀ x
+      → Stretches (curveOf m n rates u' r' b' f hi) lo x₀ x
+  own-stretches {x₀} {x} q = record {
+    all = record { count = q .all .count; turns = own-turns x₀ (q .all .count) hi x (q .all .turns) };
+    end = own-plan (turns-from x₀ (q .all .count) hi x (q .all .turns)) (omega arith) (q .end);
+  }

@@ -1,11 +1,13 @@
--- The stretches of the climb, one after the other, as those of its freight curve. Assumes nothing.
+-- What `stretch` does is a stretch of the freight curve; the climb's, one after the other. Assumes nothing.
 use mathlib.Core.Path.{_≡_, refl, sym, ap, ap₂, _∙_, subst, subst₂}
 use mathlib.Core.List.{List, [], _∷_}
 use Prim.Native.Nat.{ℕ, zero, suc, _+_, _-_, _≤_, _<_}
 use native.Mathlib.Omega.{arith}
 use lib.IntN.{ℤ, pos, negℤ, _+ℤ_, _*ℤ_}
 use lib.Signed.{_≤ℤ_}
-use Rattle.transport.specs.Plan.{row, col}
+use Rattle.transport.specs.Plan.{row, col, freight, Under}
+use Rattle.transport.specs.Curve.{leastIn}
+use Rattle.transport.specs.theory.AtSplit.{At}
 use Rattle.transport.proofs.Tables.{sends}
 use Rattle.transport.proofs.Splits.{least-in-at}
 use Rattle.residual.specs.Cells.{cells}
@@ -14,10 +16,10 @@ use Rattle.incumbent.specs.Scan.{along}
 use Rattle.incumbent.specs.declared.Incumbent.{Incumbent}
 use Rattle.stretch.specs.ResidualPath.{Arc, arcCost, pathCost}
 use Rattle.stretch.specs.ResidualPath.Arc.{lane, return}
-use Rattle.stretch.specs.Stretch.{StretchDone}
-use Rattle.sweep.specs.Stretches.{costAlong, raisedCurve, Stretch, Turns, Stretches}
-use Rattle.sweep.specs.engine.Climb.{bothIn, curveFrom, StretchedTo, ClimbReady, Standing}
-use Rattle.sweep.proofs.ClimbState.{two, both, here, most}
+use Rattle.stretch.specs.Stretch.{StretchReady, StretchDone}
+use Rattle.sweep.specs.Stretches.{CheapestAt, costAlong, raisedCurve, Stretch, Turns, Stretches}
+use Rattle.sweep.specs.engine.Climb.{bothIn, StretchedTo, ClimbReady, Standing}
+use Rattle.sweep.proofs.ClimbState.{two, both, here, stretch-ready}
 use Rattle.sweep.proofs.OwnCosts.{path-ext, narrowest-ext, natural-freight}
 
 -- the cost of a path at natural unit costs
@@ -27,37 +29,49 @@ as-raised N [] = refl
 as-raised N (lane i j ∷ l) = ap (λ z. pos (N .c i j) +ℤ z) (as-raised N l)
 as-raised N (return i j ∷ l) = ap (λ z. negℤ (pos (N .c i j)) +ℤ z) (as-raised N l)
 
-module _ {m n : ℕ} {cost cap x₀ p₀ : List ℕ} {lo hi v : ℕ} {table : List ℕ} {added : ℕ} {splits : List ℕ} {freights : List ℤ}
-    (r : ClimbReady m n cost cap x₀ p₀ lo hi v table added splits freights) where
-  pub stretched-start : StretchedTo m n cost cap x₀ lo hi lo x₀
-  unfolding Turns
-  stretched-start = record { count = 0; turns = refl }
+-- ---- one stretch: whatever is called with u - y drums left, from a plan at y
 
-  pub stretched-end : {y : ℕ} (x : List ℕ) → y ≡ hi → StretchedTo m n cost cap x₀ lo hi y x
-      → Stretches (raisedCurve m n (cells cost) (cells cap) (bothIn n x₀) (row n (cells x₀)) (col m (cells x₀)) hi) lo
-  stretched-end x e w = record { plan = cells x; all = subst (λ (z : ℕ). StretchedTo m n cost cap x₀ lo hi z x) e w }
+-- a plan of the least freight at its split
+cheapest-at : (m n D hi : ℕ) (cost cap x : List ℕ) (a b : ℕ → ℕ) (y : ℕ) → 2 ≤ m → y ≤ D → At m n a b y (D - y) (cells x)
+    → Under m n (cells x) (cells cap) → freight m n (cells cost) (cells x) ≡ leastIn m n (cells cost) (cells cap) D a b y
+    → CheapestAt (raisedCurve m n (cells cost) (cells cap) D a b hi) y (cells x)
+cheapest-at m n D hi cost cap x a b y two most t under e = record {
+  rows = sends m n a b D y (D - y) two (omega arith) (cells x) t;
+  columns = λ j l. t .demands j (omega arith) l;
+  under = under;
+  worth = natural-freight m n (cells cost) (cells x) ∙ ap pos e;
+}
 
-module _ {m n : ℕ} {cost cap x₀ p₀ : List ℕ} {lo hi v : ℕ} {table : List ℕ} {added : ℕ} {splits : List ℕ} {freights : List ℤ}
-    (r : ClimbReady m n cost cap x₀ p₀ lo hi v table added splits freights) {x p kept held : List ℕ} {y value : ℕ} {b : Incumbent}
-    (s : Standing m n cost cap x₀ x p kept held y value b) (low : lo ≤ y) (top : y < hi) {k h k' h' p' x' : List ℕ} {d y' v' gain loss : ℕ}
-    {b' : Incumbent} (q : StretchDone (net m n cost cap x) table y value (hi - y) b k h p' x' k' h' d y' v' gain loss b') where
-  on-curve : (t : ℕ) → t ≤ d → curveFrom m n cost cap x₀ (y + t) ≡ along value gain loss t
-  on-curve t l =
-      least-in-at m n (cells cap) (bothIn n x₀) (row n (cells x₀)) (col m (cells x₀)) (cells cost) (y + t) (bothIn n x₀ - y - t) (along value gain loss t)
-      (two r) (q .line (row n (cells x₀)) (col m (cells x₀)) (bothIn n x₀ - y) (s .at) t l) (omega (arith, both r (y + d) (most r s low top q)))
+module _ (m n D hi : ℕ) (cost cap x : List ℕ) (a b : ℕ → ℕ) {p table : List ℕ} {y value : ℕ} {best : Incumbent} (t : At m n a b y (D - y) (cells x))
+    (r : StretchReady (net m n cost cap x) p x table y value (hi - y) best) {k h k' h' p' x' : List ℕ} {d y' v' gain loss : ℕ} {best' : Incumbent}
+    (q : StretchDone (net m n cost cap x) table y value (hi - y) best k h p' x' k' h' d y' v' gain loss best') where
+  two-plants : 2 ≤ m
+  two-plants = omega (arith, r .shift .swinging .plants)
+
+  within : (y < hi) × (hi ≤ D) × (y + d ≤ hi)
+  within = (omega (arith, r .shift .some), omega (arith, r .shift .some, r .shift .left, t .plant1), omega (arith, r .shift .some, q .over .most))
+
+  on-curve : (s : ℕ) → s ≤ d → leastIn m n (cells cost) (cells cap) D a b (y + s) ≡ along value gain loss s
+  on-curve s l =
+      least-in-at m n (cells cap) D a b (cells cost) (y + s) (D - y - s) (along value gain loss s) two-plants (q .line a b (D - y) t s l)
+      (omega (arith, within .1, within .2))
+
+  at-start : leastIn m n (cells cost) (cells cap) D a b y ≡ value
+  unfolding along
+  at-start =
+      let e : y ≡ y + 0 = omega arith in
+      let e' : along value gain loss 0 ≡ value = omega arith in
+      ap (λ z. leastIn m n (cells cost) (cells cap) D a b z) e ∙ on-curve 0 (omega arith) ∙ e'
 
   cost-of : pathCost (net m n cost cap x) (q .path .path) ≡ costAlong (λ i j. pos (cells cost i j)) (q .path .path)
   cost-of = as-raised (net m n cost cap x) (q .path .path)
 
-  stretch-of : Stretch (raisedCurve m n (cells cost) (cells cap) (bothIn n x₀) (row n (cells x₀)) (col m (cells x₀)) hi) y (cells x) d (cells x')
+  -- what `stretch` does is a stretch of the curve, from the plan before it to the plan after it
+  pub stretch-of : Stretch (raisedCurve m n (cells cost) (cells cap) D a b hi) y (cells x) d (cells x')
   stretch-of = record {
-    plan = record {
-      rows =
-          sends m n (row n (cells x₀)) (col m (cells x₀)) (bothIn n x₀) y (bothIn n x₀ - y) (two r) (omega (arith, both r y (omega arith))) (cells x) (s .at);
-      columns = λ j l. s .at .demands j (omega arith) l;
-      under = s .swinging .under;
-      worth = natural-freight m n (cells cost) (cells x) ∙ ap pos (s .worth ∙ sym (here r s (omega arith)));
-    };
+    plan =
+        cheapest-at m n D hi cost cap x a b y two-plants (omega (arith, within .0, within .1)) t (r .shift .swinging .under)
+        (r .value ∙ sym at-start);
     path = q .path .path;
     arcs = path-ext m n (cells cost) (λ i j. 0) (cells cap) (cells cap) (cells x) (λ i j a c. refl) (q .path .path) 0 1 (q .path .arcs);
     cheapest = λ l a.
@@ -67,14 +81,45 @@ module _ {m n : ℕ} {cost cap x₀ p₀ : List ℕ} {lo hi v : ℕ} {table : Li
     drums =
         q .path .drums
         ∙ narrowest-ext m n (cells cost) (λ i j. 0) (cells cap) (cells cap) (cells x) (λ i j a c. refl) (hi - y) (q .path .path) 0 1 (q .path .arcs);
-    within = most r s low top q;
-    line = λ t l.
-        ap pos (on-curve t l) ∙ q .path .rise t l
-        ∙ ap₂ (λ (z : ℕ) (w : ℤ). pos z +ℤ pos t *ℤ w) (sym (here r s (omega arith))) cost-of;
+    within = within .2;
+    line = λ s l.
+        ap pos (on-curve s l) ∙ q .path .rise s l ∙ ap₂ (λ (z : ℕ) (w : ℤ). pos z +ℤ pos s *ℤ w) (sym at-start) cost-of;
     moves = q .moves;
   }
 
-  -- one stretch more
-  pub stretched-next : StretchedTo m n cost cap x₀ lo hi y x → StretchedTo m n cost cap x₀ lo hi y' x'
+-- ---- those of the climb, one after the other
+
+module _ {m n : ℕ} {cost cap x₀ p₀ : List ℕ} {lo hi v : ℕ} {table : List ℕ} {added : ℕ} {splits : List ℕ} {freights : List ℤ}
+    (r : ClimbReady m n cost cap x₀ p₀ lo hi v table added splits freights) where
+  pub stretched-start : StretchedTo m n cost cap x₀ lo hi lo x₀
   unfolding Turns
-  stretched-next w = record { count = suc (w .count); turns = (y, cells x, d, w .turns, stretch-of, q .split) }
+  stretched-start = record { count = 0; turns = (refl, refl) }
+
+  module _ {x p kept held : List ℕ} {y value : ℕ} {b : Incumbent} (s : Standing m n cost cap x₀ x p kept held y value b) where
+    -- one stretch more
+    pub stretched-next : lo ≤ y → y < hi → {k h k' h' p' x' : List ℕ} {d y' v' gain loss : ℕ} {b' : Incumbent}
+        → StretchDone (net m n cost cap x) table y value (hi - y) b k h p' x' k' h' d y' v' gain loss b'
+        → StretchedTo m n cost cap x₀ lo hi y x → StretchedTo m n cost cap x₀ lo hi y' x'
+    unfolding Turns
+    stretched-next low top {d = d} q w = record {
+      count = suc (w .count);
+      turns = (
+        y,
+        cells x,
+        d,
+        w .turns,
+        stretch-of m n (bothIn n x₀) hi cost cap x (row n (cells x₀)) (col m (cells x₀)) (s .at) (stretch-ready r s low top) q,
+        q .split,
+      );
+    }
+
+    pub stretched-end : y ≡ hi → StretchedTo m n cost cap x₀ lo hi y x
+        → Stretches (raisedCurve m n (cells cost) (cells cap) (bothIn n x₀) (row n (cells x₀)) (col m (cells x₀)) hi) lo (cells x₀) (cells x)
+    stretched-end e w = record {
+      all = subst (λ (z : ℕ). StretchedTo m n cost cap x₀ lo hi z x) e w;
+      end =
+          subst
+          (λ (z : ℕ). CheapestAt (raisedCurve m n (cells cost) (cells cap) (bothIn n x₀) (row n (cells x₀)) (col m (cells x₀)) hi) z (cells x)) e
+          (cheapest-at m n (bothIn n x₀) hi cost cap x (row n (cells x₀)) (col m (cells x₀)) y (two r) (both r y (omega arith)) (s .at)
+          (s .swinging .under) (s .worth ∙ sym (here r s (omega arith))));
+    }

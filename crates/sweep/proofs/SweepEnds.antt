@@ -39,7 +39,8 @@ module _ {m n : ℕ} (c u : Table) {d d' : ℕ} {a a' b b' : ℕ → ℕ} (e : d
       fun-ext (λ y. leastFreightIn-ext m n c c u u (amountsAt d a y) (amountsAt d' a' y) b b' (λ i j p q. refl) (λ i j p q. refl) (sends y) l)
 
   -- the same stretches: the costs are raised by 0
-  same-stretches : {lo hi : ℕ} → m ≤ 32 → Stretches (raisedCurve m n c u d a b hi) lo → Stretches (raisedCurve m n c u d' a' b' hi) lo
+  same-stretches : {lo hi : ℕ} {x x' : Table} → m ≤ 32 → Stretches (raisedCurve m n c u d a b hi) lo x x'
+      → Stretches (raisedCurve m n c u d' a' b' hi) lo x x'
   same-stretches few =
       own-stretches {k = 0} {c = c} {rates = λ i j. pos (c i j)} few (λ i j p q. above-zero (c i j)) (λ i j p q. refl) sends l
       {g = leastIn m n c u d a b} {f = λ y. pos (leastIn m n c u d' a' b' y)}
@@ -49,9 +50,9 @@ module _ {m n : ℕ} (c u : Table) {d d' : ℕ} {a a' b b' : ℕ → ℕ} (e : d
             ∙ sym (sub-pos (leastIn m n c u d a b y) (0 * sum n b') (leastIn m n c u d a b y) (omega arith));
       })
 
-  pub swept-same : {lo hi added : ℕ} {table splits splits' kept : List ℕ} {freights freights' : List ℤ} {y t v stops : ℕ}
-      → m ≤ 32 → Swept m n c u d a b lo hi table added splits freights splits' freights' kept y t v stops
-      → Swept m n c u d' a' b' lo hi table added splits freights splits' freights' kept y t v stops
+  pub swept-same : {lo hi added : ℕ} {table splits x splits' x' kept : List ℕ} {freights freights' : List ℤ} {y t v stops : ℕ}
+      → m ≤ 32 → Swept m n c u d a b lo hi table added splits freights x splits' freights' x' kept y t v stops
+      → Swept m n c u d' a' b' lo hi table added splits freights x splits' freights' x' kept y t v stops
   swept-same {lo} {hi} {added} {table} {splits} {freights = freights} {y = y} few s = record {
     split = s .split ∙ ap (λ f. bestFrom (λ z. f z + getD table z 0) lo (hi - lo)) same-curve;
     least = s .least ∙ ap (λ f. f y) same-curve;

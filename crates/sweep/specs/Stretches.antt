@@ -57,20 +57,20 @@ pub record Stretch (K : FreightCurve) (y : ℕ) (x : Table) (d : ℕ) (x' : Tabl
   pub line : (t : ℕ) → t ≤ d → K .least (y + t) ≡ K .least y +ℤ pos t *ℤ costAlong (K .rates) path
   pub moves : (i j : ℕ) → i < K .m → j < K .n → x' i j ≡ moved d path x i j
 
--- k stretches, each from where the one before it ended, from split lo to split y and the plan x there
-unfoldable pub Turns : FreightCurve → ℕ → ℕ → ℕ → Table → Type 0
-Turns K zero lo y x = y ≡ lo
-Turns K (suc k) lo y x = (z : ℕ) × (w : Table) × (d : ℕ) × Turns K k lo z w × Stretch K z w d x × (y ≡ z + d)
+-- k stretches, each from where the one before it ended, from split lo and the plan x₀ there to split y and the plan x there
+unfoldable pub Turns : FreightCurve → ℕ → ℕ → Table → ℕ → Table → Type 0
+Turns K zero lo x₀ y x = (y ≡ lo) × (x ≡ x₀)
+Turns K (suc k) lo x₀ y x = (z : ℕ) × (w : Table) × (d : ℕ) × Turns K k lo x₀ z w × Stretch K z w d x × (y ≡ z + d)
 
--- stretches that lead from split lo to split y and the plan x there
-pub record StretchesTo (K : FreightCurve) (lo y : ℕ) (x : Table) : Type 0 where
+-- stretches that lead from split lo and the plan x₀ to split y and the plan x
+pub record StretchesTo (K : FreightCurve) (lo : ℕ) (x₀ : Table) (y : ℕ) (x : Table) : Type 0 where
   pub count : ℕ
-  pub turns : Turns K count lo y x
+  pub turns : Turns K count lo x₀ y x
 
--- and to the last split
-pub record Stretches (K : FreightCurve) (lo : ℕ) : Type 0 where
-  pub plan : Table
-  pub all : StretchesTo K lo (K .last) plan
+-- and to the last split, where x is a cheapest plan too
+pub record Stretches (K : FreightCurve) (lo : ℕ) (x₀ x : Table) : Type 0 where
+  pub all : StretchesTo K lo x₀ (K .last) x
+  pub end : CheapestAt K (K .last) x
 
 -- the curve of unit costs that are natural numbers
 abbrev pub raisedCurve : ℕ → ℕ → Table → Table → ℕ → (ℕ → ℕ) → (ℕ → ℕ) → ℕ → FreightCurve

@@ -38,8 +38,8 @@ pub record PlanAt (m n : ℕ) (c u : Table) (d : ℕ) (a b : ℕ → ℕ) (y v :
   pub worth : freight m n c (byRow 64 x) ≡ v
 
 -- y is the split of least total t and of freight v; the stops stand in the slices with their freights less what was added, the plan for everybody
--- at y in kept; from lo to hi f rises stretch by stretch
-pub record Swept (m n : ℕ) (c u : Table) (d : ℕ) (a b : ℕ → ℕ) (lo hi : ℕ) (table : List ℕ) (added : ℕ) (splits : List ℕ) (freights : List ℤ) (splits' : List ℕ) (freights' : List ℤ) (kept : List ℕ) (y t v stops : ℕ) : Type 0 where
+-- at y in kept; from lo to hi the plan in x went on stretch by stretch, to x'
+pub record Swept (m n : ℕ) (c u : Table) (d : ℕ) (a b : ℕ → ℕ) (lo hi : ℕ) (table : List ℕ) (added : ℕ) (splits : List ℕ) (freights : List ℤ) (x splits' : List ℕ) (freights' : List ℤ) (x' kept : List ℕ) (y t v stops : ℕ) : Type 0 where
   pub split : y ≡ bestFrom (λ z. leastIn m n c u d a b z + getD table z 0) lo (hi - lo)
   pub least : v ≡ leastIn m n c u d a b y
   pub total : t ≡ v + getD table y 0
@@ -48,4 +48,4 @@ pub record Swept (m n : ℕ) (c u : Table) (d : ℕ) (a b : ℕ → ℕ) (lo hi 
   pub freights-written : freights' ≡ written (map (lower added) (map (leastIn m n c u d a b) (stopsOf (leastIn m n c u d a b) lo hi))) freights
   pub plan : PlanAt m n c u d a b y v kept
   pub first : (i j : ℕ) → i < m → j < n → byRow 64 kept i j ≡ byRow n (canonicalAt m n c u d a b y) i j
-  pub stretches : Stretches (raisedCurve m n c u d a b hi) lo
+  pub stretches : Stretches (raisedCurve m n c u d a b hi) lo (byRow 64 x) (byRow 64 x')

@@ -26,10 +26,10 @@ bothIn n x = row n (cells x) 0 + row n (cells x) 1
 abbrev pub curveFrom : ℕ → ℕ → List ℕ → List ℕ → List ℕ → ℕ → ℕ
 curveFrom m n cost cap x = leastIn m n (cells cost) (cells cap) (bothIn n x) (row n (cells x)) (col m (cells x))
 
--- from lo the climb has come to y and plan x, stretch by stretch
+-- from lo and plan x₀ the climb has come to y and plan x, stretch by stretch
 abbrev pub StretchedTo : ℕ → ℕ → List ℕ → List ℕ → List ℕ → ℕ → ℕ → ℕ → List ℕ → Type 0
 StretchedTo m n cost cap x₀ lo hi y x =
-    StretchesTo (raisedCurve m n (cells cost) (cells cap) (bothIn n x₀) (row n (cells x₀)) (col m (cells x₀)) hi) lo y (cells x)
+    StretchesTo (raisedCurve m n (cells cost) (cells cap) (bothIn n x₀) (row n (cells x₀)) (col m (cells x₀)) hi) lo (cells x₀) y (cells x)
 
 -- a slack plan x at split lo of freight v, potentials p, a plan at split hi, and a table and slices that are long enough
 pub record ClimbReady (m n : ℕ) (cost cap x p : List ℕ) (lo hi v : ℕ) (table : List ℕ) (added : ℕ) (splits : List ℕ) (freights : List ℤ) : Type 0 where

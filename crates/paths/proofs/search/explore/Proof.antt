@@ -27,8 +27,8 @@ element-copy-out-dist c = search needs
 mul-dist-2 : tie.Need-mul-dist-2 Inv-loop μ-loop
 mul-dist-2 c = search needs
 
-element-write-dist : tie.Need-element-write-dist Inv-loop μ-loop
-element-write-dist c = search needs
+array-write-dist : tie.Need-array-write-dist Inv-loop μ-loop
+array-write-dist c = search needs
 
 mul-key : tie.Need-mul-key Inv-loop μ-loop
 mul-key c = search needs
@@ -37,73 +37,73 @@ array-write-key : tie.Need-array-write-key Inv-loop μ-loop
 array-write-key c = search needs
 
 loop-holds : tie.Need-loop-holds Inv-loop μ-loop
-loop-holds c limit o = label-start (replicate {A = ℕ} 96 shut) (c .before .pre .0) o (c .before .pre .1 .1 .0) (length-replicate {A = ℕ} 96 shut) (λ v h. getD-replicate {A = ℕ} 96 v shut 0 h)
+loop-holds c limit o = label-start (replicate {A = ℕ} 96 shut) (c .before .before .before .pre .0) o (c .before .before .before .pre .1 .1 .0) (length-replicate {A = ℕ} 96 shut) (λ v h. getD-replicate {A = ℕ} 96 v shut 0 h)
 
 choose-requires : tie.Need-choose-requires Inv-loop μ-loop
 choose-requires c κs = search needs
 
 returns : tie.Need-returns Inv-loop μ-loop
-returns c limit o = record { hops = c .before .before .before .before .loop .inv limit o .hops; widths = c .before .before .before .before .loop .inv limit o .widths; searched = search-stuck (c .before .before .before .before .before .before .pre .0 .sound) (c .before .before .before .before .loop .inv limit o .exploring .searching) (explore-near (c .before .before .before .before .before .before .pre .0 .sound) (c .before .before .before .before .loop .inv limit o .exploring) (c .before .choose .ensures)) (c .if1 .taken) }
+returns c limit o = record { hops = c .before .before .before .before .loop .inv limit o .hops; widths = c .before .before .before .before .loop .inv limit o .widths; searched = search-stuck (c .before .before .before .before .before .before .before .before .pre .0 .sound) (c .before .before .before .before .loop .inv limit o .exploring .searching) (explore-near (c .before .before .before .before .before .before .before .before .pre .0 .sound) (c .before .before .before .before .loop .inv limit o .exploring) (c .before .choose .ensures)) (c .if1 .taken) }
 
 mul-if2 : tie.Need-mul-if2 Inv-loop μ-loop
 mul-if2 c =
-    let near = explore-near (c .before .before .before .before .before .before .pre .0 .sound) (c .before .before .before .before .loop .inv 1 (omega arith) .exploring) (c .before .choose .ensures) in
+    let near = explore-near (c .before .before .before .before .before .before .before .before .pre .0 .sound) (c .before .before .before .before .loop .inv 1 (omega arith) .exploring) (c .before .choose .ensures) in
     let hv : c .before .choose .result < 96 = omega (arith, near .bound, c .if1 .left) in
     search needs
 
 element-copy-out-if2 : tie.Need-element-copy-out-if2 Inv-loop μ-loop
 element-copy-out-if2 c =
-    let near = explore-near (c .before .before .before .before .before .before .pre .0 .sound) (c .before .before .before .before .loop .inv 1 (omega arith) .exploring) (c .before .choose .ensures) in
+    let near = explore-near (c .before .before .before .before .before .before .before .before .pre .0 .sound) (c .before .before .before .before .loop .inv 1 (omega arith) .exploring) (c .before .choose .ensures) in
     let hv : c .before .choose .result < 96 = omega (arith, near .bound, c .if1 .left) in
     search needs
 
 returns-2 : tie.Need-returns-2 Inv-loop μ-loop
 returns-2 c limit o =
-    let near = explore-near (c .before .before .before .before .before .before .before .before .pre .0 .sound) (c .before .before .before .before .before .before .loop .inv limit o .exploring) (c .before .before .before .choose .ensures) in
+    let near = explore-near (c .before .before .before .before .before .before .before .before .before .before .pre .0 .sound) (c .before .before .before .before .before .before .loop .inv limit o .exploring) (c .before .before .before .choose .ensures) in
     let hv : c .before .before .before .choose .result < 96 = omega (arith, near .bound, c .before .before .if1 .left) in
-    record { hops = c .before .before .before .before .before .before .loop .inv limit o .hops; widths = c .before .before .before .before .before .before .loop .inv limit o .widths; searched = search-found (c .before .before .before .before .before .before .before .before .pre .0 .sound) (c .before .before .before .before .before .before .loop .inv limit o .exploring .searching) near hv (c .if2 .taken) }
+    record { hops = c .before .before .before .before .before .before .loop .inv limit o .hops; widths = c .before .before .before .before .before .before .loop .inv limit o .widths; searched = search-found (c .before .before .before .before .before .before .before .before .before .before .pre .0 .sound) (c .before .before .before .before .before .before .loop .inv limit o .exploring .searching) near hv (c .if2 .taken) }
 
 mul-level : tie.Need-mul-level Inv-loop μ-loop
 mul-level c =
-    let near = explore-near (c .before .before .before .before .before .before .before .before .pre .0 .sound) (c .before .before .before .before .before .before .loop .inv 1 (omega arith) .exploring) (c .before .before .before .choose .ensures) in
+    let near = explore-near (c .before .before .before .before .before .before .before .before .before .before .pre .0 .sound) (c .before .before .before .before .before .before .loop .inv 1 (omega arith) .exploring) (c .before .before .before .choose .ensures) in
     let hv : c .before .before .before .choose .result < 96 = omega (arith, near .bound, c .before .before .if1 .left) in
     search needs
 
 array-read-level : tie.Need-array-read-level Inv-loop μ-loop
 array-read-level c =
-    let near = explore-near (c .before .before .before .before .before .before .before .before .pre .0 .sound) (c .before .before .before .before .before .before .loop .inv 1 (omega arith) .exploring) (c .before .before .before .choose .ensures) in
+    let near = explore-near (c .before .before .before .before .before .before .before .before .before .before .pre .0 .sound) (c .before .before .before .before .before .before .loop .inv 1 (omega arith) .exploring) (c .before .before .before .choose .ensures) in
     let hv : c .before .before .before .choose .result < 96 = omega (arith, near .bound, c .before .before .if1 .left) in
     search needs
 
 mul-key-2 : tie.Need-mul-key-2 Inv-loop μ-loop
 mul-key-2 c =
-    let near = explore-near (c .before .before .before .before .before .before .before .before .pre .0 .sound) (c .before .before .before .before .before .before .loop .inv 1 (omega arith) .exploring) (c .before .before .before .choose .ensures) in
+    let near = explore-near (c .before .before .before .before .before .before .before .before .before .before .pre .0 .sound) (c .before .before .before .before .before .before .loop .inv 1 (omega arith) .exploring) (c .before .before .before .choose .ensures) in
     let hv : c .before .before .before .choose .result < 96 = omega (arith, near .bound, c .before .before .if1 .left) in
     search needs
 
 array-write-key-2 : tie.Need-array-write-key-2 Inv-loop μ-loop
 array-write-key-2 c =
-    let near = explore-near (c .before .before .before .before .before .before .before .before .pre .0 .sound) (c .before .before .before .before .before .before .loop .inv 1 (omega arith) .exploring) (c .before .before .before .choose .ensures) in
+    let near = explore-near (c .before .before .before .before .before .before .before .before .before .before .pre .0 .sound) (c .before .before .before .before .before .before .loop .inv 1 (omega arith) .exploring) (c .before .before .before .choose .ensures) in
     let hv : c .before .before .before .choose .result < 96 = omega (arith, near .bound, c .before .before .if1 .left) in
     search needs
 
 mul-base : tie.Need-mul-base Inv-loop μ-loop
 mul-base c =
-    let near = explore-near (c .before .before .before .before .before .before .before .before .pre .0 .sound) (c .before .before .before .before .before .before .loop .inv 1 (omega arith) .exploring) (c .before .before .before .choose .ensures) in
+    let near = explore-near (c .before .before .before .before .before .before .before .before .before .before .pre .0 .sound) (c .before .before .before .before .before .before .loop .inv 1 (omega arith) .exploring) (c .before .before .before .choose .ensures) in
     let hv : c .before .before .before .choose .result < 96 = omega (arith, near .bound, c .before .before .if1 .left) in
     search needs
 
-element-copy-out-base : tie.Need-element-copy-out-base Inv-loop μ-loop
-element-copy-out-base c =
-    let near = explore-near (c .before .before .before .before .before .before .before .before .pre .0 .sound) (c .before .before .before .before .before .before .loop .inv 1 (omega arith) .exploring) (c .before .before .before .choose .ensures) in
+array-read-base : tie.Need-array-read-base Inv-loop μ-loop
+array-read-base c =
+    let near = explore-near (c .before .before .before .before .before .before .before .before .before .before .pre .0 .sound) (c .before .before .before .before .before .before .loop .inv 1 (omega arith) .exploring) (c .before .before .before .choose .ensures) in
     let hv : c .before .before .before .choose .result < 96 = omega (arith, near .bound, c .before .before .if1 .left) in
     search needs
 
 relax-requires : tie.Need-relax-requires Inv-loop μ-loop
 relax-requires c κs =
-    let near = explore-near (c .before .before .before .before .before .before .before .before .before .before .before .before .pre .0 .sound) (c .before .before .before .before .before .before .before .before .before .before .loop .inv 1 (omega arith) .exploring) (c .before .before .before .before .before .before .before .choose .ensures) in
-    let hv : c .before .before .before .before .before .before .before .choose .result < 96 = omega (arith, near .bound, c .before .before .before .before .before .before .if1 .left) in
-    (relax-ready (c .before .before .before .before .before .before .before .before .before .before .before .before .pre .0 .sound) (c .before .before .before .before .before .before .before .before .before .before .loop .inv 1 (omega arith) .exploring .searching) (c .before .before .before .before .before .before .before .before .before .before .before .before .pre .0 .ceilings) (c .before .before .before .before .before .before .before .before .before .before .loop .inv 1 (omega arith) .exploring .most) (c .before .before .before .before .before .before .before .before .before .before .before .before .pre .1 .1 .1 .within) hv (near .fresh hv .1) (simp length-set (c .before .before .before .before .before .before .before .before .before .before .loop .inv 1 (omega arith) .exploring .long-key)), c .before .before .before .before .before .before .before .before .before .before .before .before .pre .1 .0 .tags)
+    let near = explore-near (c .before .before .before .before .before .before .before .before .before .before .before .before .before .pre .0 .sound) (c .before .before .before .before .before .before .before .before .before .loop .inv 1 (omega arith) .exploring) (c .before .before .before .before .before .before .choose .ensures) in
+    let hv : c .before .before .before .before .before .before .choose .result < 96 = omega (arith, near .bound, c .before .before .before .before .before .if1 .left) in
+    (relax-ready (c .before .before .before .before .before .before .before .before .before .before .before .before .before .pre .0 .sound) (c .before .before .before .before .before .before .before .before .before .loop .inv 1 (omega arith) .exploring .searching) (c .before .before .before .before .before .before .before .before .before .before .before .before .before .pre .0 .ceilings) (c .before .before .before .before .before .before .before .before .before .loop .inv 1 (omega arith) .exploring .most) (c .before .before .before .before .before .before .before .before .before .before .before .before .before .pre .1 .1 .1 .within) hv (near .fresh hv .1) (simp length-set (c .before .before .before .before .before .before .before .before .before .loop .inv 1 (omega arith) .exploring .long-key)), c .before .before .before .before .before .before .before .before .before .before .before .before .before .pre .1 .0 .tags)
 
 add-turn : tie.Need-add-turn Inv-loop μ-loop
 add-turn c = search needs
@@ -113,13 +113,13 @@ loop-less c = search needs
 
 loop-again : tie.Need-loop-again Inv-loop μ-loop
 loop-again c limit o =
-    let near = explore-near (c .before .before .before .before .before .before .before .before .before .before .before .before .before .pre .0 .sound) (c .before .before .before .before .before .before .before .before .before .before .before .loop .inv limit o .exploring) (c .before .before .before .before .before .before .before .before .choose .ensures) in
-    let hv : c .before .before .before .before .before .before .before .before .choose .result < 96 = omega (arith, near .bound, c .before .before .before .before .before .before .before .if1 .left) in
-    let at = at-node (c .before .before .before .before .before .before .before .before .before .before .before .before .before .pre .0 .sound) (c .before .before .before .before .before .before .before .before .before .before .before .loop .inv limit o .exploring .searching) hv (near .fresh hv .1) (c .before .before .before .before .before .before .before .before .before .before .before .before .before .pre .1 .1 .1) in
-    label-step (c .before .before .before .before .before .before .before .before .before .before .before .before .before .pre .0 .sound) (c .before .before .before .before .before .before .before .before .before .before .before .loop .inv limit o) (c .before .before .before .before .before .before .before .before .before .before .before .before .before .pre .0 .ceilings) (c .before .before .before .before .before .before .before .before .before .before .before .before .before .pre .1 .0) hv near (omega (arith, c .before .before .before .before .before .if2 .left)) (c .relax .ensures .0 _ at) (c .relax .ensures .1 .0 _ at) (c .relax .ensures .1 .1)
+    let near = explore-near (c .before .before .before .before .before .before .before .before .before .before .before .before .before .before .pre .0 .sound) (c .before .before .before .before .before .before .before .before .before .before .loop .inv limit o .exploring) (c .before .before .before .before .before .before .before .choose .ensures) in
+    let hv : c .before .before .before .before .before .before .before .choose .result < 96 = omega (arith, near .bound, c .before .before .before .before .before .before .if1 .left) in
+    let at = at-node (c .before .before .before .before .before .before .before .before .before .before .before .before .before .before .pre .0 .sound) (c .before .before .before .before .before .before .before .before .before .before .loop .inv limit o .exploring .searching) hv (near .fresh hv .1) (c .before .before .before .before .before .before .before .before .before .before .before .before .before .before .pre .1 .1 .1) in
+    label-step (c .before .before .before .before .before .before .before .before .before .before .before .before .before .before .pre .0 .sound) (c .before .before .before .before .before .before .before .before .before .before .loop .inv limit o) (c .before .before .before .before .before .before .before .before .before .before .before .before .before .before .pre .0 .ceilings) (c .before .before .before .before .before .before .before .before .before .before .before .before .before .before .pre .1 .0) hv near (omega (arith, c .before .before .before .before .if2 .left)) (c .relax .ensures .0 _ at) (c .relax .ensures .1 .0 _ at) (c .relax .ensures .1 .1)
 
 returns-3 : tie.Need-returns-3 Inv-loop μ-loop
-returns-3 c limit o = record { hops = c .before .loop .inv limit o .hops; widths = c .before .loop .inv limit o .widths; searched = explore-end (c .before .before .before .pre .0 .sound) (c .before .loop .inv limit o .exploring) (c .loop-test .left) }
+returns-3 c limit o = record { hops = c .before .loop .inv limit o .hops; widths = c .before .loop .inv limit o .widths; searched = explore-end (c .before .before .before .before .before .pre .0 .sound) (c .before .loop .inv limit o .exploring) (c .loop-test .left) }
 
 pub explore-spec : {M : Type 1} → statement M
 explore-spec =
@@ -130,7 +130,7 @@ explore-spec =
     mul-dist
     element-copy-out-dist
     mul-dist-2
-    element-write-dist
+    array-write-dist
     mul-key
     array-write-key
     loop-holds
@@ -144,7 +144,7 @@ explore-spec =
     mul-key-2
     array-write-key-2
     mul-base
-    element-copy-out-base
+    array-read-base
     relax-requires
     add-turn
     loop-less

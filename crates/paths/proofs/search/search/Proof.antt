@@ -16,10 +16,10 @@ prefer-requires c κs = search needs
 
 explore-requires : tie.Need-explore-requires
 explore-requires c κs = (
-  c .before .before .before .before .before .before .before .before .before .pre .0,
+  c .before .before .before .before .before .before .before .pre .0,
   (
-    tag-plan (c .before .before .before .before .before .before .before .before .before .pre .0 .sound .terminals) (c .before .before .before .before .before .before .before .before .before .pre .1 .0) (tag-other (c .before .before .before .before .before .before .tag .ensures) (c .before .before .before .before .prefer .ensures)),
-    (record { long-dist = refl; long-prev = refl; dists = λ v h. getD-replicate {A = ℕ} 96 v far 0 h }, c .before .before .before .before .before .before .before .before .before .pre .1 .1),
+    tag-plan (c .before .before .before .before .before .before .before .pre .0 .sound .terminals) (c .before .before .before .before .before .before .before .pre .1 .0) (tag-other (c .before .before .before .before .tag .ensures) (c .before .before .prefer .ensures)),
+    (record { long-dist = refl; long-prev = refl; dists = λ v h. getD-replicate {A = ℕ} 96 v far 0 h }, c .before .before .before .before .before .before .before .pre .1 .1),
   ),
 )
 

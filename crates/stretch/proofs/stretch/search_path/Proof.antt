@@ -1,0 +1,37 @@
+-- `stretch::stretch::search_path` meets its contract. Assumes nothing.
+use native.Mathlib.Omega.{arith}
+use Rattle.lastsplit.proofs.LastSplit.{only}
+use Rattle.stretch.proofs.ShiftPath.{path-low, search-found}
+use Rattle.augment.proofs.PathMeasure.{route}
+use mathlib.Core.Path.{refl}
+use borrow.Author.Needs.{needs}
+use Rattle.stretch.proofs.stretch.search_path.Statement.{statement}
+use Rattle.stretch.proofs.stretch.search_path.Tie as tie
+
+reach-requires : tie.Need-reach-requires
+reach-requires c κs = c .before .pre
+
+measure-requires : tie.Need-measure-requires
+measure-requires c κs =
+    let s = c .before .before .before .before .before in
+    route (s .args .m) (s .args .n) (s .args .cost .now) (s .pre .0 .swinging .sound .sources) (omega arith) (c .before .before .before .reach .ensures .searched)
+
+array-read-gap : tie.Need-array-read-gap
+array-read-gap c = search needs
+
+element-copy-out-gap : tie.Need-element-copy-out-gap
+element-copy-out-gap c = search needs
+
+sub-gap : tie.Need-sub-gap
+sub-gap c = let s = c .before .before .before .before .before .before .before in path-low (s .pre .0) (only (s .args .limit)) (c .before .before .before .before .before .reach .ensures .searched)
+
+returns : tie.Need-returns
+returns c =
+    let s = c .before .before .before .before .before .before .before in
+    let q = c .before .before .before .before .before .reach .ensures .searched in
+    let w = c .before .measure .ensures in
+    let r = route (s .args .m) (s .args .n) (s .args .cost .now) (s .pre .0 .swinging .sound .sources) (omega arith) q in
+    search-found (s .pre .0) q refl refl (w .arcs r) (w .width r)
+
+pub search-path-spec : {M : Type 1} → statement M
+search-path-spec = tie.close (tie.spec reach-requires measure-requires array-read-gap element-copy-out-gap sub-gap returns)
