@@ -5,7 +5,7 @@ use Prim.Native.Nat.{ℕ, _+_, _*_, _≤_, _<_}
 use native.Mathlib.Omega.{arith}
 use lib.ListN.{length, set}
 use lib.Seq.{getD-set-same, getD-set-other}
-use Rattle.residual.specs.Cells.{cells}
+use Rattle.residual.specs.inner.Cells.{cells}
 use Rattle.transport.proofs.CellChange.{Put}
 
 pub cells-at : (l : List ℕ) (a b v : ℕ) → a * 64 + b < length l → cells (set l (a * 64 + b) v) a b ≡ v

@@ -5,16 +5,16 @@ use mathlib.Core.List.{List}
 use Prim.Native.Nat.{ℕ, min, _+_, _-_, _≤_, _<_}
 use native.Mathlib.Decide.{decLt}
 use native.Mathlib.Omega.{arith}
-use Rattle.transport.specs.theory.Slackness.{Slack}
-use Rattle.residual.specs.Cells.{cells}
-use Rattle.residual.specs.Network.{Net, get}
-use Rattle.residual.specs.Network.Arc.{ahead, back}
-use Rattle.residual.specs.Labels.{Book, far}
-use Rattle.paths.specs.Search.{Near, Label, Searched, Found}
-use Rattle.augment.specs.Send.{SendReady, Delivered}
-use Rattle.augment.specs.LaneMarks.{Trail}
-use Rattle.augment.specs.Potentials.{LowerReady, Lowered}
-use Rattle.augment.specs.PathWalk.{Walkable, Walked, WalkReady, Walking}
+use Rattle.transport.specs.inner.Slackness.{Slack}
+use Rattle.residual.specs.inner.Cells.{cells}
+use Rattle.residual.specs.inner.Network.{Net, get}
+use Rattle.residual.specs.inner.Network.Arc.{ahead, back}
+use Rattle.residual.specs.inner.Labels.{Book, far}
+use Rattle.paths.specs.inner.Search.{Near, Label, Searched, Found}
+use Rattle.augment.specs.inner.Send.{SendReady, Delivered}
+use Rattle.augment.specs.inner.LaneMarks.{Trail}
+use Rattle.augment.specs.inner.Potentials.{LowerReady, Lowered}
+use Rattle.augment.specs.inner.PathWalk.{Walkable, Walked, WalkReady, Walking}
 use Rattle.transport.proofs.SlacknessKept.{change-tight}
 use Rattle.augment.proofs.PathWalk.{walk-start, walkable, trail, walked}
 

@@ -9,12 +9,12 @@ use lib.ListN.{length, set, length-set}
 use lib.Seq.{getD-set-same, getD-set-other}
 use lib.Pow.{pow-pos, pow-lt}
 use lib.Bits.{bitOr, or-lt}
-use Rattle.residual.specs.Cells.{cells}
-use Rattle.residual.specs.Network.{get}
-use Rattle.residual.specs.Bits.{bit}
-use Rattle.residual.specs.LanesInUse.{Covers}
-use Rattle.augment.specs.LaneMarks.{Trail, Served, Marks}
-use Rattle.augment.specs.PathWalk.{Carried, Walked}
+use Rattle.residual.specs.inner.Cells.{cells}
+use Rattle.residual.specs.inner.Network.{get}
+use Rattle.residual.specs.inner.Bits.{bit}
+use Rattle.residual.specs.inner.LanesInUse.{Covers}
+use Rattle.augment.specs.inner.LaneMarks.{Trail, Served, Marks}
+use Rattle.augment.specs.inner.PathWalk.{Carried, Walked}
 use Rattle.residual.proofs.Bits.{bit-most, bit-or, bit-own}
 
 -- ---- a walk
@@ -103,7 +103,7 @@ cover-none {m} e z f h = record {
   serving = λ i j a b o. absurd (omega (arith, z i j a b));
 }
 
--- ---- one turn of the loop over a path
+-- ---- one pass of the loop over a path
 
 pub trail-wide : {m m' : ℕ} (P : List ℕ) → m ≤ m' → (h v : ℕ) → Trail m P h v → Trail m' P h v
 unfolding Trail

@@ -4,12 +4,12 @@ use mathlib.Core.Logic.{_≢_}
 use mathlib.Core.List.{List}
 use Prim.Native.Nat.{ℕ, min, _+_, _-_, _*_, _≤_, _<_}
 use native.Mathlib.Omega.{arith}
-use Rattle.residual.specs.Network.{net, get}
-use Rattle.residual.specs.Network.Arc.{ahead, back}
-use Rattle.residual.specs.Labels.{book, far}
-use Rattle.paths.specs.Search.{Near, Label, Prev, Searched}
-use Rattle.paths.specs.Search.Prev.{root, step}
-use Rattle.augment.specs.PathMeasure.{ResidualReady, Residual, Route, Measuring, Measured}
+use Rattle.residual.specs.inner.Network.{net, get}
+use Rattle.residual.specs.inner.Network.Arc.{ahead, back}
+use Rattle.residual.specs.inner.Labels.{book, far}
+use Rattle.paths.specs.inner.Search.{Near, Label, Prev, Searched}
+use Rattle.paths.specs.inner.Search.Prev.{root, step}
+use Rattle.augment.specs.inner.PathMeasure.{ResidualReady, Residual, Route, Measuring, Measured}
 
 abbrev pub route : (m n : ℕ) (cost : List ℕ) {cap x p room T P H W : List ℕ} {s g limit : ℕ} → m ≤ 32 → g < 96
     → Searched (net m n cost cap x) p room s limit (book T P H W) g → Route P x cap s g limit

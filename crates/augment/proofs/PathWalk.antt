@@ -6,15 +6,15 @@ use Prim.Native.Nat.{ℕ, zero, suc, _+_, _-_, _*_, _≤_, _<_}
 use native.Mathlib.Decide.{ℕ-discrete, decLt}
 use native.Mathlib.Omega.{arith}
 use lib.ListN.{set, length-set}
-use Rattle.transport.specs.theory.PathFlow.{Step, more, less, Flow}
-use Rattle.residual.specs.Cells.{cells}
-use Rattle.residual.specs.Network.{Net, get}
-use Rattle.residual.specs.Network.Arc.{ahead, back}
-use Rattle.residual.specs.Labels.{Book}
-use Rattle.paths.specs.Search.{Near, Label, Prev}
-use Rattle.paths.specs.Search.Prev.{root, step}
-use Rattle.augment.specs.LaneMarks.{Trail}
-use Rattle.augment.specs.PathWalk.{WalkReady, Walking, Tight, CarryReady, Carried, Walkable, Walked}
+use Rattle.transport.specs.inner.PathFlow.{Step, more, less, Flow}
+use Rattle.residual.specs.inner.Cells.{cells}
+use Rattle.residual.specs.inner.Network.{Net, get}
+use Rattle.residual.specs.inner.Network.Arc.{ahead, back}
+use Rattle.residual.specs.inner.Labels.{Book}
+use Rattle.paths.specs.inner.Search.{Near, Label, Prev}
+use Rattle.paths.specs.inner.Search.Prev.{root, step}
+use Rattle.augment.specs.inner.LaneMarks.{Trail}
+use Rattle.augment.specs.inner.PathWalk.{WalkReady, Walking, Tight, CarryReady, Carried, Walkable, Walked}
 use Rattle.transport.proofs.CellChange.{Put}
 use Rattle.transport.proofs.PathFlow.{flow-start, flow-ahead, flow-back, trace-start, trace-fresh, trace-step}
 use Rattle.augment.proofs.CellStores.{cells-at, cells-put}
@@ -230,28 +230,28 @@ module _ {N : Net} {p : List ℕ} {s limit : ℕ} {B : Book} {g d : ℕ} {x₀ :
   walked zero v x x' e q w = rw (w, ← (at-root e q)) q
   walked (suc h) v x x' e q w = walked h (get (B .prev) v) (w .0) x' (hops-less e q) (walk-next r q (off-root e) (w .1)) (w .2)
 
--- ---- one turn of the loop
+-- ---- one pass of the loop
 
 module _ (P : List ℕ) (d v : ℕ) (x : List ℕ) where
-  pub turn-node : (h : ℕ) → 0 < h → Walkable P d h v x → (v < 96) × CarryReady v (get P v) d x
+  pub pass-node : (h : ℕ) → 0 < h → Walkable P d h v x → (v < 96) × CarryReady v (get P v) d x
   unfolding Walkable
-  turn-node zero l w = absurd (omega arith)
-  turn-node (suc h) l w = (w .0, w .1)
+  pass-node zero l w = absurd (omega arith)
+  pass-node (suc h) l w = (w .0, w .1)
 
-  pub turn-prev : (h : ℕ) → 0 < h → Walkable P d h v x → get P v < 96
-  turn-prev h l w =
-      let c = turn-node h l w .1 in
+  pub pass-prev : (h : ℕ) → 0 < h → Walkable P d h v x → get P v < 96
+  pass-prev h l w =
+      let c = pass-node h l w .1 in
       elim (decLt v 32) [ yes k ↦ c .less k .1 | no k ↦ omega (arith, c .more (omega arith) .0) ]
 
-  pub turn-able : (h : ℕ) → 0 < h → Walkable P d h v x → (y : List ℕ) → Carried v (get P v) d x y → Walkable P d (h - 1) (get P v) y
+  pub pass-able : (h : ℕ) → 0 < h → Walkable P d h v x → (y : List ℕ) → Carried v (get P v) d x y → Walkable P d (h - 1) (get P v) y
   unfolding Walkable
-  turn-able zero l w y c = absurd (omega arith)
-  turn-able (suc h) l w y c = let z : suc h - 1 ≡ h = omega arith in rw z (w .2 y c)
+  pass-able zero l w y c = absurd (omega arith)
+  pass-able (suc h) l w y c = let z : suc h - 1 ≡ h = omega arith in rw z (w .2 y c)
 
-  pub turn-back : (h : ℕ) → 0 < h → (y z : List ℕ) → Carried v (get P v) d x y → Walked P d (h - 1) (get P v) y z → Walked P d h v x z
+  pub pass-back : (h : ℕ) → 0 < h → (y z : List ℕ) → Carried v (get P v) d x y → Walked P d (h - 1) (get P v) y z → Walked P d h v x z
   unfolding Walked
-  turn-back zero l y z c w = absurd (omega arith)
-  turn-back (suc h) l y z c w = let e : suc h - 1 ≡ h = omega arith in (y, c, rw e at w)
+  pass-back zero l y z c w = absurd (omega arith)
+  pass-back (suc h) l y z c w = let e : suc h - 1 ≡ h = omega arith in (y, c, rw e at w)
 
   pub walked-none : (h : ℕ) → h ≤ 0 → Walked P d h v x x
   unfolding Walked

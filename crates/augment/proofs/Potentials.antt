@@ -7,8 +7,8 @@ use native.Mathlib.Numerals.{add-one}
 use native.Mathlib.Omega.{arith}
 use lib.ListN.{length, set, length-set}
 use lib.Seq.{getD-set-same, getD-set-other}
-use Rattle.residual.specs.Network.{get}
-use Rattle.augment.specs.Potentials.{Lowered}
+use Rattle.residual.specs.inner.Network.{get}
+use Rattle.augment.specs.inner.Potentials.{Lowered}
 
 pub lower-start : {D : ℕ} {T p : List ℕ} → length p ≡ 96 → Lowered D T p 0 p
 lower-start e = record { long = e; down = λ v h. absurd (omega arith); rest = λ v h. refl }

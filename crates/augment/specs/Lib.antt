@@ -1,5 +1,1 @@
-pub mod Send
-pub mod LaneMarks
-pub mod Potentials
-pub mod PathWalk
-pub mod PathMeasure
+pub mod inner

@@ -2,14 +2,14 @@
 ghost use mathlib.Core.Path.{_≡_};
 ghost use Prim.Native.Nat.{_+_, _-_, _≤_, _<_};
 ghost use lib.ListN.{getD, set};
-ghost use Rattle.residual.specs.Network.{net};
-ghost use Rattle.residual.specs.LanesInUse.{Covers};
-ghost use Rattle.paths.specs.Search.{Wanted};
-ghost use Rattle.augment.specs.Send.{SendReady, SendDone};
-ghost use Rattle.augment.specs.LaneMarks.{Trail, Served, Marks};
-ghost use Rattle.augment.specs.Potentials.{LowerReady, Lowered};
-ghost use Rattle.augment.specs.PathWalk.{CarryReady, Carried, Walkable, Walked};
-ghost use Rattle.augment.specs.PathMeasure.{ResidualReady, Residual, Route, Measured};
+ghost use Rattle.residual.specs.inner.Network.{net};
+ghost use Rattle.residual.specs.inner.LanesInUse.{Covers};
+ghost use Rattle.paths.specs.inner.Search.{Wanted};
+ghost use Rattle.augment.specs.inner.Send.{SendReady, SendDone};
+ghost use Rattle.augment.specs.inner.LaneMarks.{Trail, Served, Marks};
+ghost use Rattle.augment.specs.inner.Potentials.{LowerReady, Lowered};
+ghost use Rattle.augment.specs.inner.PathWalk.{CarryReady, Carried, Walkable, Walked};
+ghost use Rattle.augment.specs.inner.PathMeasure.{ResidualReady, Residual, Route, Measured};
 use paths::search::search;
 use paths::search::smaller;
 

@@ -25,7 +25,7 @@ use Rattle.plan_files.specs.declared.planned.Printed.{Printed}
 use Rattle.csv_case.specs.CaseFiles.{caseAnswer, entriesIn, CaseStored, recordsOf}
 use Rattle.csv_case.specs.Entries.{entriesOf}
 use Rattle.plan_files.specs.Printed.{filedCase, fileCase, Told}
-use Rattle.plan_files.specs.StoredCase.{cutCase, Stored}
+use Rattle.plan_files.specs.inner.StoredCase.{cutCase, Stored}
 use Rattle.csv_case.proofs.CaseLengths.{both-stand}
 use Rattle.plan_files.proofs.FileRefusals.{Alike}
 use Rattle.planner.proofs.Judging.{cut-ceilings}

@@ -5,7 +5,7 @@ ghost use lib.ListN.{length, take};
 ghost use Rattle.csv_answers.specs.Bounds.{boundsText, MarksFit};
 ghost use Rattle.csv_case.specs.CaseFiles.{caseAnswer};
 ghost use Rattle.plan_files.specs.Printed.{filedCase, Told};
-ghost use Rattle.plan_files.specs.StoredCase.{cutCase, Stored};
+ghost use Rattle.plan_files.specs.inner.StoredCase.{cutCase, Stored};
 ghost use Rattle.bounds_files.specs.Bounded.{CasePrinted, HighPrinted, FilesPrinted, bothStand};
 use bounds_problem::Answer;
 use bounds_splits::possible_splits;

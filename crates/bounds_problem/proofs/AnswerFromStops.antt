@@ -22,8 +22,9 @@ use Rattle.problem.specs.Outcome as planner
 use Rattle.problem.proofs.FirstFailing.{moved, first-moved, none-passes, some-first}
 use Rattle.problem.proofs.Integers.{above-le, above-pos}
 use Rattle.bounds_problem.specs.Tables.{Split, after, totalWith, Smallest, Largest, leastOver, leastTotal, canBe, mark, marks}
-use Rattle.bounds_problem.specs.Heights.{height, Moderate, Line, Drawn, Drawing, Summed, leastUpTo, leastSum, marksBy, firstBad}
-use Rattle.bounds_problem.specs.Answers.{Outcome, known, refused, badEntry, place28, laterOf, outcomeOf, Given, Answered, Listed, settledOf}
+use Rattle.bounds_problem.specs.inner.Heights.{height, Moderate, Line, Drawn, Drawing, Summed, leastUpTo, leastSum, marksBy, firstBad}
+use Rattle.bounds_problem.specs.Answers.{Outcome, known, refused, badEntry, place28, laterOf, outcomeOf, Given, Answered}
+use Rattle.bounds_problem.specs.inner.Settled.{Listed, settledOf}
 use Rattle.bounds_problem.proofs.PlannedCase.{Ready, ready}
 use Rattle.bounds_problem.proofs.BetweenStops.{heightAt, stops-of, some-stop, first-stop, last-stop, stop-in, stop-line}
 use Rattle.bounds_problem.proofs.PossibleSplits.{Bounds, can-possible, possible-can, canBe-least, smallest, largest}

@@ -16,7 +16,7 @@ use Rattle.problem.specs.Plans.{leastFreightAt, stops}
 use Rattle.transport.proofs.Differences.{sub-same, sub-add, sub-scale}
 use Rattle.problem.proofs.RaisedFreight.{Follows, stops-above}
 use Rattle.bounds_problem.specs.Tables.{Split}
-use Rattle.bounds_problem.specs.Heights.{height, Line}
+use Rattle.bounds_problem.specs.inner.Heights.{height, Line}
 use Rattle.bounds_problem.proofs.PlannedCase.{Ready}
 use Rattle.bounds_problem.proofs.StraightLines.{Straight, line}
 

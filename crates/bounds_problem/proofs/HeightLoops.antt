@@ -22,7 +22,7 @@ use Rattle.transport.proofs.ListMembers.{upFrom-length, upFrom-getD}
 use Rattle.problem.proofs.FirstFailing.{first-none, first-some}
 use Rattle.transport.proofs.Differences.{sub-add, sub-sub, sub-pos, pos-sub}
 use Rattle.problem.proofs.MachineIntegers.{sub-fits}
-use Rattle.bounds_problem.specs.Heights.{height, Moderate, Line, Drawn, pointAt, Stretch, StretchDrawn, Drawing, Summed, leastUpTo, leastSum, marksBy, firstBad}
+use Rattle.bounds_problem.specs.inner.Heights.{height, Moderate, Line, Drawn, pointAt, Stretch, StretchDrawn, Drawing, Summed, leastUpTo, leastSum, marksBy, firstBad}
 
 -- ---- heights as the machine has them
 

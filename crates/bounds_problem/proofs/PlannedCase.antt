@@ -15,7 +15,7 @@ use Rattle.transport.proofs.Differences.{sub-add, sub-same, sub-pos, pos-sub}
 use Rattle.problem.proofs.RaisedCurve.{raisedAt, added, least-above}
 use Rattle.problem.proofs.TotalBounds.{few-drums, raised-most}
 use Rattle.bounds_problem.specs.Tables.{Split}
-use Rattle.bounds_problem.specs.Heights.{height, Moderate}
+use Rattle.bounds_problem.specs.inner.Heights.{height, Moderate}
 
 pub record Ready (c : Case) : Type 0 where
   pub order : leastSplit c ≤ greatestSplit c

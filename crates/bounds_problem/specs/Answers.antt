@@ -5,10 +5,8 @@ use mathlib.Core.Option.{Option, none, some}
 use mathlib.Core.List.{List}
 use Prim.Native.Nat.{ℕ, _+_, _-_, _≤_, _<_}
 use lib.Dec.{eqb, ltb}
-use lib.IntN.{ℤ, pos, subℕ}
+use lib.IntN.{ℤ}
 use lib.ListN.{length, getD}
-use Rattle.problem.specs.Plans.{leastFreightAt, stops}
-use Rattle.bounds_problem.specs.Heights.{leastSum}
 use Rattle.transport.specs.Curve.{written}
 use Rattle.problem.specs.Case.{Case, supply, entry, leastSplit, lent}
 use Rattle.problem.specs.Outcome.{firstFrom}
@@ -65,16 +63,3 @@ pub record Answered (c : Case) (high : List ℕ) (r : Outcome) (before cells : L
   pub answer : r ≡ outcomeOf c high (length before)
   pub given : (first count : ℕ) (s l : ℤ) → r ≡ known first count s l → Given c high s l before cells
   pub kept : (k p : ℕ) → r ≡ refused k p → cells ≡ before
-
--- the planner gave the case a plan, and its stops stand in the first cells
-pub record Listed (c : Case) (s : List ℕ) (f : List ℤ) (count : ℕ) : Type 0 where
-  pub given : (y : ℕ) × (t : ℤ) × (v : ℤ) × (planner.outcomeOf c ≡ planner.planned y t v count)
-  pub all : count ≡ length (stops c)
-  pub in-splits : count ≤ length s
-  pub in-freights : count ≤ length f
-  pub splits : (k : ℕ) → k < count → getD s k 0 ≡ getD (stops c) k 0
-  pub freights : (k : ℕ) → k < count → getD f k (pos 0) ≡ leastFreightAt c (getD (stops c) k 0)
-
--- the first split, the count of entries, and the two least sums as numbers
-unfoldable pub settledOf : ℕ → List ℕ → List ℕ → List ℕ → Outcome
-settledOf lo curve lows highs = known lo (length lows) (subℕ (leastSum curve lows) 128000000000) (subℕ (leastSum curve highs) 128000000000)

@@ -6,7 +6,7 @@ ghost use lib.Dec.{leb};
 ghost use lib.IntN.{subℕ};
 ghost use lib.ListN.{length};
 ghost use Rattle.transport.specs.Curve.{written};
-ghost use Rattle.bounds_problem.specs.Heights.{height, Moderate, pointAt, Stretch, StretchDrawn, Drawing, CurveDrawn, Summed, leastSum, marksBy, found, firstBad};
+ghost use Rattle.bounds_problem.specs.inner.Heights.{height, Moderate, pointAt, Stretch, StretchDrawn, Drawing, CurveDrawn, Summed, leastSum, marksBy, found, firstBad};
 
 // How far a freight stands above -128,000,000,000.
 pub fn height_of(freight: i64) -> u64

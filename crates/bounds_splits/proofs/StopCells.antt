@@ -10,7 +10,7 @@ use Rattle.problem.specs.Plans.{leastFreightAt, stops, stopFreights}
 use Rattle.problem.specs.Outcome as planner
 use Rattle.planner.specs.Answer.{Slices}
 use Rattle.planner.specs.Answer as promise
-use Rattle.bounds_problem.specs.Answers.{Listed}
+use Rattle.bounds_problem.specs.inner.Settled.{Listed}
 use Rattle.bounds_problem.proofs.PlannedCase.{count-is}
 
 pub listed : {c : Case} {r : planner.Outcome} {before cells : Slices} → promise.Answered c r before cells → (y : ℕ) (t v : ℤ) (k : ℕ) → r ≡ planner.planned y t v k

@@ -1,7 +1,8 @@
 // From the planner's stops to the answers.
 ghost use Rattle.problem.specs.Case.{Case};
-ghost use Rattle.bounds_problem.specs.Answers.{outcome, Listed, Answered};
-ghost use Rattle.bounds_splits.specs.Judge.{tabled, SomeListed};
+ghost use Rattle.bounds_problem.specs.Answers.{outcome, Answered};
+ghost use Rattle.bounds_problem.specs.inner.Settled.{Listed};
+ghost use Rattle.bounds_splits.specs.inner.Judge.{tabled, SomeListed};
 use bounds_problem::Answer;
 use bounds_problem::curve::Found;
 use bounds_problem::curve::draw;

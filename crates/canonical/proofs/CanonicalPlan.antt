@@ -9,8 +9,8 @@ use lib.ListN.{getD, List·getD-eq-default}
 use Rattle.transport.specs.Plan.{Table, byRow, row, col, freight, Fits}
 use Rattle.transport.specs.Listing.{leastFreightIn}
 use Rattle.transport.specs.Canonical.{canonical}
-use Rattle.residual.specs.Network.{Net}
-use Rattle.canonical.specs.Canonize.{Rival, Settled}
+use Rattle.residual.specs.inner.Network.{Net}
+use Rattle.canonical.specs.inner.Canonize.{Rival, Settled}
 use Rattle.transport.proofs.Tables.{listed, listed-length, listed-at, Below, table-freight, place-lane}
 use Rattle.transport.proofs.WithinCeilings.{table-fits, least-in-low}
 use Rattle.transport.proofs.Canonical.{Leads, canonical-unique}

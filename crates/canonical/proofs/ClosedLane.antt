@@ -6,10 +6,10 @@ use Prim.Native.Nat.{ℕ, _+_, _*_, _≤_, _<_}
 use native.Mathlib.Decide.{ℕ-discrete}
 use native.Mathlib.Omega.{arith}
 use Rattle.transport.specs.Plan.{Table, row, col, Under}
-use Rattle.transport.specs.theory.Slackness.{Lane, Slack}
-use Rattle.transport.specs.theory.AtSplit.{Same}
-use Rattle.residual.specs.Cells.{cells}
-use Rattle.reachability.specs.Reachability.{NoRoute}
+use Rattle.transport.specs.inner.Slackness.{Lane, Slack}
+use Rattle.transport.specs.inner.AtSplit.{Same}
+use Rattle.residual.specs.inner.Cells.{cells}
+use Rattle.reachability.specs.inner.Reachability.{NoRoute}
 use Rattle.transport.proofs.Optimality.{cheapest}
 use Rattle.transport.proofs.TightLanes.{spot, spot-at, spot-row, spot-col, freight-spot}
 

@@ -9,10 +9,10 @@ use lib.Seq.{getD-set-same, getD-set-other}
 use lib.Pow.{pow-pos, pow-lt}
 use lib.Bits.{bitOr, or-lt}
 use Rattle.transport.specs.Plan.{Under}
-use Rattle.residual.specs.Cells.{cells}
-use Rattle.residual.specs.Network.{get}
-use Rattle.reachability.specs.Reachability.{Opens, Supplied, Known, Through}
-use Rattle.canonical.specs.Canonize.{Followed}
+use Rattle.residual.specs.inner.Cells.{cells}
+use Rattle.residual.specs.inner.Network.{get}
+use Rattle.reachability.specs.inner.Reachability.{Opens, Supplied, Known, Through}
+use Rattle.canonical.specs.inner.Canonize.{Followed}
 use Rattle.residual.proofs.Bits.{bit-most, bit-or, bit-own}
 use Rattle.reachability.proofs.MaskBits.{bit-ones}
 

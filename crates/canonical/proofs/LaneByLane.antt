@@ -6,11 +6,11 @@ use Prim.Native.Nat.{ℕ, _+_, _-_, _*_, _≤_, _<_}
 use native.Mathlib.Decide.{ℕ-discrete}
 use native.Mathlib.Omega.{arith}
 use Rattle.transport.specs.Plan.{Table, row, col, Under}
-use Rattle.transport.specs.theory.Slackness.{Slack}
-use Rattle.transport.specs.theory.PathFlow.{pulse}
-use Rattle.residual.specs.Cells.{cells}
-use Rattle.residual.specs.Network.{Net, get}
-use Rattle.canonical.specs.Canonize.{Rival, Agree, both, SlackWith, TightLane, free, aside, PartedAt, Settling, Settled, LaneSettled}
+use Rattle.transport.specs.inner.Slackness.{Slack}
+use Rattle.transport.specs.inner.PathFlow.{pulse}
+use Rattle.residual.specs.inner.Cells.{cells}
+use Rattle.residual.specs.inner.Network.{Net, get}
+use Rattle.canonical.specs.inner.Canonize.{Rival, Agree, both, SlackWith, TightLane, free, aside, PartedAt, Settling, Settled, LaneSettled}
 use Rattle.transport.proofs.Sums.{sum-ext, sum-add, sum-none}
 use Rattle.transport.proofs.CellChange.{Put, row-put, row-put-off, col-put, col-put-off}
 use Rattle.transport.proofs.Optimality.{cheapest}

@@ -11,14 +11,14 @@ use lib.Count.{trailingZeros}
 use lib.Pow.{pow-mono}
 use lib.Seq.{getD-set-same, getD-set-other}
 use Rattle.transport.specs.Plan.{Table}
-use Rattle.residual.specs.Cells.{cells}
-use Rattle.residual.specs.Network.{Net, get}
-use Rattle.residual.specs.Bits.{bit, Left}
-use Rattle.residual.specs.LanesInUse.{Covers}
-use Rattle.augment.specs.LaneMarks.{Served}
-use Rattle.augment.specs.PathWalk.{Carried}
-use Rattle.reachability.specs.Reachability.{Opens, Supplied}
-use Rattle.canonical.specs.Canonize.{Doors, TightLane, PartedAt, free, aside, Settling, FreeReady, LaneSettled, Longs, CanonReady, bare, PartReady, Kept, Clear, LaneParted, PartedTo, Open, Onward, Canonized}
+use Rattle.residual.specs.inner.Cells.{cells}
+use Rattle.residual.specs.inner.Network.{Net, get}
+use Rattle.residual.specs.inner.Bits.{bit, Left}
+use Rattle.residual.specs.inner.LanesInUse.{Covers}
+use Rattle.augment.specs.inner.LaneMarks.{Served}
+use Rattle.augment.specs.inner.PathWalk.{Carried}
+use Rattle.reachability.specs.inner.Reachability.{Opens, Supplied}
+use Rattle.canonical.specs.inner.Canonize.{Doors, TightLane, PartedAt, free, aside, Settling, FreeReady, LaneSettled, Longs, CanonReady, bare, PartReady, Kept, Clear, LaneParted, PartedTo, Open, Onward, Canonized}
 use Rattle.residual.proofs.Bits.{bit-none, bit-place, power-fits, low-set, rest-other, left-start, left-low, left-none, left-next}
 use Rattle.augment.proofs.LaneMarks.{cover-arc, cover-none, set-less}
 use Rattle.reachability.proofs.Reachability.{cover-drop}

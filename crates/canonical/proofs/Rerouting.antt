@@ -9,19 +9,19 @@ use lib.ListN.{length, set, length-set, replicate, length-replicate, getD-replic
 use lib.Seq.{getD-set-same, getD-set-other}
 use Rattle.transport.specs.Sum.{sum}
 use Rattle.transport.specs.Plan.{Table, row, col, Under}
-use Rattle.transport.specs.theory.PathFlow.{pulse}
-use Rattle.residual.specs.Cells.{cells}
-use Rattle.residual.specs.Network.{net, get}
-use Rattle.residual.specs.Labels.{book}
-use Rattle.residual.specs.Bits.{bit}
-use Rattle.residual.specs.LanesInUse.{Covers}
-use Rattle.paths.specs.Search.{Near, Label}
-use Rattle.augment.specs.Send.{SendReady}
-use Rattle.augment.specs.LaneMarks.{Trail, Marks}
-use Rattle.augment.specs.PathWalk.{Walkable, Walked, Walking}
-use Rattle.augment.specs.PathMeasure.{Route, Measured}
-use Rattle.reachability.specs.Reachability.{level, RoamAt, Trodden}
-use Rattle.canonical.specs.Canonize.{FreeReady, Followed, Rerouting, Rerouted, Doors, Resent, LaneSettled}
+use Rattle.transport.specs.inner.PathFlow.{pulse}
+use Rattle.residual.specs.inner.Cells.{cells}
+use Rattle.residual.specs.inner.Network.{net, get}
+use Rattle.residual.specs.inner.Labels.{book}
+use Rattle.residual.specs.inner.Bits.{bit}
+use Rattle.residual.specs.inner.LanesInUse.{Covers}
+use Rattle.paths.specs.inner.Search.{Near, Label}
+use Rattle.augment.specs.inner.Send.{SendReady}
+use Rattle.augment.specs.inner.LaneMarks.{Trail, Marks}
+use Rattle.augment.specs.inner.PathWalk.{Walkable, Walked, Walking}
+use Rattle.augment.specs.inner.PathMeasure.{Route, Measured}
+use Rattle.reachability.specs.inner.Reachability.{level, ReachAt, Trodden}
+use Rattle.canonical.specs.inner.Canonize.{FreeReady, Followed, Rerouting, Rerouted, Doors, Resent, LaneSettled}
 use Rattle.transport.proofs.Sums.{sum-mono}
 use Rattle.transport.proofs.CellChange.{Put, row-put, row-put-off, col-put, col-put-off}
 use Rattle.transport.proofs.PathFlow.{pulse-same, pulse-off}
@@ -140,8 +140,8 @@ module _ {m n i j amount : ℕ} {f x : List ℕ} (r : FreeReady m n i j f x) whe
       long-x = q .long-x;
     }
 
-    pub roam-at : RoamAt m n i j
-    roam-at = record { sources = r .sources; terminals = r .terminals; source = r .source; terminal = r .terminal }
+    pub reach-at : ReachAt m n i j
+    reach-at = record { sources = r .sources; terminals = r .terminals; source = r .source; terminal = r .terminal }
 
     pub reroute-next : {x'' P : List ℕ} {d : ℕ} → Followed m n i j left f x' x'' P d → Rerouting m n i j amount f x x'' (left - d)
     reroute-next {x''} {P} {d} t = record {

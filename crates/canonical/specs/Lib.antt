@@ -1,1 +1,1 @@
-pub mod Canonize
+pub mod inner

@@ -3,15 +3,15 @@
 ghost use mathlib.Core.Path.{_≡_};
 ghost use Prim.Native.Nat.{_+_, _*_, _<_};
 ghost use lib.ListN.{getD, length};
-ghost use Rattle.residual.specs.Cells.{cells};
-ghost use Rattle.residual.specs.Network.{net};
-ghost use Rattle.residual.specs.LanesInUse.{Covers};
-ghost use Rattle.reachability.specs.Reachability.{Opens, Supplied, Known, Trodden};
-ghost use Rattle.canonical.specs.Canonize.{FreeReady, Followed, Rerouted, Doors, Resent, LaneSettled, CanonReady, bare, Kept, PartReady, Clear, LaneParted, PartedTo, Open, Onward, Canonized};
+ghost use Rattle.residual.specs.inner.Cells.{cells};
+ghost use Rattle.residual.specs.inner.Network.{net};
+ghost use Rattle.residual.specs.inner.LanesInUse.{Covers};
+ghost use Rattle.reachability.specs.inner.Reachability.{Opens, Supplied, Known, Trodden};
+ghost use Rattle.canonical.specs.inner.Canonize.{FreeReady, Followed, Rerouted, Doors, Resent, LaneSettled, CanonReady, bare, Kept, PartReady, Clear, LaneParted, PartedTo, Open, Onward, Canonized};
 use augment::send::measure;
 use augment::send::push;
 use augment::send::serve;
-use reachability::roam::roam;
+use reachability::reach::reach;
 
 // A tight lane is free, with its ceiling and its drums, and noted with its source and its terminal; what another lane carries stays in the plan,
 // set aside.
@@ -170,7 +170,7 @@ fn reroute(
     let mut prev = [0u32; 96];
     let mut left = amount;
     while 0 < left {
-        if roam(m, n, i, j, left, ways, free, x, supplied, serves, &mut prev) {
+        if reach(m, n, i, j, left, ways, free, x, supplied, serves, &mut prev) {
             left = left - follow(m, n, i, j, left, &prev, free, x, serves);
         } else {
             return left;

@@ -8,7 +8,7 @@ use native.Mathlib.Omega.{arith}
 use lib.IntN.{ℤ, pos, _+ℤ_, _-ℤ_, _*ℤ_, zero-*ℤ}
 use lib.Signed.{_≤ℤ_, _<ℤ_, clashℤ}
 use Rattle.transport.specs.Plan.{Table, byRow, row, col, total, freight, Fits, Under}
-use Rattle.transport.specs.theory.Slackness.{dot}
+use Rattle.transport.specs.inner.Slackness.{dot}
 use Rattle.transport.proofs.Sums.{sum-ext, total-mono, total-add}
 use Rattle.transport.proofs.Certificate.{cert-total}
 use Rattle.transport.proofs.Differences.{pos-sub, sub-add, sub-sub, sub-at-most}

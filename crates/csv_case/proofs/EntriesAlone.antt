@@ -11,7 +11,7 @@ use Rattle.csv_table.specs.declared.table.Table.{Table}
 use Rattle.csv_table.specs.declared.table.Table.the-variants as tables
 use Rattle.csv_case.specs.declared.case.Entries.the-variants.{Read, Refused}
 use Rattle.csv_table.specs.Files.{wanted, tableOf, inOrder}
-use Rattle.csv_table.specs.Tallies.{TableRead}
+use Rattle.csv_table.specs.inner.Tallies.{TableRead}
 use Rattle.csv_case.specs.CaseFiles.{entriesIn}
 use Rattle.csv_case.specs.Entries.{entriesOf, EntriesStored}
 use Rattle.csv_case.proofs.TariffCase.{Accepted, accepted, even-length, fields-read, stored-entries}

@@ -11,7 +11,7 @@ use mathlib.Core.List.{List}
 use Rattle.csv_form.specs.declared.Kind.{Kind}
 use Rattle.csv_form.specs.declared.Kind.the-variants.{Tariff, Production}
 use Rattle.csv_form.specs.Form.{Mark, digit, minus, quote, comma, cr, lf, other, pickMark, mark}
-use Rattle.csv_form.specs.Reader.{digitOr10, isMinus}
+use Rattle.csv_form.specs.inner.Reader.{digitOr10, isMinus}
 
 abbrev pub NotDigit : Mark → Type 0
 NotDigit (digit d) = ⊥

@@ -11,7 +11,7 @@ use lib.ListN.{length, getD, drop}
 use Rattle.csv_form.specs.declared.Kind.{Kind}
 use Rattle.csv_form.specs.Form.{mark}
 use Rattle.csv_form.specs.Records.{reading, run}
-use Rattle.csv_form.specs.Reader.{within, digitOr10, DigitsRead}
+use Rattle.csv_form.specs.inner.Reader.{within, digitOr10, DigitsRead}
 use Rattle.csv_form.proofs.ByteMarks.{no-digit-found, digit-found, inside}
 use Rattle.csv_form.proofs.FormRuns.{digits-end, digits-more}
 

@@ -11,7 +11,7 @@ use Rattle.csv_form.specs.declared.Kind.{Kind}
 use Rattle.csv_form.specs.declared.field.Field.{Field}
 use Rattle.csv_form.specs.declared.field.Field.the-variants.{Value, Refused}
 use Rattle.csv_form.specs.Form.{mark, field, opened}
-use Rattle.csv_form.specs.Reader.{digitOr10, isMinus, numberFrom, numberAt, DigitsRead, NumberRead, closeQuote, digitsTo, digitsFrom, numberOf, signedAt, fieldAt, FieldRead}
+use Rattle.csv_form.specs.inner.Reader.{digitOr10, isMinus, numberFrom, numberAt, DigitsRead, NumberRead, closeQuote, digitsTo, digitsFrom, numberOf, signedAt, fieldAt, FieldRead}
 use Rattle.csv_form.proofs.AfterAnswers.{present}
 use Rattle.csv_form.proofs.ByteMarks.{past, nothing-ten, no-minus, minus-inside}
 use Rattle.csv_form.proofs.Digits.{DigitsSoFar, none-yet, one-more, no-more, all-ten}

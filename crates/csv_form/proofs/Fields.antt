@@ -15,7 +15,7 @@ use Rattle.csv_form.specs.declared.field.Field.{Field}
 use Rattle.csv_form.specs.declared.field.Field.the-variants.{Value, Refused}
 use Rattle.csv_form.specs.Form.{digit, quote, mark, field, opened, step}
 use Rattle.csv_form.specs.Records.{reading, run, isFirst, absorb, Form, broken}
-use Rattle.csv_form.specs.Reader.{digitOr10, isMinus, pickBool, numberFrom, within, closedAs, NumberRead, pickField, closeQuote, onField, FieldRead, fieldEnds}
+use Rattle.csv_form.specs.inner.Reader.{digitOr10, isMinus, pickBool, numberFrom, within, closedAs, NumberRead, pickField, closeQuote, onField, FieldRead, fieldEnds}
 use Rattle.csv_form.proofs.ByteMarks.{no-digit-found, digit-found, seen, known, inside, past, nothing-ten, minus-inside, no-minus}
 use Rattle.csv_form.proofs.FormRuns.{here, refused, start, start-on, start-clear, quoted-on, quoted-clear, no-field, no-opened, no-signed, no-zero, no-quote, begins, zero-alone, zero-led, bare-closed, quote-closed, minus-begins}
 

@@ -52,7 +52,7 @@ use Rattle.csv_form.specs.Form.{
   mayEnd,
 }
 use Rattle.csv_form.specs.Records.{Reading, reading, run, absorb, isSource, recordsAtEnd, Form, whole, broken, formOf}
-use Rattle.csv_form.specs.Reader.{digitOr10}
+use Rattle.csv_form.specs.inner.Reader.{digitOr10}
 use Rattle.csv_form.proofs.ByteMarks.{mark-digit, digit-found, nothing-ten, mark-zero, digit-small}
 use Rattle.csv_form.proofs.Viable.{viable}
 

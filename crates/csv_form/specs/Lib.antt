@@ -1,3 +1,3 @@
 pub mod Form
 pub mod Records
-pub mod Reader
+pub mod inner

@@ -3,7 +3,7 @@ use crate::Kind;
 ghost use mathlib.Core.Path.{_≡_};
 ghost use Prim.Native.Nat.{_≤_};
 ghost use lib.ListN.{length};
-ghost use Rattle.csv_form.specs.Reader.{costAt, lastAt, demandAt, commaAt, recordAt, afterAt, atLast};
+ghost use Rattle.csv_form.specs.inner.Reader.{costAt, lastAt, demandAt, commaAt, recordAt, afterAt, atLast};
 
 pub enum After {
     // A further field of the record begins at next.

@@ -5,7 +5,7 @@ ghost use Prim.Native.Nat.{_+_, _≤_, _<_, _^_};
 ghost use lib.ListN.{length, getD};
 ghost use Rattle.csv_form.specs.Form.{mark};
 ghost use Rattle.csv_form.specs.Records.{signed};
-ghost use Rattle.csv_form.specs.Reader.{digitOr10, isMinus, numberAt, digitsFrom, numberOf, closeQuote, signedAt, fieldAt};
+ghost use Rattle.csv_form.specs.inner.Reader.{digitOr10, isMinus, numberAt, digitsFrom, numberOf, closeQuote, signedAt, fieldAt};
 
 // What is read at a field: its value, and whether a minus stands before it, with the next offset; or a refusal with its place.
 pub enum Field {

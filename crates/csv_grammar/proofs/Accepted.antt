@@ -12,7 +12,7 @@ use Rattle.csv_form.specs.declared.Kind.the-variants.{Tariff, Production}
 use Rattle.csv_form.specs.Form.{Mark, digit, minus, quote, comma, cr, lf, other, mark, State, field, fieldOrEmpty, recordOrEnd, opened, bare, quoted, zeroBare, zeroQuoted, closed, minusBare, minusQuoted, bareCost, quotedCost, closedCost, lineEnd, lastLineEnd, done, step, leading, more, afterComma, afterLine, inTariff, placeOf, mayEnd, isProduction}
 use Rattle.csv_form.specs.Records.{Reading, reading, run, absorb, recordsAtEnd, rowWith, rowsWith, isFirst, isSource, Form, whole, broken, formOf}
 use Rattle.csv_form.specs.Records as machine
-use Rattle.csv_form.specs.Reader.{within, closedAs}
+use Rattle.csv_form.specs.inner.Reader.{within, closedAs}
 use Rattle.csv_form.proofs.ByteMarks.{mark-digit}
 use Rattle.csv_grammar.specs.Grammar as grammar
 use Rattle.csv_grammar.specs.Grammar.{Each, Digit, IsNumber, valueAfter, Field, IsField, IsPlain, signed, numberIn, digitText, signText, inQuotes, fieldText, recordText, Row, IsTariff, IsProduction, HasForm, linesBefore, fieldsOf, rowText, numbersIn, SourceRow, PlainRow, IsSource}

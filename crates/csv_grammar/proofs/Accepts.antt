@@ -16,7 +16,7 @@ use Rattle.csv_form.specs.declared.after.After.the-variants as afters
 use Rattle.csv_form.specs.Form.{field}
 use Rattle.csv_form.specs.Records.{reading, run, rowWith, rowsWith, isFirst, Form, whole, broken, formOf}
 use Rattle.csv_form.specs.Records as machine
-use Rattle.csv_form.specs.Reader.{fieldAt, afterAt, onField, onAfter, fieldEnds, afterEnds, FieldRead, AfterRead, atField, Known}
+use Rattle.csv_form.specs.inner.Reader.{fieldAt, afterAt, onField, onAfter, fieldEnds, afterEnds, FieldRead, AfterRead, atField, Known}
 use Rattle.csv_form.proofs.FieldAnswers.{means-field}
 use Rattle.csv_form.proofs.AfterAnswers.{means-after}
 use Rattle.csv_grammar.specs.Grammar.{Each, Field, IsField, IsPlain, signed, numberIn, valueAfter, fieldText, recordText, Row, fieldsOf, rowText, numbersIn, SourceRow, PlainRow, IsSource, lineEnd, linesBefore, IsTariff, IsProduction, HasForm}

@@ -15,7 +15,7 @@ use Rattle.csv_table.specs.declared.table.Table.the-variants.{Whole, Ref
 use Rattle.csv_table.specs.declared.table.Tally.{Tally}
 use Rattle.csv_form.specs.Records.{rowWith, isFirst}
 use Rattle.csv_table.specs.Files.{pick, judged, wanted, oddFrom, inOrder}
-use Rattle.csv_table.specs.Tallies.{startTally, fieldTally, widthOr, oddOr, recordTally, sourceTally}
+use Rattle.csv_table.specs.inner.Tallies.{startTally, fieldTally, widthOr, oddOr, recordTally, sourceTally}
 
 wanted-snoc :
     (kind : Kind) (rs : List (List ℤ)) (r : List ℤ) → (0 < length rs → 0 < wanted kind rs) →

@@ -18,8 +18,8 @@ use Rattle.csv_table.specs.declared.table.Tally.{Tally}
 use Rattle.csv_form.specs.Form.{field}
 use Rattle.csv_form.specs.Records.{reading, run, signed, rowWith, rowsWith, whole, broken, formOf}
 use Rattle.csv_table.specs.Files.{tableOf, judge, judged, inOrder}
-use Rattle.csv_form.specs.Reader.{closedAs, fieldAt, afterAt, FieldRead, AfterRead, atField, Known}
-use Rattle.csv_table.specs.Tallies.{startTally, fieldTally, recordTally, sourceTally, Countable, handedOn, Scanned}
+use Rattle.csv_form.specs.inner.Reader.{closedAs, fieldAt, afterAt, FieldRead, AfterRead, atField, Known}
+use Rattle.csv_table.specs.inner.Tallies.{startTally, fieldTally, recordTally, sourceTally, Countable, handedOn, Scanned}
 use Rattle.csv_table.proofs.FieldCounts.{Tallied, tally-start, tally-field, tally-record, tally-source, inOrder-snoc, judged-whole}
 use Rattle.csv_form.proofs.FieldAnswers.{means-field}
 use Rattle.csv_form.proofs.AfterAnswers.{means-after}

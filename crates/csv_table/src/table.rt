@@ -10,7 +10,7 @@ ghost use mathlib.Core.Path.{_≡_};
 ghost use mathlib.Core.Bool.{_||_};
 ghost use Rattle.csv_table.specs.Files.{judged, tableOf, stands};
 ghost use Rattle.csv_form.specs.declared.Kind.the-variants as kinds;
-ghost use Rattle.csv_table.specs.Tallies.{startTally, fieldTally, recordTally, sourceTally, widthOr, oddOr, Countable, handedOn, Scanned, TableRead};
+ghost use Rattle.csv_table.specs.inner.Tallies.{startTally, fieldTally, recordTally, sourceTally, widthOr, oddOr, Countable, handedOn, Scanned, TableRead};
 
 // The whole file's count of records and of each record's fields, or a refusal.
 pub enum Table {

@@ -7,11 +7,11 @@ use native.Mathlib.Decide.{ℕ-discrete}
 use native.Mathlib.Omega.{arith}
 use lib.ListN.{set, length-set}
 use lib.Seq.{getD-set-same, getD-set-other}
-use Rattle.residual.specs.Network.{get}
-use Rattle.residual.specs.Bits.{bit}
-use Rattle.residual.specs.LanesInUse.{Covers}
-use Rattle.cuts.specs.Cut.{CutReady, Shifted}
-use Rattle.cuts.specs.Advance.{Forgot, Advanced}
+use Rattle.residual.specs.inner.Network.{get}
+use Rattle.residual.specs.inner.Bits.{bit}
+use Rattle.residual.specs.inner.LanesInUse.{Covers}
+use Rattle.cuts.specs.inner.Cut.{CutReady, Shifted}
+use Rattle.cuts.specs.inner.Advance.{Forgot, Advanced}
 use Rattle.cuts.proofs.PartBits.{bit-drop}
 
 pub forgot-none : {x s : List ℕ} → Forgot x s s
@@ -69,4 +69,4 @@ advance-next a b = record {
 -- the next cut can be made
 pub advance-ready : {m n : ℕ} {cost columns x s p s' p' : List ℕ} → CutReady m n cost columns p → Advanced m n cost x s p s' p'
     → CutReady m n cost columns p'
-advance-ready r a = record { sources = r .sources; terminals = r .terminals; costs = r .costs; turned = r .turned; high = a .high; long = a .long }
+advance-ready r a = record { sources = r .sources; terminals = r .terminals; costs = r .costs; transposed = r .transposed; high = a .high; long = a .long }

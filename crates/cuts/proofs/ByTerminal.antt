@@ -1,4 +1,4 @@
--- The unit costs by terminal, turn by turn. Assumes nothing.
+-- The unit costs by terminal, pass by pass. Assumes nothing.
 use mathlib.Core.Path.{_≡_, _∙_}
 use mathlib.Core.List.{List}
 use Prim.Native.Nat.{ℕ, _+_, _*_, _≤_, _<_}
@@ -6,12 +6,12 @@ use native.Mathlib.Decide.{ℕ-discrete, decLt}
 use native.Mathlib.Omega.{arith}
 use lib.ListN.{set, length-set, replicate, length-replicate, getD-replicate, List·getD-eq-default}
 use lib.Seq.{getD-set-same, getD-set-other}
-use Rattle.residual.specs.Cells.{cells}
-use Rattle.residual.specs.Network.{get}
-use Rattle.cuts.specs.Columns.{TurnReady, Filled, Transposed}
+use Rattle.residual.specs.inner.Cells.{cells}
+use Rattle.residual.specs.inner.Network.{get}
+use Rattle.cuts.specs.inner.Columns.{TransposeReady, Filled, Transposed}
 
-pub turn-fewer : {k m n : ℕ} {cost : List ℕ} → TurnReady m n cost → k ≤ n → TurnReady m k cost
-turn-fewer r h = record { sources = r .sources; terminals = omega (arith, r .terminals); costs = λ i j a b. r .costs i j a (omega arith) }
+pub transpose-fewer : {k m n : ℕ} {cost : List ℕ} → TransposeReady m n cost → k ≤ n → TransposeReady m k cost
+transpose-fewer r h = record { sources = r .sources; terminals = omega (arith, r .terminals); costs = λ i j a b. r .costs i j a (omega arith) }
 
 pub fill-start : {m : ℕ} {cost : List ℕ} → Filled m cost 0 0 (replicate 2048 0)
 fill-start = record {
@@ -43,8 +43,8 @@ fill-next {m} {cost} {j} {k} {a} {to} hm hj hk e h q = record {
     new = getD-set-same to (j * 32 + k) a 0 (omega (arith, q .long))
 
 -- a terminal is done
-pub fill-turn : {m : ℕ} {cost : List ℕ} {j k : ℕ} {to : List ℕ} → m ≤ k → Filled m cost j k to → Filled m cost (j + 1) 0 to
-fill-turn {j = j} h q = record {
+pub fill-column : {m : ℕ} {cost : List ℕ} {j k : ℕ} {to : List ℕ} → m ≤ k → Filled m cost j k to → Filled m cost (j + 1) 0 to
+fill-column {j = j} h q = record {
   long = q .long;
   most = q .most;
   each = λ i t b l. elim (ℕ-discrete t j) [ yes z ↦ rw z (q .here i (omega arith)) | no z ↦ q .each i t b (omega arith) ];

@@ -6,11 +6,11 @@ use native.Mathlib.Decide.{decLt}
 use native.Mathlib.Omega.{arith}
 use lib.Bits.{bitAnd}
 use lib.Pow.{pow-mono}
-use Rattle.residual.specs.Cells.{cells}
-use Rattle.residual.specs.Network.{get}
+use Rattle.residual.specs.inner.Cells.{cells}
+use Rattle.residual.specs.inner.Network.{get}
 use Rattle.residual.proofs.Bits.{bit-none, bit-place}
-use Rattle.cuts.specs.Columns.{byTerminal}
-use Rattle.cuts.specs.Cut.{has, Others, LowsReady, Lows, Low, SourcesReady, TerminalsReady, Nearest, NearReady, Near}
+use Rattle.cuts.specs.inner.Columns.{byTerminal}
+use Rattle.cuts.specs.inner.Cut.{has, Others, LowsReady, Lows, Low, SourcesReady, TerminalsReady, Nearest, NearReady, Near}
 use Rattle.cuts.proofs.PartBits.{low-half, high-half, low-half-fits}
 
 -- ---- source by source
@@ -99,7 +99,7 @@ module _ {m n rows out : ℕ} {cost columns w : List ℕ} (r : NearReady m n cos
   }
 
   pub near-terminals : TerminalsReady out columns w
-  near-terminals = record { few = near-few; costs = r .turned .most; most = r .most }
+  near-terminals = record { few = near-few; costs = r .transposed .most; most = r .most }
 
   pub near-by-sources : {cols key : ℕ} → Nearest out cols (cells cost) w key → Near m n rows cols cost w key
   near-by-sources q = record {
@@ -116,5 +116,5 @@ module _ {m n rows out : ℕ} {cost columns w : List ℕ} (r : NearReady m n cos
   pub near-by-terminals : {cols key : ℕ} → Nearest out cols (byTerminal columns) w key → Near m n rows cols cost w key
   near-by-terminals q = record {
     each = λ i j a b e u.
-        omega (arith, q .each i j (omega (arith, r .sources)) (omega (arith, r .terminals)) (o .out i a e) u, r .turned .each i j a b);
+        omega (arith, q .each i j (omega (arith, r .sources)) (omega (arith, r .terminals)) (o .out i a e) u, r .transposed .each i j a b);
   }

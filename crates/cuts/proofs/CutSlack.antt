@@ -6,10 +6,10 @@ use Prim.Native.Nat.{ℕ, zero, suc, _+_, _-_, _≤_, _<_}
 use native.Mathlib.Decide.{ℕ-discrete}
 use native.Mathlib.Omega.{arith}
 use Rattle.transport.specs.Plan.{Table}
-use Rattle.transport.specs.theory.Slackness.{Lane, Slack}
-use Rattle.residual.specs.Cells.{cells}
-use Rattle.residual.specs.Network.{get}
-use Rattle.cuts.specs.Cut.{has, share, Shut, CutReady, Weighed, Near, Rose, Lifted, Shifted}
+use Rattle.transport.specs.inner.Slackness.{Lane, Slack}
+use Rattle.residual.specs.inner.Cells.{cells}
+use Rattle.residual.specs.inner.Network.{get}
+use Rattle.cuts.specs.inner.Cut.{has, share, Shut, CutReady, Weighed, Near, Rose, Lifted, Shifted}
 use Rattle.residual.proofs.Bits.{bit-most}
 
 pub share-in : (d b : ℕ) → b ≡ 1 → share d b ≡ d

@@ -1,4 +1,4 @@
--- The cut's loops, turn by turn. Assumes nothing.
+-- The cut's loops, pass by pass. Assumes nothing.
 use mathlib.Core.Path.{_≡_, refl, ap, subst, _∙_}
 use mathlib.Core.Bool.{Bool, false}
 use mathlib.Core.List.{List}
@@ -10,10 +10,10 @@ use lib.Seq.{getD-set-same, getD-set-other}
 use lib.Bits.{bitOr, bitAnd, and-le-l, and-le-r}
 use lib.Pow.{pow-mono}
 use lib.Count.{trailingZeros}
-use Rattle.residual.specs.Network.{get}
-use Rattle.residual.specs.Bits.{bit}
+use Rattle.residual.specs.inner.Network.{get}
+use Rattle.residual.specs.inner.Bits.{bit}
 use Rattle.residual.proofs.Bits.{bit-or, or-above, bit-most, bit-none, bit-place, low-set, rest-same, rest-other}
-use Rattle.cuts.specs.Cut.{has, share, Others, ChangeReady, Changed, Shut, Gathered, Folded, Weighed, Lows, Low, Top, Bottom, LiftReady, Rose, Lifted}
+use Rattle.cuts.specs.inner.Cut.{has, share, Others, ChangeReady, Changed, Shut, Gathered, Folded, Weighed, Lows, Low, Top, Bottom, LiftReady, Rose, Lifted}
 use Rattle.cuts.proofs.PartBits.{apart, rest-done, own-low, own-next}
 use Rattle.cuts.proofs.CutSlack.{share-in, share-out, share-most}
 

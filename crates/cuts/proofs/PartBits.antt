@@ -8,9 +8,9 @@ use native.Mathlib.Omega.{arith}
 use lib.Bits.{bitAnd, bitXor, differ, and-step, xor-step, and-le-l, and-le-r, xor-shifted, xor-comm}
 use lib.Count.{trailingZeros}
 use lib.Pow.{ones-lt, pow-pos, pow-mono, shl-exact, shr-shr}
-use Rattle.residual.specs.Bits.{bit}
+use Rattle.residual.specs.inner.Bits.{bit}
 use Rattle.residual.proofs.Bits.{bit-most, bit-place, low-set, rest-same, rest-other}
-use Rattle.cuts.specs.Cut.{Others}
+use Rattle.cuts.specs.inner.Cut.{Others}
 
 -- as the code reads it
 pub bit-shift : (r k : ℕ) → bit r k ≡ (r / 2 ^ k) % 2

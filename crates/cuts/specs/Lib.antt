@@ -1,3 +1,1 @@
-pub mod Columns
-pub mod Cut
-pub mod Advance
+pub mod inner

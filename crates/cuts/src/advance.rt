@@ -1,8 +1,8 @@
 // Cuts until the path of the tree has drums on every lane that loses some, or the tree is given up. After a cut that left the potentials as they
 // were another tight lane is looked for first: it takes no cut. Nothing is asked of the tree.
 ghost use Prim.Native.Nat.{_<_};
-ghost use Rattle.cuts.specs.Cut.{CutReady, Shifted};
-ghost use Rattle.cuts.specs.Advance.{Forgot, Advanced};
+ghost use Rattle.cuts.specs.inner.Cut.{CutReady, Shifted};
+ghost use Rattle.cuts.specs.inner.Advance.{Forgot, Advanced};
 use super::cut::cut;
 use spanningtree::NONE;
 use spanningtree::entering::Lane;
@@ -10,9 +10,9 @@ use spanningtree::entering::came_in;
 use spanningtree::entering::tight_lane;
 use spanningtree::leaving::blocked;
 use spanningtree::leaving::blocked_at_start;
-use spanningtree::parts::rehang;
+use spanningtree::parts::reattach;
 
-// The cell of up, which is no node's, that has 1 where the last cut left the potentials as they were.
+// The cell of parent, which is no node's, that has 1 where the last cut left the potentials as they were.
 const FLAT: usize = 127;
 
 // Source i is no longer noted to serve terminal j, where their lane is empty.
@@ -62,12 +62,12 @@ fn next_lane(
     columns: &[u32; 2048],
     serves: &[u32; 64],
     pot: &mut [u32; 96],
-    up: &mut [u32; 128],
+    parent: &mut [u32; 128],
 ) -> Lane
     requires { ⌜ CutReady m n (now cost) (now columns) (now pot) ⌝ }
     ensures { λ r. ⌜ Shifted m n (now (cost .entry)) (now (serves .entry)) (now (pot .entry)) (now (pot .exit)) ⌝ }
 {
-    if up[FLAT] == 1 {
+    if parent[FLAT] == 1 {
         let tight = tight_lane(m, part, below, columns, pot);
         if tight.source < NONE {
             return tight;
@@ -76,7 +76,7 @@ fn next_lane(
     let first = pot[0];
     let second = pot[1];
     let lane = cut_in(m, n, part, below, cost, columns, serves, pot);
-    up[FLAT] = if (first == pot[0]) & (second == pot[1]) {
+    parent[FLAT] = if (first == pot[0]) & (second == pot[1]) {
         1
     } else {
         0
@@ -94,23 +94,30 @@ fn step(
     x: &[u32; 2048],
     serves: &mut [u32; 64],
     pot: &mut [u32; 96],
-    up: &mut [u32; 128],
-    rows: &mut [u32; 128],
-    cols: &mut [u64; 128],
+    parent: &mut [u32; 128],
+    sources_below: &mut [u32; 128],
+    terminals_below: &mut [u64; 128],
 ) -> bool
     requires { ⌜ CutReady m n (now cost) (now columns) (now pot) ⌝ }
     ensures { λ r. ⌜ Advanced m n (now (cost .entry)) (now (x .entry)) (now (serves .entry)) (now (pot .entry)) (now (serves .exit)) (now (pot .exit)) ⌝ }
 {
     let k = (v % 32) as usize;
-    let t = ((up[k] % 128 + 32) % 64) as usize;
+    let t = ((parent[k] % 128 + 32) % 64) as usize;
     forget(k, t, x, serves);
-    let part = rows[k];
-    let below = cols[k];
-    let lane = next_lane(m, n, part, below, cost, columns, serves, pot, up);
+    let part = sources_below[k];
+    let below = terminals_below[k];
+    let lane = next_lane(m, n, part, below, cost, columns, serves, pot, parent);
     if NONE <= lane.source {
         return false;
     }
-    rehang(v, lane.terminal, lane.source, up, rows, cols);
+    reattach(
+        v,
+        lane.terminal,
+        lane.source,
+        parent,
+        sources_below,
+        terminals_below,
+    );
     true
 }
 
@@ -125,24 +132,36 @@ pub fn advance(
     x: &[u32; 2048],
     serves: &mut [u32; 64],
     pot: &mut [u32; 96],
-    up: &mut [u32; 128],
-    rows: &mut [u32; 128],
-    cols: &mut [u64; 128],
+    parent: &mut [u32; 128],
+    sources_below: &mut [u32; 128],
+    terminals_below: &mut [u64; 128],
 )
     requires { ⌜ CutReady m n (now cost) (now columns) (now pot) ⌝ }
     ensures { λ _. ⌜ Advanced m n (now (cost .entry)) (now (x .entry)) (now (serves .entry)) (now (pot .entry)) (now (serves .exit)) (now (pot .exit)) ⌝ }
 {
-    let mut v = blocked_at_start(drained, up, x);
+    let mut v = blocked_at_start(drained, parent, x);
     let mut left: u32 = 200;
     while 0 < left {
         if v == NONE {
             return;
         }
-        if !step(m, n, v, cost, columns, x, serves, pot, up, rows, cols) {
-            up[1] = NONE;
+        if !step(
+            m,
+            n,
+            v,
+            cost,
+            columns,
+            x,
+            serves,
+            pot,
+            parent,
+            sources_below,
+            terminals_below,
+        ) {
+            parent[1] = NONE;
             return;
         }
-        v = blocked(up, x);
+        v = blocked(parent, x);
         left = left - 1;
     }
 }

@@ -1,9 +1,9 @@
 // The unit costs by terminal, 32 sources for each: what a cut reads stands together.
 ghost use Prim.Native.Nat.{_+_};
-ghost use Rattle.cuts.specs.Columns.{TurnReady, Filled, Transposed};
+ghost use Rattle.cuts.specs.inner.Columns.{TransposeReady, Filled, Transposed};
 
-fn turn_column(m: usize, j: usize, cost: &[u32; 2048], to: &mut [u32; 2048])
-    requires { ⌜ TurnReady m (j + 1) (now cost) ⌝ }
+fn transpose_column(m: usize, j: usize, cost: &[u32; 2048], to: &mut [u32; 2048])
+    requires { ⌜ TransposeReady m (j + 1) (now cost) ⌝ }
     requires { ⌜ Filled m (now cost) j 0 (now to) ⌝ }
     ensures { λ _. ⌜ Filled m (now (cost .entry)) (j + 1) 0 (now (to .exit)) ⌝ }
 {
@@ -15,10 +15,10 @@ fn turn_column(m: usize, j: usize, cost: &[u32; 2048], to: &mut [u32; 2048])
 
 // Into an array that is lent cleared.
 pub fn by_terminal(m: usize, n: usize, cost: &[u32; 2048], to: &mut [u32; 2048])
-    requires { ⌜ TurnReady m n (now cost) × Filled m (now cost) 0 0 (now to) ⌝ }
+    requires { ⌜ TransposeReady m n (now cost) × Filled m (now cost) 0 0 (now to) ⌝ }
     ensures { λ _. ⌜ Transposed m n (now (cost .entry)) (now (to .exit)) ⌝ }
 {
     for j in 0..n {
-        turn_column(m, j, cost, to);
+        transpose_column(m, j, cost, to);
     }
 }

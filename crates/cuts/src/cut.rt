@@ -5,9 +5,9 @@ ghost use mathlib.Core.Bool.{true};
 ghost use Prim.Native.Nat.{_≤_, _<_};
 ghost use lib.Bits.{bitAnd};
 ghost use lib.ListN.{length};
-ghost use Rattle.residual.specs.Cells.{cells};
-ghost use Rattle.cuts.specs.Columns.{byTerminal};
-ghost use Rattle.cuts.specs.Cut.{Others, ChangeReady, Changed, Shut, FoldReady, Folded, WeightsReady, Weighed, LowsReady, Lows, LeastReady, Low, SourcesReady, TerminalsReady, Nearest, NearReady, Near, Top, Bottom, CutReady, LiftReady, Lifted, Shifted};
+ghost use Rattle.residual.specs.inner.Cells.{cells};
+ghost use Rattle.cuts.specs.inner.Columns.{byTerminal};
+ghost use Rattle.cuts.specs.inner.Cut.{Others, ChangeReady, Changed, Shut, FoldReady, Folded, WeightsReady, Weighed, LowsReady, Lows, LeastReady, Low, SourcesReady, TerminalsReady, Nearest, NearReady, Near, Top, Bottom, CutReady, LiftReady, Lifted, Shifted};
 
 // The bits below n that are not in the part.
 fn others(n: usize, part: u64) -> u64

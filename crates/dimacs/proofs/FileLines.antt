@@ -22,9 +22,9 @@ use Rattle.dimacs.specs.Bytes.{_>>=_}
 use Rattle.dimacs.specs.Form.{before, pieces, ArcLine, Line, lineOf, File, file, Stage, opening, reading, isEmpty, onlyIf, step, Form, broken, atEnd, last, run, formOf}
 use Rattle.dimacs.specs.Arc.{arc}
 use Rattle.csv_form.specs.Records.{signed as withSign}
-use Rattle.dimacs.specs.LineReader.{onLine, WholeLine}
-use Rattle.dimacs.specs.Stored.{linesOf, stageOf}
-use Rattle.dimacs.specs.FormReader.{LineEnd, tallyOf, onProblem, onNode, onArc, nextOf, endOf}
+use Rattle.dimacs.specs.inner.LineReader.{onLine, WholeLine}
+use Rattle.dimacs.specs.inner.Stored.{linesOf, stageOf}
+use Rattle.dimacs.specs.inner.FormReader.{LineEnd, tallyOf, onProblem, onNode, onArc, nextOf, endOf}
 use Rattle.dimacs.proofs.LineOffsets.{nothing}
 
 -- ---- lines

@@ -17,7 +17,7 @@ use Rattle.dimacs.specs.declared.bytes.Number.{Number}
 use Rattle.dimacs.specs.declared.bytes.Number.the-variants as numbers
 use Rattle.dimacs.specs.declared.bytes.Signed.{Signed}
 use Rattle.dimacs.specs.declared.bytes.Signed.the-variants as signeds
-use Rattle.dimacs.specs.Reader.{DigitsRead, SpacesRead, onNumber, numberEnds, NumberRead, onSigned, signedEnds, SignedRead, signedAnswer}
+use Rattle.dimacs.specs.inner.Reader.{DigitsRead, SpacesRead, onNumber, numberEnds, NumberRead, onSigned, signedEnds, SignedRead, signedAnswer}
 
 -- an element that is there does not depend on the default
 pub at-any : (s : List ℕ) (at d e : ℕ) → at < length s → getD s at d ≡ getD s at e

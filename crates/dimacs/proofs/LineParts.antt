@@ -21,8 +21,8 @@ use Rattle.dimacs.specs.Arc.{arc}
 use Rattle.dimacs.specs.Bytes.{got, _>>=_, gap, word, field, signedField}
 use Rattle.dimacs.specs.Form.{Line, problem, node, arcLine, ending, problemLine, nodeLine, arcOf, lineOf}
 use Rattle.csv_form.specs.Records.{signed as withSign}
-use Rattle.dimacs.specs.Reader.{SpacesRead, onNumber, numberEnds, NumberRead, onSigned, signedEnds, SignedRead}
-use Rattle.dimacs.specs.LineReader.{minWord, onOffset, offsetEnds, MinRead, LineRead, WholeLine}
+use Rattle.dimacs.specs.inner.Reader.{SpacesRead, onNumber, numberEnds, NumberRead, onSigned, signedEnds, SignedRead}
+use Rattle.dimacs.specs.inner.LineReader.{minWord, onOffset, offsetEnds, MinRead, LineRead, WholeLine}
 use Rattle.dimacs.proofs.LineOffsets.{there, front, nothing, gap-none, gap-some}
 
 -- ---- one thing after the other

@@ -13,7 +13,7 @@ use borrow.Author.Tests.{eq-eqb, ne-eqb, lt-ltb, le-ltb}
 use Rattle.dimacs.specs.Form.{NodeLine}
 use Rattle.dimacs.specs.Lines.{supplyIn, anyOf, noNode, twice, badArc}
 use Rattle.csv_form.specs.Records.{signed as withSign}
-use Rattle.dimacs.specs.Stored.{arcMade}
+use Rattle.dimacs.specs.inner.Stored.{arcMade}
 
 -- ---- tests one after the other
 

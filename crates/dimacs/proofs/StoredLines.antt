@@ -20,9 +20,9 @@ use Rattle.dimacs.specs.Arc.{Arc}
 use Rattle.dimacs.specs.Bytes.{_>>=_}
 use Rattle.dimacs.specs.Form.{ArcLine, NodeLine, file, Stage, opening, reading, isEmpty, onlyIf, step, Form, wholeIf, atEnd, formOf}
 use Rattle.dimacs.specs.Lines.{supplyIn, anyOf, noNode, twice, badArc}
-use Rattle.dimacs.specs.LineReader.{onLine}
-use Rattle.dimacs.specs.FormReader.{tallyOf, endOf}
-use Rattle.dimacs.specs.Stored.{nodeIn, arcIn, noLine, arcOn, HeldBy, ArcsRead, listedNode, NodesRead, flagged, stageOf, nodesIn, arcsIn, suppliesIn, LinesKept, ReadAs}
+use Rattle.dimacs.specs.inner.LineReader.{onLine}
+use Rattle.dimacs.specs.inner.FormReader.{tallyOf, endOf}
+use Rattle.dimacs.specs.inner.Stored.{nodeIn, arcIn, noLine, arcOn, HeldBy, ArcsRead, listedNode, NodesRead, flagged, stageOf, nodesIn, arcsIn, suppliesIn, LinesKept, ReadAs}
 use Rattle.dimacs.proofs.FileLines.{Stands, SoFar, end-closed, end-short, end-whole}
 use Rattle.dimacs.proofs.NodeAndArcLines.{or-first, or-next, any-joined, any-more, twice-more, supply-more, other-supply}
 

@@ -3,7 +3,7 @@ ghost use mathlib.Core.Path.{_≡_};
 ghost use Prim.Native.Nat.{_+_, _≤_, _<_};
 ghost use lib.ListN.{length, getD};
 ghost use Rattle.dimacs.specs.Bytes.{counting, number, signed, field, signedField};
-ghost use Rattle.dimacs.specs.Reader.{signedAnswer, DigitsRead, SpacesRead, NumberRead, SignedRead};
+ghost use Rattle.dimacs.specs.inner.Reader.{signedAnswer, DigitsRead, SpacesRead, NumberRead, SignedRead};
 
 // A number with the offset after it, or none.
 pub enum Number {

@@ -3,7 +3,7 @@ use crate::line::Line;
 ghost use mathlib.Core.Path.{_≡_};
 ghost use Prim.Native.Nat.{_+_, _≤_, _<_};
 ghost use lib.ListN.{length};
-ghost use Rattle.dimacs.specs.FormReader.{onProblem, onNode, onArc, nextOf, endOf, LineEnd};
+ghost use Rattle.dimacs.specs.inner.FormReader.{onProblem, onNode, onArc, nextOf, endOf, LineEnd};
 
 // A file's counts of nodes and of arcs as its p line says them, or the line that is not of the form.
 pub enum Form {

@@ -8,7 +8,7 @@ use crate::bytes::skip_spaces;
 ghost use Prim.Native.Nat.{_+_, _≤_, _<_};
 ghost use lib.ListN.{length};
 ghost use Rattle.dimacs.specs.Form.{problemLine, nodeLine, arcOf};
-ghost use Rattle.dimacs.specs.LineReader.{MinRead, LineRead, WholeLine};
+ghost use Rattle.dimacs.specs.inner.LineReader.{MinRead, LineRead, WholeLine};
 
 pub enum Line {
     Comment,

@@ -15,8 +15,8 @@ ghost use Prim.Native.Nat.{_+_, _<_, _^_};
 ghost use lib.ListN.{length};
 ghost use Rattle.dimacs.specs.Form.{ArcLine, NodeLine};
 ghost use Rattle.dimacs.specs.Lines.{anyOf, badArc};
-ghost use Rattle.dimacs.specs.LineReader.{Small};
-ghost use Rattle.dimacs.specs.Stored.{arcMade, nodeMade, arcIn, nodeIn, ArcsRead, NodesRead, flagged, ReadIs};
+ghost use Rattle.dimacs.specs.inner.LineReader.{Small};
+ghost use Rattle.dimacs.specs.inner.Stored.{arcMade, nodeMade, arcIn, nodeIn, ArcsRead, NodesRead, flagged, ReadIs};
 
 // A file's counts, and whether one of its n lines or of its a lines is out of the limits; or the line that is not of the form.
 pub enum Reading {

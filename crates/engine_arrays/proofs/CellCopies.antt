@@ -7,7 +7,7 @@ use native.Mathlib.Decide.{ℕ-discrete}
 use native.Mathlib.Omega.{arith}
 use lib.ListN.{length, getD, set, length-set, take, drop, length-take, length-drop}
 use lib.Seq.{getD-set-same, getD-set-other, getD-take, getD-drop}
-use Rattle.engine_arrays.specs.Copy.{Narrow, Copied, RowsMoved, Supplied}
+use Rattle.engine_arrays.specs.inner.Copy.{Narrow, Copied, RowsMoved, Supplied}
 use Rattle.problem.proofs.CellRows.{row-at}
 
 -- the first k cells are copied

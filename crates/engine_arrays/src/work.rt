@@ -5,7 +5,7 @@ ghost use mathlib.Core.Bool.{false};
 ghost use mathlib.Core.List.{map};
 ghost use lib.ListN.{length, getD};
 ghost use Rattle.problem.specs.Range.{outside, raisedOf, AllInside};
-ghost use Rattle.engine_arrays.specs.Copy.{Narrow, Copied, RowsMoved, Supplied, Wanted};
+ghost use Rattle.engine_arrays.specs.inner.Copy.{Narrow, Copied, RowsMoved, Supplied, Wanted};
 
 // Copies a slice whose numbers fit 32 bits into working cells from index `at` on.
 pub fn copy_into(source: &[u64], at: usize, to: &mut [u32])

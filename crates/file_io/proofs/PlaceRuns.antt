@@ -9,7 +9,7 @@ use borrow.Author.Tests.{eq-eqb, eqb-true}
 use lib.Dec.{eqb}
 use lib.ListN.{length, getD, drop, drop-of-length-le}
 use lib.Seq.{drop-cons}
-use Rattle.file_io.specs.Places.{recordAfter, fieldAfter, recordOver, fieldOver, endFrom, startFrom}
+use Rattle.file_io.specs.inner.Places.{recordAfter, fieldAfter, recordOver, fieldOver, endFrom, startFrom}
 
 module _ (l : List ℕ) (i : ℕ) where
   ahead : i < length l → drop i l ≡ getD l i 0 ∷ drop (i + 1) l

@@ -5,7 +5,7 @@ use Prim.Native.Nat.{ℕ, _+_, _≤_, _<_}
 use native.Mathlib.Omega.{arith}
 use borrow.Author.Tests.{eqb-false, leb-false, eq-eqb, ne-eqb, le-leb, lt-leb}
 use lib.Dec.{eqb, leb}
-use Rattle.file_io.specs.Reading.{takenAfter, endsAfter, Told}
+use Rattle.file_io.specs.inner.Reading.{takenAfter, endsAfter, Told}
 
 pub goes-on : (failed : Bool) (more at size : ℕ) → endsAfter failed more at size ≡ false
     → (at < takenAfter failed more at size) × (takenAfter failed more at size < size)

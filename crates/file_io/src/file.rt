@@ -4,7 +4,7 @@ ghost use lib.IntN.{pos};
 ghost use lib.Signed.{ltZ};
 ghost use lib.ListN.{length, replicate, take};
 ghost use Rattle.io.specs.Counts.{clamped};
-ghost use Rattle.file_io.specs.Reading.{Told};
+ghost use Rattle.file_io.specs.inner.Reading.{Told};
 
 // Room for the longest file that is read, and one byte more.
 pub fn file_room() -> [u8; 65537]

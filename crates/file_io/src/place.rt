@@ -4,7 +4,7 @@ ghost use mathlib.Core.Path.{_≡_};
 ghost use mathlib.Core.Bool.{_&&_};
 ghost use lib.Dec.{ltb};
 ghost use lib.ListN.{getD, take};
-ghost use Rattle.file_io.specs.Places.{nextNumber, recordAfter, fieldAfter, recordOver, fieldOver, endFrom, startFrom, byteBack};
+ghost use Rattle.file_io.specs.inner.Places.{nextNumber, recordAfter, fieldAfter, recordOver, fieldOver, endFrom, startFrom, byteBack};
 
 // The number after n; the largest number has none, and stands for itself.
 pub fn next(n: u64) -> u64

@@ -6,10 +6,10 @@ use native.Mathlib.Decide.{ℕ-discrete}
 use native.Mathlib.Omega.{arith}
 use lib.ListN.{length}
 use Rattle.transport.specs.Plan.{row, col}
-use Rattle.residual.specs.Cells.{cells}
-use Rattle.residual.specs.Network.{Net, get, again}
-use Rattle.firstsplit.specs.Shipment.{Shipped}
-use Rattle.firstsplit.specs.FirstPlan.{BaseReady, Based}
+use Rattle.residual.specs.inner.Cells.{cells}
+use Rattle.residual.specs.inner.Network.{Net, get, again}
+use Rattle.firstsplit.specs.inner.Shipment.{Shipped}
+use Rattle.firstsplit.specs.inner.FirstPlan.{BaseReady, Based}
 use Rattle.transport.proofs.Sums.{sum-ext, sum-none}
 
 pub base-start : {N : Net} {amounts room p x : List ℕ} → BaseReady N room x → N .x ≡ cells x → length p ≡ 96

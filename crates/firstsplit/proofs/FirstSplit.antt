@@ -9,11 +9,11 @@ use native.Mathlib.Omega.{arith}
 use Rattle.transport.specs.Sum.{sum}
 use Rattle.transport.specs.Plan.{Table, row, col, Under}
 use Rattle.transport.specs.Curve.{amountsAt}
-use Rattle.transport.specs.theory.AtSplit.{At}
-use Rattle.residual.specs.Cells.{cells}
-use Rattle.residual.specs.Network.{Net, get, again}
-use Rattle.firstsplit.specs.Shipment.{Shipped, NoWay, ShipDone}
-use Rattle.firstsplit.specs.FirstPlan.{Based, Sending, DepotsDone, Admitted, PlantsReady, FirstDone}
+use Rattle.transport.specs.inner.AtSplit.{At}
+use Rattle.residual.specs.inner.Cells.{cells}
+use Rattle.residual.specs.inner.Network.{Net, get, again}
+use Rattle.firstsplit.specs.inner.Shipment.{Shipped, NoWay, ShipDone}
+use Rattle.firstsplit.specs.inner.FirstPlan.{Based, Sending, DepotsDone, Admitted, PlantsReady, FirstDone}
 use Rattle.transport.proofs.Sums.{sum-ext, sum-add, sum-at}
 use Rattle.transport.proofs.Tables.{rows-cols}
 use Rattle.transport.proofs.Splits.{amounts-all}
@@ -83,7 +83,7 @@ module _ {N : Net} {a : ℕ → ℕ} {room : List ℕ} {y z : ℕ} {p' room' x' 
   }
 
   module _ (w : Table) (t v : ℕ) (o : At (N .m) (N .n) a (λ j. get room (32 + j)) t v w) (h : Under (N .m) (N .n) w (N .u)) where
-    -- plant 0 can send no more
+    -- plant 1 can send no more
     pub first-stuck : NoWay (again N x') room' 0 → (t ≤ y) ⊎ (t + v ≤ y + z)
     first-stuck q =
         ⊎-elim (λ l. inl (omega (arith, o .plant0, b .plant0)))
@@ -92,7 +92,7 @@ module _ {N : Net} {a : ℕ → ℕ} {room : List ℕ} {y z : ℕ} {p' room' x' 
         (λ j a c. omega (arith, b .cols j a, q .stuck .empty (32 + j) (omega (arith, b .stocked .sound .terminals)) c, o .demands j (omega arith) a)) two
         (λ i c l. b .depots i c l ∙ sym (o .depots i c l)) refl)
 
-    -- plant 1 can send no more
+    -- plant 2 can send no more
     pub second-stuck : NoWay (again N x') room' 1 → y ≤ t → v ≤ z
     second-stuck q l =
         omega (
@@ -116,7 +116,7 @@ first-none split k = record {
 }
 
 module _ {N : Net} {a : ℕ → ℕ} {room : List ℕ} {run0 run1 d : ℕ} (two : 2 ≤ N .m) (r : PlantsReady a run0 run1 d) where
-  -- plant 0 cannot send its least run
+  -- plant 1 cannot send its least run
   pub run-stuck : {p' room' x' p'' room'' x'' : List ℕ} {left : ℕ} → Sending N a room 0 0 p' room' x' → ShipDone (again N x') room' 0 run0 p'' room'' x'' left
       → 0 < left → FirstDone N a room run0 run1 d p'' room'' x'' false 0
   run-stuck {left = left} b o l = first-none 0 (λ w y z s t h.
@@ -127,13 +127,13 @@ module _ {N : Net} {a : ℕ → ℕ} {room : List ℕ} {run0 run1 d : ℕ} (two 
       → left ≤ 0 → Sending N a room run0 0 p'' room'' x''
   run-sent b o l = send-first two b run0 (o .shipped) (omega arith)
 
-  -- plant 1 has sent as much as it can
+  -- plant 2 has sent as much as it can
   module _ {p' room' x' p'' room'' x'' : List ℕ} {most short : ℕ} (b : Sending N a room run0 0 p' room' x') (em : most ≡ min (a 1) (d - run0))
       (o : ShipDone (again N x') room' 1 most p'' room'' x'' short) where
     pub second-sent : Sending N a room run0 (most - short) p'' room'' x''
     second-sent = send-second two b (most - short) (o .shipped) (omega (arith, o .shipped .most))
 
-    -- no plan has more from plant 1
+    -- no plan has more from plant 2
     top : (w : Table) (y z : ℕ) → Admitted a run0 run1 d y z → At (N .m) (N .n) a (λ j. get room (32 + j)) y z w → Under (N .m) (N .n) w (N .u)
         → z ≤ most - short
     top w y z s t h = elim (decLt 0 short) [
@@ -150,7 +150,7 @@ module _ {N : Net} {a : ℕ → ℕ} {room : List ℕ} {run0 run1 d : ℕ} (two 
     pub rest-fits : run0 ≤ d - (most - short)
     rest-fits = omega (arith, r .low)
 
-    -- plant 0 sends the rest
+    -- plant 1 sends the rest
     module _ {p₃ room₃ x₃ : List ℕ} {split left : ℕ} (es : split ≡ d - (most - short)) (q : ShipDone (again N x'') room'' 0 (split - run0) p₃ room₃ x₃ left) where
       pub rest-stuck : 0 < left → FirstDone N a room run0 run1 d p₃ room₃ x₃ false 0
       rest-stuck l = first-none 0 (λ w y z s t h.

@@ -8,11 +8,11 @@ use native.Mathlib.Omega.{arith}
 use lib.ListN.{set, length-set}
 use lib.Seq.{getD-set-same, getD-set-other}
 use Rattle.transport.specs.Plan.{row, col}
-use Rattle.transport.specs.theory.PathFlow.{pulse}
-use Rattle.residual.specs.Cells.{cells}
-use Rattle.residual.specs.Network.{Net, get, again}
-use Rattle.augment.specs.Send.{SendReady, Delivered, NoPath}
-use Rattle.firstsplit.specs.Shipment.{Stocked, Shipped, ShipDone}
+use Rattle.transport.specs.inner.PathFlow.{pulse}
+use Rattle.residual.specs.inner.Cells.{cells}
+use Rattle.residual.specs.inner.Network.{Net, get, again}
+use Rattle.augment.specs.inner.Send.{SendReady, Delivered, NoPath}
+use Rattle.firstsplit.specs.inner.Shipment.{Stocked, Shipped, ShipDone}
 use Rattle.transport.proofs.PathFlow.{pulse-same, pulse-off}
 
 pub ship-start : {N : Net} {p room x : List ℕ} (s amount : ℕ) → Stocked (again N x) p room x → N .x ≡ cells x → Shipped N room s amount p room x amount

@@ -1,2 +1,1 @@
-pub mod Shipment
-pub mod FirstPlan
+pub mod inner

@@ -1,9 +1,9 @@
 // Step 1: a cheapest plan at the first split that has one within the ceilings.
 ghost use Prim.Native.Nat.{_≤_, _<_};
-ghost use Rattle.residual.specs.Network.{net, get};
-ghost use Rattle.residual.specs.LanesInUse.{Covers};
-ghost use Rattle.firstsplit.specs.Shipment.{Stocked, Short, ShipDone, Asked};
-ghost use Rattle.firstsplit.specs.FirstPlan.{BaseReady, DepotsDone, PlantsReady, Sending, FirstDone, FirstPlan};
+ghost use Rattle.residual.specs.inner.Network.{net, get};
+ghost use Rattle.residual.specs.inner.LanesInUse.{Covers};
+ghost use Rattle.firstsplit.specs.inner.Shipment.{Stocked, Short, ShipDone, Asked};
+ghost use Rattle.firstsplit.specs.inner.FirstPlan.{BaseReady, DepotsDone, PlantsReady, Sending, FirstDone, FirstPlan};
 use augment::send::send;
 use paths::search::smaller;
 
@@ -79,7 +79,7 @@ pub struct First {
     pub split: u32,
 }
 
-// Behind the depots: plant 0 sends its least run, plant 1 as much as it can, and plant 0 the rest of what both make.
+// Behind the depots: plant 1 sends its least run, plant 2 as much as it can, and plant 1 the rest of what both make.
 fn send_plants(
     m: usize,
     n: usize,

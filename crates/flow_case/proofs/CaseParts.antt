@@ -12,8 +12,8 @@ use borrow.Author.Tests.{eq-eqb, ne-eqb}
 use Rattle.transport.proofs.Sums.{sum-ext}
 use Rattle.dimacs.specs.Arc.{Arc, arc}
 use Rattle.flow_problem.specs.Network.{Network, arcCount, arcAt, start, end, ceiling, at, entering}
-use Rattle.flow_problem.specs.Reduce.{node, laneCost, laneCeiling, want}
-use Rattle.flow_case.specs.Build.{into, wantIn, laneIn, costIn}
+use Rattle.flow_problem.specs.inner.Reduce.{node, laneCost, laneCeiling, want}
+use Rattle.flow_case.specs.inner.Build.{into, wantIn, laneIn, costIn}
 use Rattle.flow_problem.proofs.SoundNetwork.{Proper}
 
 -- the arcs as separate slices

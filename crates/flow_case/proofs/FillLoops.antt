@@ -13,8 +13,8 @@ use borrow.Author.Tests.{eq-eqb, ne-eqb, lt-ltb, le-ltb}
 use Rattle.transport.specs.Sum.{sum}
 use Rattle.transport.proofs.Sums.{sum-most}
 use Rattle.flow_problem.specs.Network.{at}
-use Rattle.flow_problem.specs.Reduce.{swap, nodeOf, sourceOf}
-use Rattle.flow_case.specs.Build.{into, Filled, Moderate}
+use Rattle.flow_problem.specs.inner.Reduce.{swap, nodeOf, sourceOf}
+use Rattle.flow_case.specs.inner.Build.{into, Filled, Moderate}
 use Rattle.flow_problem.proofs.SumsByNode.{cond-same, cond-other, at-same, at-other}
 
 -- ---- a swap

@@ -17,11 +17,11 @@ use Rattle.problem.specs.Integer.{eqZ}
 use Rattle.transport.proofs.Differences.{by-sign, sub-add, sub-pos, pos-sub}
 use Rattle.dimacs.specs.Arc.{Arc, arc}
 use Rattle.flow_problem.specs.Network.{Network, arcCount, arcAt, start, end, ceiling, cost, supply, entering, amount}
-use Rattle.flow_problem.specs.Reduce.{node, stock, laneCost, laneCeiling, want}
-use Rattle.flow_case.specs.Build.{into, wantIn, laneIn, costIn, haveIn, overAt, underAt}
-use Rattle.flow_problem.specs.Sound.{uneven}
+use Rattle.flow_problem.specs.inner.Reduce.{node, stock, laneCost, laneCeiling, want}
+use Rattle.flow_case.specs.inner.Build.{into, wantIn, laneIn, costIn, haveIn, overAt, underAt}
+use Rattle.flow_problem.specs.inner.Sound.{uneven}
 use Rattle.flow_problem.specs.Answer.{anyBelow}
-use Rattle.flow_case.specs.Slices.{netOf}
+use Rattle.flow_case.specs.inner.Slices.{netOf}
 use Rattle.flow_problem.proofs.NodesAndSources.{cells-length, cells-at}
 use Rattle.flow_problem.proofs.SoundNetwork.{Proper}
 use Rattle.flow_case.proofs.CaseParts.{startsOf, endsOf, ceilingsOf, costsOf, want-is, lane-is, cost-is, into-is}

@@ -10,8 +10,8 @@ use native.Mathlib.Omega.{arith}
 use lib.ListN.{length, getD, set, take, drop, length-set, length-take, length-drop, take-append-drop}
 use lib.Seq.{getD-set-same, getD-set-other, getD-take, getD-drop, ext-getD, take-add}
 use Rattle.flow_problem.specs.Network.{cells}
-use Rattle.flow_problem.specs.Reduce.{rowsOf}
-use Rattle.flow_case.specs.Build.{Put, RowsAre}
+use Rattle.flow_problem.specs.inner.Reduce.{rowsOf}
+use Rattle.flow_case.specs.inner.Build.{Put, RowsAre}
 use Rattle.flow_problem.specs.Answer.{anyBelow}
 use Rattle.flow_problem.proofs.NodesAndSources.{cells-length, cells-at}
 use Rattle.flow_problem.proofs.FlowListing.{or-both}

@@ -7,7 +7,7 @@ use lib.ListN.{length, getD}
 use borrow.Author.Tests.{eq-eqb, ne-eqb}
 use Rattle.transport.specs.Sum.{sum}
 use Rattle.flow_problem.specs.Answer.{anyBelow}
-use Rattle.flow_case.specs.Build.{underAt, unevenIn}
+use Rattle.flow_case.specs.inner.Build.{underAt, unevenIn}
 
 module _ (gives takes haves : List ℕ) where
   pub uneven-1 : (sum (length gives) (λ i. getD gives i 0) ≡ sum (length takes) (λ i. getD takes i 0) → ⊥) → true ≡ unevenIn gives takes haves

@@ -2,8 +2,8 @@
 ghost use mathlib.Core.Path.{_≡_};
 ghost use Prim.Native.Nat.{_+_, _-_, _≤_, _<_};
 ghost use lib.ListN.{length, getD};
-ghost use Rattle.flow_problem.specs.Reduce.{swap, nodeOf, sourceOf};
-ghost use Rattle.flow_case.specs.Build.{into, wantIn, entryIn, Filled, Moderate};
+ghost use Rattle.flow_problem.specs.inner.Reduce.{swap, nodeOf, sourceOf};
+ghost use Rattle.flow_case.specs.inner.Build.{into, wantIn, entryIn, Filled, Moderate};
 ghost use Rattle.flow_problem.specs.Network.{at};
 ghost use mathlib.Core.Bool.{cond, _||_};
 ghost use lib.Dec.{eqb, ltb};

@@ -3,7 +3,7 @@ ghost use mathlib.Core.Path.{_≡_};
 ghost use Prim.Native.Nat.{_+_, _-_, _≤_, _<_};
 ghost use lib.ListN.{length, getD};
 ghost use Rattle.transport.specs.Sum.{sum};
-ghost use Rattle.flow_case.specs.Build.{AtMostAll, overAt, underAt, dearAt, unevenIn, Given};
+ghost use Rattle.flow_case.specs.inner.Build.{AtMostAll, overAt, underAt, dearAt, unevenIn, Given};
 ghost use Rattle.flow_problem.specs.Answer.{anyBelow};
 
 // Is an amount above 4,000?

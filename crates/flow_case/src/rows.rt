@@ -8,8 +8,8 @@ ghost use Prim.Native.Nat.{ℕ, _+_, _-_, _*_, _≤_, _<_};
 ghost use lib.Dec.{eqb};
 ghost use lib.IntN.{pos};
 ghost use lib.ListN.{length, getD};
-ghost use Rattle.flow_problem.specs.Reduce.{nodeOf, sourceOf};
-ghost use Rattle.flow_case.specs.Build.{Moderate, Put, RowsAre, laneIn, costIn, haveIn, stockIn, flowIn, AtMostAll, cellOf};
+ghost use Rattle.flow_problem.specs.inner.Reduce.{nodeOf, sourceOf};
+ghost use Rattle.flow_case.specs.inner.Build.{Moderate, Put, RowsAre, laneIn, costIn, haveIn, stockIn, flowIn, AtMostAll, cellOf};
 use crate::build::lane;
 
 // What each node has.

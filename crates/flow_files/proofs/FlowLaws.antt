@@ -12,7 +12,7 @@ use lib.Signed.{ltZ}
 use lib.ListN.{length, getD, take, drop, length-map, List·getD-map, List·getD-append, length-append}
 use lib.Seq.{length-sets, sets-eq, take-at, take-all, length-take-le}
 use Rattle.csv_print.specs.Text.{refusalText}
-use Rattle.csv_answers.specs.Flow.{FlowFits}
+use Rattle.csv_answers.specs.inner.FlowFits.{FlowFits}
 use Rattle.csv_form.specs.declared.Kind.the-variants.{Production}
 use Rattle.csv_case.specs.declared.case.Entries.{Entries}
 use Rattle.csv_case.specs.declared.case.Entries.the-variants as entries
@@ -35,7 +35,7 @@ use Rattle.flow_network.specs.Answer.{outcome, countIn, countOf, arcsSaid}
 use Rattle.flow_files.specs.declared.Formed.{Formed}
 use Rattle.flow_files.specs.declared.Formed.the-variants as formeds
 use Rattle.flow_files.specs.Printing.{placeOf, room, networkOutcome, tableThen, tableOutcome, formThen, filesOutcome, flowBytes, FlowPrinted, RefusalPrinted, OutcomePrinted, NetworkPrinted, TablePrinted, FilesPrinted}
-use Rattle.flow_files.specs.ArcCells.{FormedIs, ArcsCut, cutText}
+use Rattle.flow_files.specs.inner.ArcCells.{FormedIs, ArcsCut, cutText}
 use Rattle.problem.proofs.TestsPassed.{either-first, either-second}
 
 -- ---- an outcome

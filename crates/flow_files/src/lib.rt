@@ -4,7 +4,7 @@ ghost use Rattle.plan_files.specs.Printed.{Told};
 ghost use Rattle.flow_problem.specs.Answer.{refused};
 ghost use Rattle.dimacs.specs.Form.{formOf};
 ghost use Rattle.flow_files.specs.Printing.{placeOf, formThen, RefusalPrinted, NetworkPrinted, TablePrinted, FilesPrinted};
-ghost use Rattle.flow_files.specs.ArcCells.{FormedIs, ArcsCut, cutText};
+ghost use Rattle.flow_files.specs.inner.ArcCells.{FormedIs, ArcsCut, cutText};
 use csv_answers::flow::put_flow;
 use csv_case::case::Entries;
 use csv_case::case::read_entries;

@@ -24,17 +24,17 @@ use Rattle.problem.specs.Promise.{Cheapest, Bounded}
 use Rattle.problem.proofs.MachineIntegers.{read-back}
 use Rattle.dimacs.specs.Arc.{Arc}
 use Rattle.flow_problem.specs.Network.{Network, arcCount, arcAt, start, end, ceiling, NoFlow, cells}
-use Rattle.flow_problem.specs.Reduce.{rowsOf, nodeOf, sourceOf, node, source, stock, laneCost, laneCeiling, want, entryAt, caseOf, flowAt, flowOf}
-use Rattle.flow_problem.specs.Sound.{Sound, uneven}
-use Rattle.flow_case.specs.Build.{Filled, Put, RowsAre, wantIn, laneIn, costIn, entryIn, stockIn, flowIn, underAt}
+use Rattle.flow_problem.specs.inner.Reduce.{rowsOf, nodeOf, sourceOf, node, source, stock, laneCost, laneCeiling, want, entryAt, caseOf, flowAt, flowOf}
+use Rattle.flow_problem.specs.inner.Sound.{Sound, uneven}
+use Rattle.flow_case.specs.inner.Build.{Filled, Put, RowsAre, wantIn, laneIn, costIn, entryIn, stockIn, flowIn, underAt}
 use Rattle.flow_problem.specs.Answer.{anyBelow}
-use Rattle.flow_case.specs.Slices.{netOf}
-use Rattle.flow_network.specs.Ready.{Arcs, Amounts, Named, CarriedAs, CarriedIs}
+use Rattle.flow_case.specs.inner.Slices.{netOf}
+use Rattle.flow_network.specs.inner.Ready.{Arcs, Amounts, Named, CarriedAs, CarriedIs}
 use Rattle.flow_network.specs.declared.carry.Found.{Found}
 use Rattle.flow_network.specs.declared.carry.Found.the-variants as founds
 use Rattle.flow_network.specs.declared.carry.Carried.{Carried}
 use Rattle.flow_network.specs.declared.carry.Carried.the-variants as carrieds
-use Rattle.flow_network.specs.Found.{FoundAs, FoundIs}
+use Rattle.flow_network.specs.inner.Found.{FoundAs, FoundIs}
 use Rattle.flow_problem.proofs.NodesAndSources.{cells-length, node-below, source-below}
 use Rattle.flow_problem.proofs.FlowListing.{or-both, below-none}
 use Rattle.flow_problem.proofs.SoundNetwork.{Proper, sound}

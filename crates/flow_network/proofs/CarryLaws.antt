@@ -19,7 +19,7 @@ use Rattle.planner.specs.declared.Answer.{Answer}
 use Rattle.planner.specs.declared.Answer.the-variants.{Planned, Refused}
 use Rattle.flow_network.specs.declared.carry.Found.{Found}
 use Rattle.flow_network.specs.declared.carry.Found.the-variants as founds
-use Rattle.flow_network.specs.Found.{FoundAs}
+use Rattle.flow_network.specs.inner.Found.{FoundAs}
 use Rattle.problem.proofs.FirstFailing.{first-none, above-none, outside-none}
 use Rattle.problem.proofs.TestsPassed.{Formed, second-decides, first-decides, refuseIf-cases}
 use Rattle.problem.proofs.TestParts.{never-11, no-place, amounts-pass, runs-pass, ceilings-pass}

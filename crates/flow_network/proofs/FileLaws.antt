@@ -16,7 +16,7 @@ use Rattle.problem.specs.Range.{outside}
 use Rattle.dimacs.specs.Arc.{Arc, arc}
 use Rattle.dimacs.specs.Form.{ArcLine, NodeLine, File, whole, broken, formOf}
 use Rattle.dimacs.specs.Lines.{supplyIn, anyOf, noNode, twice, badArc}
-use Rattle.dimacs.specs.Stored.{noLine, ArcsRead, NodesRead, FileRead, ReadAs, ReadIs}
+use Rattle.dimacs.specs.inner.Stored.{noLine, ArcsRead, NodesRead, FileRead, ReadAs, ReadIs}
 use Rattle.dimacs.proofs.NodeAndArcLines.{or-true}
 use Rattle.dimacs.specs.declared.store.Reading.{Reading}
 use Rattle.dimacs.specs.declared.store.Reading.the-variants as readings
@@ -25,11 +25,11 @@ use Rattle.flow_problem.specs.Network.{Network, amount, cells}
 use Rattle.flow_problem.specs.Answer.{CheapestFlow, arcsOf, networkOf, anyBelow, tooShort, badFile, badName, outOfLimits, flows, leastTotal, Outcome, carried, refused, flowOutcome, limited, outcomeOf}
 use Rattle.flow_problem.specs.Promise as promise
 use Rattle.flow_problem.specs.Promise.{Slices, roomOf, Answered}
-use Rattle.flow_case.specs.Build.{Given}
-use Rattle.flow_case.specs.Slices.{netOf}
+use Rattle.flow_case.specs.inner.Build.{Given}
+use Rattle.flow_case.specs.inner.Slices.{netOf}
 use Rattle.flow_network.specs.Answer.{countOf, arcsSaid}
-use Rattle.flow_network.specs.Ready.{Arcs}
-use Rattle.flow_network.specs.Judged.{beyond, judgedNet, Judged}
+use Rattle.flow_network.specs.inner.Ready.{Arcs}
+use Rattle.flow_network.specs.inner.Judged.{beyond, judgedNet, Judged}
 use Rattle.flow_problem.proofs.NodesAndSources.{cells-length, cells-at}
 use Rattle.flow_problem.proofs.FlowListing.{or-both, none-of, or-regroup}
 use Rattle.flow_problem.proofs.SoundNetwork.{Passes, passes}

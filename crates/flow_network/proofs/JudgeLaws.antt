@@ -17,14 +17,14 @@ use Rattle.dimacs.specs.Arc.{Arc, arc}
 use Rattle.dimacs.specs.Lines.{anyOf}
 use Rattle.dimacs.proofs.NodeAndArcLines.{or-true}
 use Rattle.flow_problem.specs.Network.{Network, arcCount, ceiling, amount, NoFlow, cells}
-use Rattle.flow_case.specs.Build.{Put, cellOf, haveIn, overAt, underAt, dearAt, unevenIn, Given}
-use Rattle.flow_problem.specs.Sound.{uneven}
+use Rattle.flow_case.specs.inner.Build.{Put, cellOf, haveIn, overAt, underAt, dearAt, unevenIn, Given}
+use Rattle.flow_problem.specs.inner.Sound.{uneven}
 use Rattle.flow_problem.specs.Answer.{anyBelow, Room, tooShort, badName, flows, leastTotal, carried, refused, flowOutcome}
 use Rattle.flow_problem.specs.Promise.{Slices, roomOf}
-use Rattle.flow_case.specs.Slices.{netOf}
-use Rattle.flow_network.specs.Ready.{Arcs, Amounts, Named, CarriedAs}
+use Rattle.flow_case.specs.inner.Slices.{netOf}
+use Rattle.flow_network.specs.inner.Ready.{Arcs, Amounts, Named, CarriedAs}
 use Rattle.flow_network.specs.declared.carry.Carried.the-variants as carrieds
-use Rattle.flow_network.specs.Judged.{beyond, judgedNet, badNameIn, Holding, Told, Judged}
+use Rattle.flow_network.specs.inner.Judged.{beyond, judgedNet, badNameIn, Holding, Told, Judged}
 use Rattle.flow_problem.proofs.NodesAndSources.{cells-length, cells-at}
 use Rattle.flow_problem.proofs.FlowListing.{or-both, none-below, carried-is, none-is, or-regroup}
 use Rattle.flow_problem.proofs.SoundNetwork.{Proper, uneven-none, four}

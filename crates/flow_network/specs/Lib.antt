@@ -1,4 +1,2 @@
 pub mod Answer
-pub mod Found
-pub mod Ready
-pub mod Judged
+pub mod inner

@@ -11,9 +11,9 @@ ghost use mathlib.Core.Path.{_≡_};
 ghost use Prim.Native.Nat.{_-_, _≤_};
 ghost use lib.ListN.{length};
 ghost use Rattle.problem.specs.Case.{lent};
-ghost use Rattle.flow_network.specs.Found.{FoundIs};
-ghost use Rattle.flow_network.specs.Ready.{Arcs, Amounts, Named, CarriedIs};
-ghost use Rattle.flow_case.specs.Slices.{netOf};
+ghost use Rattle.flow_network.specs.inner.Found.{FoundIs};
+ghost use Rattle.flow_network.specs.inner.Ready.{Arcs, Amounts, Named, CarriedIs};
+ghost use Rattle.flow_case.specs.inner.Slices.{netOf};
 
 // The split and the total of the plan found, or nothing.
 pub enum Found {

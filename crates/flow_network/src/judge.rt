@@ -14,10 +14,10 @@ ghost use mathlib.Core.Bool.{_||_};
 ghost use Prim.Native.Nat.{_<_};
 ghost use lib.Dec.{ltb};
 ghost use lib.ListN.{length};
-ghost use Rattle.flow_case.specs.Build.{AtMostAll, Given};
-ghost use Rattle.flow_network.specs.Ready.{Arcs};
-ghost use Rattle.flow_case.specs.Slices.{netOf};
-ghost use Rattle.flow_network.specs.Judged.{badNameIn, Holding, Judged};
+ghost use Rattle.flow_case.specs.inner.Build.{AtMostAll, Given};
+ghost use Rattle.flow_network.specs.inner.Ready.{Arcs};
+ghost use Rattle.flow_case.specs.inner.Slices.{netOf};
+ghost use Rattle.flow_network.specs.inner.Judged.{badNameIn, Holding, Judged};
 ghost use Rattle.flow_network.specs.Answer.{outcome, countIn, countOf, slicesOf};
 
 // Is the place none, or the table not of the named arc?

@@ -10,8 +10,8 @@ use lib.ListN.{length}
 use borrow.Author.Tests.{ltb-false}
 use Rattle.flow_problem.specs.Network.{Network, arcCount, ceiling}
 use Rattle.problem.specs.Promise.{Cheapest, NoPlan}
-use Rattle.flow_problem.specs.Reduce.{caseOf, flowOf}
-use Rattle.flow_problem.specs.Sound.{Sound, uneven}
+use Rattle.flow_problem.specs.inner.Reduce.{caseOf, flowOf}
+use Rattle.flow_problem.specs.inner.Sound.{Sound, uneven}
 use Rattle.dimacs.specs.Form.{File, Form, whole, broken, formOf}
 use Rattle.dimacs.specs.Lines.{anyOf}
 use Rattle.flow_problem.specs.Answer.{CheapestFlow, networkOf, Room, badFile, badName, outOfLimits, flows, leastTotal, carried, refused, flowOutcome, limited, judged, outcomeOf}

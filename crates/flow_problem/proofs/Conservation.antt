@@ -9,8 +9,8 @@ use borrow.Author.Tests.{eqb-true, eq-eqb}
 use Rattle.transport.specs.Sum.{sum}
 use Rattle.problem.specs.Integer.{eqZ}
 use Rattle.flow_problem.specs.Network.{Network, arcCount, start, end, ceiling, supply, listed, leaving, entering, amount, Flow}
-use Rattle.flow_problem.specs.Reduce.{stock}
-use Rattle.flow_problem.specs.Sound.{Sound}
+use Rattle.flow_problem.specs.inner.Reduce.{stock}
+use Rattle.flow_problem.specs.inner.Sound.{Sound}
 use Rattle.transport.proofs.Differences.{sub-same, sub-sub, pos-sub}
 use Rattle.problem.proofs.Integers.{sub-eq}
 use Rattle.flow_problem.proofs.SumsByNode.{regroup}

@@ -9,7 +9,7 @@ use native.Mathlib.Omega.{arith}
 use lib.ListN.{length, getD, length-append, List·getD-append}
 use lib.Seq.{getD-append-add}
 use Rattle.flow_problem.specs.Network.{cells}
-use Rattle.flow_problem.specs.Reduce.{rowsOf, swap, nodeOf, sourceOf}
+use Rattle.flow_problem.specs.inner.Reduce.{rowsOf, swap, nodeOf, sourceOf}
 use Rattle.flow_problem.proofs.SumsByNode.{cond-same, cond-other}
 
 module _ {A : Type 0} where

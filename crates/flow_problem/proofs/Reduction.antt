@@ -22,8 +22,8 @@ use Rattle.problem.specs.Case.{Case, supply as supplyOf, entry}
 use Rattle.problem.specs.Freight.{ratesByRow, freightℤ}
 use Rattle.problem.specs.Plans.{freightOf, rowSum, columnSum, MeetsTP, planTotal}
 use Rattle.problem.specs.Promise.{Cheapest, NoPlan}
-use Rattle.flow_problem.specs.Reduce.{node, source, stock, laneCost, laneCeiling, want, entryAt, caseOf, flowAt, flowOf, sentAt, planOf}
-use Rattle.flow_problem.specs.Sound.{Sound}
+use Rattle.flow_problem.specs.inner.Reduce.{node, source, stock, laneCost, laneCeiling, want, entryAt, caseOf, flowAt, flowOf, sentAt, planOf}
+use Rattle.flow_problem.specs.inner.Sound.{Sound}
 use Rattle.flow_problem.proofs.SumsByNode.{cond-same, cond-other, at-same, at-other, sum-two-at, sumℤ-ext, sumℤ-swap, sumℤ-one}
 use Rattle.flow_problem.proofs.PlanAsFlow.{Carries, sends, kept-last}
 use Rattle.flow_problem.proofs.NodesAndSources.{cells-length, cells-at, rows-length, rows-at, node-source, source-node, node-below, source-below, node-0, node-1, source-w, source-v, source-depot, depot-w, depot-v}

@@ -15,8 +15,8 @@ use Rattle.problem.specs.Range.{outside}
 use Rattle.problem.specs.Case.{supply as supplyOf, entry}
 use Rattle.problem.proofs.TestsPassed.{Formed}
 use Rattle.flow_problem.specs.Network.{Network, arcCount, start, end, ceiling, cost, listed, cells}
-use Rattle.flow_problem.specs.Reduce.{rowsOf, node, stock, laneCost, laneCeiling, want, entryAt, caseOf}
-use Rattle.flow_problem.specs.Sound.{Sound}
+use Rattle.flow_problem.specs.inner.Reduce.{rowsOf, node, stock, laneCost, laneCeiling, want, entryAt, caseOf}
+use Rattle.flow_problem.specs.inner.Sound.{Sound}
 use Rattle.flow_problem.proofs.NodesAndSources.{cells-length, cells-at, rows-length, node-below, node-0, source-v, source-below}
 use Rattle.flow_problem.proofs.FlowListing.{or-both}
 use Rattle.flow_problem.proofs.SoundNetwork.{Proper}

@@ -17,8 +17,8 @@ use Rattle.transport.proofs.Sums.{sum-mono}
 use Rattle.problem.specs.Integer.{eqZ, sumℤ}
 use Rattle.dimacs.specs.Arc.{Arc, arc}
 use Rattle.flow_problem.specs.Network.{Network, arcCount, arcAt, start, end, ceiling, cost, supply, listed, at, leaving, entering, Flow, amount, NoFlow}
-use Rattle.flow_problem.specs.Reduce.{stock}
-use Rattle.flow_problem.specs.Sound.{Sound, uneven}
+use Rattle.flow_problem.specs.inner.Reduce.{stock}
+use Rattle.flow_problem.specs.inner.Sound.{Sound, uneven}
 use Rattle.dimacs.specs.Form.{ArcLine, NodeLine, File}
 use Rattle.dimacs.specs.Lines.{anyOf, noNode, twice, badArc}
 use Rattle.flow_problem.specs.Answer.{networkOf, anyBelow, badFile}

@@ -1,5 +1,4 @@
 pub mod Network
 pub mod Answer
 pub mod Promise
-pub mod Reduce
-pub mod Sound
+pub mod inner

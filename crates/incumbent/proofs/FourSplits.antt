@@ -6,8 +6,8 @@ use native.Mathlib.Decide.{decLt}
 use native.Mathlib.Nat.{add-zero, add-suc}
 use native.Mathlib.Omega.{arith}
 use lib.ListN.{getD}
-use Rattle.incumbent.specs.Scan.{along, better, scanned, scannedPart, ScanReady, LineReady}
-use Rattle.incumbent.specs.LeastOfFour.{totalAt, leastOfFour, Lowest}
+use Rattle.incumbent.specs.inner.Scan.{along, better, scanned, scannedPart, ScanReady, LineReady}
+use Rattle.incumbent.specs.inner.LeastOfFour.{totalAt, leastOfFour, Lowest}
 use Rattle.incumbent.specs.declared.Incumbent.{Incumbent}
 use Rattle.incumbent.specs.declared.scan.Block.{Block}
 use Rattle.incumbent.proofs.IncumbentScan.{better-new, better-old, scanned-none, scanned-more, along-is}

@@ -1,4 +1,4 @@
--- The scan of a stretch, turn by turn. Assumes nothing.
+-- The scan of a stretch, pass by pass. Assumes nothing.
 use mathlib.Core.Path.{_≡_, refl, sym, _∙_}
 use mathlib.Core.List.{List}
 use Prim.Native.Nat.{ℕ, suc, _+_, _-_, _*_, _≤_, _<_}
@@ -7,7 +7,7 @@ use native.Mathlib.Numerals.{add-one}
 use native.Mathlib.Omega.{arith}
 use lib.ListN.{getD}
 use borrow.Author.Tests.{lt-ltb, le-ltb}
-use Rattle.incumbent.specs.Scan.{along, better, scanned, ScanReady, LineReady, Scanning}
+use Rattle.incumbent.specs.inner.Scan.{along, better, scanned, ScanReady, LineReady, Scanning}
 use Rattle.incumbent.specs.declared.Incumbent.{Incumbent}
 
 -- a smaller total takes the incumbent's place, no other does

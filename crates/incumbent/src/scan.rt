@@ -2,8 +2,8 @@
 ghost use mathlib.Core.Path.{_≡_};
 ghost use Prim.Native.Nat.{min, _+_, _-_, _%_, _≤_, _<_};
 ghost use lib.ListN.{length, getD};
-ghost use Rattle.incumbent.specs.Scan.{better, scanned, scannedPart, ScanReady, LineReady};
-ghost use Rattle.incumbent.specs.LeastOfFour.{leastOfFour, Lowest};
+ghost use Rattle.incumbent.specs.inner.Scan.{better, scanned, scannedPart, ScanReady, LineReady};
+ghost use Rattle.incumbent.specs.inner.LeastOfFour.{leastOfFour, Lowest};
 use crate::Incumbent;
 
 // The incumbent after a look at one split: only a smaller total takes its place.

@@ -1,4 +1,4 @@
--- How far drums go over from plant 1 to plant 0, send by send, and why no plan within the ceilings goes further. Assumes nothing.
+-- How far drums go over from plant 2 to plant 1, send by send, and why no plan within the ceilings goes further. Assumes nothing.
 use mathlib.Core.Path.{_≡_, refl, sym, _∙_}
 use mathlib.Core.List.{List}
 use Prim.Native.Nat.{ℕ, zero, suc, _+_, _-_, _*_, _≤_, _<_}
@@ -9,19 +9,19 @@ use lib.Seq.{getD-set-other}
 use Rattle.transport.specs.Sum.{sum}
 use Rattle.transport.specs.Plan.{Table, row, col}
 use Rattle.transport.specs.Curve.{amountsAt}
-use Rattle.residual.specs.Cells.{cells}
-use Rattle.residual.specs.Network.{Net, net, get, again}
-use Rattle.residual.specs.Labels.{far}
-use Rattle.paths.specs.Search.{Wanted}
-use Rattle.augment.specs.Send.{SendReady, Delivered, NoPath}
-use Rattle.lastsplit.specs.LastSplit.{Some, ReachReady, Reached, Reaching, LastReady}
+use Rattle.residual.specs.inner.Cells.{cells}
+use Rattle.residual.specs.inner.Network.{Net, net, get, again}
+use Rattle.residual.specs.inner.Labels.{far}
+use Rattle.paths.specs.inner.Search.{Wanted}
+use Rattle.augment.specs.inner.Send.{SendReady, Delivered, NoPath}
+use Rattle.lastsplit.specs.inner.LastSplit.{Some, ReachReady, Reached, Reaching, LastReady}
 use Rattle.transport.proofs.Sums.{sum-ext}
 use Rattle.transport.proofs.PathFlow.{flow-shifted}
 use Rattle.transport.proofs.Tables.{rows-cols}
 use Rattle.transport.proofs.WithinCeilings.{Wide}
 use Rattle.transport.proofs.Splits.{has-at, wide-has, amounts-all}
 use Rattle.paths.proofs.SearchCut.{cut-greatest}
-use Rattle.lastsplit.proofs.PlantShift.{Only, swing-ready, swing-over, swing-own}
+use Rattle.lastsplit.proofs.PlantShift.{Only, plant-slack-ready, plant-slack-over, plant-slack-own}
 
 pub only : (limit : ℕ) → Only (set (replicate 96 0) 1 limit) limit
 only limit = record {
@@ -31,7 +31,7 @@ only limit = record {
 
 pub reach-start : {N : Net} {p x : List ℕ} {limit : ℕ} → N .x ≡ cells x → ReachReady (again N x) p x limit → Reaching N limit p x 0
 reach-start {N} {x = x} {limit = limit} e r = record {
-  swinging = r .swinging;
+  plant-slack = r .plant-slack;
   at = record { plant0 = rw e (omega arith); plant1 = rw e (omega arith); depots = λ i h l. rw e refl; demands = λ j h l. rw e refl };
   most = omega arith;
   left = let z : limit ≤ row (N .n) (cells x) 1 = r .left in rw e z;
@@ -39,10 +39,10 @@ reach-start {N} {x = x} {limit = limit} e r = record {
 
 module _ {N : Net} {limit : ℕ} {p x : List ℕ} {gone : ℕ} (q : Reaching N limit p x gone) where
   two : 2 ≤ N .m
-  two = omega (arith, q .swinging .plants)
+  two = omega (arith, q .plant-slack .plants)
 
   pub reach-send : gone < limit → SendReady (again N x) p (set (replicate 96 0) 1 (limit - gone)) 0 (limit - gone) x
-  reach-send h = swing-ready (q .swinging) (only (limit - gone)) (omega arith)
+  reach-send h = plant-slack-ready (q .plant-slack) (only (limit - gone)) (omega arith)
 
   pub reach-wanted : (demand : List ℕ) → Wanted N demand → Wanted (again N x) demand
   reach-wanted demand w j h = omega (arith, q .at .demands j (omega arith) h, w j h)
@@ -50,10 +50,10 @@ module _ {N : Net} {limit : ℕ} {p x : List ℕ} {gone : ℕ} (q : Reaching N l
   pub reach-next : {x' p' : List ℕ} {g d : ℕ} → g < 96 → Delivered (again N x) p (set (replicate 96 0) 1 (limit - gone)) 0 (limit - gone) x' p' g d
       → Reaching N limit p' x' (gone + d)
   reach-next {d = d} hg t =
-      let o = swing-over (q .swinging) (only (limit - gone)) hg t in
+      let o = plant-slack-over (q .plant-slack) (only (limit - gone)) hg t in
       let s = flow-shifted two (o .flow) in
       record {
-        swinging = swing-own (o .swinging);
+        plant-slack = plant-slack-own (o .plant-slack);
         at = record {
           plant0 = omega (arith, s .plant0, q .at .plant0);
           plant1 = omega (arith, s .plant1, q .at .plant1);
@@ -65,7 +65,7 @@ module _ {N : Net} {limit : ℕ} {p x : List ℕ} {gone : ℕ} (q : Reaching N l
       }
 
   some : Some (N .m) (N .n) (N .u) (row (N .n) (N .x)) (col (N .m) (N .x)) (row (N .n) (N .x) 0 + gone) (row (N .n) (N .x) 1 - gone)
-  some = record { plan = cells x; at = q .at; under = q .swinging .under }
+  some = record { plan = cells x; at = q .at; under = q .plant-slack .under }
 
   pub reach-stuck : {x' p' : List ℕ} → gone < limit → NoPath (again N x) p (set (replicate 96 0) 1 (limit - gone)) 0 x x' p' → Reached (N .m) (N .n) (N .u) (N .x) limit gone
   reach-stuck l k = record {
@@ -93,7 +93,7 @@ module _ {N : Net} {limit : ℕ} {p x : List ℕ} {gone : ℕ} (q : Reaching N l
 pub free-ready : {m n : ℕ} (cap free : List ℕ) {x p : List ℕ} {limit : ℕ} → LastReady m n (cells cap) x limit → ((k : ℕ) → k < 2048 → get free k ≡ 0)
     → length p ≡ 96 → ((v : ℕ) → v < 96 → get p v ≡ 800000000) → ReachReady (net m n free cap x) p x limit
 free-ready {m} {n} cap free r z e h = record {
-  swinging = record {
+  plant-slack = record {
     sound = record {
       sources = r .sources;
       terminals = r .terminals;

@@ -1,21 +1,21 @@
--- Drums that go over from plant 1 to plant 0: what the send asks, and what it leaves. Assumes nothing.
+-- Drums that go over from plant 2 to plant 1: what the send asks, and what it leaves. Assumes nothing.
 use mathlib.Core.Path.{_≡_, refl, ap, _∙_}
 use mathlib.Core.Logic.{_≢_}
 use mathlib.Core.List.{List}
 use Prim.Native.Nat.{ℕ, _<_}
 use native.Mathlib.Decide.{ℕ-discrete}
 use native.Mathlib.Omega.{arith}
-use Rattle.residual.specs.Network.{Net, get}
-use Rattle.augment.specs.Send.{SendReady, Delivered}
-use Rattle.lastsplit.specs.PlantShift.{Swinging, Over}
+use Rattle.residual.specs.inner.Network.{Net, get}
+use Rattle.augment.specs.inner.Send.{SendReady, Delivered}
+use Rattle.lastsplit.specs.inner.PlantShift.{PlantSlack, Over}
 
 -- only node 1 has room
 pub record Only (room : List ℕ) (limit : ℕ) : Type 0 where
   pub one : get room 1 ≡ limit
   pub off : (v : ℕ) → v < 96 → v ≢ 1 → get room v ≡ 0
 
-pub swing-ready : {N : Net} {P : ℕ} {p room x : List ℕ} {limit : ℕ} → Swinging N P p x → Only room limit → 0 < limit → SendReady N p room 0 limit x
-swing-ready {p = p} {room = room} k o l = record {
+pub plant-slack-ready : {N : Net} {P : ℕ} {p room x : List ℕ} {limit : ℕ} → PlantSlack N P p x → Only room limit → 0 < limit → SendReady N p room 0 limit x
+plant-slack-ready {p = p} {room = room} k o l = record {
   sound = k .sound;
   under = k .under;
   ceilings = k .ceilings;
@@ -26,10 +26,10 @@ swing-ready {p = p} {room = room} k o l = record {
   floor = λ v hv h. elim (ℕ-discrete v 1) [ yes z ↦ rw z (omega (arith, k .one, k .high)) | no z ↦ absurd (omega (arith, o .off v hv z)) ];
 }
 
-pub swing-over : {N : Net} {P : ℕ} {p room x : List ℕ} {limit : ℕ} {x' p' : List ℕ} {g d : ℕ} → Swinging N P p x → Only room limit → g < 96
+pub plant-slack-over : {N : Net} {P : ℕ} {p room x : List ℕ} {limit : ℕ} {x' p' : List ℕ} {g d : ℕ} → PlantSlack N P p x → Only room limit → g < 96
     → Delivered N p room 0 limit x' p' g d → Over N P limit p' x' d
-swing-over {N} {P} {p} {room} {x} {limit} {x'} {p'} {g} {d} k o hg t = record {
-  swinging = record {
+plant-slack-over {N} {P} {p} {room} {x} {limit} {x'} {p'} {g} {d} k o hg t = record {
+  plant-slack = record {
     sound = record {
       sources = k .sound .sources;
       terminals = k .sound .terminals;
@@ -56,9 +56,9 @@ swing-over {N} {P} {p} {room} {x} {limit} {x'} {p'} {g} {d} k o hg t = record {
     goal : g ≡ 1
     goal = elim (ℕ-discrete g 1) [ yes z ↦ z | no z ↦ absurd (omega (arith, o .off g hg z, t .has-room)) ]
 
--- plant 1's potential as it stands among the others: what the next stretch asks
-pub swing-own : {N : Net} {P : ℕ} {p x : List ℕ} → Swinging N P p x → Swinging N (get p 1) p x
-swing-own k = record {
+-- plant 2's potential as it stands among the others: what the next stretch asks
+pub plant-slack-own : {N : Net} {P : ℕ} {p x : List ℕ} → PlantSlack N P p x → PlantSlack N (get p 1) p x
+plant-slack-own k = record {
   sound = k .sound;
   under = k .under;
   ceilings = k .ceilings;

@@ -1,2 +1,1 @@
-pub mod PlantShift
-pub mod LastSplit
+pub mod inner

@@ -2,11 +2,11 @@
 ghost use mathlib.Core.Path.{_≡_};
 ghost use mathlib.Core.Bool.{true};
 ghost use Prim.Native.Nat.{ℕ, _+_, _≤_, _<_};
-ghost use Rattle.residual.specs.Cells.{cells};
-ghost use Rattle.residual.specs.Network.{net, get};
-ghost use Rattle.residual.specs.LanesInUse.{Covers};
-ghost use Rattle.paths.specs.Search.{Wanted};
-ghost use Rattle.lastsplit.specs.LastSplit.{ReachReady, Reached, LastReady};
+ghost use Rattle.residual.specs.inner.Cells.{cells};
+ghost use Rattle.residual.specs.inner.Network.{net, get};
+ghost use Rattle.residual.specs.inner.LanesInUse.{Covers};
+ghost use Rattle.paths.specs.inner.Search.{Wanted};
+ghost use Rattle.lastsplit.specs.inner.LastSplit.{ReachReady, Reached, LastReady};
 use augment::send::send;
 
 // A number that has the top bit only where the ceiling is not below the demand.
@@ -43,7 +43,7 @@ fn all_wide(m: usize, cap: &[u32; 2048], demand: &[u32; 96]) -> bool
     true
 }
 
-// How many drums can go over from plant 1 to plant 0, limit at most.
+// How many drums can go over from plant 2 to plant 1, limit at most.
 fn reach(
     m: usize,
     n: usize,

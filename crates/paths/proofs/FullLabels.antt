@@ -6,15 +6,15 @@ use native.Mathlib.Decide.{decLt}
 use native.Mathlib.Omega.{arith}
 use lib.ListN.{length, set, replicate, List·getD-eq-default}
 use Rattle.transport.proofs.Tables.{cellsOf, cellsOf-length, cellsOf-at}
-use Rattle.residual.specs.Network.{Net, get}
-use Rattle.residual.specs.Labels.{book, Touched, Passed, Relabel, Relabelled}
-use Rattle.residual.specs.Labels.Relabel.{keeps, takes}
-use Rattle.residual.specs.Labels.Touched.{stays, gains}
-use Rattle.residual.specs.Keys.{shut, Rekeyed, Next}
-use Rattle.paths.specs.NearestNode.{Nearest}
-use Rattle.paths.specs.Search.{Sound, SearchReady, Blank, Labelling}
-use Rattle.paths.specs.NodeTags.{PlanTagged}
-use Rattle.paths.proofs.SearchTurns.{explore-start, explore-step}
+use Rattle.residual.specs.inner.Network.{Net, get}
+use Rattle.residual.specs.inner.Labels.{book, Touched, Passed, Relabel, Relabelled}
+use Rattle.residual.specs.inner.Labels.Relabel.{keeps, takes}
+use Rattle.residual.specs.inner.Labels.Touched.{stays, gains}
+use Rattle.residual.specs.inner.Keys.{shut, Rekeyed, Next}
+use Rattle.paths.specs.inner.NearestNode.{Nearest}
+use Rattle.paths.specs.inner.Search.{Sound, SearchReady, Blank, Labelling}
+use Rattle.paths.specs.inner.NodeTags.{PlanTagged}
+use Rattle.paths.proofs.SearchPasses.{explore-start, explore-step}
 
 module _ {N : Net} {v b : ℕ} {T P T' P' : List ℕ} (q : Relabelled N v b T P T' P') (lt : length T ≡ 96) (H W : List ℕ) (lh : length H ≡ 96)
     (lw : length W ≡ 96) (hop wide : ℕ) where
@@ -71,10 +71,10 @@ pub label-start : {N : Net} {p room : List ℕ} {s limit : ℕ} {T P : List ℕ}
     → ((v : ℕ) → v < 96 → get K v ≡ shut) → Labelling N p room s limit (set T s (get p s)) P (set K s 0) s 0
 label-start {limit = limit} K r o k e z = record { hops = replicate 96 0; widths = replicate 96 limit; exploring = explore-start K r o k e z }
 
-pub label-step : {N : Net} {p room : List ℕ} {s limit : ℕ} {T P K : List ℕ} {next turns : ℕ} {full want T' P' K' : List ℕ} {v next' : ℕ}
-    → Sound N p → (q : Labelling N p room s limit T P K next turns) → ((i j : ℕ) → i < N .m → j < N .n → N .u i j ≤ 4000000000)
+pub label-step : {N : Net} {p room : List ℕ} {s limit : ℕ} {T P K : List ℕ} {next passes : ℕ} {full want T' P' K' : List ℕ} {v next' : ℕ}
+    → Sound N p → (q : Labelling N p room s limit T P K next passes) → ((i j : ℕ) → i < N .m → j < N .n → N .u i j ≤ 4000000000)
     → PlanTagged N room full want → v < 96 → Nearest p T (q .exploring .marks) v → get room v ≡ 0 → Relabelled N v (get T v) T P T' P'
-    → Rekeyed N want v p T T' (set K v shut) K' → Next K' (get K v) 32 next' → Labelling N p room s limit T' P' K' next' (turns + 1)
+    → Rekeyed N want v p T T' (set K v shut) K' → Next K' (get K v) 32 next' → Labelling N p room s limit T' P' K' next' (passes + 1)
 label-step {v = v} so q ceilings tagged hv near none pass k named =
     let e = q .exploring .searching .long in
     let l = lift pass (e .dists) (q .hops) (q .widths) (e .hopss) (e .widths) (get (q .hops) v + 1) (get (q .widths) v) in

@@ -1,6 +1,6 @@
 pub mod NearestNode
 pub mod NodeTags
 pub mod SettledNode
-pub mod SearchTurns
+pub mod SearchPasses
 pub mod FullLabels
 pub mod SearchCut

@@ -5,10 +5,10 @@ use mathlib.Core.List.{List}
 use Prim.Native.Nat.{ℕ, min, _+_, _≤_, _<_}
 use native.Mathlib.Decide.{ℕ-discrete, decLt}
 use native.Mathlib.Omega.{arith}
-use Rattle.residual.specs.Network.{get}
-use Rattle.residual.specs.Labels.{far}
-use Rattle.residual.specs.Keys.{shut}
-use Rattle.paths.specs.NearestNode.{Key, Nearest, Held, LeastKey, ClosestNode, Chosen}
+use Rattle.residual.specs.inner.Network.{get}
+use Rattle.residual.specs.inner.Labels.{far}
+use Rattle.residual.specs.inner.Keys.{shut}
+use Rattle.paths.specs.inner.NearestNode.{Key, Nearest, Held, LeastKey, ClosestNode, Chosen}
 
 pub least-start : (K : List ℕ) (lo : ℕ) → LeastKey K lo lo shut
 least-start K lo = record { bound = omega arith; all = λ v l h. absurd (omega arith); held = λ h. absurd (omega arith) }

@@ -6,10 +6,10 @@ use native.Mathlib.Decide.{ℕ-discrete}
 use native.Mathlib.Omega.{arith}
 use lib.ListN.{set, length-set}
 use lib.Seq.{getD-set-same, getD-set-other}
-use Rattle.residual.specs.Network.{Net, get}
-use Rattle.residual.specs.Keys.{Bits}
-use Rattle.paths.specs.Search.{Wanted}
-use Rattle.paths.specs.NodeTags.{Whole, Tagged, PlanTagged, Tagging}
+use Rattle.residual.specs.inner.Network.{Net, get}
+use Rattle.residual.specs.inner.Keys.{Bits}
+use Rattle.paths.specs.inner.Search.{Wanted}
+use Rattle.paths.specs.inner.NodeTags.{Whole, Tagged, PlanTagged, Tagging}
 
 pub tag-step : {room demand full want : List ℕ} {k f w : ℕ} → Tagging room demand full want k → k < 96 → f ≤ 1 → Whole (get room k) (get demand k) w
     → Tagging room demand (set full k f) (set want k w) (k + 1)

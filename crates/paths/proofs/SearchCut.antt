@@ -9,10 +9,10 @@ use native.Mathlib.Omega.{arith}
 use lib.Dec.{ltb}
 use borrow.Author.Tests.{lt-ltb, le-ltb}
 use Rattle.transport.specs.Plan.{Table, row, col, Under}
-use Rattle.transport.specs.theory.AtSplit.{Same}
-use Rattle.residual.specs.Network.{Net, get}
-use Rattle.residual.specs.Labels.{far}
-use Rattle.paths.specs.Search.{Stuck}
+use Rattle.transport.specs.inner.AtSplit.{Same}
+use Rattle.residual.specs.inner.Network.{Net, get}
+use Rattle.residual.specs.inner.Labels.{far}
+use Rattle.paths.specs.inner.Search.{Stuck}
 use Rattle.transport.proofs.ClosedSet.{Closed, Full, stuck-source, greatest-split, most-second, most-first}
 
 -- 1 where v has a label, else 0
@@ -62,18 +62,18 @@ module _ {N : Net} {room : List ℕ} {s : ℕ} {T : List ℕ} (k : Stuck N room 
         stuck-source (N .m) (N .n) (N .u) (N .x) w (inside T) (λ j. inside T (32 + j)) cut h cut-full s hs (inside-yes T s (k .start)) o
 
     module _ (two : 2 ≤ N .m) (depots : Same 2 (N .m) (row (N .n) (N .x)) (row (N .n) w)) where
-      -- no path from plant 0 to plant 1
+      -- no path from plant 1 to plant 2
       pub cut-greatest : s ≡ 0 → far ≤ get T 1 → row (N .n) w 0 ≤ row (N .n) (N .x) 0
       cut-greatest e l =
           greatest-split (N .m) (N .n) (N .u) (N .x) w (inside T) (λ j. inside T (32 + j)) cut h cut-full two depots (rw e at (inside-yes T s (k .start)))
           (inside-no T 1 l)
 
-      -- no path from plant 1
+      -- no path from plant 2
       pub cut-second : s ≡ 1 → row (N .n) (N .x) 0 ≤ row (N .n) w 0 → row (N .n) w 1 ≤ row (N .n) (N .x) 1
       cut-second e l =
           most-second (N .m) (N .n) (N .u) (N .x) w (inside T) (λ j. inside T (32 + j)) cut h cut-full two depots (rw e at (inside-yes T s (k .start))) l
 
-      -- no path from plant 0
+      -- no path from plant 1
       pub cut-first : s ≡ 0
           → (row (N .n) w 0 ≤ row (N .n) (N .x) 0) ⊎ (row (N .n) w 0 + row (N .n) w 1 ≤ row (N .n) (N .x) 0 + row (N .n) (N .x) 1)
       cut-first e =

@@ -8,14 +8,14 @@ use native.Mathlib.Omega.{arith}
 use lib.ListN.{length, set, length-set, replicate, length-replicate, getD-replicate}
 use lib.Seq.{getD-set-same, getD-set-other}
 use Rattle.transport.specs.Sum.{sum}
-use Rattle.residual.specs.Network.{Net, get, Arc}
-use Rattle.residual.specs.Network.Arc.{ahead, back}
-use Rattle.residual.specs.Labels.{Book, book, far, Touched, Passed, RelaxReady}
-use Rattle.residual.specs.Labels.Touched.{stays, gains}
-use Rattle.residual.specs.LanesInUse.{Covers, AtNode}
-use Rattle.paths.specs.NearestNode.{Nearest}
-use Rattle.paths.specs.Search.{Sound, Prev, Label, Searching, Near, Searched, SearchReady, Blank}
-use Rattle.paths.specs.Search.Prev.{root, step}
+use Rattle.residual.specs.inner.Network.{Net, get, Arc}
+use Rattle.residual.specs.inner.Network.Arc.{ahead, back}
+use Rattle.residual.specs.inner.Labels.{Book, book, far, Touched, Passed, RelaxReady}
+use Rattle.residual.specs.inner.Labels.Touched.{stays, gains}
+use Rattle.residual.specs.inner.LanesInUse.{Covers, AtNode}
+use Rattle.paths.specs.inner.NearestNode.{Nearest}
+use Rattle.paths.specs.inner.Search.{Sound, Prev, Label, Searching, Near, Searched, SearchReady, Blank}
+use Rattle.paths.specs.inner.Search.Prev.{root, step}
 use Rattle.transport.proofs.Sums.{sum-change, marks-most}
 use Rattle.residual.proofs.ResidualArc.{arc-room, arc-source, arc-terminal, arc-eq}
 use Rattle.residual.proofs.Bits.{bit-place}

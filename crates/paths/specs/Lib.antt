@@ -1,3 +1,1 @@
-pub mod NearestNode
-pub mod Search
-pub mod NodeTags
+pub mod inner

@@ -2,12 +2,12 @@
 ghost use mathlib.Core.Path.{_≡_};
 ghost use Prim.Native.Nat.{min, _+_, _≤_, _<_};
 ghost use lib.ListN.{length};
-ghost use Rattle.residual.specs.Network.{net, get};
-ghost use Rattle.residual.specs.LanesInUse.{Covers};
-ghost use Rattle.residual.specs.Keys.{Bits};
-ghost use Rattle.paths.specs.NearestNode.{LeastKey, Held, ClosestNode, Chosen};
-ghost use Rattle.paths.specs.Search.{SearchReady, Wanted, Blank, Answered};
-ghost use Rattle.paths.specs.NodeTags.{Whole, Tagged, PlanTagged};
+ghost use Rattle.residual.specs.inner.Network.{net, get};
+ghost use Rattle.residual.specs.inner.LanesInUse.{Covers};
+ghost use Rattle.residual.specs.inner.Keys.{Bits};
+ghost use Rattle.paths.specs.inner.NearestNode.{LeastKey, Held, ClosestNode, Chosen};
+ghost use Rattle.paths.specs.inner.Search.{SearchReady, Wanted, Blank, Answered};
+ghost use Rattle.paths.specs.inner.NodeTags.{Whole, Tagged, PlanTagged};
 use residual::relax::SHUT;
 use residual::relax::relax;
 
@@ -106,7 +106,7 @@ fn explore(
     dist[start] = pot[start];
     key[start] = 0;
     let mut next = start;
-    for turn in 0u64..96 {
+    for pass in 0u64..96 {
         let v = choose(m, n, next, &key);
         if v == 96 {
             return Paths {
@@ -180,7 +180,7 @@ fn tag(room: &[u32; 96], demand: &[u32; 96], full: &mut [u32; 96], want: &mut [u
     }
 }
 
-// The bit of a terminal that plant 1 sends x drums to.
+// The bit of a terminal that plant 2 sends x drums to.
 fn lead_bit(x: u32, bit: u32) -> u32
     requires { ⌜ bit ≤ 1 ⌝ }
     ensures { λ r. ⌜ r ≤ 1 ⌝ }
@@ -188,7 +188,7 @@ fn lead_bit(x: u32, bit: u32) -> u32
     if 0 < x { 0 } else { bit }
 }
 
-// Where plant 1 has room, a terminal that it serves comes before others as near: the way leads on from there to plant 1.
+// Where plant 2 has room, a terminal that it serves comes before others as near: the way leads on from there to plant 2.
 fn prefer(room: &[u32; 96], x: &[u32; 2048], full: &mut [u32; 96])
     requires { ⌜ Bits (now full) ⌝ }
     ensures { λ _. ⌜ Bits (now (full .exit)) ⌝ }

@@ -9,7 +9,7 @@ use lib.IntN.{ℤ}
 use lib.ListN.{length, getD, replicate}
 use Rattle.problem.specs.Case.{Case}
 use Rattle.problem.specs.Outcome.{Outcome, planned, refused, formRefusal, outcomeOf, test23, test26}
-use Rattle.problem.specs.LentTests.{firstOutside, amountsRefusal, runsRefusal, ceilingsRefusal, AtMost}
+use Rattle.problem.specs.inner.LentTests.{firstOutside, amountsRefusal, runsRefusal, ceilingsRefusal, AtMost}
 use Rattle.problem.proofs.TestsPassed.{some≢none, Formed, formed, accepted}
 use Rattle.problem.proofs.RefusalNumbers.{planned-passes}
 use Rattle.problem.proofs.Promise.{refused-outcome}

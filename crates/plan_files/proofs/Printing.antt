@@ -11,7 +11,7 @@ use lib.ListN.{length, getD, take, drop, length-append}
 use Rattle.transport.specs.Plan.{byRow, col}
 use Rattle.transport.proofs.Sums.{sum-at}
 use Rattle.csv_print.specs.Text.{planText, refusalText}
-use Rattle.csv_print.specs.Writing.{Fits}
+use Rattle.csv_print.specs.inner.Writing.{Fits}
 use Rattle.problem.specs.Case.{Case, lent}
 use Rattle.problem.specs.Range.{outside}
 use Rattle.problem.specs.Plans.{PlanAt, planFor}

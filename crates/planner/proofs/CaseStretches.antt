@@ -8,11 +8,11 @@ use lib.IntN.{ℤ, pos}
 use lib.ListN.{getD}
 use Rattle.transport.specs.Plan.{Table, byRow}
 use Rattle.transport.specs.Curve.{amountsAt, leastIn}
-use Rattle.transport.specs.theory.AtSplit.{At}
-use Rattle.residual.specs.Cells.{cells}
-use Rattle.residual.specs.Network.{net}
+use Rattle.transport.specs.inner.AtSplit.{At}
+use Rattle.residual.specs.inner.Cells.{cells}
+use Rattle.residual.specs.inner.Network.{net}
 use Rattle.incumbent.specs.declared.Incumbent.{Incumbent}
-use Rattle.stretch.specs.Stretch.{StretchReady, StretchDone}
+use Rattle.stretch.specs.inner.Stretch.{StretchReady, StretchDone}
 use Rattle.problem.specs.Integer.{Above}
 use Rattle.problem.specs.Freight.{ratesByRow}
 use Rattle.problem.specs.Range.{raisedOf}
@@ -24,12 +24,12 @@ use Rattle.problem.proofs.MachineIntegers.{raised-above}
 use Rattle.problem.proofs.RaisedLists.{map-at}
 use Rattle.problem.proofs.RaisedFreight.{Raised}
 use Rattle.problem.proofs.RaisedCurve.{lane-in, added, least-above}
-use Rattle.split_range.specs.Range.{amountIn, demandIn}
-use Rattle.sweep.specs.Stretches.{FreightCurve, curveOf, Stretch, Stretches}
-use Rattle.sweep.specs.Sweep.{Swept}
+use Rattle.split_range.specs.inner.Range.{amountIn, demandIn}
+use Rattle.sweep.specs.inner.Stretches.{FreightCurve, curveOf, Stretch, Stretches}
+use Rattle.sweep.specs.inner.Sweep.{Swept}
 use Rattle.sweep.proofs.OwnCosts.{own-stretch, own-stretches}
-use Rattle.sweep.proofs.StretchTurns.{stretch-of}
-use Rattle.planner.specs.CaseCurve.{caseCurve, Climbed}
+use Rattle.sweep.proofs.StretchChain.{stretch-of}
+use Rattle.planner.specs.inner.CaseCurve.{caseCurve, Climbed}
 use Rattle.planner.proofs.EngineAnswer.{Prepared, Accepts, form-of, fitting-of, sends, curve}
 
 module _ {c : Case} {lo hi all : ℕ} (a : Accepts c lo hi all) {cost cap amounts wants : List ℕ} (p : Prepared c cost cap amounts wants) where

@@ -14,8 +14,8 @@ use Rattle.transport.specs.Plan.{byRow, row, col, freight}
 use Rattle.transport.specs.Listing.{upFrom, select, least, greatest, some as any}
 use Rattle.transport.specs.Curve.{amountsAt, leastIn, hasPlan, splitsIn, bestFrom, stopsOf, written, splitsOf}
 use Rattle.transport.specs.Canonical.{canonicalAt}
-use Rattle.split_range.specs.Range.{BeginReady, Ranged, amountIn, demandIn}
-use Rattle.sweep.specs.Sweep.{SweepReady, Swept}
+use Rattle.split_range.specs.inner.Range.{BeginReady, Ranged, amountIn, demandIn}
+use Rattle.sweep.specs.inner.Sweep.{SweepReady, Swept}
 use Rattle.transport.proofs.Sums.{sum-ext, total-ext}
 use Rattle.transport.proofs.WithinCeilings.{some-ext, leastFreightIn-ext}
 use Rattle.transport.proofs.Splits.{at-has, member-splits}
@@ -26,8 +26,8 @@ use Rattle.problem.specs.Plans.{PlanAt, freightOf, leastFreightAt, planFor, tot
 use Rattle.problem.specs.Outcome.{Outcome, planned, refused, refusalOf, planOf, outcomeOf, test27, test9, test11}
 use Rattle.problem.specs.Promise.{Cheapest, BalanceRule}
 use Rattle.planner.specs.Answer.{Slices, slices, Written, Answered}
-use Rattle.engine_arrays.specs.Copy.{Narrow, RowsMoved, Supplied, Wanted}
-use Rattle.planner.specs.Ready.{OnBalance}
+use Rattle.engine_arrays.specs.inner.Copy.{Narrow, RowsMoved, Supplied, Wanted}
+use Rattle.planner.specs.inner.Ready.{OnBalance}
 use Rattle.problem.proofs.TestsPassed.{Formed, formed, Balanced, balanced, has-split, split-passes, small-entry, roomy, first-decides, second-decides}
 use Rattle.problem.proofs.TestParts.{met, sum-under}
 use Rattle.problem.proofs.Splits.{Fitting, fitting, fits-split, sent-all, in-order, last-split, ends-within, most-made}

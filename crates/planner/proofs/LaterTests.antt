@@ -9,10 +9,10 @@ use lib.ListN.{length, getD}
 use Rattle.transport.specs.Sum.{sum}
 use Rattle.problem.specs.Case.{Case, supply, demand, allDemand, depotStock, made, steps}
 use Rattle.problem.specs.Outcome.{Outcome, refused, _orElse_, formRefusal, refusalOf, test7, test8, test9, test11}
-use Rattle.problem.specs.LentTests.{entriesRefusal, splitsRefusal, Amounts, Within}
+use Rattle.problem.specs.inner.LentTests.{entriesRefusal, splitsRefusal, Amounts, Within}
 use Rattle.validation.specs.Verdict.{madeOf}
 use Rattle.validation.specs.declared.tests.Made.the-variants.{Drums, Unbalanced}
-use Rattle.planner.specs.Ready.{OnBalance}
+use Rattle.planner.specs.inner.Ready.{OnBalance}
 use Rattle.problem.proofs.TestsPassed.{first-decides, first-passes, second-passes, formed}
 use Rattle.problem.proofs.TestParts.{met, unmet}
 use Rattle.problem.proofs.Promise.{from7, from8, from9}

@@ -1,4 +1,3 @@
 pub mod Answer
-pub mod Ready
 pub mod Judge
-pub mod CaseCurve
+pub mod inner

@@ -1,9 +1,9 @@
 // From a case in balance to its plan.
 ghost use lib.ListN.{length};
 ghost use Rattle.problem.specs.Case.{lent};
-ghost use Rattle.planner.specs.Ready.{OnBalance};
+ghost use Rattle.planner.specs.inner.Ready.{OnBalance};
 ghost use Rattle.planner.specs.Answer.{outcome, slices, Answered};
-ghost use Rattle.planner.specs.CaseCurve.{Climbed};
+ghost use Rattle.planner.specs.inner.CaseCurve.{Climbed};
 use crate::Answer;
 use engine_arrays::work::copy_rows;
 use engine_arrays::work::gather_rows;
@@ -50,9 +50,9 @@ pub fn solve(
     let mut x = [0u32; 2048];
     let mut serves = [0u32; 64];
     let mut pot = [0u32; 96];
-    let mut up = [96u32; 128];
-    let mut rows = [0u32; 128];
-    let mut cols = [0u64; 128];
+    let mut parent = [96u32; 128];
+    let mut sources_below = [0u32; 128];
+    let mut terminals_below = [0u64; 128];
     let range = begin(
         quick,
         m,
@@ -67,9 +67,9 @@ pub fn solve(
         &mut x,
         &mut serves,
         &mut pot,
-        &mut up,
-        &mut rows,
-        &mut cols,
+        &mut parent,
+        &mut sources_below,
+        &mut terminals_below,
     );
     if !range.found {
         return Answer::Refused {
@@ -107,9 +107,9 @@ pub fn solve(
         &mut serves,
         &mut pot,
         &mut kept,
-        &mut up,
-        &mut rows,
-        &mut cols,
+        &mut parent,
+        &mut sources_below,
+        &mut terminals_below,
     );
     gather_rows(m, n, &kept, plan);
     let stops = best.stops;

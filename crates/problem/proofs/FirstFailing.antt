@@ -12,7 +12,7 @@ use borrow.Author.Tests.{lt-ltb, le-ltb}
 use mathlib.Core.List.{List}
 use lib.ListN.{length, getD}
 use Rattle.problem.specs.Outcome.{firstFrom}
-use Rattle.problem.specs.LentTests.{AtMost, firstAbove, firstOutside}
+use Rattle.problem.specs.inner.LentTests.{AtMost, firstAbove, firstOutside}
 use lib.IntN.{ℤ, pos}
 use Rattle.problem.specs.Range.{outside}
 

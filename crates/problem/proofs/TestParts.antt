@@ -13,7 +13,7 @@ use lib.Seq.{getD-append-add, getD-take, getD-drop}
 use borrow.Author.Tests.{lt-ltb, le-ltb, eq-eqb, ne-eqb, ltb-false}
 use Rattle.problem.specs.Case.{Case, steps}
 use Rattle.problem.specs.Outcome.{Outcome, refused, firstFrom, firstOver, refuseIf, refuseAt, test11}
-use Rattle.problem.specs.LentTests.{firstAbove, firstOutside, amountsRefusal, runsRefusal, ceilingsRefusal, entriesRefusal, splitsRefusal, AtMost}
+use Rattle.problem.specs.inner.LentTests.{firstAbove, firstOutside, amountsRefusal, runsRefusal, ceilingsRefusal, entriesRefusal, splitsRefusal, AtMost}
 use Rattle.transport.specs.Sum.{sum}
 use Rattle.transport.proofs.Sums.{sum-zero, sum-suc}
 use Rattle.problem.proofs.TestsPassed.{Formed, first-decides, second-decides}

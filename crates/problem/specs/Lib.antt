@@ -6,4 +6,4 @@ pub mod Plans
 pub mod Outcome
 pub mod Promise
 pub mod Bends
-pub mod LentTests
+pub mod inner

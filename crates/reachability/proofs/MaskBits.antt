@@ -8,7 +8,7 @@ use native.Mathlib.Omega.{arith}
 use lib.Pow.{pow-pos, shl-exact}
 use lib.Bits.{bitAnd, and-step}
 use lib.Count.{leadingZeros, leading-top}
-use Rattle.residual.specs.Bits.{bit}
+use Rattle.residual.specs.inner.Bits.{bit}
 use Rattle.residual.proofs.Bits.{bit-none, power-fits}
 
 pub bit-and : (a b i : ℕ) → bit (bitAnd a b) i ≡ min (bit a i) (bit b i)

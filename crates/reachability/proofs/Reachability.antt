@@ -13,15 +13,15 @@ use lib.Pow.{pow-pos, pow-lt}
 use lib.Bits.{bitAnd, bitOr, and-le-l, and-le-r, or-lt, or-add-and}
 use lib.Count.{trailingZeros}
 use Rattle.transport.specs.Sum.{sum}
-use Rattle.residual.specs.Cells.{cells}
-use Rattle.residual.specs.Network.{Net, net, get, Arc}
-use Rattle.residual.specs.Network.Arc.{ahead, back}
-use Rattle.residual.specs.Labels.{Book, book, far}
-use Rattle.residual.specs.Bits.{bit}
-use Rattle.residual.specs.LanesInUse.{Covers}
-use Rattle.paths.specs.Search.{Near, Label, Prev}
-use Rattle.paths.specs.Search.Prev.{root, step}
-use Rattle.reachability.specs.Reachability.{Opens, Supplied, Known, Dropped, level, reached, Tree, Roaming, AtTerminal, Aiming, RoamAt, AheadAt, Moved, Back, Shut, Trodden, NoRoute, Through}
+use Rattle.residual.specs.inner.Cells.{cells}
+use Rattle.residual.specs.inner.Network.{Net, net, get, Arc}
+use Rattle.residual.specs.inner.Network.Arc.{ahead, back}
+use Rattle.residual.specs.inner.Labels.{Book, book, far}
+use Rattle.residual.specs.inner.Bits.{bit}
+use Rattle.residual.specs.inner.LanesInUse.{Covers}
+use Rattle.paths.specs.inner.Search.{Near, Label, Prev}
+use Rattle.paths.specs.inner.Search.Prev.{root, step}
+use Rattle.reachability.specs.inner.Reachability.{Opens, Supplied, Known, Dropped, level, reached, Tree, Reaching, AtTerminal, Aiming, ReachAt, AheadAt, Moved, Back, Shut, Trodden, NoRoute, Through}
 use Rattle.transport.proofs.Sums.{sum-change, marks-most}
 use Rattle.residual.proofs.ResidualArc.{arc-room, arc-source, arc-terminal, arc-eq}
 use Rattle.residual.proofs.Bits.{bit-none, bit-most, bit-or, bit-own, bit-place, low-set, rest-same, rest-other}
@@ -157,7 +157,7 @@ module _ {m n : ℕ} {f x : List ℕ} {s limit t R S W : ℕ} {P : List ℕ} (hm
   pub visit-source : {a j : ℕ} → AtTerminal m n f x s limit t R S W P j → a < m → j < n → bit S a ≡ 1 → 0 < cells x a j
       → AtTerminal m n f x s limit t R (S - 2 ^ a) (bitOr W (2 ^ a)) (set P a (32 + j)) j
   visit-source {a} {j} c ha hj fresh o = record {
-    roaming = record {
+    reaching = record {
       dist = set (q .dist) a 800000000;
       hops = _;
       widths = _;
@@ -182,8 +182,8 @@ module _ {m n : ℕ} {f x : List ℕ} {s limit t R S W : ℕ} {P : List ℕ} (hm
     here = omega (arith, off (32 + j) (omega arith), c .here);
   }
     where
-      q : Roaming m n f x s limit t R S W P
-      q = c .roaming
+      q : Reaching m n f x s limit t R S W P
+      q = c .reaching
 
       there : far ≤ get (q .dist) a
       there = q .fresh-s a (omega arith) fresh
@@ -195,10 +195,10 @@ module _ {m n : ℕ} {f x : List ℕ} {s limit t R S W : ℕ} {P : List ℕ} (hm
       off u z = getD-set-other (q .dist) a u 800000000 0 z
 
   -- a terminal that a source reached has room to send to
-  pub visit-terminal : {i j : ℕ} → Roaming m n f x s limit t R S W P → i < m → j < n → bit S i ≡ 0 → bit R j ≡ 1 → cells x i j < cells f i j
+  pub visit-terminal : {i j : ℕ} → Reaching m n f x s limit t R S W P → i < m → j < n → bit S i ≡ 0 → bit R j ≡ 1 → cells x i j < cells f i j
       → AtTerminal m n f x s limit t (R - 2 ^ j) S W (set P (32 + j) i) j
   visit-terminal {i} {j} q hi hj seen fresh o = record {
-    roaming = record {
+    reaching = record {
       dist = set (q .dist) (32 + j) 800000000;
       hops = _;
       widths = _;
@@ -231,9 +231,9 @@ module _ {m n : ℕ} {f x : List ℕ} {s limit t R S W : ℕ} {P : List ℕ} (hm
 
 -- ---- the goal is reached
 
-module _ {m n i j limit : ℕ} {f x : List ℕ} {t R S W : ℕ} {P : List ℕ} (at : RoamAt m n i j) (c : AtTerminal m n f x i limit t R S W P j) where
-  abbrev q : Roaming m n f x i limit t R S W P
-  q = c .roaming
+module _ {m n i j limit : ℕ} {f x : List ℕ} {t R S W : ℕ} {P : List ℕ} (at : ReachAt m n i j) (c : AtTerminal m n f x i limit t R S W P j) where
+  abbrev q : Reaching m n f x i limit t R S W P
+  q = c .reaching
 
   flat : (u : ℕ) → u < 96 → get level u ≡ 800000000
   flat u h = getD-replicate {A = ℕ} 96 u 800000000 0 h
@@ -369,11 +369,11 @@ cover-drop {m} {n} {i} {j} {x} {Y} {Y'} hm hi hj c e hn d = rw (d .same) (record
         let z : a ≢ i = λ z. absurd (omega (arith, ap (λ y. cells x y j) z)) in
         omega (arith, bit-and (get Y j) (2 ^ 32 - 1 - 2 ^ i) a, c .serving a j ha hj o, take-other i (2 ^ 32 - 1) a (bit-ones 32 i (omega arith)) z, bit-ones 32 a (omega arith))
 
-module _ {m n s j g limit : ℕ} {f x : List ℕ} {t R S₀ W₀ : ℕ} (at : RoamAt m n s j) where
+module _ {m n s j g limit : ℕ} {f x : List ℕ} {t R S₀ W₀ : ℕ} (at : ReachAt m n s j) where
   pub back-start : {P Y : List ℕ} → Covers m n x Y → AtTerminal m n f x s limit t R S₀ W₀ P j → Aiming m n g f x R S₀
       → LookingBack m n j g f x s limit t R S₀ W₀ P Y S₀ W₀ (bitAnd (get Y j) S₀)
   back-start {P} {Y} c y w = record {
-    fits = omega (arith, and-le-r (get Y j) S₀, y .roaming .fits-s);
+    fits = omega (arith, and-le-r (get Y j) S₀, y .reaching .fits-s);
     covers = c;
     at = y;
     aiming = w;
@@ -414,7 +414,7 @@ module _ {m n s j g limit : ℕ} {f x : List ℕ} {t R S₀ W₀ : ℕ} (at : Ro
         → Through m n s g limit f x (set (set P (trailingZeros 32 rest) (32 + j)) (32 + g) (trailingZeros 32 rest)) t
     back-found o l =
         through (record { sources = at .sources; terminals = at .terminals; source = at .source; terminal = q .aiming .terminal })
-        (visit-terminal (at .sources) (at .terminals) (back-visit o .roaming) back-source (q .aiming .terminal) (take-own i S back-fresh) (q .aiming .fresh) l)
+        (visit-terminal (at .sources) (at .terminals) (back-visit o .reaching) back-source (q .aiming .terminal) (take-own i S back-fresh) (q .aiming .fresh) l)
 
     pub back-take : 0 < cells x (trailingZeros 32 rest) j → cells f (trailingZeros 32 rest) g ≤ cells x (trailingZeros 32 rest) g
         → LookingBack m n j g f x s limit t R S₀ W₀ (set P (trailingZeros 32 rest) (32 + j)) Y (S - 2 ^ trailingZeros 32 rest) (bitOr W (2 ^ trailingZeros 32 rest)) (bitAnd rest (rest - 1))
@@ -467,7 +467,7 @@ pub record LookingAhead (m n i g : ℕ) (f x : List ℕ) (s limit S₀ W₀ : �
   pub fits : rest < 2 ^ 64
   pub covers : Covers m n x Y
   pub known : Known m n s g x t
-  pub roaming : Roaming m n f x s limit t R S W P
+  pub reaching : Reaching m n f x s limit t R S W P
   pub aiming : Aiming m n g f x R S
   pub moved : Moved S₀ W₀ S W
   pub shut : Shut m n i f x R S W
@@ -475,20 +475,20 @@ pub record LookingAhead (m n i g : ℕ) (f x : List ℕ) (s limit S₀ W₀ : �
   pub done : (b : ℕ) → b < n → bit rest b ≡ 0 → cells x i b < cells f i b → bit R b ≡ 0
 
 -- the start is reached
-root-seen : {m n : ℕ} {f x : List ℕ} {s limit t R S W : ℕ} {P : List ℕ} → s < 32 → Roaming m n f x s limit t R S W P → bit S s ≡ 0
+root-seen : {m n : ℕ} {f x : List ℕ} {s limit t R S W : ℕ} {P : List ℕ} → s < 32 → Reaching m n f x s limit t R S W P → bit S s ≡ 0
 root-seen {s = s} {S = S} h q = elim (ℕ-discrete (bit S s) 0) [
   | yes z ↦ z
   | no z ↦ absurd (omega (arith, q .fresh-s s h (omega (arith, bit-most S s)), q .tree .root-dist))
 ]
 
 module _ {m n s i g limit : ℕ} {f x : List ℕ} {S₀ W₀ : ℕ} (at : AheadAt m n s i) (seen : bit S₀ i ≡ 0) where
-  pub ahead-start : {P Y ways : List ℕ} {t R : ℕ} → Opens m n f ways → Covers m n x Y → Known m n s g x t → Roaming m n f x s limit t R S₀ W₀ P
+  pub ahead-start : {P Y ways : List ℕ} {t R : ℕ} → Opens m n f ways → Covers m n x Y → Known m n s g x t → Reaching m n f x s limit t R S₀ W₀ P
       → Aiming m n g f x R S₀ → Shut m n i f x R S₀ W₀ → LookingAhead m n i g f x s limit S₀ W₀ P Y t R S₀ W₀ (bitAnd (get ways i) (R - 2 ^ g))
   ahead-start {P} {Y} {ways} {t} {R} o c k q w h = record {
     fits = omega (arith, and-le-r (get ways i) (R - 2 ^ g), q .fits-r);
     covers = c;
     known = k;
-    roaming = q;
+    reaching = q;
     aiming = w;
     moved = moved-none;
     shut = h;
@@ -515,7 +515,7 @@ module _ {m n s i g limit : ℕ} {f x : List ℕ} {S₀ W₀ : ℕ} (at : AheadA
 
     pub ahead-supplied : bit t j ≡ 1
     ahead-supplied = elim (ℕ-discrete (bit t j) 0) [
-      | yes z ↦ absurd (omega (arith, q .roaming .others j (omega (arith, ahead-terminal, at .terminals)) z .0, ahead-fresh))
+      | yes z ↦ absurd (omega (arith, q .reaching .others j (omega (arith, ahead-terminal, at .terminals)) z .0, ahead-fresh))
       | no z ↦ omega (arith, bit-most t j)
     ]
 
@@ -563,22 +563,22 @@ module _ {m n s i g limit : ℕ} {f x : List ℕ} {S₀ W₀ : ℕ} (at : AheadA
           };
           goal = take-other j t g ahead-supplied not-goal ∙ q .known .goal;
         };
-        roaming = record {
-          dist = q .roaming .dist;
-          hops = q .roaming .hops;
-          widths = q .roaming .widths;
-          tree = q .roaming .tree;
-          fits-r = omega (arith, q .roaming .fits-r);
-          fits-s = q .roaming .fits-s;
-          fits-w = q .roaming .fits-w;
-          fresh-s = q .roaming .fresh-s;
-          seen-s = q .roaming .seen-s;
-          fresh-t = λ b hb e. q .roaming .fresh-t b hb (take-less j R b ahead-fresh e .1);
+        reaching = record {
+          dist = q .reaching .dist;
+          hops = q .reaching .hops;
+          widths = q .reaching .widths;
+          tree = q .reaching .tree;
+          fits-r = omega (arith, q .reaching .fits-r);
+          fits-s = q .reaching .fits-s;
+          fits-w = q .reaching .fits-w;
+          fresh-s = q .reaching .fresh-s;
+          seen-s = q .reaching .seen-s;
+          fresh-t = λ b hb e. q .reaching .fresh-t b hb (take-less j R b ahead-fresh e .1);
           others = λ b hb e. elim (ℕ-discrete b j) [
-            | yes z ↦ rw z (take-own j R ahead-fresh, q .roaming .fresh-t j (omega (arith, ahead-terminal, at .terminals)) ahead-fresh)
-            | no z ↦ let w = q .roaming .others b hb (take-gone j t b ahead-supplied z e) in (take-kept j R b ahead-fresh (w .0), w .1)
+            | yes z ↦ rw z (take-own j R ahead-fresh, q .reaching .fresh-t j (omega (arith, ahead-terminal, at .terminals)) ahead-fresh)
+            | no z ↦ let w = q .reaching .others b hb (take-gone j t b ahead-supplied z e) in (take-kept j R b ahead-fresh (w .0), w .1)
           ];
-          waits = q .roaming .waits;
+          waits = q .reaching .waits;
         };
         aiming = ahead-aim;
         moved = q .moved;
@@ -586,7 +586,7 @@ module _ {m n s i g limit : ℕ} {f x : List ℕ} {S₀ W₀ : ℕ} (at : AheadA
           ahead = λ a b ha hb z h es ew. take-kept j R b ahead-fresh (q .shut .ahead a b ha hb z h es ew);
           back = λ a b ha hb h e. elim (ℕ-discrete b j) [
             | yes z ↦ elim (ℕ-discrete a s) [
-              | yes y ↦ rw y (root-seen (omega (arith, at .start, at .sources)) (q .roaming))
+              | yes y ↦ rw y (root-seen (omega (arith, at .start, at .sources)) (q .reaching))
               | no y ↦ absurd (omega (arith, none a ha y, ap (λ v. cells x a v) z))
             ]
             | no z ↦ q .shut .back a b ha hb h (take-gone j R b ahead-fresh z e)
@@ -599,15 +599,15 @@ module _ {m n s i g limit : ℕ} {f x : List ℕ} {S₀ W₀ : ℕ} (at : AheadA
     module _ (h : cells x i j < cells f i j) where
       pub ahead-visit : AtTerminal m n f x s limit t (R - 2 ^ j) S W (set P (32 + j) i) j
       ahead-visit =
-          visit-terminal (at .sources) (at .terminals) (q .roaming) (at .source) ahead-terminal (q .moved .kept i seen) ahead-fresh h
+          visit-terminal (at .sources) (at .terminals) (q .reaching) (at .source) ahead-terminal (q .moved .kept i seen) ahead-fresh h
 
-      pub ahead-take : {P' Y' : List ℕ} {t' R' S' W' : ℕ} → t' ≡ t → Covers m n x Y' → Roaming m n f x s limit t' R' S' W' P' → Aiming m n g f x R' S'
+      pub ahead-take : {P' Y' : List ℕ} {t' R' S' W' : ℕ} → t' ≡ t → Covers m n x Y' → Reaching m n f x s limit t' R' S' W' P' → Aiming m n g f x R' S'
           → Back m j x (R - 2 ^ j) S W R' S' W' → LookingAhead m n i g f x s limit S₀ W₀ P' Y' t' R' S' W' (rest - 2 ^ j)
       ahead-take {P'} {Y'} {t'} {R'} {S'} {W'} e c r y d = record {
         fits = omega (arith, q .fits);
         covers = c;
         known = rw e (q .known);
-        roaming = r;
+        reaching = r;
         aiming = y;
         moved = moved-then (q .moved) (d .moved);
         shut = record {
@@ -626,7 +626,7 @@ module _ {m n s i g limit : ℕ} {f x : List ℕ} {S₀ W₀ : ℕ} (at : AheadA
       fits = omega (arith, q .fits);
       covers = q .covers;
       known = q .known;
-      roaming = q .roaming;
+      reaching = q .reaching;
       aiming = q .aiming;
       moved = q .moved;
       shut = q .shut;
@@ -651,7 +651,7 @@ module _ {m n s i g limit : ℕ} {f x : List ℕ} {S₀ W₀ : ℕ} (at : AheadA
 
 -- ---- the start
 
-module _ {m n i j limit : ℕ} (f x : List ℕ) (at : RoamAt m n i j) (some : 0 < limit) where
+module _ {m n i j limit : ℕ} (f x : List ℕ) (at : ReachAt m n i j) (some : 0 < limit) where
   abbrev T₀ : List ℕ
   T₀ = set (replicate 96 far) i 800000000
 
@@ -688,8 +688,8 @@ module _ {m n i j limit : ℕ} (f x : List ℕ) (at : RoamAt m n i j) (some : 0 
   own-source : bit (2 ^ 32 - 1) i ≡ 1
   own-source = every-source i (omega (arith, at .source, at .sources))
 
-  pub roam-start : {P : List ℕ} {R : ℕ} → length P ≡ 96 → R < 2 ^ 64 → Roaming m n f x i limit R R (2 ^ 32 - 1 - 2 ^ i) (2 ^ i) P
-  roam-start {P} {R} long fits = record {
+  pub reach-start : {P : List ℕ} {R : ℕ} → length P ≡ 96 → R < 2 ^ 64 → Reaching m n f x i limit R R (2 ^ 32 - 1 - 2 ^ i) (2 ^ i) P
+  reach-start {P} {R} long fits = record {
     dist = T₀;
     hops = replicate 96 0;
     widths = replicate 96 limit;
@@ -747,7 +747,7 @@ module _ {m n i j limit : ℕ} (f x : List ℕ) (at : RoamAt m n i j) (some : 0 
 
 -- ---- a source that waits is looked at
 
-module _ {m n i j limit : ℕ} {f x : List ℕ} {t R S W : ℕ} {P : List ℕ} (at : RoamAt m n i j) (q : Roaming m n f x i limit t R S W P) where
+module _ {m n i j limit : ℕ} {f x : List ℕ} {t R S W : ℕ} {P : List ℕ} (at : ReachAt m n i j) (q : Reaching m n f x i limit t R S W P) where
   module _ (p : 0 < W) where
     abbrev v : ℕ
     v = trailingZeros 32 W
@@ -758,41 +758,41 @@ module _ {m n i j limit : ℕ} {f x : List ℕ} {t R S W : ℕ} {P : List ℕ} (
     v-short : v < 32
     v-short = bit-place 32 W v (q .fits-w) waiting
 
-    pub turn-seen : bit S (trailingZeros 32 W) ≡ 0
-    turn-seen = q .waits v v-short waiting
+    pub pass-seen : bit S (trailingZeros 32 W) ≡ 0
+    pass-seen = q .waits v v-short waiting
 
-    pub turn-at : AheadAt m n i (trailingZeros 32 W)
-    turn-at = record {
+    pub pass-at : AheadAt m n i (trailingZeros 32 W)
+    pass-at = record {
       sources = at .sources;
       terminals = at .terminals;
       start = at .source;
-      source = q .tree .label v (omega (arith, v-short)) (q .seen-s v v-short turn-seen) .source v-short;
+      source = q .tree .label v (omega (arith, v-short)) (q .seen-s v v-short pass-seen) .source v-short;
     }
 
-    pub turn-fewer : bitAnd W (W - 1) < W
-    turn-fewer = omega (arith, and-le-r W (W - 1))
+    pub pass-fewer : bitAnd W (W - 1) < W
+    pass-fewer = omega (arith, and-le-r W (W - 1))
 
-    pub turn-roaming : Roaming m n f x i limit t R S (bitAnd W (W - 1)) P
-    turn-roaming = record {
+    pub pass-reaching : Reaching m n f x i limit t R S (bitAnd W (W - 1)) P
+    pass-reaching = record {
       dist = q .dist;
       hops = q .hops;
       widths = q .widths;
       tree = q .tree;
       fits-r = q .fits-r;
       fits-s = q .fits-s;
-      fits-w = omega (arith, turn-fewer, q .fits-w);
+      fits-w = omega (arith, pass-fewer, q .fits-w);
       fresh-s = q .fresh-s;
       seen-s = q .seen-s;
       fresh-t = q .fresh-t;
       others = q .others;
       waits = λ a h e. elim (ℕ-discrete a v) [
-        | yes z ↦ rw z turn-seen
+        | yes z ↦ rw z pass-seen
         | no z ↦ q .waits a h (sym (rest-other 32 W a p (q .fits-w) z) ∙ e)
       ];
     }
 
-    pub turn-shut : Shut m n 32 f x R S W → Shut m n (trailingZeros 32 W) f x R S (bitAnd W (W - 1))
-    turn-shut h = record {
+    pub pass-shut : Shut m n 32 f x R S W → Shut m n (trailingZeros 32 W) f x R S (bitAnd W (W - 1))
+    pass-shut h = record {
       ahead = λ a b ha hb z o es ew. h .ahead a b ha hb (omega (arith, at .sources)) o es (sym (rest-other 32 W a p (q .fits-w) z) ∙ ew);
       back = h .back;
     }

@@ -1,1 +1,1 @@
-pub mod Reachability
+pub mod inner

@@ -1,2 +1,2 @@
 // Ways over free lanes, which cost nothing.
-pub mod roam;
+pub mod reach;

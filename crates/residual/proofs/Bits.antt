@@ -8,7 +8,7 @@ use native.Mathlib.Omega.{arith}
 use lib.Pow.{shl-exact}
 use lib.Bits.{bitAnd, bitOr, and-step, or-step, and-self, or-add-and, and-le-l, and-le-r}
 use lib.Count.{trailingZeros, under}
-use Rattle.residual.specs.Bits.{bit, Left}
+use Rattle.residual.specs.inner.Bits.{bit, Left}
 
 -- ---- bits
 

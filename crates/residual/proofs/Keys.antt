@@ -8,12 +8,12 @@ use native.Mathlib.Decide.{ℕ-discrete}
 use native.Mathlib.Omega.{arith}
 use lib.ListN.{length, set, length-set}
 use lib.Seq.{getD-set-same, getD-set-other}
-use Rattle.residual.specs.Network.{Net, get}
-use Rattle.residual.specs.Labels.{Offered}
-use Rattle.residual.specs.Labels.Offered.{kept, won}
-use Rattle.residual.specs.Keys.{shut, Keyed, Lone, Rekey, Rekeyed, Next, Named}
-use Rattle.residual.specs.Keys.Named.{other, this}
-use Rattle.residual.specs.Keys.Rekey.{same, new, lone}
+use Rattle.residual.specs.inner.Network.{Net, get}
+use Rattle.residual.specs.inner.Labels.{Offered}
+use Rattle.residual.specs.inner.Labels.Offered.{kept, won}
+use Rattle.residual.specs.inner.Keys.{shut, Keyed, Lone, Rekey, Rekeyed, Next, Named}
+use Rattle.residual.specs.inner.Keys.Named.{other, this}
+use Rattle.residual.specs.inner.Keys.Rekey.{same, new, lone}
 
 -- ---- a pass
 

@@ -5,11 +5,11 @@ use Prim.Native.Nat.{ℕ, _+_, _^_, _≤_, _<_}
 use native.Mathlib.Omega.{arith}
 use lib.Pow.{pow-mono}
 use lib.Count.{trailingZeros}
-use Rattle.residual.specs.Network.{net, get, Arc}
-use Rattle.residual.specs.Network.Arc.{ahead, back}
-use Rattle.residual.specs.Labels.{Relabelling}
-use Rattle.residual.specs.Bits.{bit, Left}
-use Rattle.residual.specs.LanesInUse.{Covers}
+use Rattle.residual.specs.inner.Network.{net, get, Arc}
+use Rattle.residual.specs.inner.Network.Arc.{ahead, back}
+use Rattle.residual.specs.inner.Labels.{Relabelling}
+use Rattle.residual.specs.inner.Bits.{bit, Left}
+use Rattle.residual.specs.inner.LanesInUse.{Covers}
 use Rattle.residual.proofs.Relaxation.{pass-skip}
 use Rattle.residual.proofs.Bits.{bit-place, left-set}
 

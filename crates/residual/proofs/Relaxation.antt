@@ -8,12 +8,12 @@ use native.Mathlib.Decide.{ℕ-discrete, decLt}
 use native.Mathlib.Omega.{arith}
 use lib.ListN.{length, getD, set, length-set}
 use lib.Seq.{getD-set-same, getD-set-other, set-getD}
-use Rattle.residual.specs.Network.{Net, get, Arc}
-use Rattle.residual.specs.Network.Arc.{ahead, back}
-use Rattle.residual.specs.Labels.{far, Wins, Offered, Relabel, Relabelling, Relabelled}
-use Rattle.residual.specs.Labels.Offered.{kept, won}
-use Rattle.residual.specs.Labels.Relabel.{keeps, takes}
-use Rattle.residual.specs.Keys.{shut, Keyed, Lone, RowKey}
+use Rattle.residual.specs.inner.Network.{Net, get, Arc}
+use Rattle.residual.specs.inner.Network.Arc.{ahead, back}
+use Rattle.residual.specs.inner.Labels.{far, Wins, Offered, Relabel, Relabelling, Relabelled}
+use Rattle.residual.specs.inner.Labels.Offered.{kept, won}
+use Rattle.residual.specs.inner.Labels.Relabel.{keeps, takes}
+use Rattle.residual.specs.inner.Keys.{shut, Keyed, Lone, RowKey}
 use Rattle.residual.proofs.ResidualArc.{arc-same}
 
 pub pass-start : {N : Net} {v b lo hi : ℕ} {T P : List ℕ} → length T ≡ 96 → length P ≡ 96 → hi ≡ lo → Relabelling N v b lo hi T P T P

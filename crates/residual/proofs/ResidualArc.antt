@@ -2,8 +2,8 @@
 use mathlib.Core.Path.{_≡_, sym, ap, _∙_}
 use Prim.Native.Nat.{ℕ, _+_, _≤_, _<_}
 use native.Mathlib.Omega.{arith}
-use Rattle.residual.specs.Network.{Net, Arc}
-use Rattle.residual.specs.Network.Arc.{ahead, back}
+use Rattle.residual.specs.inner.Network.{Net, Arc}
+use Rattle.residual.specs.inner.Network.Arc.{ahead, back}
 
 -- the label that an arc offers is one
 pub arc-same : (N : Net) → N .m ≤ 32 → (v w b t k t' k' : ℕ) → Arc N v w b t k → Arc N v w b t' k' → t ≡ t'

@@ -3,11 +3,11 @@ ghost use mathlib.Core.Path.{_≡_};
 ghost use mathlib.Core.Bool.{cond};
 ghost use mathlib.Core.List.{List};
 ghost use Prim.Native.Nat.{ℕ, _+_, _-_, _*_, _≤_, _<_};
-ghost use Rattle.residual.specs.Cells.{cells};
-ghost use Rattle.residual.specs.Network.{Net, net};
-ghost use Rattle.residual.specs.Labels.{far, Offered, Relabelled, Wins, RowReady, ColumnReady, RelaxReady};
-ghost use Rattle.residual.specs.LanesInUse.{AtNode};
-ghost use Rattle.residual.specs.Keys.{Rekeyed, Next, Named, RowKey, Bits, Tags};
+ghost use Rattle.residual.specs.inner.Cells.{cells};
+ghost use Rattle.residual.specs.inner.Network.{Net, net};
+ghost use Rattle.residual.specs.inner.Labels.{far, Offered, Relabelled, Wins, RowReady, ColumnReady, RelaxReady};
+ghost use Rattle.residual.specs.inner.LanesInUse.{AtNode};
+ghost use Rattle.residual.specs.inner.Keys.{Rekeyed, Next, Named, RowKey, Bits, Tags};
 
 // Above every key.
 pub const SHUT: u32 = 4_000_000_000;

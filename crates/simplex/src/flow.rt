@@ -1,7 +1,7 @@
 // One pivot: the lane from source i to terminal j comes into the tree, and one on the way between them leaves.
 use spanningtree::NONE;
-use spanningtree::flows::turn_over;
-use spanningtree::flows::turn_round;
+use spanningtree::flows::reverse_path;
+use spanningtree::flows::toggle_part;
 use std::num::wrapping_add_u32;
 use std::num::wrapping_sub_u32;
 
@@ -14,14 +14,20 @@ struct Leave {
 }
 
 // From i, a source, up to the first node that has j, of this bit, below it. The lanes above sources lose drums.
-fn from_source(i: u32, bit: u64, up: &[u32; 128], cols: &[u64; 128], flow: &[u32; 128]) -> Leave {
+fn from_source(
+    i: u32,
+    bit: u64,
+    parent: &[u32; 128],
+    terminals_below: &[u64; 128],
+    flow: &[u32; 128],
+) -> Leave {
     let mut node = NONE;
     let mut amount = u32::MAX;
     let mut a = i;
     let mut left: u32 = 48;
     while 0 < left {
         let v = (a % 128) as usize;
-        if cols[v] & bit != 0 {
+        if terminals_below[v] & bit != 0 {
             return Leave {
                 node,
                 amount,
@@ -33,9 +39,9 @@ fn from_source(i: u32, bit: u64, up: &[u32; 128], cols: &[u64; 128], flow: &[u32
             node = a;
             amount = flow[v];
         }
-        let b = up[v];
+        let b = parent[v];
         let w = (b % 128) as usize;
-        if cols[w] & bit != 0 {
+        if terminals_below[w] & bit != 0 {
             return Leave {
                 node,
                 amount,
@@ -43,7 +49,7 @@ fn from_source(i: u32, bit: u64, up: &[u32; 128], cols: &[u64; 128], flow: &[u32
                 top: b,
             };
         }
-        a = up[w];
+        a = parent[w];
         left = left - 1;
     }
     Leave {
@@ -55,7 +61,7 @@ fn from_source(i: u32, bit: u64, up: &[u32; 128], cols: &[u64; 128], flow: &[u32
 }
 
 // From j, a terminal, up to there, where the lanes above terminals do; also where one carries as little.
-fn from_terminal(j: u32, far: Leave, up: &[u32; 128], flow: &[u32; 128]) -> Leave {
+fn from_terminal(j: u32, far: Leave, parent: &[u32; 128], flow: &[u32; 128]) -> Leave {
     let top = far.top;
     let mut node = far.node;
     let mut amount = far.amount;
@@ -77,7 +83,7 @@ fn from_terminal(j: u32, far: Leave, up: &[u32; 128], flow: &[u32; 128]) -> Leav
             amount = flow[v];
             first = false;
         }
-        let b = up[v];
+        let b = parent[v];
         if b == top {
             return Leave {
                 node,
@@ -86,7 +92,7 @@ fn from_terminal(j: u32, far: Leave, up: &[u32; 128], flow: &[u32; 128]) -> Leav
                 top,
             };
         }
-        a = up[(b % 128) as usize];
+        a = parent[(b % 128) as usize];
         left = left - 1;
     }
     Leave {
@@ -147,23 +153,28 @@ pub fn pivot(
     i: u32,
     j: u32,
     d: u32,
-    up: &mut [u32; 128],
-    rows: &mut [u32; 128],
-    cols: &mut [u64; 128],
+    parent: &mut [u32; 128],
+    sources_below: &mut [u32; 128],
+    terminals_below: &mut [u64; 128],
     flow: &mut [u32; 128],
     p: &mut [u32; 32],
     key: &mut [u32; 64],
 ) {
     let bit = 1u64 << (j % 128 + 32) % 64;
-    let far = from_terminal(j, from_source(i, bit, up, cols, flow), up, flow);
+    let far = from_terminal(
+        j,
+        from_source(i, bit, parent, terminals_below, flow),
+        parent,
+        flow,
+    );
     let top = far.top;
     let amount = far.amount;
     let node = far.node;
     let first = far.first;
     let v = (node % 128) as usize;
-    let r = rows[v];
-    let c = cols[v];
-    let from = up[v];
+    let r = sources_below[v];
+    let c = terminals_below[v];
+    let from = parent[v];
     let back = wrapping_sub_u32(0, amount);
     let lost = if first { back } else { amount };
     let won = if first { amount } else { back };
@@ -171,9 +182,31 @@ pub fn pivot(
     let rise = if first { d } else { fall };
     let end = if first { i } else { j };
     let host = if first { j } else { i };
-    turn_over(from, top, r, c, lost, won, up, rows, cols, flow);
-    turn_over(host, top, r, c, won, lost, up, rows, cols, flow);
-    turn_round(
+    toggle_part(
+        from,
+        top,
+        r,
+        c,
+        lost,
+        won,
+        parent,
+        sources_below,
+        terminals_below,
+        flow,
+    );
+    toggle_part(
+        host,
+        top,
+        r,
+        c,
+        won,
+        lost,
+        parent,
+        sources_below,
+        terminals_below,
+        flow,
+    );
+    reverse_path(
         node,
         end,
         host,
@@ -182,10 +215,10 @@ pub fn pivot(
         c,
         lost,
         won,
-        up,
-        rows,
-        cols,
+        parent,
+        sources_below,
+        terminals_below,
         flow,
     );
-    shift(r, c, rows[0], cols[0], rise, p, key);
+    shift(r, c, sources_below[0], terminals_below[0], rise, p, key);
 }

@@ -23,9 +23,9 @@ fn step(
     n: usize,
     now: Turn,
     cost: &[u32; 2048],
-    up: &mut [u32; 128],
-    rows: &mut [u32; 128],
-    cols: &mut [u64; 128],
+    parent: &mut [u32; 128],
+    sources_below: &mut [u32; 128],
+    terminals_below: &mut [u64; 128],
     flow: &mut [u32; 128],
     p: &mut [u32; 32],
     key: &mut [u32; 64],
@@ -43,9 +43,9 @@ fn step(
         row,
         32 + l % 64,
         33_554_432 - s,
-        up,
-        rows,
-        cols,
+        parent,
+        sources_below,
+        terminals_below,
         flow,
         p,
         key,
@@ -53,14 +53,14 @@ fn step(
     Turn { row, clean: 0 }
 }
 
-// Until no source has a lane that is too cheap, 20,000 turns at most.
+// Until no source has a lane that is too cheap, 20,000 passes at most.
 fn simplex(
     m: u32,
     n: usize,
     cost: &[u32; 2048],
-    up: &mut [u32; 128],
-    rows: &mut [u32; 128],
-    cols: &mut [u64; 128],
+    parent: &mut [u32; 128],
+    sources_below: &mut [u32; 128],
+    terminals_below: &mut [u64; 128],
     flow: &mut [u32; 128],
     p: &mut [u32; 32],
     key: &mut [u32; 64],
@@ -71,18 +71,29 @@ fn simplex(
         if m <= now.clean {
             return;
         }
-        now = step(m, n, now, cost, up, rows, cols, flow, p, key);
+        now = step(
+            m,
+            n,
+            now,
+            cost,
+            parent,
+            sources_below,
+            terminals_below,
+            flow,
+            p,
+            key,
+        );
         left = left - 1;
     }
 }
 
 // What the lanes of the tree carry.
-fn carried(up: &[u32; 128], flow: &[u32; 128], x: &mut [u32; 2048])
+fn carried(parent: &[u32; 128], flow: &[u32; 128], x: &mut [u32; 2048])
     requires { ⌜ length (now x) ≡ 2048 ⌝ }
     ensures { λ _. ⌜ length (now (x .exit)) ≡ 2048 ⌝ }
 {
     for v in 0..96 {
-        let u = up[v];
+        let u = parent[v];
         let k = lane(v as u32, u);
         x[k] = if u < 96 { flow[v] } else { x[k] };
     }
@@ -126,14 +137,14 @@ pub fn solve(
     demand: &[u32; 96],
     x: &mut [u32; 2048],
     pot: &mut [u32; 96],
-    up: &mut [u32; 128],
-    rows: &mut [u32; 128],
-    cols: &mut [u64; 128],
+    parent: &mut [u32; 128],
+    sources_below: &mut [u32; 128],
+    terminals_below: &mut [u64; 128],
 )
     ensures { λ _. ⌜ (length (now (x .exit)) ≡ 2048) × (length (now (pot .exit)) ≡ 96) ⌝ }
 {
-    *rows = [0u32; 128];
-    *cols = [0u64; 128];
+    *sources_below = [0u32; 128];
+    *terminals_below = [0u64; 128];
     let mut flow = [0u32; 128];
     let mut p = [0u32; 32];
     let mut key = [0u32; 64];
@@ -143,9 +154,9 @@ pub fn solve(
         cost,
         amounts,
         demand,
-        up,
-        rows,
-        cols,
+        parent,
+        sources_below,
+        terminals_below,
         &mut flow,
         &mut p,
         &mut key,
@@ -154,15 +165,15 @@ pub fn solve(
         (m % 64) as u32,
         n,
         cost,
-        up,
-        rows,
-        cols,
+        parent,
+        sources_below,
+        terminals_below,
         &mut flow,
         &mut p,
         &mut key,
     );
     places(x);
-    carried(up, &flow, x);
+    carried(parent, &flow, x);
     *pot = [600_000_000u32; 96];
     source_potentials(&p, pot);
     terminal_potentials(&key, pot);

@@ -4,7 +4,7 @@ ghost use Prim.Native.Nat.{_≤_};
 use super::price::SHUT;
 use super::price::least;
 use spanningtree::NONE;
-use spanningtree::flows::hang;
+use spanningtree::flows::attach;
 use spanningtree::flows::lane;
 
 // The sources that still have drums, a bit for each, and how many nodes hang.
@@ -33,9 +33,9 @@ fn place(
     cost: &[u32; 2048],
     book: &mut [u32; 256],
     key: &mut [u32; 64],
-    up: &mut [u32; 128],
-    rows: &mut [u32; 128],
-    cols: &mut [u64; 128],
+    parent: &mut [u32; 128],
+    sources_below: &mut [u32; 128],
+    terminals_below: &mut [u64; 128],
     flow: &mut [u32; 128],
 ) -> Placed {
     let j = least(i, n, cost, key) % 64;
@@ -51,7 +51,15 @@ fn place(
     book[32 + t] = b - amount;
     key[t] = if spent { key[t] } else { SHUT + j };
     book[128 + (now.count % 128) as usize] = child;
-    hang(child, host, amount, up, rows, cols, flow);
+    attach(
+        child,
+        host,
+        amount,
+        parent,
+        sources_below,
+        terminals_below,
+        flow,
+    );
     Placed {
         open: if spent {
             without(now.open, i)
@@ -69,24 +77,35 @@ fn places(
     cost: &[u32; 2048],
     book: &mut [u32; 256],
     key: &mut [u32; 64],
-    up: &mut [u32; 128],
-    rows: &mut [u32; 128],
-    cols: &mut [u64; 128],
+    parent: &mut [u32; 128],
+    sources_below: &mut [u32; 128],
+    terminals_below: &mut [u64; 128],
     flow: &mut [u32; 128],
 ) -> u32 {
     let mut now = first;
-    let mut turn = first.open;
+    let mut waiting = first.open;
     let mut left: u32 = 128;
     while 0 < left {
-        if turn == 0 {
-            turn = now.open;
+        if waiting == 0 {
+            waiting = now.open;
         }
-        if turn == 0 {
+        if waiting == 0 {
             return now.count;
         }
-        let i = u32::trailing_zeros(turn) % 32;
-        turn = turn & (turn - 1);
-        now = place(n, i, now, cost, book, key, up, rows, cols, flow);
+        let i = u32::trailing_zeros(waiting) % 32;
+        waiting = waiting & (waiting - 1);
+        now = place(
+            n,
+            i,
+            now,
+            cost,
+            book,
+            key,
+            parent,
+            sources_below,
+            terminals_below,
+            flow,
+        );
         left = left - 1;
     }
     now.count
@@ -97,16 +116,24 @@ fn rest(
     n: usize,
     first: u32,
     book: &mut [u32; 256],
-    up: &mut [u32; 128],
-    rows: &mut [u32; 128],
-    cols: &mut [u64; 128],
+    parent: &mut [u32; 128],
+    sources_below: &mut [u32; 128],
+    terminals_below: &mut [u64; 128],
     flow: &mut [u32; 128],
 ) -> u32 {
     let mut count = first % 128;
     for j in 0..64 {
         if j < n {
-            if up[32 + j] == NONE {
-                hang((32 + j) as u32, 0, book[32 + j], up, rows, cols, flow);
+            if parent[32 + j] == NONE {
+                attach(
+                    (32 + j) as u32,
+                    0,
+                    book[32 + j],
+                    parent,
+                    sources_below,
+                    terminals_below,
+                    flow,
+                );
                 book[128 + (count % 128) as usize] = (32 + j) as u32;
                 count = count % 128 + 1;
             }
@@ -117,8 +144,8 @@ fn rest(
 
 // The potential of a node from that of the node above it: the lane between them is tight. A source's is p, modulo 2^25; a terminal's is kept
 // as its key, 64 (2^25 - q) and its number.
-fn follow(v: u32, cost: &[u32; 2048], up: &[u32; 128], p: &mut [u32; 32], key: &mut [u32; 64]) {
-    let u = up[(v % 128) as usize];
+fn follow(v: u32, cost: &[u32; 2048], parent: &[u32; 128], p: &mut [u32; 32], key: &mut [u32; 64]) {
+    let u = parent[(v % 128) as usize];
     let c = cost[lane(v, u)] % 2_097_152;
     if v < 32 {
         let t = ((u % 128 + 32) % 64) as usize;
@@ -136,14 +163,14 @@ fn follow_all(
     count: u32,
     book: &[u32; 256],
     cost: &[u32; 2048],
-    up: &[u32; 128],
+    parent: &[u32; 128],
     p: &mut [u32; 32],
     key: &mut [u32; 64],
 ) {
     let mut k = count % 129;
     while 0 < k {
         k = k - 1;
-        follow(book[128 + (k % 128) as usize], cost, up, p, key);
+        follow(book[128 + (k % 128) as usize], cost, parent, p, key);
     }
 }
 
@@ -176,12 +203,12 @@ fn wants(demand: &[u32; 96], book: &mut [u32; 256]) {
 }
 
 // Each node by itself.
-fn alone(rows: &mut [u32; 128], cols: &mut [u64; 128]) {
+fn alone(sources_below: &mut [u32; 128], terminals_below: &mut [u64; 128]) {
     for j in 0..64 {
         if j < 32 {
-            rows[j] = 1u32 << j % 32;
+            sources_below[j] = 1u32 << j % 32;
         }
-        cols[32 + j] = 1u64 << j;
+        terminals_below[32 + j] = 1u64 << j;
     }
 }
 
@@ -192,25 +219,43 @@ pub fn start(
     cost: &[u32; 2048],
     amounts: &[u32; 32],
     demand: &[u32; 96],
-    up: &mut [u32; 128],
-    rows: &mut [u32; 128],
-    cols: &mut [u64; 128],
+    parent: &mut [u32; 128],
+    sources_below: &mut [u32; 128],
+    terminals_below: &mut [u64; 128],
     flow: &mut [u32; 128],
     p: &mut [u32; 32],
     key: &mut [u32; 64],
 ) {
-    *up = [NONE; 128];
+    *parent = [NONE; 128];
     *p = [16_777_216u32; 32];
     let mut book = [0u32; 256];
     wants(demand, &mut book);
-    alone(rows, cols);
+    alone(sources_below, terminals_below);
     keys(n, key);
     let first = Placed {
         open: stock(m, amounts, &mut book),
         count: 0,
     };
-    let some = places(n, first, cost, &mut book, key, up, rows, cols, flow);
-    let count = rest(n, some, &mut book, up, rows, cols, flow);
+    let some = places(
+        n,
+        first,
+        cost,
+        &mut book,
+        key,
+        parent,
+        sources_below,
+        terminals_below,
+        flow,
+    );
+    let count = rest(
+        n,
+        some,
+        &mut book,
+        parent,
+        sources_below,
+        terminals_below,
+        flow,
+    );
     keys(0, key);
-    follow_all(count, &book, cost, up, p, key);
+    follow_all(count, &book, cost, parent, p, key);
 }

@@ -16,13 +16,13 @@ use lib.Bits.{bitOr, or-lt}
 use Rattle.transport.specs.Sum.{sum}
 use Rattle.transport.specs.Plan.{Table, row, col}
 use Rattle.transport.specs.Curve.{amountsAt}
-use Rattle.residual.specs.Cells.{cells}
-use Rattle.residual.specs.Network.{get}
+use Rattle.residual.specs.inner.Cells.{cells}
+use Rattle.residual.specs.inner.Network.{get}
 use Rattle.residual.proofs.Bits.{or-above}
-use Rattle.residual.specs.Bits.{bit}
-use Rattle.residual.specs.LanesInUse.{Covers}
-use Rattle.slackcheck.specs.Checked.{Good, RowChecked, Few, Got}
-use Rattle.slackcheck.specs.Serving.{Served, ServersTo}
+use Rattle.residual.specs.inner.Bits.{bit}
+use Rattle.residual.specs.inner.LanesInUse.{Covers}
+use Rattle.slackcheck.specs.inner.Checked.{Good, RowChecked, Few, Got}
+use Rattle.slackcheck.specs.inner.Serving.{Served, ServersTo}
 use Rattle.transport.proofs.Sums.{sum-zero, sum-more, sum-most}
 use Rattle.residual.proofs.Bits.{bit-most, bit-or, bit-own}
 

@@ -4,9 +4,9 @@ ghost use mathlib.Core.Path.{_≡_};
 ghost use mathlib.Core.Bool.{true};
 ghost use Prim.Native.Nat.{_+_, _≤_, _<_};
 ghost use Rattle.transport.specs.Curve.{amountsAt};
-ghost use Rattle.residual.specs.Cells.{cells};
-ghost use Rattle.residual.specs.Network.{get};
-ghost use Rattle.slackcheck.specs.Checked.{Levels, CheckReady, RowReady, RowChecked, RowsChecked, Few, Got, ColumnsChecked, Checked};
+ghost use Rattle.residual.specs.inner.Cells.{cells};
+ghost use Rattle.residual.specs.inner.Network.{get};
+ghost use Rattle.slackcheck.specs.inner.Checked.{Levels, CheckReady, RowReady, RowChecked, RowsChecked, Few, Got, ColumnsChecked, Checked};
 
 // Does source i send this amount, on lanes within their ceilings that are slack, each with less than 2^20, so that sums fit? Where a terminal's
 // potential is above its source's and the unit cost, or an amount above its ceiling, the difference modulo 2^32 has its top bit set. No branch, and no

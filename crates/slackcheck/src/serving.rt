@@ -2,8 +2,8 @@
 ghost use Prim.Native.Nat.{ℕ, _+_, _≤_, _<_};
 ghost use mathlib.Core.Path.{_≡_};
 ghost use lib.ListN.{length};
-ghost use Rattle.residual.specs.LanesInUse.{Covers};
-ghost use Rattle.slackcheck.specs.Serving.{Served, ServersTo};
+ghost use Rattle.residual.specs.inner.LanesInUse.{Covers};
+ghost use Rattle.slackcheck.specs.inner.Serving.{Served, ServersTo};
 
 // The bit of a source where it sends an amount, else 0.
 fn served(amount: u32, bit: u32) -> u32

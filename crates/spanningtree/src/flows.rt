@@ -12,21 +12,21 @@ pub fn lane(v: u32, u: u32) -> usize
 }
 
 // Hangs a node, with the part below it, from host by a lane that carries amount.
-pub fn hang(
+pub fn attach(
     child: u32,
     host: u32,
     amount: u32,
-    up: &mut [u32; 128],
-    rows: &mut [u32; 128],
-    cols: &mut [u64; 128],
+    parent: &mut [u32; 128],
+    sources_below: &mut [u32; 128],
+    terminals_below: &mut [u64; 128],
     flow: &mut [u32; 128],
 ) {
     let v = (child % 128) as usize;
     let u = (host % 128) as usize;
-    up[v] = host;
+    parent[v] = host;
     flow[v] = amount;
-    rows[u] = rows[u] | rows[v];
-    cols[u] = cols[u] | cols[v];
+    sources_below[u] = sources_below[u] | sources_below[v];
+    terminals_below[u] = terminals_below[u] | terminals_below[v];
 }
 
 // What the lane above a node gains.
@@ -36,16 +36,16 @@ fn gain(a: u32, source: u32, terminal: u32) -> u32 {
 
 // A part is taken off the nodes from one on upwards, below stop, where they have it, or put on them, where they have not; their lanes gain, those above
 // sources one amount, those above terminals another.
-pub fn turn_over(
+pub fn toggle_part(
     from: u32,
     stop: u32,
     r: u32,
     c: u64,
     source: u32,
     terminal: u32,
-    up: &[u32; 128],
-    rows: &mut [u32; 128],
-    cols: &mut [u64; 128],
+    parent: &[u32; 128],
+    sources_below: &mut [u32; 128],
+    terminals_below: &mut [u64; 128],
     flow: &mut [u32; 128],
 ) {
     let mut a = from;
@@ -55,16 +55,16 @@ pub fn turn_over(
             return;
         }
         let v = (a % 128) as usize;
-        rows[v] = rows[v] ^ r;
-        cols[v] = cols[v] ^ c;
+        sources_below[v] = sources_below[v] ^ r;
+        terminals_below[v] = terminals_below[v] ^ c;
         flow[v] = wrapping_add_u32(flow[v], gain(a, source, terminal));
-        a = up[v];
+        a = parent[v];
         left = left - 1;
     }
 }
 
-// Turns the way from e up to v round, so that the part r, c that hung by v hangs by e from host; its lanes gain too.
-pub fn turn_round(
+// Reverses the path from e up to v, so that the part r, c that hung by v hangs by e from host; its lanes gain too.
+pub fn reverse_path(
     v: u32,
     e: u32,
     host: u32,
@@ -73,32 +73,32 @@ pub fn turn_round(
     c: u64,
     source: u32,
     terminal: u32,
-    up: &mut [u32; 128],
-    rows: &mut [u32; 128],
-    cols: &mut [u64; 128],
+    parent: &mut [u32; 128],
+    sources_below: &mut [u32; 128],
+    terminals_below: &mut [u64; 128],
     flow: &mut [u32; 128],
 ) {
     let mut a = e;
     let mut above = host;
     let mut moved = amount;
-    let mut off_rows: u32 = 0;
-    let mut off_cols: u64 = 0;
+    let mut off_sources: u32 = 0;
+    let mut off_terminals: u64 = 0;
     let mut left: u32 = 96;
     while 0 < left {
         let w = (a % 128) as usize;
-        let next = up[w];
-        let next_rows = rows[w];
-        let next_cols = cols[w];
+        let next = parent[w];
+        let next_sources = sources_below[w];
+        let next_terminals = terminals_below[w];
         let next_flow = flow[w];
-        up[w] = above;
+        parent[w] = above;
         flow[w] = moved;
-        rows[w] = r ^ off_rows;
-        cols[w] = c ^ off_cols;
+        sources_below[w] = r ^ off_sources;
+        terminals_below[w] = c ^ off_terminals;
         if a == v {
             return;
         }
-        off_rows = next_rows;
-        off_cols = next_cols;
+        off_sources = next_sources;
+        off_terminals = next_terminals;
         moved = wrapping_add_u32(next_flow, gain(a, source, terminal));
         above = a;
         a = next;

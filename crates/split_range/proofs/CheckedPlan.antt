@@ -6,13 +6,13 @@ use Prim.Native.Nat.{ℕ, _+_, _-_, _<_, max}
 use native.Mathlib.Omega.{arith}
 use lib.ListN.{length, replicate, length-replicate, getD-replicate}
 use Rattle.transport.specs.Plan.{Table}
-use Rattle.residual.specs.Cells.{cells}
-use Rattle.residual.specs.Network.{get, again}
-use Rattle.slackcheck.specs.Checked.{Checked}
+use Rattle.residual.specs.inner.Cells.{cells}
+use Rattle.residual.specs.inner.Network.{get, again}
+use Rattle.slackcheck.specs.inner.Checked.{Checked}
 use Rattle.slackcheck.proofs.Checking.{amount-first, amount-second, amount-depot}
-use Rattle.firstsplit.specs.Shipment.{Stocked}
-use Rattle.firstsplit.specs.FirstPlan.{Sending, Admitted, FirstPlan}
-use Rattle.split_range.specs.Range.{amountIn, BeginReady}
+use Rattle.firstsplit.specs.inner.Shipment.{Stocked}
+use Rattle.firstsplit.specs.inner.FirstPlan.{Sending, Admitted, FirstPlan}
+use Rattle.split_range.specs.inner.Range.{amountIn, BeginReady}
 
 module _ {m n : ℕ} {cost cap supply demand : List ℕ} {run0 run1 d : ℕ} (r : BeginReady m n cost cap supply demand run0 run1 d) where
   -- the first split within the supplies and the least runs

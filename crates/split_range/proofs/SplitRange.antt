@@ -8,22 +8,22 @@ use native.Mathlib.Omega.{arith}
 use lib.ListN.{length, getD}
 use Rattle.transport.specs.Plan.{Table, Under}
 use Rattle.transport.specs.Curve.{hasPlan}
-use Rattle.transport.specs.theory.AtSplit.{At}
-use Rattle.residual.specs.Cells.{cells}
-use Rattle.residual.specs.Network.{Net, net, get}
-use Rattle.residual.specs.LanesInUse.{Covers}
-use Rattle.paths.specs.Search.{Wanted}
-use Rattle.firstsplit.specs.Shipment.{Stocked}
-use Rattle.firstsplit.specs.FirstPlan.{BaseReady, PlantsReady, Admitted, FirstDone}
-use Rattle.lastsplit.specs.PlantShift.{Swinging}
-use Rattle.lastsplit.specs.LastSplit.{Some, Reached, LastReady}
-use Rattle.split_range.specs.Range.{amountIn, demandIn, BeginReady, Ranged}
+use Rattle.transport.specs.inner.AtSplit.{At}
+use Rattle.residual.specs.inner.Cells.{cells}
+use Rattle.residual.specs.inner.Network.{Net, net, get}
+use Rattle.residual.specs.inner.LanesInUse.{Covers}
+use Rattle.paths.specs.inner.Search.{Wanted}
+use Rattle.firstsplit.specs.inner.Shipment.{Stocked}
+use Rattle.firstsplit.specs.inner.FirstPlan.{BaseReady, PlantsReady, Admitted, FirstDone}
+use Rattle.lastsplit.specs.inner.PlantShift.{PlantSlack}
+use Rattle.lastsplit.specs.inner.LastSplit.{Some, Reached, LastReady}
+use Rattle.split_range.specs.inner.Range.{amountIn, demandIn, BeginReady, Ranged}
 use Rattle.transport.proofs.Splits.{at-has, has-at, at-none, least-split, greatest-split-is, no-split}
 use Rattle.firstsplit.proofs.FirstSplit.{first-at}
 
 -- the stretches go on from step 1
-pub base-swing : {N : Net} {p room x : List ℕ} → 2 ≤ N .m → Stocked N p room x → Swinging N (get p 1) p x
-base-swing two k = record {
+pub base-plant-slack : {N : Net} {p room x : List ℕ} → 2 ≤ N .m → Stocked N p room x → PlantSlack N (get p 1) p x
+base-plant-slack two k = record {
   sound = k .sound;
   under = k .under;
   ceilings = k .ceilings;
@@ -65,8 +65,8 @@ module _ {m n : ℕ} {cost cap supply demand : List ℕ} {run0 run1 d : ℕ} (r 
     pub here : At m n (amountIn supply) (demandIn demand) split (d - split) (cells x)
     here = first-at d (r .plants) (f .sending refl) (split-within f .0) (r .balance)
 
-    pub swings : Swinging (net m n cost cap x) (get p 1) p x
-    swings = base-swing (r .plants) (f .sending refl .stocked)
+    pub plant-slacks : PlantSlack (net m n cost cap x) (get p 1) p x
+    plant-slacks = base-plant-slack (r .plants) (f .sending refl .stocked)
 
     pub wanted : Wanted (net m n x cap x) demand
     wanted j h = omega (arith, f .sending refl .cols j h)
@@ -76,9 +76,9 @@ module _ {m n : ℕ} {cost cap supply demand : List ℕ} {run0 run1 d : ℕ} (r 
       plants = r .plants;
       sources = r .sources;
       terminals = r .terminals;
-      under = swings .under;
+      under = plant-slacks .under;
       ceilings = r .ceilings;
-      long-x = swings .long-x;
+      long-x = plant-slacks .long-x;
       left = omega (arith, here .plant1, split-within f);
     }
 
@@ -109,7 +109,7 @@ module _ {m n : ℕ} {cost cap supply demand : List ℕ} {run0 run1 d : ℕ} (r 
         low = λ z. sym
             (least-split m n (cells cap) d (amountIn supply) (demandIn demand) (max run0 (d - amountIn supply 1)) (min (amountIn supply 0) (d - run1)) split
             (split-within f .2) (split-within f .1)
-            (at-has m n (cells cap) d (amountIn supply) (demandIn demand) (r .plants) split (d - split) (cells x) (omega (arith, split-within f)) here (swings .under))
+            (at-has m n (cells cap) d (amountIn supply) (demandIn demand) (r .plants) split (d - split) (cells x) (omega (arith, split-within f)) here (plant-slacks .under))
             (λ y h l t. let w = seen y h l t in f .least refl (w .0) y (d - y) (admitted y h l) (w .1) (w .2)));
         high = λ z. sym
             (greatest-split-is m n (cells cap) d (amountIn supply) (demandIn demand) (max run0 (d - amountIn supply 1)) (min (amountIn supply 0) (d - run1))
@@ -131,7 +131,7 @@ module _ {m n : ℕ} {cost cap supply demand : List ℕ} {run0 run1 d : ℕ} (r 
               )
               | no o ↦ omega (arith, q .most, split-within f)
             ]));
-        begun = λ z. record { swinging = swings; at = here; end = end; covers = c; order = omega arith; within = far-within .0 };
+        begun = λ z. record { plant-slack = plant-slacks; at = here; end = end; covers = c; order = omega arith; within = far-within .0 };
         within = λ z. (omega arith, split-within f .2, far-within .1);
         none = λ z. absurd (true≢false z);
       }

@@ -1,3 +1,1 @@
-pub mod Begun
-pub mod Range
-pub mod QuickPlan
+pub mod inner

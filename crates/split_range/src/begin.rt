@@ -1,5 +1,5 @@
 // The first and the last split that have a plan within the ceilings.
-ghost use Rattle.split_range.specs.Range.{BeginReady, Ranged};
+ghost use Rattle.split_range.specs.inner.Range.{BeginReady, Ranged};
 use super::quick::cheapest_first;
 use lastsplit::reach::last;
 use paths::search::smaller;
@@ -28,9 +28,9 @@ pub fn begin(
     x: &mut [u32; 2048],
     serves: &mut [u32; 64],
     pot: &mut [u32; 96],
-    up: &mut [u32; 128],
-    rows: &mut [u32; 128],
-    cols: &mut [u64; 128],
+    parent: &mut [u32; 128],
+    sources_below: &mut [u32; 128],
+    terminals_below: &mut [u64; 128],
 ) -> Range
     requires { ⌜ BeginReady m n (now cost) (now cap) (now supply) (now demand) run0 run1 made ⌝ }
     ensures { λ r. ⌜ Ranged m n (now (cost .entry)) (now (cap .entry)) (now (supply .entry)) (now (demand .entry)) run0 run1 made (now (x .exit)) (now (serves .exit)) (now (pot .exit)) (r .found) (r .lo) (r .hi) ⌝ }
@@ -49,9 +49,9 @@ pub fn begin(
         x,
         serves,
         pot,
-        up,
-        rows,
-        cols,
+        parent,
+        sources_below,
+        terminals_below,
     );
     if first.found {
         let split = first.split;

@@ -2,13 +2,13 @@
 ghost use mathlib.Core.Path.{_≡_};
 ghost use Prim.Native.Nat.{_-_, _≤_, max};
 ghost use lib.ListN.{length};
-ghost use Rattle.residual.specs.Cells.{cells};
-ghost use Rattle.residual.specs.Network.{net, get};
-ghost use Rattle.residual.specs.LanesInUse.{Covers};
-ghost use Rattle.slackcheck.specs.Checked.{CheckReady};
-ghost use Rattle.firstsplit.specs.FirstPlan.{FirstPlan};
-ghost use Rattle.split_range.specs.QuickPlan.{Quick};
-ghost use Rattle.split_range.specs.Range.{BeginReady};
+ghost use Rattle.residual.specs.inner.Cells.{cells};
+ghost use Rattle.residual.specs.inner.Network.{net, get};
+ghost use Rattle.residual.specs.inner.LanesInUse.{Covers};
+ghost use Rattle.slackcheck.specs.inner.Checked.{CheckReady};
+ghost use Rattle.firstsplit.specs.inner.FirstPlan.{FirstPlan};
+ghost use Rattle.split_range.specs.inner.QuickPlan.{Quick};
+ghost use Rattle.split_range.specs.inner.Range.{BeginReady};
 use firstsplit::base::First;
 use firstsplit::base::first_plan;
 use simplex::solve::solve;
@@ -39,9 +39,9 @@ fn simplex_at(
     made: u32,
     x: &mut [u32; 2048],
     pot: &mut [u32; 96],
-    up: &mut [u32; 128],
-    rows: &mut [u32; 128],
-    cols: &mut [u64; 128],
+    parent: &mut [u32; 128],
+    sources_below: &mut [u32; 128],
+    terminals_below: &mut [u64; 128],
 )
     requires { ⌜ split ≤ made ⌝ }
     ensures { λ _. ⌜ (length (now (x .exit)) ≡ 2048) × (length (now (pot .exit)) ≡ 96) ⌝ }
@@ -49,7 +49,18 @@ fn simplex_at(
     let mut amounts = *supply;
     amounts[0] = split;
     amounts[1] = made - split;
-    solve(m, n, cost, &amounts, demand, x, pot, up, rows, cols);
+    solve(
+        m,
+        n,
+        cost,
+        &amounts,
+        demand,
+        x,
+        pot,
+        parent,
+        sources_below,
+        terminals_below,
+    );
 }
 
 // A cheapest plan at the first split within the supplies and the least runs, where the simplex finds one that passes the check.
@@ -65,9 +76,9 @@ fn quick_plan(
     x: &mut [u32; 2048],
     serves: &mut [u32; 64],
     pot: &mut [u32; 96],
-    up: &mut [u32; 128],
-    rows: &mut [u32; 128],
-    cols: &mut [u64; 128],
+    parent: &mut [u32; 128],
+    sources_below: &mut [u32; 128],
+    terminals_below: &mut [u64; 128],
 ) -> First
     requires { ⌜ CheckReady m n (cells (now cost)) ⌝ }
     requires { ⌜ run0 ≤ made ⌝ }
@@ -84,9 +95,9 @@ fn quick_plan(
         made,
         x,
         pot,
-        up,
-        rows,
-        cols,
+        parent,
+        sources_below,
+        terminals_below,
     );
     if !good(m, n, split, made, supply, demand, cost, cap, x, pot) {
         return First {
@@ -100,7 +111,7 @@ fn quick_plan(
 }
 
 // A cheapest plan at the first split that has one: by the simplex, where that is wanted and its plan passes the check; else by cheapest paths,
-// and there is no tree: no node is above plant 1.
+// and there is no tree: no node is above plant 2.
 pub fn cheapest_first(
     quick: bool,
     m: usize,
@@ -115,9 +126,9 @@ pub fn cheapest_first(
     x: &mut [u32; 2048],
     serves: &mut [u32; 64],
     pot: &mut [u32; 96],
-    up: &mut [u32; 128],
-    rows: &mut [u32; 128],
-    cols: &mut [u64; 128],
+    parent: &mut [u32; 128],
+    sources_below: &mut [u32; 128],
+    terminals_below: &mut [u64; 128],
 ) -> First
     requires { ⌜ BeginReady m n (now cost) (now cap) (now supply) (now demand) run0 run1 made ⌝ }
     ensures { λ r. ⌜ FirstPlan (net m n (now (cost .entry)) (now (cap .entry)) (now (x .entry))) (λ i. get (now (supply .entry)) i) (now (demand .entry)) run0 run1 made (now (pot .exit)) (now (x .exit)) (r .found) (r .split) ⌝ }
@@ -136,15 +147,15 @@ pub fn cheapest_first(
             x,
             serves,
             pot,
-            up,
-            rows,
-            cols,
+            parent,
+            sources_below,
+            terminals_below,
         );
         if first.found {
             return first;
         }
     }
-    up[1] = 96;
+    parent[1] = 96;
     *x = [0u32; 2048];
     *serves = [0u32; 64];
     first_plan(

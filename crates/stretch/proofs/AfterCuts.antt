@@ -3,25 +3,25 @@ use mathlib.Core.Path.{refl}
 use mathlib.Core.List.{List}
 use Prim.Native.Nat.{ℕ}
 use native.Mathlib.Omega.{arith}
-use Rattle.residual.specs.Network.{Net, net, get}
-use Rattle.residual.specs.LanesInUse.{Covers}
-use Rattle.cuts.specs.Columns.{Transposed}
-use Rattle.cuts.specs.Cut.{CutReady}
-use Rattle.cuts.specs.Advance.{Advanced}
-use Rattle.lastsplit.specs.PlantShift.{Swinging}
+use Rattle.residual.specs.inner.Network.{Net, net, get}
+use Rattle.residual.specs.inner.LanesInUse.{Covers}
+use Rattle.cuts.specs.inner.Columns.{Transposed}
+use Rattle.cuts.specs.inner.Cut.{CutReady}
+use Rattle.cuts.specs.inner.Advance.{Advanced}
+use Rattle.lastsplit.specs.inner.PlantShift.{PlantSlack}
 use Rattle.incumbent.specs.declared.Incumbent.{Incumbent}
-use Rattle.stretch.specs.Stretch.{ShiftReady, StretchReady}
+use Rattle.stretch.specs.inner.Stretch.{ShiftReady, StretchReady}
 
 module _ (cap : List ℕ) {m n : ℕ} {cost x p : List ℕ} {limit : ℕ} (k : ShiftReady (net m n cost cap x) p x limit) where
   pub cut-ready : {columns : List ℕ} → Transposed m n cost columns → CutReady m n cost columns p
   cut-ready t =
-      let s = k .swinging in
-      record { sources = s .sound .sources; terminals = s .sound .terminals; costs = s .sound .costs; turned = t; high = s .sound .high; long = s .long-p }
+      let s = k .plant-slack in
+      record { sources = s .sound .sources; terminals = s .sound .terminals; costs = s .sound .costs; transposed = t; high = s .sound .high; long = s .long-p }
 
-  swing-on : {serves serves' p' : List ℕ} → Covers m n x serves → Advanced m n cost x serves p serves' p'
-      → Swinging (net m n cost cap x) (get p' 1) p' x
-  swing-on c a =
-      let s = k .swinging in
+  plant-slack-on : {serves serves' p' : List ℕ} → Covers m n x serves → Advanced m n cost x serves p serves' p'
+      → PlantSlack (net m n cost cap x) (get p' 1) p' x
+  plant-slack-on c a =
+      let s = k .plant-slack in
       record {
         sound = a .sound cap c (s .sound);
         under = s .under;
@@ -36,7 +36,7 @@ module _ (cap : List ℕ) {m n : ℕ} {cost x p : List ℕ} {limit : ℕ} (k : S
 
   pub shift-on : {serves serves' p' : List ℕ} → Covers m n x serves → Advanced m n cost x serves p serves' p'
       → ShiftReady (net m n cost cap x) p' x limit
-  shift-on c a = record { swinging = swing-on c a; some = k .some; left = k .left; end = k .end }
+  shift-on c a = record { plant-slack = plant-slack-on c a; some = k .some; left = k .left; end = k .end }
 
 pub ready-on : {N : Net} {p p' x table : List ℕ} {y v limit : ℕ} {best : Incumbent} → StretchReady N p x table y v limit best
     → ShiftReady N p' x limit → StretchReady N p' x table y v limit best

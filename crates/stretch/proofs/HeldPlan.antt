@@ -8,9 +8,9 @@ use native.Mathlib.Omega.{arith}
 use lib.ListN.{set}
 use lib.Seq.{set-getD}
 use borrow.Author.Tests.{eq-eqb, ne-eqb}
-use Rattle.residual.specs.Network.{get}
-use Rattle.augment.specs.PathWalk.{Carried, Walked}
-use Rattle.stretch.specs.Stretch.{heldAt}
+use Rattle.residual.specs.inner.Network.{get}
+use Rattle.augment.specs.inner.PathWalk.{Carried, Walked}
+use Rattle.stretch.specs.inner.Stretch.{heldAt}
 
 pub held-here : {split y : ℕ} (here kept : List ℕ) → split ≡ y → heldAt split y here kept ≡ here
 unfolding heldAt

@@ -8,18 +8,18 @@ use native.Mathlib.Omega.{arith}
 use lib.IntN.{ℤ, pos, negℤ, _+ℤ_, _-ℤ_, _*ℤ_, +ℤ-idr, +ℤ-assoc, zero-*ℤ, sucℤ-*ℤ}
 use lib.ListN.{length, set, length-set}
 use lib.Signed.{_≤ℤ_}
-use Rattle.transport.specs.theory.Slackness.{Slack}
-use Rattle.transport.specs.theory.PathFlow.{pulse}
-use Rattle.residual.specs.Cells.{cells}
-use Rattle.residual.specs.Network.{Net, get}
-use Rattle.residual.specs.Network.Arc.{ahead, back}
-use Rattle.residual.specs.Labels.{Book, far}
-use Rattle.paths.specs.Search.{Near, Prev}
-use Rattle.paths.specs.Search.Prev.{root, step}
-use Rattle.augment.specs.PathWalk.{WalkReady, Carried, Walked}
-use Rattle.incumbent.specs.Scan.{along}
-use Rattle.stretch.specs.ResidualPath.{Arc, from, to, Open, ceiling, arcCost, PathIn, pathCost, narrowest, carried, moved, Amounts, Route}
-use Rattle.stretch.specs.ResidualPath.Arc.{lane, return}
+use Rattle.transport.specs.inner.Slackness.{Slack}
+use Rattle.transport.specs.inner.PathFlow.{pulse}
+use Rattle.residual.specs.inner.Cells.{cells}
+use Rattle.residual.specs.inner.Network.{Net, get}
+use Rattle.residual.specs.inner.Network.Arc.{ahead, back}
+use Rattle.residual.specs.inner.Labels.{Book, far}
+use Rattle.paths.specs.inner.Search.{Near, Prev}
+use Rattle.paths.specs.inner.Search.Prev.{root, step}
+use Rattle.augment.specs.inner.PathWalk.{WalkReady, Carried, Walked}
+use Rattle.incumbent.specs.inner.Scan.{along}
+use Rattle.stretch.specs.inner.ResidualPath.{Arc, from, to, Open, ceiling, arcCost, PathIn, pathCost, narrowest, carried, moved, Amounts, Route}
+use Rattle.stretch.specs.inner.ResidualPath.Arc.{lane, return}
 use Rattle.transport.proofs.CellChange.{Put}
 use Rattle.transport.proofs.PathFlow.{pulse-same, pulse-off}
 use Rattle.augment.proofs.CellStores.{cells-at, cells-put}

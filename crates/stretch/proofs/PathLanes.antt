@@ -3,13 +3,13 @@ use mathlib.Core.Path.{_≡_, ap}
 use mathlib.Core.List.{List}
 use Prim.Native.Nat.{ℕ, zero, suc, _+_, _-_, _*_, _≤_, _<_}
 use native.Mathlib.Omega.{arith}
-use Rattle.residual.specs.Network.{Net, get}
-use Rattle.residual.specs.Network.Arc.{ahead, back}
-use Rattle.residual.specs.Labels.{Book, far}
-use Rattle.paths.specs.Search.{Near, Prev}
-use Rattle.paths.specs.Search.Prev.{root, step}
-use Rattle.augment.specs.PathWalk.{WalkReady}
-use Rattle.stretch.specs.PathUndone.{Apart, Lanes}
+use Rattle.residual.specs.inner.Network.{Net, get}
+use Rattle.residual.specs.inner.Network.Arc.{ahead, back}
+use Rattle.residual.specs.inner.Labels.{Book, far}
+use Rattle.paths.specs.inner.Search.{Near, Prev}
+use Rattle.paths.specs.inner.Search.Prev.{root, step}
+use Rattle.augment.specs.inner.PathWalk.{WalkReady}
+use Rattle.stretch.specs.inner.PathUndone.{Apart, Lanes}
 
 module _ {N : Net} {p : List ℕ} {s limit : ℕ} {B : Book} {g d : ℕ} {x : List ℕ} (r : WalkReady N p s limit B g d x) (root-hops : get (B .hops) s ≡ 0) where
   -- the arc to v, before which h arcs come

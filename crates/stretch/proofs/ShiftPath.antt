@@ -1,24 +1,24 @@
--- The path of a stretch, from plant 0 to plant 1: it is found, drums can go along it, and the potentials are lowered by it. Assumes nothing.
+-- The path of a stretch, from plant 1 to plant 2: it is found, drums can go along it, and the potentials are lowered by it. Assumes nothing.
 use mathlib.Core.Path.{_≡_, refl, sym, _∙_}
 use mathlib.Core.List.{List}
 use Prim.Native.Nat.{ℕ, _-_, _≤_, _<_}
 use native.Mathlib.Decide.{ℕ-discrete, decLt}
 use native.Mathlib.Omega.{arith}
 use lib.ListN.{set, replicate}
-use Rattle.residual.specs.Cells.{cells}
-use Rattle.residual.specs.Network.{Net, get}
-use Rattle.residual.specs.Labels.{Book, book, far, Low}
-use Rattle.paths.specs.Search.{Sound, Near, Label, Stuck, Searched, Labelled}
-use Rattle.augment.specs.Potentials.{Lowered}
-use Rattle.augment.specs.Send.{SendReady}
-use Rattle.augment.specs.PathWalk.{WalkReady}
-use Rattle.treepath.specs.Follow.{Followed}
-use Rattle.stretch.specs.Stretch.{ShiftReady, Reached, PathDone, PathAhead, LowerDone}
+use Rattle.residual.specs.inner.Cells.{cells}
+use Rattle.residual.specs.inner.Network.{Net, get}
+use Rattle.residual.specs.inner.Labels.{Book, book, far, Low}
+use Rattle.paths.specs.inner.Search.{Sound, Near, Label, Stuck, Searched, Labelled}
+use Rattle.augment.specs.inner.Potentials.{Lowered}
+use Rattle.augment.specs.inner.Send.{SendReady}
+use Rattle.augment.specs.inner.PathWalk.{WalkReady}
+use Rattle.treepath.specs.inner.Follow.{Followed}
+use Rattle.stretch.specs.inner.Stretch.{ShiftReady, Reached, PathDone, PathAhead, LowerDone}
 use Rattle.transport.proofs.Differences.{diff-same}
 use Rattle.paths.proofs.SearchCut.{cut-greatest}
 use Rattle.augment.proofs.Delivery.{lower-ready, stroll-ready, push-ready, mark-ready, pushed, delivered, after}
 use Rattle.treepath.proofs.TreePath.{tree-path}
-use Rattle.lastsplit.proofs.PlantShift.{Only, swing-ready, swing-over}
+use Rattle.lastsplit.proofs.PlantShift.{Only, plant-slack-ready, plant-slack-over}
 use Rattle.lastsplit.proofs.LastSplit.{only}
 use Rattle.stretch.proofs.PathLanes.{lanes}
 use Rattle.stretch.proofs.PathArcs.{route}
@@ -26,15 +26,15 @@ use Rattle.stretch.proofs.PathArcs.{route}
 module _ {N : Net} {p room x : List ℕ} {limit : ℕ} {B : Book} {g : ℕ}
     (k : ShiftReady N p x limit) (o : Only room limit) (q : Searched N p room 0 limit B g) where
   ready : SendReady N p room 0 limit x
-  ready = swing-ready (k .swinging) o (k .some)
+  ready = plant-slack-ready (k .plant-slack) o (k .some)
 
   sound : Sound N p
-  sound = k .swinging .sound
+  sound = k .plant-slack .sound
 
   two : 2 ≤ N .m
-  two = omega (arith, k .swinging .plants)
+  two = omega (arith, k .plant-slack .plants)
 
-  -- there is a plan with more from plant 0, so the search has a path
+  -- there is a plan with more from plant 1, so the search has a path
   never : Stuck N room 0 (B .dist) → ⊥
   never w =
       let t = k .end in
@@ -73,7 +73,7 @@ module _ {N : Net} {p room x : List ℕ} {limit : ℕ} {B : Book} {g : ℕ}
         let w = pushed ready reached one e eh (omega arith) v in
         record { flow = w .flow; slack = after ready reached one eD lo w; under = w .under; long = w .long };
     over = λ p' lo x' w.
-        swing-over (k .swinging) o one
+        plant-slack-over (k .plant-slack) o one
         (delivered ready reached one eD lo (omega (arith, o .one, label .most)) (pushed ready reached one e eh (omega arith) w));
   }
     where
@@ -86,7 +86,7 @@ module _ {N : Net} {p room x : List ℕ} {limit : ℕ} {B : Book} {g : ℕ}
       label : Label N 0 (Near p (B .dist) 1) p 96 limit B 1
       label = reached .found one .label 1 one (reached .found one .goal)
 
--- a search that has room at plant 1 only finds plant 1
+-- a search that has room at plant 2 only finds plant 2
 pub reached-by : {N : Net} {p x T P : List ℕ} {limit g : ℕ} → ShiftReady N p x limit → Labelled N p (set (replicate 96 0) 1 limit) 0 limit T P g
     → Reached N p limit T P
 reached-by {limit = limit} k q = record { hops = q .hops; widths = q .widths; searched = reached k (only limit) (q .searched) }
@@ -126,7 +126,7 @@ module _ {N : Net} {p x T P : List ℕ} {limit count d : ℕ} (s : PathDone N p 
 pub tree-found : {N : Net} {p x P : List ℕ} {limit count amount : ℕ} → ShiftReady N p x limit → N .x ≡ cells x
     → Followed N p limit P count amount → PathAhead N p x limit p P count 0 amount
 tree-found {limit = limit} k e q =
-    let t = tree-path (k .swinging .sound) (k .swinging .plants) (k .some) q (set (replicate 96 0) 1 limit) (omega (arith, only limit .one, k .some)) in
+    let t = tree-path (k .plant-slack .sound) (k .plant-slack .plants) (k .some) q (set (replicate 96 0) 1 limit) (omega (arith, only limit .one, k .some)) in
     record {
       ready = k;
       done = even-done (path-done k (only limit) (t .searched) e (omega (arith, t .goal)) (t .arcs) (t .drums)) (t .searched .low);

@@ -11,18 +11,18 @@ use lib.IntN.{ℤ, pos, _-ℤ_}
 use lib.ListN.{getD}
 use lib.Signed.{_≤ℤ_}
 use Rattle.transport.specs.Plan.{row, col, freight, Under}
-use Rattle.transport.specs.theory.Slackness.{Slack}
-use Rattle.transport.specs.theory.AtSplit.{At, Least}
-use Rattle.residual.specs.Cells.{cells}
-use Rattle.residual.specs.Network.{Net, get, again}
-use Rattle.augment.specs.Potentials.{Lowered}
-use Rattle.augment.specs.PathWalk.{Walked}
-use Rattle.canonical.specs.Canonize.{CanonReady}
-use Rattle.lastsplit.specs.PlantShift.{Over}
-use Rattle.incumbent.specs.Scan.{along, better, scanned, ScanReady}
-use Rattle.stretch.specs.ResidualPath.{Arc, PathIn, pathCost, StretchPath}
-use Rattle.stretch.specs.PathUndone.{Undoing}
-use Rattle.stretch.specs.Stretch.{Part, PathDone, KeepReady, KeepDone, HoldDone, heldAt, StretchReady, Kept, StretchDone}
+use Rattle.transport.specs.inner.Slackness.{Slack}
+use Rattle.transport.specs.inner.AtSplit.{At, Least}
+use Rattle.residual.specs.inner.Cells.{cells}
+use Rattle.residual.specs.inner.Network.{Net, get, again}
+use Rattle.augment.specs.inner.Potentials.{Lowered}
+use Rattle.augment.specs.inner.PathWalk.{Walked}
+use Rattle.canonical.specs.inner.Canonize.{CanonReady}
+use Rattle.lastsplit.specs.inner.PlantShift.{Over}
+use Rattle.incumbent.specs.inner.Scan.{along, better, scanned, ScanReady}
+use Rattle.stretch.specs.inner.ResidualPath.{Arc, PathIn, pathCost, StretchPath}
+use Rattle.stretch.specs.inner.PathUndone.{Undoing}
+use Rattle.stretch.specs.inner.Stretch.{Part, PathDone, KeepReady, KeepDone, HoldDone, heldAt, StretchReady, Kept, StretchDone}
 use Rattle.incumbent.specs.declared.Incumbent.{Incumbent}
 use Rattle.transport.proofs.Optimality.{segment}
 use Rattle.transport.proofs.PathFlow.{Shifted, flow-shifted}
@@ -87,7 +87,7 @@ here r = record { plant0 = r .split; plant1 = refl; depots = λ i h l. refl; dem
 module _ {N : Net} {p x table : List ℕ} {y v limit : ℕ} {best : Incumbent} {dist prev : List ℕ} {count gap d : ℕ}
     (r : StretchReady N p x table y v limit best) (s : PathDone N p x limit dist prev count gap d) where
   two : 2 ≤ N .m
-  two = omega (arith, r .shift .swinging .plants)
+  two = omega (arith, r .shift .plant-slack .plants)
 
   -- what the drums leave, and the lowered potentials
   module _ {p' : List ℕ} (x' : List ℕ) (lo : Lowered gap dist p 96 p') (w : Walked prev d count 1 x x') where
@@ -104,26 +104,26 @@ module _ {N : Net} {p x table : List ℕ} {y v limit : ℕ} {best : Incumbent} {
     whole = record {
       flow = over .flow;
       slack = over .new;
-      under = over .swinging .under;
-      long = over .swinging .long-x;
+      under = over .plant-slack .under;
+      long = over .plant-slack .long-x;
     }
 
     next : (a b : ℕ → ℕ) (z : ℕ) → At (N .m) (N .n) a b y z (N .x) → At (N .m) (N .n) a b (y + d) (z - d) (cells x')
     next a b z t = part-at two whole a b y z t
 
     value : (z : List ℕ) (t : ℕ) → Part N p' z t → freight (N .m) (N .n) (N .c) (cells z) ≡ along v (get p 1) (get p 0 - gap) t
-    value z t k = rw (up, down, ← (r .value)) (part-value two k (over .old) (r .shift .swinging .under))
+    value z t k = rw (up, down, ← (r .value)) (part-value two k (over .old) (r .shift .plant-slack .under))
 
     -- what the plan for everybody asks
     part-ready : (z : List ℕ) (t : ℕ) → Part N p' z t → CanonReady (again N z) p'
     part-ready z t k = record {
-      sources = over .swinging .sound .sources;
-      terminals = over .swinging .sound .terminals;
-      costs = over .swinging .sound .costs;
-      high = over .swinging .sound .high;
+      sources = over .plant-slack .sound .sources;
+      terminals = over .plant-slack .sound .terminals;
+      costs = over .plant-slack .sound .costs;
+      high = over .plant-slack .sound .high;
       slack = k .slack;
       under = k .under;
-      ceilings = over .swinging .ceilings;
+      ceilings = over .plant-slack .ceilings;
     }
 
     -- the least freight at each split on the way, as an equation
@@ -132,7 +132,7 @@ module _ {N : Net} {p x table : List ℕ} {y v limit : ℕ} {best : Incumbent} {
     on-line a b z q t h =
         rw (up, down)
         (line (N .m) (N .n) two (N .c) (N .u) a b (λ i. get p' i) (λ j. get p' (32 + j)) (N .x) (cells x') y z d t (s .some) h
-        (omega (arith, q .plant1, moved two whole .plant1)) (over .steps) q (next a b z q) (r .shift .swinging .under) (over .swinging .under) (over .old)
+        (omega (arith, q .plant1, moved two whole .plant1)) (over .steps) q (next a b z q) (r .shift .plant-slack .under) (over .plant-slack .under) (over .old)
         (over .new))
 
     on-stretch : (a b : ℕ → ℕ) (z : ℕ) → At (N .m) (N .n) a b y z (N .x) → (t : ℕ) → t ≤ d
@@ -153,8 +153,8 @@ module _ {N : Net} {p x table : List ℕ} {y v limit : ℕ} {best : Incumbent} {
     entries = omega (arith, r .entries, most);
     small = λ t h. r .small t (omega (arith, most));
     start = r .start;
-    rise = omega (arith, r .shift .swinging .sound .high 1 (omega arith));
-    fall = omega (arith, r .shift .swinging .sound .high 0 (omega arith));
+    rise = omega (arith, r .shift .plant-slack .sound .high 1 (omega arith));
+    fall = omega (arith, r .shift .plant-slack .sound .high 0 (omega arith));
     few = omega (arith, r .few, most);
     above = above (left .0) (low .1) (left .1);
   }
@@ -211,7 +211,7 @@ module _ {N : Net} {p x table : List ℕ} {y v limit : ℕ} {best : Incumbent} {
       plan = x;
       drums = d;
       most = omega arith;
-      long = r .shift .swinging .long-x;
+      long = r .shift .plant-slack .long-x;
       lanes = s .lanes;
       walked = w;
     }

@@ -6,9 +6,9 @@ use native.Mathlib.Decide.{decLt}
 use native.Mathlib.Omega.{arith}
 use lib.ListN.{length, set, length-set}
 use lib.Seq.{getD-set-same, getD-set-other, set-set, set-comm}
-use Rattle.residual.specs.Network.{get}
-use Rattle.augment.specs.PathWalk.{CarryReady, Carried, Walked}
-use Rattle.stretch.specs.PathUndone.{Off, Apart, Link, Lanes, Undoing, Underway}
+use Rattle.residual.specs.inner.Network.{get}
+use Rattle.augment.specs.inner.PathWalk.{CarryReady, Carried, Walked}
+use Rattle.stretch.specs.inner.PathUndone.{Off, Apart, Link, Lanes, Undoing, Underway}
 
 -- ---- a walk over lanes apart from cell k leaves k alone, and does the same whatever k holds
 

@@ -1,3 +1,1 @@
-pub mod ResidualPath
-pub mod PathUndone
-pub mod Stretch
+pub mod inner

@@ -1,11 +1,11 @@
 // Step 3 of report 4.1, from one split to the next: substeps 1° to 4° as they stand there. Its sources 1 and 2 are the plants, nodes 0 and 1 here.
 ghost use Prim.Native.Nat.{_<_};
-ghost use Rattle.residual.specs.Network.{net};
-ghost use Rattle.residual.specs.LanesInUse.{Covers};
-ghost use Rattle.paths.specs.Search.{Wanted};
-ghost use Rattle.cuts.specs.Columns.{Transposed};
-ghost use Rattle.augment.specs.Potentials.{LowerReady};
-ghost use Rattle.stretch.specs.Stretch.{ShiftReady, Reached, PathAhead, LowerDone, KeepReady, KeepDone, HoldDone, heldAt, StretchReady, StretchDone};
+ghost use Rattle.residual.specs.inner.Network.{net};
+ghost use Rattle.residual.specs.inner.LanesInUse.{Covers};
+ghost use Rattle.paths.specs.inner.Search.{Wanted};
+ghost use Rattle.cuts.specs.inner.Columns.{Transposed};
+ghost use Rattle.augment.specs.inner.Potentials.{LowerReady};
+ghost use Rattle.stretch.specs.inner.Stretch.{ShiftReady, Reached, PathAhead, LowerDone, KeepReady, KeepDone, HoldDone, heldAt, StretchReady, StretchDone};
 use super::undo::undo;
 use augment::send::lower;
 use augment::send::measure;
@@ -38,14 +38,14 @@ fn reach(
     x: &[u32; 2048],
     serves: &[u32; 64],
     pot: &[u32; 96],
-    up: &mut [u32; 128],
+    parent: &mut [u32; 128],
 ) -> Paths
     requires { ⌜ ShiftReady (net m n (now cost) (now cap) (now x)) (now pot) (now x) limit ⌝ }
     requires { ⌜ Wanted (net m n (now cost) (now cap) (now x)) (now demand) ⌝ }
     requires { ⌜ Covers m n (now x) (now serves) ⌝ }
     ensures { λ r. ⌜ Reached (net m n (now (cost .entry)) (now (cap .entry)) (now (x .entry))) (now (pot .entry)) limit (r .dist) (r .prev) ⌝ }
 {
-    up[1] = 96;
+    parent[1] = 96;
     let mut room = [0u32; 96];
     room[1] = limit;
     search(m, n, cost, x, cap, serves, pot, &room, demand, 0)
@@ -62,14 +62,14 @@ fn search_path(
     x: &[u32; 2048],
     serves: &[u32; 64],
     pot: &[u32; 96],
-    up: &mut [u32; 128],
+    parent: &mut [u32; 128],
 ) -> Path
     requires { ⌜ ShiftReady (net m n (now cost) (now cap) (now x)) (now pot) (now x) limit ⌝ }
     requires { ⌜ Wanted (net m n (now cost) (now cap) (now x)) (now demand) ⌝ }
     requires { ⌜ Covers m n (now x) (now serves) ⌝ }
     ensures { λ r. ⌜ PathAhead (net m n (now (cost .entry)) (now (cap .entry)) (now (x .entry))) (now (pot .entry)) (now (x .entry)) limit (r .dist) (r .prev) (r .count) (r .gap) (r .delta) ⌝ }
 {
-    let found = reach(m, n, cost, cap, limit, demand, x, serves, pot, up);
+    let found = reach(m, n, cost, cap, limit, demand, x, serves, pot, parent);
     let dist = found.dist;
     let prev = found.prev;
     let way = measure(&prev, 0, 1, limit, x, cap);
@@ -98,9 +98,9 @@ fn find_path(
     x: &[u32; 2048],
     serves: &mut [u32; 64],
     pot: &mut [u32; 96],
-    up: &mut [u32; 128],
-    rows: &mut [u32; 128],
-    cols: &mut [u64; 128],
+    parent: &mut [u32; 128],
+    sources_below: &mut [u32; 128],
+    terminals_below: &mut [u64; 128],
 ) -> Path
     requires { ⌜ ShiftReady (net m n (now cost) (now cap) (now x)) (now pot) (now x) limit ⌝ }
     requires { ⌜ Wanted (net m n (now cost) (now cap) (now x)) (now demand) ⌝ }
@@ -109,7 +109,19 @@ fn find_path(
     ensures { λ r. ⌜ PathAhead (net m n (now (cost .entry)) (now (cap .entry)) (now (x .entry))) (now (pot .exit)) (now (x .entry)) limit (r .dist) (r .prev) (r .count) (r .gap) (r .delta) ⌝ }
     ensures { λ r. ⌜ Covers m n (now (x .entry)) (now (serves .exit)) ⌝ }
 {
-    advance(m, n, drained, cost, columns, x, serves, pot, up, rows, cols);
+    advance(
+        m,
+        n,
+        drained,
+        cost,
+        columns,
+        x,
+        serves,
+        pot,
+        parent,
+        sources_below,
+        terminals_below,
+    );
     let mut path = Path {
         dist: *pot,
         prev: [0u32; 96],
@@ -117,11 +129,11 @@ fn find_path(
         gap: 0,
         delta: 0,
     };
-    let traced = follow(m, n, cost, cap, x, pot, up, limit, &mut path.prev);
+    let traced = follow(m, n, cost, cap, x, pot, parent, limit, &mut path.prev);
     path.count = traced.count;
     path.delta = traced.amount;
     if traced.count == 0 {
-        path = search_path(m, n, cost, cap, limit, demand, x, serves, pot, up);
+        path = search_path(m, n, cost, cap, limit, demand, x, serves, pot, parent);
     }
     path
 }
@@ -184,7 +196,7 @@ pub struct Moved {
 }
 
 // One stretch from split y, whose plan x has the given freight, at most limit drums further, which are left to u. The incumbent's plan is x, where
-// its split is that of x; when the climb leaves it, it is kept, with its potentials. Nothing is asked of the tree in up, rows and cols, nor of drained.
+// its split is that of x; when the climb leaves it, it is kept, with its potentials. Nothing is asked of the tree in parent, sources_below and terminals_below, nor of drained.
 pub fn stretch(
     m: usize,
     n: usize,
@@ -203,9 +215,9 @@ pub fn stretch(
     pot: &mut [u32; 96],
     kept: &mut [u32; 2048],
     prices: &mut [u32; 96],
-    up: &mut [u32; 128],
-    rows: &mut [u32; 128],
-    cols: &mut [u64; 128],
+    parent: &mut [u32; 128],
+    sources_below: &mut [u32; 128],
+    terminals_below: &mut [u64; 128],
 ) -> Moved
     requires { ⌜ StretchReady (net m n (now cost) (now cap) (now x)) (now pot) (now x) (now table) y freight limit best ⌝ }
     requires { ⌜ Wanted (net m n (now cost) (now cap) (now x)) (now demand) ⌝ }
@@ -228,9 +240,9 @@ pub fn stretch(
         x,
         serves,
         pot,
-        up,
-        rows,
-        cols,
+        parent,
+        sources_below,
+        terminals_below,
     );
     let count = path.count;
     let gap = path.gap;

@@ -1,5 +1,5 @@
 // The walk that takes a part of the drums back from a path.
-ghost use Rattle.stretch.specs.PathUndone.{Undoing, Undone};
+ghost use Rattle.stretch.specs.inner.PathUndone.{Undoing, Undone};
 use augment::send::carry;
 
 // Takes amount back from the last count arcs of the path to goal: over each of them it goes the other way.

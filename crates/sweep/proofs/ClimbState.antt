@@ -7,17 +7,17 @@ use native.Mathlib.Omega.{arith}
 use lib.IntN.{ℤ}
 use lib.ListN.{length, getD}
 use Rattle.transport.specs.Plan.{Table, row, col, freight, Under}
-use Rattle.transport.specs.theory.AtSplit.{At}
-use Rattle.residual.specs.Cells.{cells}
-use Rattle.residual.specs.Network.{net, get}
-use Rattle.canonical.specs.Canonize.{CanonReady}
-use Rattle.lastsplit.specs.PlantShift.{Swinging}
-use Rattle.incumbent.specs.Scan.{along}
-use Rattle.stretch.specs.Stretch.{heldAt, StretchReady, StretchDone}
+use Rattle.transport.specs.inner.AtSplit.{At}
+use Rattle.residual.specs.inner.Cells.{cells}
+use Rattle.residual.specs.inner.Network.{net, get}
+use Rattle.canonical.specs.inner.Canonize.{CanonReady}
+use Rattle.lastsplit.specs.inner.PlantShift.{PlantSlack}
+use Rattle.incumbent.specs.inner.Scan.{along}
+use Rattle.stretch.specs.inner.Stretch.{heldAt, StretchReady, StretchDone}
 use Rattle.incumbent.specs.declared.Incumbent.{Incumbent}
-use Rattle.sweep.specs.Sweep.{PlanAt}
-use Rattle.sweep.specs.engine.StopsPassed.{Straight}
-use Rattle.sweep.specs.engine.Climb.{bothIn, curveFrom, ClimbReady, Standing}
+use Rattle.sweep.specs.inner.Sweep.{PlanAt}
+use Rattle.sweep.specs.inner.StopsPassed.{Straight}
+use Rattle.sweep.specs.inner.Climb.{bothIn, curveFrom, ClimbReady, Standing}
 use Rattle.transport.proofs.Sums.{sum-ext}
 use Rattle.transport.proofs.LeastFreight.{slack-least, line}
 use Rattle.transport.proofs.Tables.{rows-cols, sends, freight-bound}
@@ -36,8 +36,8 @@ plan-at {m} {n} {c} {u} {d} {a} {b} {y} {v} {x} z two t e long under worth = rec
 }
 
 -- what the plan for everybody asks of the plan where the climb stands
-swing-ready : (m n : ℕ) (cost cap : List ℕ) {x p : List ℕ} {P : ℕ} → Swinging (net m n cost cap x) P p x → CanonReady (net m n cost cap x) p
-swing-ready m n cost cap k = record {
+plant-slack-ready : (m n : ℕ) (cost cap : List ℕ) {x p : List ℕ} {P : ℕ} → PlantSlack (net m n cost cap x) P p x → CanonReady (net m n cost cap x) p
+plant-slack-ready m n cost cap k = record {
   sources = k .sound .sources;
   terminals = k .sound .terminals;
   costs = k .sound .costs;
@@ -60,7 +60,7 @@ held-ready m n cost cap x kept p held split y {P} k s = elim (ℕ-discrete split
 
 module _ {m n : ℕ} {cost cap x₀ p₀ : List ℕ} {lo hi v : ℕ} {table : List ℕ} {added : ℕ} {splits : List ℕ} {freights : List ℤ} (r : ClimbReady m n cost cap x₀ p₀ lo hi v table added splits freights) where
   pub two : 2 ≤ m
-  two = omega (arith, r .swinging .plants)
+  two = omega (arith, r .plant-slack .plants)
 
   -- every split of the climb is within what both plants make
   pub both : (y : ℕ) → y ≤ hi → y ≤ bothIn n x₀
@@ -71,16 +71,16 @@ module _ {m n : ℕ} {cost cap x₀ p₀ : List ℕ} {lo hi v : ℕ} {table : Li
       let t : At m n (row n (cells x₀)) (col m (cells x₀)) lo (bothIn n x₀ - lo) (cells x₀) =
       record { plant0 = r .first; plant1 = omega (arith, r .first); depots = λ i h l. refl; demands = λ j h l. refl } in
       record {
-        swinging = r .swinging;
+        plant-slack = r .plant-slack;
         at = t;
         worth = r .worth;
         plan =
             subst (λ (l : List ℕ). PlanAt m n (cells cost) (cells cap) (bothIn n x₀) (row n (cells x₀)) (col m (cells x₀)) lo v l)
             (sym (held-here x₀ kept refl))
-            (plan-at (bothIn n x₀ - lo) two t (omega (arith, both lo (r .order))) (r .swinging .long-x) (r .swinging .under) (r .worth));
+            (plan-at (bothIn n x₀ - lo) two t (omega (arith, both lo (r .order))) (r .plant-slack .long-x) (r .plant-slack .under) (r .worth));
         ready =
             subst (λ (l : List ℕ). CanonReady (net m n cost cap l) (heldAt lo lo p₀ held)) (sym (held-here x₀ kept refl))
-            (subst (λ (l : List ℕ). CanonReady (net m n cost cap x₀) l) (sym (held-here p₀ held refl)) (swing-ready m n cost cap (r .swinging)));
+            (subst (λ (l : List ℕ). CanonReady (net m n cost cap x₀) l) (sym (held-here p₀ held refl)) (plant-slack-ready m n cost cap (r .plant-slack)));
         behind = omega arith;
       }
 
@@ -91,7 +91,7 @@ module _ {m n : ℕ} {cost cap x₀ p₀ : List ℕ} {lo hi v : ℕ} {table : Li
         least-in-at m n (cells cap) (bothIn n x₀) (row n (cells x₀)) (col m (cells x₀)) (cells cost) y (bothIn n x₀ - y) (freight m n (cells cost) (cells x))
         two
         (slack-least m n two (cells cost) (cells cap) (row n (cells x₀)) (col m (cells x₀)) (λ i. get p i) (λ j. get p (32 + j)) (cells x) y
-        (bothIn n x₀ - y) (s .at) (s .swinging .under) (s .swinging .sound .slack))
+        (bothIn n x₀ - y) (s .at) (s .plant-slack .under) (s .plant-slack .sound .slack))
         (omega (arith, both y h))
         ∙ s .worth
 
@@ -101,7 +101,7 @@ module _ {m n : ℕ} {cost cap x₀ p₀ : List ℕ} {lo hi v : ℕ} {table : Li
         omega (
           arith,
           s .worth,
-          freight-bound m n 2000000 (cells cost) (cells x) (s .swinging .sound .costs),
+          freight-bound m n 2000000 (cells cost) (cells x) (s .plant-slack .sound .costs),
           rows-cols m n (cells x),
           sum-ext n (col m (cells x)) (col m (cells x₀)) (λ j h. s .at .demands j (omega arith) h),
           rows-cols m n (cells x₀),
@@ -117,7 +117,7 @@ module _ {m n : ℕ} {cost cap x₀ p₀ : List ℕ} {lo hi v : ℕ} {table : Li
     pub stretch-ready : lo ≤ y → y < hi → StretchReady (net m n cost cap x) p x table y value (hi - y) b
     stretch-ready l h = record {
       shift = record {
-        swinging = s .swinging;
+        plant-slack = s .plant-slack;
         some = omega arith;
         left = omega (arith, s .at .plant1, r .first, r .within);
         end = record {
@@ -153,8 +153,8 @@ module _ {m n : ℕ} {cost cap x₀ p₀ : List ℕ} {lo hi v : ℕ} {table : Li
       stretch-line t h =
           let w =
           line m n two (cells cost) (cells cap) (row n (cells x₀)) (col m (cells x₀)) (λ i. get p' i) (λ j. get p' (32 + j)) (cells x) (cells x') y
-          (bothIn n x₀ - y) d t (q .some) h (omega (arith, both (y + d) most)) (q .over .steps) (s .at) next-at (s .swinging .under)
-          (q .over .swinging .under) (q .over .old) (q .over .new) in
+          (bothIn n x₀ - y) d t (q .some) h (omega (arith, both (y + d) most)) (q .over .steps) (s .at) next-at (s .plant-slack .under)
+          (q .over .plant-slack .under) (q .over .old) (q .over .new) in
           let e : curveFrom m n cost cap x₀ (y + t) ≡ w .0 =
           least-in-at m n (cells cap) (bothIn n x₀) (row n (cells x₀)) (col m (cells x₀)) (cells cost) (y + t) (bothIn n x₀ - y - t) (w .0) two (w .1)
           (omega (arith, both (y + d) most)) in
@@ -192,13 +192,13 @@ module _ {m n : ℕ} {cost cap x₀ p₀ : List ℕ} {lo hi v : ℕ} {table : Li
       -- the plan at y is slack under the new potentials too
       here-ready : CanonReady (net m n cost cap x) p'
       here-ready = record {
-        sources = s .swinging .sound .sources;
-        terminals = s .swinging .sound .terminals;
-        costs = s .swinging .sound .costs;
-        high = q .over .swinging .sound .high;
+        sources = s .plant-slack .sound .sources;
+        terminals = s .plant-slack .sound .terminals;
+        costs = s .plant-slack .sound .costs;
+        high = q .over .plant-slack .sound .high;
         slack = q .over .old;
-        under = s .swinging .under;
-        ceilings = s .swinging .ceilings;
+        under = s .plant-slack .under;
+        ceilings = s .plant-slack .ceilings;
       }
 
       -- with its potentials
@@ -217,7 +217,7 @@ module _ {m n : ℕ} {cost cap x₀ p₀ : List ℕ} {lo hi v : ℕ} {table : Li
       stand-next {kept'} {held'} e f e' f' =
           let z : bothIn n x₀ - y - d ≡ bothIn n x₀ - (y + d) = omega arith in
           record {
-            swinging = q .over .swinging;
+            plant-slack = q .over .plant-slack;
             at =
                 subst (λ (w : ℕ). At m n (row n (cells x₀)) (col m (cells x₀)) w (bothIn n x₀ - w) (cells x')) (sym (q .split))
                 (subst (λ (w : ℕ). At m n (row n (cells x₀)) (col m (cells x₀)) (y + d) w (cells x')) z next-at);
@@ -232,10 +232,10 @@ module _ {m n : ℕ} {cost cap x₀ p₀ : List ℕ} {lo hi v : ℕ} {table : Li
           }
 
       pub gain-most : gain ≤ 800000000
-      gain-most = omega (arith, q .up, q .over .swinging .sound .high 1 (omega arith))
+      gain-most = omega (arith, q .up, q .over .plant-slack .sound .high 1 (omega arith))
 
       pub loss-most : loss ≤ 800000000
-      loss-most = omega (arith, q .down, q .over .swinging .sound .high 0 (omega arith))
+      loss-most = omega (arith, q .down, q .over .plant-slack .sound .high 0 (omega arith))
 
   -- the freight at the first split
   pub start-most : v ≤ 512000000000

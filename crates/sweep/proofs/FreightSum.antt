@@ -5,7 +5,7 @@ use native.Mathlib.Nat.{mul-le-mul}
 use native.Mathlib.Omega.{arith}
 use Rattle.transport.specs.Sum.{sum}
 use Rattle.transport.specs.Plan.{Table, total, freight}
-use Rattle.sweep.specs.engine.FreightSum.{FreightReady}
+use Rattle.sweep.specs.inner.FreightSum.{FreightReady}
 use Rattle.transport.proofs.Sums.{sum-most}
 
 pub ready-fewer : {k m n : ℕ} {c x : Table} → FreightReady m n c x → k ≤ m → FreightReady k n c x

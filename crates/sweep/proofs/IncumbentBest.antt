@@ -8,9 +8,9 @@ use native.Mathlib.Omega.{arith}
 use lib.ListN.{getD}
 use borrow.Author.Tests.{lt-ltb, le-ltb}
 use Rattle.transport.specs.Curve.{bestFrom}
-use Rattle.incumbent.specs.Scan.{along, better, scanned}
+use Rattle.incumbent.specs.inner.Scan.{along, better, scanned}
 use Rattle.incumbent.specs.declared.Incumbent.{Incumbent}
-use Rattle.sweep.specs.engine.StopsPassed.{Straight, IncumbentOf}
+use Rattle.sweep.specs.inner.StopsPassed.{Straight, IncumbentOf}
 use Rattle.incumbent.proofs.IncumbentScan.{better-new, better-old, scanned-none, scanned-more, along-is}
 
 bestFrom-new : (g : ℕ → ℕ) (i k : ℕ) → g (i + suc k) < g (bestFrom g i k) → bestFrom g i (suc k) ≡ i + suc k

@@ -4,6 +4,6 @@ pub mod FreightSum
 pub mod SweptCurve
 pub mod ClimbState
 pub mod OwnCosts
-pub mod StretchTurns
-pub mod ClimbTurns
+pub mod StretchChain
+pub mod ClimbSteps
 pub mod SweepEnds

@@ -14,10 +14,10 @@ use Rattle.problem.specs.Integer.{Above}
 use Rattle.problem.specs.Freight.{Rates, freightℤ}
 use Rattle.problem.proofs.Integers.{above-zero}
 use Rattle.problem.proofs.RaisedFreight.{Raised, freight-above}
-use Rattle.residual.specs.Network.{Net}
-use Rattle.stretch.specs.ResidualPath.{Arc, from, to, Open, ceiling, PathIn, narrowest}
-use Rattle.stretch.specs.ResidualPath.Arc.{lane, return}
-use Rattle.sweep.specs.Stretches.{curveOf, CheapestAt, network, costAlong, Stretch, Turns, StretchesTo, Stretches}
+use Rattle.residual.specs.inner.Network.{Net}
+use Rattle.stretch.specs.inner.ResidualPath.{Arc, from, to, Open, ceiling, PathIn, narrowest}
+use Rattle.stretch.specs.inner.ResidualPath.Arc.{lane, return}
+use Rattle.sweep.specs.inner.Stretches.{curveOf, CheapestAt, network, costAlong, Stretch, Chain, StretchesTo, Stretches}
 
 -- ---- paths and ceilings of equal networks
 
@@ -137,22 +137,22 @@ module _ {m n k : ℕ} {c : Table} {rates : Rates} (few : m ≤ 32) (raised : Ra
       cost : costAlong rates (q .path) ≡ costAlong (λ i j. pos (c i j)) (q .path)
       cost = cost-stays few raised u' x (q .path) 0 1 (omega arith) (omega arith) ours
 
-  turns-from : (x₀ : Table) (s y : ℕ) (x : Table) → Turns (curveOf m n (λ i j. pos (c i j)) u r b (λ y. pos (g y)) hi) s lo x₀ y x → lo ≤ y
-  unfolding Turns
-  turns-from x₀ zero y x q = omega (arith, q .0)
-  turns-from x₀ (suc s) y x q = omega (arith, turns-from x₀ s (q .0) (q .1) (q .3), q .5)
+  chain-from : (x₀ : Table) (s y : ℕ) (x : Table) → Chain (curveOf m n (λ i j. pos (c i j)) u r b (λ y. pos (g y)) hi) s lo x₀ y x → lo ≤ y
+  unfolding Chain
+  chain-from x₀ zero y x q = omega (arith, q .0)
+  chain-from x₀ (suc s) y x q = omega (arith, chain-from x₀ s (q .0) (q .1) (q .3), q .5)
 
-  own-turns : (x₀ : Table) (s y : ℕ) (x : Table) → Turns (curveOf m n (λ i j. pos (c i j)) u r b (λ y. pos (g y)) hi) s lo x₀ y x
-      → Turns (curveOf m n rates u' r' b' f hi) s lo x₀ y x
-  unfolding Turns
-  own-turns x₀ zero y x q = q
-  own-turns x₀ (suc s) y x q =
-      (q .0, q .1, q .2, own-turns x₀ s (q .0) (q .1) (q .3), own-stretch (turns-from x₀ s (q .0) (q .1) (q .3)) (q .4), q .5)
+  own-chain : (x₀ : Table) (s y : ℕ) (x : Table) → Chain (curveOf m n (λ i j. pos (c i j)) u r b (λ y. pos (g y)) hi) s lo x₀ y x
+      → Chain (curveOf m n rates u' r' b' f hi) s lo x₀ y x
+  unfolding Chain
+  own-chain x₀ zero y x q = q
+  own-chain x₀ (suc s) y x q =
+      (q .0, q .1, q .2, own-chain x₀ s (q .0) (q .1) (q .3), own-stretch (chain-from x₀ s (q .0) (q .1) (q .3)) (q .4), q .5)
 
   -- so are all, and they lead from the same plan to the same plan
   pub own-stretches : {x₀ x : Table} → Stretches (curveOf m n (λ i j. pos (c i j)) u r b (λ y. pos (g y)) hi) lo x₀ x
       → Stretches (curveOf m n rates u' r' b' f hi) lo x₀ x
   own-stretches {x₀} {x} q = record {
-    all = record { count = q .all .count; turns = own-turns x₀ (q .all .count) hi x (q .all .turns) };
-    end = own-plan (turns-from x₀ (q .all .count) hi x (q .all .turns)) (omega arith) (q .end);
+    all = record { count = q .all .count; chain = own-chain x₀ (q .all .count) hi x (q .all .chain) };
+    end = own-plan (chain-from x₀ (q .all .count) hi x (q .all .chain)) (omega arith) (q .end);
   }

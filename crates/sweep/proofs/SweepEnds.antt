@@ -8,14 +8,14 @@ use lib.ListN.{length, getD}
 use Rattle.transport.specs.Sum.{sum}
 use Rattle.transport.specs.Plan.{Table, byRow, col, freight}
 use Rattle.transport.specs.Curve.{amountsAt, leastIn, bestFrom, stopsOf, written}
-use Rattle.residual.specs.Cells.{cells}
+use Rattle.residual.specs.inner.Cells.{cells}
 use Rattle.problem.specs.Range.{lower}
-use Rattle.split_range.specs.Begun.{Begun}
-use Rattle.split_range.specs.Range.{demandIn}
-use Rattle.sweep.specs.Stretches.{raisedCurve, Stretches}
-use Rattle.sweep.specs.Sweep.{SweepReady, Swept}
-use Rattle.sweep.specs.engine.FreightSum.{FreightReady}
-use Rattle.sweep.specs.engine.Climb.{bothIn, ClimbReady}
+use Rattle.split_range.specs.inner.Begun.{Begun}
+use Rattle.split_range.specs.inner.Range.{demandIn}
+use Rattle.sweep.specs.inner.Stretches.{raisedCurve, Stretches}
+use Rattle.sweep.specs.inner.Sweep.{SweepReady, Swept}
+use Rattle.sweep.specs.inner.FreightSum.{FreightReady}
+use Rattle.sweep.specs.inner.Climb.{bothIn, ClimbReady}
 use Rattle.transport.proofs.Sums.{sum-ext}
 use Rattle.transport.proofs.Tables.{rows-cols, Below}
 use Rattle.transport.proofs.WithinCeilings.{leastFreightIn-ext}
@@ -79,10 +79,10 @@ module _ {m n : ℕ} {cost cap : List ℕ} {a : ℕ → ℕ} {demand x serves p 
     (b : Begun m n cost cap a (demandIn demand) d lo hi x serves p) (r : SweepReady m n demand lo hi table added splits freights) where
   pub freight-ready : FreightReady m n (cells cost) (cells x)
   freight-ready = record {
-    sources = b .swinging .sound .sources;
-    terminals = b .swinging .sound .terminals;
-    costs = b .swinging .sound .costs;
-    amounts = λ i j h l. omega (arith, b .swinging .under i j h l, b .swinging .ceilings i j h l);
+    sources = b .plant-slack .sound .sources;
+    terminals = b .plant-slack .sound .terminals;
+    costs = b .plant-slack .sound .costs;
+    amounts = λ i j h l. omega (arith, b .plant-slack .under i j h l, b .plant-slack .ceilings i j h l);
   }
 
   pub both-made : bothIn n x ≡ d
@@ -93,7 +93,7 @@ module _ {m n : ℕ} {cost cap : List ℕ} {a : ℕ → ℕ} {demand x serves p 
 
   pub climb-ready : {v : ℕ} → v ≡ freight m n (cells cost) (cells x) → ClimbReady m n cost cap x p lo hi v table added splits freights
   climb-ready e = record {
-    swinging = b .swinging;
+    plant-slack = b .plant-slack;
     end = record {
       plan = b .end .plan;
       at = record {

@@ -8,9 +8,9 @@ use lib.IntN.{ℤ}
 use lib.ListN.{length, getD, set, length-append, length-map}
 use Rattle.transport.specs.Curve.{isStop, stopsOf, written}
 use Rattle.problem.specs.Range.{lower}
-use Rattle.incumbent.specs.Scan.{scanned}
+use Rattle.incumbent.specs.inner.Scan.{scanned}
 use Rattle.incumbent.specs.declared.Incumbent.{Incumbent}
-use Rattle.sweep.specs.engine.StopsPassed.{Straight, before, stopAt, turned, NoteReady, Noted, Marked, Climbing}
+use Rattle.sweep.specs.inner.StopsPassed.{Straight, before, stopAt, turned, NoteReady, Noted, Marked, Climbing}
 use Rattle.sweep.proofs.StopsPassed.{before-none, before-stretch, before-length, line-behind, stops-end, written-more, written-length, map-append, turned-stop}
 use Rattle.sweep.proofs.IncumbentBest.{best-start, best-scan}
 

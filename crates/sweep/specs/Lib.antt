@@ -1,3 +1,1 @@
-pub mod Stretches
-pub mod Sweep
-pub mod engine
+pub mod inner

@@ -2,17 +2,17 @@
 ghost use mathlib.Core.Path.{_≡_};
 ghost use Prim.Native.Nat.{ℕ, _+_, _≤_};
 ghost use Rattle.transport.specs.Plan.{byRow, row, col};
-ghost use Rattle.residual.specs.Cells.{cells};
-ghost use Rattle.residual.specs.Network.{net};
-ghost use Rattle.residual.specs.LanesInUse.{Covers};
-ghost use Rattle.paths.specs.Search.{Wanted};
-ghost use Rattle.cuts.specs.Columns.{Transposed};
-ghost use Rattle.split_range.specs.Begun.{Begun};
-ghost use Rattle.split_range.specs.Range.{demandIn};
-ghost use Rattle.stretch.specs.Stretch.{heldAt};
-ghost use Rattle.sweep.specs.Sweep.{SweepStart, SweepReady, Swept};
-ghost use Rattle.sweep.specs.engine.StopsPassed.{NoteReady, Noted, Marked, turned};
-ghost use Rattle.sweep.specs.engine.Climb.{bothIn, ClimbReady};
+ghost use Rattle.residual.specs.inner.Cells.{cells};
+ghost use Rattle.residual.specs.inner.Network.{net};
+ghost use Rattle.residual.specs.inner.LanesInUse.{Covers};
+ghost use Rattle.paths.specs.inner.Search.{Wanted};
+ghost use Rattle.cuts.specs.inner.Columns.{Transposed};
+ghost use Rattle.split_range.specs.inner.Begun.{Begun};
+ghost use Rattle.split_range.specs.inner.Range.{demandIn};
+ghost use Rattle.stretch.specs.inner.Stretch.{heldAt};
+ghost use Rattle.sweep.specs.inner.Sweep.{SweepStart, SweepReady, Swept};
+ghost use Rattle.sweep.specs.inner.StopsPassed.{NoteReady, Noted, Marked, turned};
+ghost use Rattle.sweep.specs.inner.Climb.{bothIn, ClimbReady};
 use super::freight::freight_of;
 use super::freight::lowered;
 use canonical::canon::canonize;
@@ -108,9 +108,9 @@ fn climb(
     serves: &mut [u32; 64],
     pot: &mut [u32; 96],
     kept: &mut [u32; 2048],
-    up: &mut [u32; 128],
-    rows: &mut [u32; 128],
-    cols: &mut [u64; 128],
+    parent: &mut [u32; 128],
+    sources_below: &mut [u32; 128],
+    terminals_below: &mut [u64; 128],
     columns: &[u32; 2048],
 ) -> Curve
     requires { ⌜ ClimbReady m n (now cost) (now cap) (now x) (now pot) lo hi freight (now table) added (now splits) (now freights) ⌝ }
@@ -154,9 +154,9 @@ fn climb(
             pot,
             kept,
             &mut prices,
-            up,
-            rows,
-            cols,
+            parent,
+            sources_below,
+            terminals_below,
         );
         let stop = turn(y, lo, moved.gain, moved.loss, rise, fall);
         count = mark(stop, count, y, value, added, splits, freights);
@@ -179,7 +179,7 @@ fn climb(
 }
 
 // The sweep from split lo to split hi of a prepared case, of which x holds a cheapest plan at lo: the stops and their freights, less what was
-// added, go into the slices, the plan for everybody at the best split into kept. Nothing is asked of the tree in up, rows and cols.
+// added, go into the slices, the plan for everybody at the best split into kept. Nothing is asked of the tree in parent, sources_below and terminals_below.
 pub fn sweep(
     m: usize,
     n: usize,
@@ -196,9 +196,9 @@ pub fn sweep(
     serves: &mut [u32; 64],
     pot: &mut [u32; 96],
     kept: &mut [u32; 2048],
-    up: &mut [u32; 128],
-    rows: &mut [u32; 128],
-    cols: &mut [u64; 128],
+    parent: &mut [u32; 128],
+    sources_below: &mut [u32; 128],
+    terminals_below: &mut [u64; 128],
 ) -> Curve
     requires { ⌜ SweepStart m n (now cost) (now cap) (now demand) lo hi (now x) (now serves) (now pot) ⌝ }
     requires { ⌜ SweepReady m n (now demand) lo hi (now table) added (now splits) (now freights) ⌝ }
@@ -224,9 +224,9 @@ pub fn sweep(
         serves,
         pot,
         kept,
-        up,
-        rows,
-        cols,
+        parent,
+        sources_below,
+        terminals_below,
         &columns,
     )
 }

@@ -4,8 +4,8 @@ ghost use Prim.Native.Nat.{_+_, _*_, _≤_};
 ghost use lib.IntN.{subℕ};
 ghost use Rattle.transport.specs.Sum.{sum};
 ghost use Rattle.transport.specs.Plan.{freight};
-ghost use Rattle.residual.specs.Cells.{cells};
-ghost use Rattle.sweep.specs.engine.FreightSum.{FreightReady};
+ghost use Rattle.residual.specs.inner.Cells.{cells};
+ghost use Rattle.sweep.specs.inner.FreightSum.{FreightReady};
 
 // The freight of what source i sends.
 fn row_freight(n: usize, i: usize, cost: &[u32; 2048], x: &[u32; 2048]) -> u64

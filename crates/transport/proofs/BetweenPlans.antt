@@ -6,9 +6,9 @@ use native.Mathlib.Nat.{eq-of-mul-eq-mul-left}
 use native.Mathlib.Omega.{arith}
 use Rattle.transport.specs.Sum.{sum}
 use Rattle.transport.specs.Plan.{Table, row, col, freight, Under}
-use Rattle.transport.specs.theory.Slackness.{Lane, Slack}
-use Rattle.transport.specs.theory.AtSplit.{Same}
-use Rattle.transport.specs.theory.PathFlow.{Step, still, more, less}
+use Rattle.transport.specs.inner.Slackness.{Lane, Slack}
+use Rattle.transport.specs.inner.AtSplit.{Same}
+use Rattle.transport.specs.inner.PathFlow.{Step, still, more, less}
 use Rattle.transport.proofs.Optimality.{segment}
 
 -- the amount after t of the δ drums

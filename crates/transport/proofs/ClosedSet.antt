@@ -8,8 +8,8 @@ use native.Mathlib.Nat.{mul-le-mul-right, le-dest}
 use native.Mathlib.Omega.{arith}
 use Rattle.transport.specs.Sum.{sum}
 use Rattle.transport.specs.Plan.{Table, row, col, total, Under}
-use Rattle.transport.specs.theory.Slackness.{dot}
-use Rattle.transport.specs.theory.AtSplit.{Same}
+use Rattle.transport.specs.inner.Slackness.{dot}
+use Rattle.transport.specs.inner.AtSplit.{Same}
 use Rattle.transport.proofs.Sums.{sum-mono, total-mono, total-add}
 use Rattle.transport.proofs.Certificate.{total-row, total-col}
 use Rattle.transport.proofs.Optimality.{dot-two}
@@ -92,7 +92,7 @@ module _ (m n : ℕ) (u x x' : Table) (e t : ℕ → ℕ) (k : Closed m n u x e 
     pub stuck-plants : e 0 * row n x' 0 + e 1 * row n x' 1 ≤ e 0 * row n x 0 + e 1 * row n x 1
     stuck-plants = omega (arith, sources m n u x x' e t k h full, dot-two m two e (row n x) (row n x') depots)
 
-    -- plant 0 is in the set and plant 1 is not: no plan has a greater split
+    -- plant 1 is in the set and plant 2 is not: no plan has a greater split
     pub greatest-split : e 0 ≡ 1 → e 1 ≡ 0 → row n x' 0 ≤ row n x 0
     greatest-split a b =
         omega (
@@ -104,7 +104,7 @@ module _ (m n : ℕ) (u x x' : Table) (e t : ℕ → ℕ) (k : Closed m n u x e 
           ap (λ v. v * row n x 1) b,
         )
 
-    -- plant 1 is in the set: no plan in which plant 0 makes as much has more from plant 1
+    -- plant 2 is in the set: no plan in which plant 1 makes as much has more from plant 2
     pub most-second : e 1 ≡ 1 → row n x 0 ≤ row n x' 0 → row n x' 1 ≤ row n x 1
     most-second b l =
         omega (
@@ -115,7 +115,7 @@ module _ (m n : ℕ) (u x x' : Table) (e t : ℕ → ℕ) (k : Closed m n u x e 
           mul-le-mul-right (e 0) l,
         )
 
-    -- plant 0 is in the set: no plan has more from it, or none has more from both
+    -- plant 1 is in the set: no plan has more from it, or none has more from both
     pub most-first : e 0 ≡ 1 → e 1 ≤ 1 → (row n x' 0 ≤ row n x 0) ⊎ (row n x' 0 + row n x' 1 ≤ row n x 0 + row n x 1)
     most-first a b = elim (ℕ-discrete (e 1) 0) [
       | yes z ↦ inl (greatest-split a z)

@@ -4,9 +4,9 @@ use mathlib.Core.Path.{_≡_, refl, sym, ap, _∙_}
 use Prim.Native.Nat.{ℕ, zero, suc, _+_, _-_, _*_, _≤_, _<_}
 use native.Mathlib.Omega.{arith}
 use Rattle.transport.specs.Plan.{Table, row, col, freight, Under}
-use Rattle.transport.specs.theory.Slackness.{Slack}
-use Rattle.transport.specs.theory.AtSplit.{Same, At, Least}
-use Rattle.transport.specs.theory.PathFlow.{Step}
+use Rattle.transport.specs.inner.Slackness.{Slack}
+use Rattle.transport.specs.inner.AtSplit.{Same, At, Least}
+use Rattle.transport.specs.inner.PathFlow.{Step}
 use Rattle.transport.proofs.Optimality.{cheapest, subgradient}
 use Rattle.transport.proofs.BetweenPlans.{mids, between}
 

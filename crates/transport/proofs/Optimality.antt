@@ -5,8 +5,8 @@ use native.Mathlib.Nat.{le-antisymm}
 use native.Mathlib.Omega.{arith}
 use Rattle.transport.specs.Sum.{sum}
 use Rattle.transport.specs.Plan.{Table, row, col, freight, Under}
-use Rattle.transport.specs.theory.Slackness.{dot, Slack}
-use Rattle.transport.specs.theory.AtSplit.{Same}
+use Rattle.transport.specs.inner.Slackness.{dot, Slack}
+use Rattle.transport.specs.inner.AtSplit.{Same}
 use Rattle.transport.proofs.Sums.{sum-ext, sum-front, total-ext, total-add}
 use Rattle.transport.proofs.Certificate.{total-row, total-col, certificate}
 
@@ -68,7 +68,7 @@ module _ (m n : ℕ) (c u : Table) (p q : ℕ → ℕ) where
 
 module _ (m n : ℕ) (two : 2 ≤ m) (c u : Table) (p q : ℕ → ℕ) (x x' : Table) (rows : Same 2 m (row n x) (row n x'))
     (cols : Same 0 n (col m x) (col m x')) where
-  -- (c) the subgradient inequality: x is slack, x' any plan under the ceilings, with the same sums but for the plants 0 and 1
+  -- (c) the subgradient inequality: x is slack, x' any plan under the ceilings, with the same sums but for the nodes 0 and 1
   pub subgradient : Slack m n c u x p q → Under m n x' u
       → freight m n c x + p 0 * row n x 0 + p 1 * row n x 1 ≤ freight m n c x' + p 0 * row n x' 0 + p 1 * row n x' 1
   subgradient s h =
@@ -79,7 +79,7 @@ module _ (m n : ℕ) (two : 2 ≤ m) (c u : Table) (p q : ℕ → ℕ) (x x' : T
         dot-ext n q (col m x) (col m x') cols,
       )
 
-  -- k more drums from plant 0, k less from plant 1
+  -- k more drums from plant 1, k less from plant 2
   pub subgradient-up : (δ : ℕ) → row n x' 0 ≡ row n x 0 + δ → row n x 1 ≡ row n x' 1 + δ → Slack m n c u x p q → Under m n x' u
       → freight m n c x + p 1 * δ ≤ freight m n c x' + p 0 * δ
   subgradient-up δ e e' s h = omega (arith, subgradient s h, ap (λ v. p 0 * v) e, ap (λ v. p 1 * v) e')

@@ -6,8 +6,8 @@ use Prim.Native.Nat.{ℕ, _+_, _≤_, _<_}
 use native.Mathlib.Decide.{ℕ-discrete}
 use native.Mathlib.Omega.{arith}
 use Rattle.transport.specs.Plan.{Table, row, col}
-use Rattle.transport.specs.theory.AtSplit.{Same}
-use Rattle.transport.specs.theory.PathFlow.{Step, still, given, pulse, Flow, Trace}
+use Rattle.transport.specs.inner.AtSplit.{Same}
+use Rattle.transport.specs.inner.PathFlow.{Step, still, given, pulse, Flow, Trace}
 use Rattle.transport.proofs.CellChange.{Put, row-put, row-put-off, col-put, col-put-off}
 
 given-same : {P : Type 0} (δ : ℕ) (d : Dec P) → P → given δ d ≡ δ
@@ -66,7 +66,7 @@ module _ {m n δ : ℕ} {x₀ x x' : Table} {goal a b : ℕ} (small : m ≤ 32) 
         ];
   }
 
--- the walk from plant 1, the goal, to plant 0 is at its end
+-- the walk from plant 2, the goal, to plant 1 is at its end
 pub record Shifted (m n δ : ℕ) (x₀ x : Table) : Type 0 where
   pub rows : Same 2 m (row n x₀) (row n x)
   pub cols : Same 0 n (col m x₀) (col m x)

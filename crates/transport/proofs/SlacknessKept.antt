@@ -5,7 +5,7 @@ use Prim.Native.Nat.{ℕ, min, _+_, _≤_, _<_}
 use native.Mathlib.Decide.{decLt, ℕ-discrete}
 use native.Mathlib.Omega.{arith}
 use Rattle.transport.specs.Plan.{Table}
-use Rattle.transport.specs.theory.Slackness.{Lane, Slack}
+use Rattle.transport.specs.inner.Slackness.{Lane, Slack}
 
 -- what the path search leaves of one lane, with dp and dq the distances of its source and its terminal, and D the goal's:
 -- an arc that is open was relaxed where its start is nearer than the goal

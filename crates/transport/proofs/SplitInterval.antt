@@ -1,6 +1,6 @@
 -- Between two splits with a plan within the ceilings every split has one. From the plan at the smaller split one drum after the other
 -- is moved to where the other plan has more: a lane is only ever brought nearer to what the other plan sends over it, so the way ends, and it
--- can end only at plant 1. Assumes nothing.
+-- can end only at plant 2. Assumes nothing.
 use mathlib.Core.Path.{_≡_, refl, sym, ap, _∙_}
 use mathlib.Core.Bool.{true}
 use mathlib.Core.Logic.{_≢_}
@@ -12,8 +12,8 @@ use Rattle.transport.specs.Sum.{sum}
 use Rattle.transport.specs.Plan.{Table, row, col, total, Under}
 use Rattle.transport.specs.Listing.{least, greatest}
 use Rattle.transport.specs.Curve.{hasPlan, splitsIn}
-use Rattle.transport.specs.theory.AtSplit.{Same, At}
-use Rattle.transport.specs.theory.PathFlow.{Flow}
+use Rattle.transport.specs.inner.AtSplit.{Same, At}
+use Rattle.transport.specs.inner.PathFlow.{Flow}
 use Rattle.transport.proofs.CellChange.{Put, total-put}
 use Rattle.transport.proofs.PathFlow.{pulse-same, pulse-off, flow-start, flow-back, flow-ahead, Shifted, flow-shifted}
 use Rattle.transport.proofs.ListMembers.{least-le, least-in}
@@ -107,7 +107,7 @@ nearer m n z x' a b v h l e =
 
 module _ (m n : ℕ) (small : m ≤ 32) (two : 2 ≤ m) (u x x' : Table) (under' : Under m n x' u) (rows : Same 2 m (row n x) (row n x'))
     (cols : Same 0 n (col m x) (col m x')) (more : row n x' 1 < row n x 1) where
-  -- the way back from plant 1 stands at source a, which still sends one drum more than it should
+  -- the way back from plant 2 stands at source a, which still sends one drum more than it should
   surplus : (z : Table) (a : ℕ) → suc a < m → Flow m n 1 x z 1 (suc a) → row n x' (suc a) < row n z (suc a)
   surplus z zero h f = omega (arith, f .rows 1 h, more)
   surplus z (suc a) h f =

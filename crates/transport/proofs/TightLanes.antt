@@ -7,9 +7,9 @@ use native.Mathlib.Nat.{le-dest, le-of-mul-le-mul-right}
 use native.Mathlib.Omega.{arith}
 use Rattle.transport.specs.Sum.{sum}
 use Rattle.transport.specs.Plan.{Table, row, col, total, freight, Under}
-use Rattle.transport.specs.theory.Slackness.{Lane, Slack}
-use Rattle.transport.specs.theory.AtSplit.{Same}
-use Rattle.transport.specs.theory.PathFlow.{pulse}
+use Rattle.transport.specs.inner.Slackness.{Lane, Slack}
+use Rattle.transport.specs.inner.AtSplit.{Same}
+use Rattle.transport.specs.inner.PathFlow.{pulse}
 use Rattle.transport.proofs.Sums.{sum-mono, sum-none, sum-change, sum-ext, sum-add}
 use Rattle.transport.proofs.Certificate.{lane-weak, cert-total}
 use Rattle.transport.proofs.Optimality.{dot-ext}

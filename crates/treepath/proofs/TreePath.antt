@@ -7,12 +7,12 @@ use native.Mathlib.Decide.{ℕ-discrete}
 use native.Mathlib.Omega.{arith}
 use lib.ListN.{length}
 use Rattle.transport.proofs.Tables.{cellsOf, cellsOf-length, cellsOf-at}
-use Rattle.residual.specs.Network.{Net, get, Arc}
-use Rattle.residual.specs.Network.Arc.{ahead, back}
-use Rattle.residual.specs.Labels.{Book, book, far}
-use Rattle.paths.specs.Search.{Sound, Near, Label, Prev, Searched}
-use Rattle.paths.specs.Search.Prev.{root, step}
-use Rattle.treepath.specs.Follow.{either, carries, Tied, Chain, width, Followed}
+use Rattle.residual.specs.inner.Network.{Net, get, Arc}
+use Rattle.residual.specs.inner.Network.Arc.{ahead, back}
+use Rattle.residual.specs.inner.Labels.{Book, book, far}
+use Rattle.paths.specs.inner.Search.{Sound, Near, Label, Prev, Searched}
+use Rattle.paths.specs.inner.Search.Prev.{root, step}
+use Rattle.treepath.specs.inner.Follow.{either, carries, Tied, Chain, width, Followed}
 use Rattle.treepath.proofs.TreeWalk.{either-yes, either-no, within}
 
 -- ---- the nodes of a list
@@ -28,7 +28,7 @@ put-old : (f : ℕ → ℕ) (w k a : ℕ) → a ≢ w → put f w k a ≡ f a
 put-old f w k a z = either-no (ℕ-discrete a w) k (f a) z
 
 module _ (N : Net) (p P : List ℕ) where
-  -- only one number of arcs leads from plant 0 to a node
+  -- only one number of arcs leads from plant 1 to a node
   alone : (h k v : ℕ) → Chain N p P h v → Chain N p P k v → h ≡ k
   unfolding Chain
   alone zero zero v a b = refl
@@ -91,7 +91,7 @@ module _ (N : Net) (p P : List ℕ) where
       chain : Chain N p P (hop a) a
       next : a ≢ 0 → T (get P a) < far
 
-    -- T has the potentials of some of them, at most h arcs from plant 0, and far elsewhere
+    -- T has the potentials of some of them, at most h arcs from plant 1, and far elsewhere
     record Marks (h : ℕ) (T hop : ℕ → ℕ) : Type 0 where
       low : (a : ℕ) → a < 96 → get p a ≤ T a
       each : (a : ℕ) → a < 96 → T a < far → Mark T hop h a
@@ -102,7 +102,7 @@ module _ (N : Net) (p P : List ℕ) where
     blank : Marks 0 (λ a. far) (λ a. 0)
     blank = record { low = λ a l. omega (arith, under a l); each = λ a l o. absurd (omega arith) }
 
-    -- a node more, k arcs from plant 0
+    -- a node more, k arcs from plant 1
     module _ {h k v : ℕ} {T hop : ℕ → ℕ} (farther : h ≤ k) (node : v < 96) (c : Chain N p P k v) (before : v ≢ 0 → T (get P v) < far) (m : Marks h T hop) where
       kept : (b : ℕ) → T b < far → put T v (get p v) b < far
       kept b l = elim (ℕ-discrete b v) [
@@ -233,7 +233,7 @@ module _ (N : Net) (p P : List ℕ) where
       low : (a : ℕ) → a < 96 → get p a ≤ get dist a
       low a h = omega (arith, dist-at a h, m .marks .low a h)
 
-      -- no node is nearer than plant 1
+      -- no node is nearer than plant 2
       none : (a : ℕ) → a < 96 → get dist a + get p 1 < get dist 1 + get p a → ⊥
       none a h l = omega (arith, low a h, goal)
 

@@ -1,4 +1,4 @@
--- The walk from plant 1 up a tree, arc by arc. Assumes nothing.
+-- The walk from plant 2 up a tree, arc by arc. Assumes nothing.
 use mathlib.Core.Path.{_≡_, refl, sym, ap, _∙_}
 use mathlib.Core.Logic.{_≢_}
 use mathlib.Core.List.{List}
@@ -8,9 +8,9 @@ use native.Mathlib.Numerals.{add-one}
 use native.Mathlib.Omega.{arith}
 use lib.ListN.{length, set, length-set, replicate, length-replicate}
 use lib.Seq.{getD-set-same, getD-set-other}
-use Rattle.residual.specs.Network.{Net, get}
-use Rattle.residual.specs.Network.Arc.{ahead, back}
-use Rattle.treepath.specs.Follow.{FollowReady, either, carries, Tied, Bears, Chain, width, Followed}
+use Rattle.residual.specs.inner.Network.{Net, get}
+use Rattle.residual.specs.inner.Network.Arc.{ahead, back}
+use Rattle.treepath.specs.inner.Follow.{FollowReady, either, carries, Tied, Bears, Chain, width, Followed}
 
 -- ---- one arc
 
@@ -72,7 +72,7 @@ unfoldable pub Part : Net → List ℕ → (ℕ → ℕ) → List ℕ → ℕ �
 Part N p f P zero a d v e = (a ≡ v) × (d ≡ e)
 Part N p f P (suc h) a d v e = (a ≢ 0) × (get P a ≡ f a) × Tied N p (f a) a × Part N p f P h (f a) (min d (carries N (f a) a)) v e
 
--- the walk up from plant 1 by f has come to v after some arcs, over which amount drums of limit can go
+-- the walk up from plant 2 by f has come to v after some arcs, over which amount drums of limit can go
 pub record Walk (N : Net) (p : List ℕ) (f : ℕ → ℕ) (limit : ℕ) (P : List ℕ) (v steps amount : ℕ) : Type 0 where
   pub long : length P ≡ 96
   pub node : v < 96

@@ -1,10 +1,10 @@
-// The path of a stretch as a tree has it, from plant 1 back to plant 0: each arc is checked to be open and tight.
+// The path of a stretch as a tree has it, from plant 2 back to plant 1: each arc is checked to be open and tight.
 ghost use mathlib.Core.Path.{_≡_};
 ghost use mathlib.Core.Bool.{true};
 ghost use mathlib.Core.List.{List};
 ghost use Prim.Native.Nat.{ℕ, _+_, _-_, _≤_, _<_};
-ghost use Rattle.residual.specs.Network.{net};
-ghost use Rattle.treepath.specs.Follow.{FollowReady, Bears, Followed};
+ghost use Rattle.residual.specs.inner.Network.{net};
+ghost use Rattle.treepath.specs.inner.Follow.{FollowReady, Bears, Followed};
 use paths::search::smaller;
 
 // Do the potentials of a lane's ends differ by its unit cost?
@@ -97,7 +97,7 @@ pub struct Traced {
     pub amount: u32,
 }
 
-// The way from plant 1 up the tree, for limit drums at most: does it lead to plant 0? It ends there, or where an arc is not open or not tight, or
+// The way from plant 2 up the tree, for limit drums at most: does it lead to plant 1? It ends there, or where an arc is not open or not tight, or
 // after as many arcs as no path has. For each node on it but the last, prev then has the node before it.
 pub fn follow(
     m: usize,
@@ -106,7 +106,7 @@ pub fn follow(
     cap: &[u32; 2048],
     x: &[u32; 2048],
     pot: &[u32; 96],
-    up: &[u32; 128],
+    parent: &[u32; 128],
     limit: u32,
     prev: &mut [u32; 96],
 ) -> Traced
@@ -119,7 +119,7 @@ pub fn follow(
     let mut count: u32 = 0;
     let mut amount = limit;
     while count < 95 {
-        let w = (up[v] % 128) as usize;
+        let w = (parent[v] % 128) as usize;
         let room = tied(m, n, v, w, cost, cap, x, pot);
         if room == 0 {
             return Traced {

@@ -8,7 +8,7 @@ use lib.Seq.{getD-take, getD-drop}
 use borrow.Author.Tests.{lt-ltb, le-ltb}
 use Rattle.transport.specs.Sum.{sum}
 use Rattle.transport.proofs.Sums.{sum-ext}
-use Rattle.problem.specs.LentTests.{AtMost}
+use Rattle.problem.specs.inner.LentTests.{AtMost}
 use Rattle.validation.specs.Verdict.{madeOf}
 use Rattle.validation.specs.declared.tests.Made.the-variants.{Drums, Unbalanced}
 

@@ -13,7 +13,7 @@ use Rattle.problem.specs.Outcome.{Outcome, refused, firstFrom, _orElse_, formRe
 use Rattle.validation.specs.Size.{checkedOf}
 use Rattle.validation.specs.declared.limits.Size.{Size}
 use Rattle.validation.specs.declared.limits.Checked.the-variants.{Fits, Refused}
-use Rattle.problem.specs.LentTests.{firstOutside, amountsRefusal, runsRefusal, ceilingsRefusal}
+use Rattle.problem.specs.inner.LentTests.{firstOutside, amountsRefusal, runsRefusal, ceilingsRefusal}
 use Rattle.problem.specs.Range.{outside}
 use lib.IntN.{pos}
 use Rattle.problem.proofs.FirstFailing.{moved, first-moved}

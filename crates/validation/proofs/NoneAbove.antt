@@ -6,7 +6,7 @@ use native.Mathlib.Decide.{ℕ-discrete, decLt}
 use native.Mathlib.Omega.{arith}
 use lib.Bits.{bitOr, or-add-and, and-le-l, and-le-r}
 use lib.ListN.{getD}
-use Rattle.validation.specs.Above.{NoneAbove}
+use Rattle.validation.specs.inner.Above.{NoneAbove}
 
 pub above-start : {s : List ℕ} {k limit : ℕ} → NoneAbove s k 0 limit
 above-start = record { each = λ j h. absurd (omega arith) }

@@ -1,3 +1,3 @@
-pub mod Above
 pub mod Size
 pub mod Verdict
+pub mod inner

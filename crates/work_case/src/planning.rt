@@ -4,7 +4,7 @@ ghost use lib.ListN.{length};
 ghost use Rattle.planner.specs.Answer.{outcome, slices, Answered};
 ghost use Rattle.work_store.specs.State.{lentWith};
 ghost use Rattle.work_store.specs.Store.{slot, draftIn, stateAt};
-ghost use Rattle.work_store.specs.OpenStore.{Open, Front};
+ghost use Rattle.work_store.specs.inner.OpenStore.{Open, Front};
 ghost use Rattle.work_plans.specs.Planning.{MarkPlanned};
 use planner::Answer;
 use work_edits::costs::costs_of;

@@ -8,7 +8,7 @@ ghost use lib.ListN.{length};
 ghost use Rattle.validation.specs.Verdict.{verdict};
 ghost use Rattle.work_store.specs.Store.{stateAt};
 ghost use Rattle.work_store.specs.Seeing.{tariffRefusal, tableRefusal, limitsRefusal, marksRefusal, flagsOf, shownUnless};
-ghost use Rattle.work_store.specs.OpenStore.{Open};
+ghost use Rattle.work_store.specs.inner.OpenStore.{Open};
 use validation::tests::Verdict;
 use work_edits::costs::lower_cells;
 use work_edits::edits::entries;

@@ -5,7 +5,7 @@ ghost use lib.ListN.{length, set};
 ghost use Rattle.validation.specs.Verdict.{verdict};
 ghost use Rattle.work_store.specs.Store.{suppliesAt, inCase, zeroed, entriesIn, extended};
 ghost use Rattle.work_store.specs.Calls.{editDemand, editSupply, editCost, editEntry};
-ghost use Rattle.work_store.specs.OpenStore.{Open, Acted, runIn};
+ghost use Rattle.work_store.specs.inner.OpenStore.{Open, Acted, runIn};
 use crate::costs::raised;
 use validation::tests::Verdict;
 use validation::tests::out_of_range;

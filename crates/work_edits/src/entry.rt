@@ -5,7 +5,7 @@ ghost use lib.ListN.{length};
 ghost use lib.Seq.{paste};
 ghost use Rattle.transport.specs.Curve.{written};
 ghost use Rattle.work_store.specs.Store.{cellsOf};
-ghost use Rattle.work_store.specs.OpenStore.{Sized};
+ghost use Rattle.work_store.specs.inner.OpenStore.{Sized};
 ghost use Rattle.work_store.specs.State.{draft};
 use crate::costs::raise_cells;
 use work_store::layout::SIGNATURE;

@@ -16,7 +16,7 @@ use Rattle.work_store.specs.Calls.{goBack, absent, unset, held, refusalIn, acte
 use Rattle.work_store.specs.Store.{cellsFor, suppliesAt, demandsAt, costsAt, ceilingsAt, tableAt, inCase, width, slot, draftIn, costIn, entriesIn, stateAt, sources, terminals, heldIn}
 use Rattle.work_store.specs.Promise.{answerTo, steps}
 use Rattle.work_plans.specs.Planning.{outcomeIn, outcomeUnless, PlannedFrom, PlannedUnless, MarkPlanned}
-use Rattle.work_store.specs.OpenStore.{openedOf, Open, Front}
+use Rattle.work_store.specs.inner.OpenStore.{openedOf, Open, Front}
 use Rattle.work_store.proofs.ListParts.{part-length}
 use Rattle.work_store.proofs.OpenStore.{is-shut, is-found, found-size}
 use Rattle.work_store.proofs.CaseCells.{front-cells, front-room}

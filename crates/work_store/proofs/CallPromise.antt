@@ -14,7 +14,7 @@ use Rattle.work_store.specs.State.{State}
 use Rattle.work_store.specs.Calls.{Call, editCost, setMark, goBack, refuseWhen, absent, unset, refusalIn, acted, unless, step}
 use Rattle.work_store.specs.Store.{stateAt, markIn, sources, terminals, signedAt, opens, heldIn, copied, writes}
 use Rattle.work_store.specs.Promise.{answerTo, steps, cellsUnless, Performed}
-use Rattle.work_store.specs.OpenStore.{openedOf, Acted}
+use Rattle.work_store.specs.inner.OpenStore.{openedOf, Acted}
 use Rattle.work_store.proofs.StateAfterWrites.{inside, is-open, held-eq, mark-state, mark-head, mark-length, back-state}
 use Rattle.work_store.proofs.Slots.{copied-length, copied-head}
 use Rattle.work_store.proofs.OpenStore.{is-shut, is-found, found-size}

@@ -10,7 +10,7 @@ use Rattle.problem.specs.Outcome.{Outcome, refused, refuseIf, _orElse_}
 use Rattle.work_store.specs.State.{State}
 use Rattle.work_store.specs.Calls.{Call, setMark, goBack, refuseWhen, absent, unset, refusalIn}
 use Rattle.work_store.specs.Store.{stateAt, markIn, writes}
-use Rattle.work_store.specs.OpenStore.{Acted}
+use Rattle.work_store.specs.inner.OpenStore.{Acted}
 
 pub or-true : (a : Bool) → (a || true) ≡ true
 or-true true = refl

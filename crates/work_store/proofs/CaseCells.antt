@@ -7,7 +7,7 @@ use native.Mathlib.Omega.{arith}
 use lib.ListN.{length, getD, take, drop, length-drop}
 use Rattle.work_store.specs.State.{Draft}
 use Rattle.work_store.specs.Store.{cellsFor, suppliesAt, demandsAt, costsAt, ceilingsAt, tableAt, inCase, width, start, slot, costIn, entriesFor, entriesIn, draftIn, stateAt}
-use Rattle.work_store.specs.OpenStore.{Open, Front}
+use Rattle.work_store.specs.inner.OpenStore.{Open, Front}
 use Rattle.work_store.proofs.ListParts.{part-length}
 use Rattle.work_store.proofs.Slots.{start-0, slot-room, front-part, front-cell}
 use Rattle.work_store.proofs.StoreInSlot.{draft-eq}

@@ -14,7 +14,7 @@ use Rattle.problem.specs.Outcome.{Outcome, refused, refuseIf, _orElse_}
 use Rattle.work_store.specs.State.{Draft}
 use Rattle.work_store.specs.Calls.{editDemand, editSupply, editCost, editEntry, refuseWhen, absent, leastRun, refusalIn}
 use Rattle.work_store.specs.Store.{stateAt, draftIn, entriesIn}
-use Rattle.work_store.specs.OpenStore.{Open, runIn}
+use Rattle.work_store.specs.inner.OpenStore.{Open, runIn}
 use Rattle.work_store.proofs.CallRefusals.{or-true, first-24, past-24, when, not-when}
 use Rattle.work_store.proofs.CaseCells.{case-cells, entries-long}
 

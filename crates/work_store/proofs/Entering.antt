@@ -17,7 +17,7 @@ use Rattle.work_store.specs.State.{Draft, lentWith, entered}
 use Rattle.work_store.specs.Calls.{absent}
 use Rattle.work_store.specs.Store.{cellsFor, suppliesAt, demandsAt, costsAt, ceilingsAt, tableAt, inCase, width, slot, costIn, entriesFor, draftIn, markIn, stateAt, signature, opens, signed, inLimits, heldIn, header, cellsOf}
 use Rattle.work_store.specs.Promise.{entryRefusal, Entered}
-use Rattle.work_store.specs.OpenStore.{Sized}
+use Rattle.work_store.specs.inner.OpenStore.{Sized}
 use Rattle.work_store.proofs.ListParts.{part-at}
 use Rattle.work_store.proofs.Slots.{case-part, case-cell}
 use Rattle.work_store.proofs.CostLaws.{costs-back}

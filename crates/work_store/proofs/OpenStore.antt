@@ -9,7 +9,7 @@ use lib.ListN.{length, getD}
 use borrow.Author.Tests.{le-leb, lt-leb, eq-eqb, ne-eqb}
 use Rattle.work_store.specs.declared.opened.Opened.the-variants.{Held, Closed}
 use Rattle.work_store.specs.Store.{cellsFor, sources, terminals, signedAt, signature, signed, opens, inLimits, cellsToLend}
-use Rattle.work_store.specs.OpenStore.{openedOf, Open}
+use Rattle.work_store.specs.inner.OpenStore.{openedOf, Open}
 use Rattle.work_store.proofs.StateAfterWrites.{is-open, large}
 
 and-false : (a : Bool) → (a && false) ≡ false

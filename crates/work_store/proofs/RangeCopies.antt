@@ -8,7 +8,7 @@ use native.Mathlib.Omega.{arith}
 use lib.ListN.{length, getD, set, drop, replicate, length-drop, length-replicate, getD-replicate}
 use lib.Seq.{paste, paste-zero, paste-suc, length-paste, take-length, getD-drop}
 use Rattle.transport.specs.Curve.{written}
-use Rattle.work_store.specs.OpenStore.{Apart}
+use Rattle.work_store.specs.inner.OpenStore.{Apart}
 use Rattle.work_store.proofs.ListParts.{copy-below, copy-above}
 
 -- the first i cells are copied

@@ -9,7 +9,7 @@ use native.Mathlib.Omega.{arith}
 use lib.ListN.{length, getD, set, take, drop, length-drop}
 use lib.Seq.{paste, length-paste, getD-drop, drop-drop, drop-set-lt, drop-set-add, take-set-lt}
 use Rattle.work_store.specs.Store.{cellsFor, width, start, slot, copied, inCase}
-use Rattle.work_store.specs.OpenStore.{Open, Apart, Slots}
+use Rattle.work_store.specs.inner.OpenStore.{Open, Apart, Slots}
 use Rattle.work_store.proofs.ListParts.{part-length, part-at, part-ext, copy-below, copy-in, copy-above}
 
 -- slot 0 starts after eleven cells

@@ -14,7 +14,7 @@ use Rattle.problem.proofs.TestsPassed.{either-first, either-second}
 use Rattle.work_store.specs.State.{Draft, State}
 use Rattle.work_store.specs.Calls.{absent, withCase, held, unset, acted, setMark, goBack}
 use Rattle.work_store.specs.Store.{cellsFor, width, slot, draftIn, markIn, stateAt, sources, terminals, signedAt, signature, signed, opens, inLimits, heldIn, copied}
-use Rattle.work_store.specs.OpenStore.{Open}
+use Rattle.work_store.specs.inner.OpenStore.{Open}
 use Rattle.work_store.proofs.Slots.{store-slot, store-other, copied-length, copied-head, copied-same, copied-other, store-head}
 
 both-first : (a b : Bool) → (a && b) ≡ true → a ≡ true

@@ -8,7 +8,7 @@ use lib.Seq.{length-paste}
 use Rattle.work_store.specs.State.{State}
 use Rattle.work_store.specs.Calls.{editSupply, acted, withCase, withSupply}
 use Rattle.work_store.specs.Store.{suppliesAt, demandsAt, costsAt, ceilingsAt, tableAt, inCase, width, start, slot, costIn, entriesFor, entriesIn, draftIn, stateAt, zeroed, extended}
-use Rattle.work_store.specs.OpenStore.{Open}
+use Rattle.work_store.specs.inner.OpenStore.{Open}
 use Rattle.work_store.proofs.ListParts.{part-ext, copy-below, copy-in, copy-above}
 use Rattle.work_store.proofs.Slots.{start-0, slot-room, slots-apart, case-cell, slot-length}
 use Rattle.work_store.proofs.StoreInSlot.{draft-eq, first-draft}

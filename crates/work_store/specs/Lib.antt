@@ -2,5 +2,5 @@ pub mod State
 pub mod Calls
 pub mod Store
 pub mod Promise
-pub mod OpenStore
 pub mod Seeing
+pub mod inner

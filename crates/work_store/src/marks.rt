@@ -4,7 +4,7 @@ ghost use lib.ListN.{drop};
 ghost use lib.Seq.{paste};
 ghost use Rattle.validation.specs.Verdict.{verdict};
 ghost use Rattle.work_store.specs.Calls.{setMark, goBack};
-ghost use Rattle.work_store.specs.OpenStore.{Open, Acted, Apart, Slots};
+ghost use Rattle.work_store.specs.inner.OpenStore.{Open, Acted, Apart, Slots};
 ghost use Rattle.work_store.specs.Store.{copied};
 use crate::layout::FLAGS;
 use crate::layout::slot_start;

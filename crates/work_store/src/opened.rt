@@ -1,6 +1,6 @@
 // Which working case a store holds.
 ghost use mathlib.Core.Path.{_≡_};
-ghost use Rattle.work_store.specs.OpenStore.{openedOf};
+ghost use Rattle.work_store.specs.inner.OpenStore.{openedOf};
 use crate::layout::SIGNATURE;
 use crate::layout::SIGNED;
 use crate::layout::cells_for;

@@ -20,7 +20,7 @@ use Rattle.csv_case.specs.declared.case.CaseAnswer.{CaseAnswer}
 use Rattle.csv_case.specs.declared.case.CaseAnswer.the-variants as answers
 use Rattle.csv_case.specs.CaseFiles.{caseAnswer, CaseStored}
 use Rattle.plan_files.specs.Printed.{fileCase}
-use Rattle.plan_files.specs.StoredCase.{cutCase, Stored}
+use Rattle.plan_files.specs.inner.StoredCase.{cutCase, Stored}
 use Rattle.plan_files.proofs.FileRefusals.{Alike}
 use Rattle.plan_files.proofs.StoredCase.{cut-alike}
 use Rattle.write_case.specs.declared.Texts.{Texts}

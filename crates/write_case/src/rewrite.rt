@@ -7,7 +7,7 @@ use csv_table::store::smaller;
 ghost use Prim.Native.Nat.{min, _*_};
 ghost use lib.ListN.{take};
 ghost use Rattle.planner.specs.Judge.{freeCase};
-ghost use Rattle.plan_files.specs.StoredCase.{Stored};
+ghost use Rattle.plan_files.specs.inner.StoredCase.{Stored};
 ghost use Rattle.write_case.specs.Writing.{CaseWritten, FilesRewritten};
 
 // Cells for the unit costs of 32 sources and 64 terminals.

@@ -1,7 +1,7 @@
 -- `bounds_files::bounds_files` meets its contract. Assumes nothing.
 use mathlib.Core.Path.{refl}
 use lib.ListN.{replicate}
-use Rattle.plan_files.specs.StoredCase.{Stored}
+use Rattle.plan_files.specs.inner.StoredCase.{Stored}
 use Rattle.bounds_files.proofs.BoundsPrinting.{refused-files, case-files}
 use borrow.Author.Needs.{needs}
 use Rattle.bounds_files.proofs.bounds_files.Statement.{statement}

@@ -33,7 +33,7 @@ shared-slice-copy-out-magnitude c = omega arith
 magnitude-requires : tie.Need-magnitude-requires Inv-loop μ-loop
 magnitude-requires c κs = search needs
 
--- the size of the integer of this turn
+-- the size of the integer of this pass
 size : (c : tie.After-magnitude Inv-loop μ-loop)
     → c .magnitude .result ≡ natAbs (getD (now (c .before .before .before .before .before .args .s)) (c .before .before .before .loop .k) (pos 0))
 size c = c .magnitude .ensures ∙ ap (λ (z : ℤ). natAbs z) (read-back (getD (now (c .before .before .before .before .before .args .s)) (c .before .before .before .loop .k) (pos 0)) (c .before .magnitude-arg .given))

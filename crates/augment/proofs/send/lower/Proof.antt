@@ -1,7 +1,7 @@
 -- `augment::send::lower` meets its contract. Assumes nothing.
 use Prim.Native.Nat.{_-_, _≤_}
 use native.Mathlib.Omega.{arith}
-use Rattle.augment.specs.Potentials.{Lowered}
+use Rattle.augment.specs.inner.Potentials.{Lowered}
 use Rattle.augment.proofs.Potentials.{lower-start, lower-next, lower-end}
 use borrow.Author.Needs.{needs}
 use Rattle.augment.proofs.send.lower.Statement.{statement}

@@ -1,7 +1,7 @@
 -- `augment::send::measure` meets its contract. Assumes nothing.
 use Prim.Native.Nat.{_-_}
 use native.Mathlib.Omega.{arith}
-use Rattle.augment.specs.PathMeasure.{Measuring}
+use Rattle.augment.specs.inner.PathMeasure.{Measuring}
 use Rattle.augment.proofs.PathMeasure.{measure-start, measure-prev, measure-ready, measure-few, measure-next, measure-end}
 use borrow.Author.Needs.{needs}
 use Rattle.augment.proofs.send.measure.Statement.{statement}

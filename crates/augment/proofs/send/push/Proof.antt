@@ -2,9 +2,9 @@
 use mathlib.Core.List.{List}
 use Prim.Native.Nat.{ℕ}
 use native.Mathlib.Omega.{arith}
-use Rattle.augment.specs.PathWalk.{Walkable, Walked}
-use Rattle.augment.specs.LaneMarks.{Trail, Marks}
-use Rattle.augment.proofs.PathWalk.{turn-node, turn-prev, turn-able, turn-back, walked-none}
+use Rattle.augment.specs.inner.PathWalk.{Walkable, Walked}
+use Rattle.augment.specs.inner.LaneMarks.{Trail, Marks}
+use Rattle.augment.proofs.PathWalk.{pass-node, pass-prev, pass-able, pass-back, walked-none}
 use Rattle.augment.proofs.LaneMarks.{trail-node, trail-next, marks-back, marks-none}
 use borrow.Author.Needs.{needs}
 use Rattle.augment.proofs.send.push.Statement.{statement}
@@ -27,16 +27,16 @@ loop-holds : tie.Need-loop-holds Inv-loop μ-loop
 loop-holds c = record { able = c .pre .0; rest = λ z w. w; trail = c .pre .1; marked = λ z w. w }
 
 mul-w : tie.Need-mul-w Inv-loop μ-loop
-mul-w c = omega (arith, turn-node (c .before .before .args .prev .now) (c .before .before .args .amount) (c .before .loop .v) (c .before .loop .x) (c .before .loop .left) (c .loop-test .taken) (c .before .loop .inv .able) .0)
+mul-w c = omega (arith, pass-node (c .before .before .args .prev .now) (c .before .before .args .amount) (c .before .loop .v) (c .before .loop .x) (c .before .loop .left) (c .loop-test .taken) (c .before .loop .inv .able) .0)
 
 element-copy-out-w : tie.Need-element-copy-out-w Inv-loop μ-loop
-element-copy-out-w c = turn-node (c .before .before .args .prev .now) (c .before .before .args .amount) (c .before .loop .v) (c .before .loop .x) (c .before .loop .left) (c .loop-test .taken) (c .before .loop .inv .able) .0
+element-copy-out-w c = pass-node (c .before .before .args .prev .now) (c .before .before .args .amount) (c .before .loop .v) (c .before .loop .x) (c .before .loop .left) (c .loop-test .taken) (c .before .loop .inv .able) .0
 
 cast-w : tie.Need-cast-w Inv-loop μ-loop
-cast-w c = omega (arith, turn-prev (c .before .before .before .args .prev .now) (c .before .before .before .args .amount) (c .before .before .loop .v) (c .before .before .loop .x) (c .before .before .loop .left) (c .before .loop-test .taken) (c .before .before .loop .inv .able))
+cast-w c = omega (arith, pass-prev (c .before .before .before .args .prev .now) (c .before .before .before .args .amount) (c .before .before .loop .v) (c .before .before .loop .x) (c .before .before .loop .left) (c .before .loop-test .taken) (c .before .before .loop .inv .able))
 
 carry-requires : tie.Need-carry-requires Inv-loop μ-loop
-carry-requires c κs = turn-node (c .before .before .before .before .args .prev .now) (c .before .before .before .before .args .amount) (c .before .before .before .loop .v) (c .before .before .before .loop .x) (c .before .before .before .loop .left) (c .before .before .loop-test .taken) (c .before .before .before .loop .inv .able) .1
+carry-requires c κs = pass-node (c .before .before .before .before .args .prev .now) (c .before .before .before .before .args .amount) (c .before .before .before .loop .v) (c .before .before .before .loop .x) (c .before .before .before .loop .left) (c .before .before .loop-test .taken) (c .before .before .before .loop .inv .able) .1
 
 serve-requires : tie.Need-serve-requires Inv-loop μ-loop
 serve-requires c κs = let n = trail-node (c .before .before .before .before .before .before .args .prev .now) (c .before .before .before .before .before .loop .v) 32 (c .before .before .before .before .before .loop .left) (c .before .before .before .before .loop-test .taken) (c .before .before .before .before .before .loop .inv .trail) in (n .0, n .2)
@@ -55,8 +55,8 @@ loop-again c =
     let l = c .before .before .before .before .before .before .before .loop-test .taken in
     let i = c .before .before .before .before .before .before .before .before .loop .inv in
     record {
-      able = turn-able (c .before .before .before .before .before .before .before .before .before .args .prev .now) (c .before .before .before .before .before .before .before .before .before .args .amount) (c .before .before .before .before .before .before .before .before .loop .v) (c .before .before .before .before .before .before .before .before .loop .x) (c .before .before .before .before .before .before .before .before .loop .left) l (i .able) _ (c .before .before .before .before .carry .ensures);
-      rest = λ z w. i .rest z (turn-back (c .before .before .before .before .before .before .before .before .before .args .prev .now) (c .before .before .before .before .before .before .before .before .before .args .amount) (c .before .before .before .before .before .before .before .before .loop .v) (c .before .before .before .before .before .before .before .before .loop .x) (c .before .before .before .before .before .before .before .before .loop .left) l _ z (c .before .before .before .before .carry .ensures) w);
+      able = pass-able (c .before .before .before .before .before .before .before .before .before .args .prev .now) (c .before .before .before .before .before .before .before .before .before .args .amount) (c .before .before .before .before .before .before .before .before .loop .v) (c .before .before .before .before .before .before .before .before .loop .x) (c .before .before .before .before .before .before .before .before .loop .left) l (i .able) _ (c .before .before .before .before .carry .ensures);
+      rest = λ z w. i .rest z (pass-back (c .before .before .before .before .before .before .before .before .before .args .prev .now) (c .before .before .before .before .before .before .before .before .before .args .amount) (c .before .before .before .before .before .before .before .before .loop .v) (c .before .before .before .before .before .before .before .before .loop .x) (c .before .before .before .before .before .before .before .before .loop .left) l _ z (c .before .before .before .before .carry .ensures) w);
       trail = trail-next (c .before .before .before .before .before .before .before .before .before .args .prev .now) (c .before .before .before .before .before .before .before .before .loop .v) 32 (c .before .before .before .before .before .before .before .before .loop .left) l (i .trail);
       marked = λ z w. i .marked z (marks-back (c .before .before .before .before .before .before .before .before .before .args .prev .now) (c .before .before .before .before .before .before .before .before .loop .v) (c .before .before .before .before .before .before .before .before .loop .left) l z (c .before .before .serve .ensures) w);
     }

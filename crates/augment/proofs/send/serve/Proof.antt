@@ -4,7 +4,7 @@ use Prim.Native.Nat.{_-_}
 use native.Mathlib.Omega.{arith}
 use lib.ListN.{set}
 use lib.Bits.{bitOr}
-use Rattle.residual.specs.Network.{get}
+use Rattle.residual.specs.inner.Network.{get}
 use Rattle.residual.proofs.Bits.{power-fits}
 use borrow.Author.Needs.{needs}
 use Rattle.augment.proofs.send.serve.Statement.{statement}

@@ -7,7 +7,7 @@ use lib.ListN.{length, getD, length-set}
 use lib.Seq.{getD-set-other}
 use denote.Ref.{now}
 use Rattle.problem.proofs.MachineIntegers.{read-back}
-use Rattle.bounds_problem.specs.Heights.{height, Moderate, Drawn, Drawing}
+use Rattle.bounds_problem.specs.inner.Heights.{height, Moderate, Drawn, Drawing}
 use Rattle.bounds_problem.proofs.HeightLoops.{drawn-first, drawn-on, line-at, stretch-at}
 use Rattle.bounds_problem.proofs.curve.draw.Statement.{statement}
 use Rattle.bounds_problem.proofs.curve.draw.Tie as tie

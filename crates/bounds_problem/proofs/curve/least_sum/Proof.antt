@@ -4,7 +4,7 @@ use Prim.Native.Nat.{ℕ, min, _+_, _-_, _≤_}
 use native.Mathlib.Omega.{arith}
 use lib.ListN.{length, getD}
 use denote.Ref.{now}
-use Rattle.bounds_problem.specs.Heights.{leastUpTo, leastSum}
+use Rattle.bounds_problem.specs.inner.Heights.{leastUpTo, leastSum}
 use Rattle.bounds_problem.proofs.HeightLoops.{least-start, least-next}
 use Rattle.bounds_problem.proofs.curve.least_sum.Statement.{statement}
 use Rattle.bounds_problem.proofs.curve.least_sum.Tie as tie

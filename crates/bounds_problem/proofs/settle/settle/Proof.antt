@@ -7,8 +7,9 @@ use lib.ListN.{length}
 use denote.Ref.{now}
 use Rattle.transport.specs.Curve.{written}
 use Rattle.problem.proofs.MachineIntegers.{read-back}
-use Rattle.bounds_problem.specs.Heights.{marksBy}
-use Rattle.bounds_problem.specs.Answers.{known, settledOf}
+use Rattle.bounds_problem.specs.inner.Heights.{marksBy}
+use Rattle.bounds_problem.specs.Answers.{known}
+use Rattle.bounds_problem.specs.inner.Settled.{settledOf}
 use Rattle.bounds_problem.proofs.HeightLoops.{least-small}
 use borrow.Author.Needs.{needs}
 use Rattle.bounds_problem.proofs.settle.settle.Statement.{statement}

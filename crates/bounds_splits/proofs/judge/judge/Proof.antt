@@ -4,9 +4,9 @@ use Prim.Native.Nat.{_≤_}
 use native.Mathlib.Omega.{arith}
 use lib.ListN.{length}
 use denote.Ref.{now}
-use Rattle.bounds_problem.specs.Heights.{found}
+use Rattle.bounds_problem.specs.inner.Heights.{found}
 use Rattle.bounds_problem.specs.Answers.{Outcome, Answered}
-use Rattle.bounds_splits.specs.Judge.{tabled}
+use Rattle.bounds_splits.specs.inner.Judge.{tabled}
 use Rattle.bounds_problem.proofs.AnswerFromStops.{some-cell, first-cell, last-cell, drawing, draws, in-order, at-most, in-low, in-high, wrong-long, bad-in, bad-place, too-short, low-summed, high-summed, settled}
 use borrow.Author.Needs.{needs}
 use Rattle.bounds_splits.proofs.judge.judge.Statement.{statement}

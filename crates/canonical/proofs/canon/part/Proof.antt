@@ -1,8 +1,8 @@
 -- `canonical::canon::part` meets its contract. Assumes nothing.
 use Prim.Native.Nat.{_*_, _-_, _≤_}
 use native.Mathlib.Omega.{arith}
-use Rattle.residual.specs.Cells.{cells}
-use Rattle.canonical.specs.Canonize.{bare, Kept, PartedTo}
+use Rattle.residual.specs.inner.Cells.{cells}
+use Rattle.canonical.specs.inner.Canonize.{bare, Kept, PartedTo}
 use Rattle.canonical.proofs.LaneStores.{part-skip, kept-none, kept-both}
 use borrow.Author.Needs.{needs}
 use Rattle.canonical.proofs.canon.part.Statement.{statement}

@@ -4,8 +4,8 @@ use native.Mathlib.Omega.{arith}
 use lib.ListN.{getD, set}
 use lib.Bits.{bitOr}
 use borrow.Author.Needs.{needs}
-use Rattle.reachability.specs.Reachability.{Opens}
-use Rattle.canonical.specs.Canonize.{Doors}
+use Rattle.reachability.specs.inner.Reachability.{Opens}
+use Rattle.canonical.specs.inner.Canonize.{Doors}
 use Rattle.canonical.proofs.LaneStores.{part-moved, part-empty, part-aside, cover-brought, door-open}
 use Rattle.canonical.proofs.FreeLanes.{open-lane}
 use Rattle.reachability.proofs.MaskBits.{power-fits-long}

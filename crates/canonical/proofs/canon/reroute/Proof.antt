@@ -3,11 +3,11 @@ use mathlib.Core.Path.{_≡_}
 use Prim.Native.Nat.{ℕ}
 use native.Mathlib.Omega.{arith}
 use lib.ListN.{length, length-replicate}
-use Rattle.residual.specs.LanesInUse.{Covers}
-use Rattle.reachability.specs.Reachability.{Known}
-use Rattle.canonical.specs.Canonize.{Rerouting}
+use Rattle.residual.specs.inner.LanesInUse.{Covers}
+use Rattle.reachability.specs.inner.Reachability.{Known}
+use Rattle.canonical.specs.inner.Canonize.{Rerouting}
 use Rattle.canonical.proofs.FreeLanes.{known-next}
-use Rattle.canonical.proofs.Rerouting.{reroute-start, free-again, roam-at, reroute-next}
+use Rattle.canonical.proofs.Rerouting.{reroute-start, free-again, reach-at, reroute-next}
 use Rattle.canonical.proofs.canon.reroute.Statement.{statement}
 use Rattle.canonical.proofs.canon.reroute.Tie as tie
 
@@ -21,16 +21,16 @@ abbrev μ-loop : tie.MeasureT-loop
 loop-holds : tie.Need-loop-holds Inv-loop μ-loop
 loop-holds c = (reroute-start (c .pre .0), c .pre .1 .1 .1 .1, length-replicate {A = ℕ} 96 0, c .pre .1 .1 .0)
 
-roam-requires : tie.Need-roam-requires Inv-loop μ-loop
-roam-requires c κs =
+reach-requires : tie.Need-reach-requires Inv-loop μ-loop
+reach-requires c κs =
     let h = c .before .before .before .before in let s = h .before .before .pre in
     let q = h .before .loop .inv in
-    (roam-at (s .0) (q .0), (h .loop-test .taken, (s .1 .0, (q .3, (q .1, (s .1 .1 .1 .0, q .2))))))
+    (reach-at (s .0) (q .0), (h .loop-test .taken, (s .1 .0, (q .3, (q .1, (s .1 .1 .1 .0, q .2))))))
 
 follow-requires : tie.Need-follow-requires Inv-loop μ-loop
 follow-requires c κs =
     let t = c .before .before .before in let h = t .before .before .before .before .before .before in let s = h .before .before .pre in
-    let r = t .before .roam .ensures in
+    let r = t .before .reach .ensures in
     (free-again (s .0) (h .before .loop .inv .0), (h .loop-test .taken, (r .0 .found (t .if1 .taken) .trodden, r .1 .1)))
 
 sub-left : tie.Need-sub-left Inv-loop μ-loop
@@ -42,12 +42,12 @@ loop-less c = omega (arith, c .follow .ensures .0 .some, c .follow .ensures .0 .
 loop-again : tie.Need-loop-again Inv-loop μ-loop
 loop-again c =
     let t = c .before .before .before .before in let h = t .before .before .before .before .before .before in let s = h .before .before .pre in
-    let r = t .before .roam .ensures in let w = r .0 .found (t .if1 .taken) in let d = c .follow .ensures in
+    let r = t .before .reach .ensures in let w = r .0 .found (t .if1 .taken) in let d = c .follow .ensures in
     (reroute-next (s .0) (h .before .loop .inv .0) (d .0), d .1, w .trodden .labelled .searched .long .prevs, known-next (r .1 .0) w (d .0))
 
 returns : tie.Need-returns Inv-loop μ-loop
 returns c =
-    let h = c .before .before .before .before .before .before in let r = c .before .roam .ensures in
+    let h = c .before .before .before .before .before .before in let r = c .before .reach .ensures in
     (record { rerouting = h .before .loop .inv .0; none = λ h. r .0 .none (c .if1 .left) }, (r .1 .0 .supplied, r .1 .1))
 
 returns-2 : tie.Need-returns-2 Inv-loop μ-loop
@@ -60,7 +60,7 @@ reroute-spec =
     Inv-loop
     μ-loop
     loop-holds
-    roam-requires
+    reach-requires
     follow-requires
     sub-left
     loop-less

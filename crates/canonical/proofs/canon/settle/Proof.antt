@@ -1,8 +1,8 @@
 -- `canonical::canon::settle` meets its contract. Assumes nothing.
 use Prim.Native.Nat.{_*_, _-_, _≤_}
 use native.Mathlib.Omega.{arith}
-use Rattle.reachability.specs.Reachability.{Supplied}
-use Rattle.canonical.specs.Canonize.{Onward, Open}
+use Rattle.reachability.specs.inner.Reachability.{Supplied}
+use Rattle.canonical.specs.inner.Canonize.{Onward, Open}
 use Rattle.canonical.proofs.FreeLanes.{supplied-all}
 use Rattle.canonical.proofs.LaneStores.{onward-none, onward-skip, onward-both}
 use borrow.Author.Needs.{needs}

@@ -2,7 +2,7 @@
 use mathlib.Core.Path.{sym, ap}
 use borrow.Author.Needs.{needs}
 use denote.Ref.{now}
-use Rattle.csv_form.specs.Reader.{digitOr10}
+use Rattle.csv_form.specs.inner.Reader.{digitOr10}
 use Rattle.csv_form.proofs.ByteMarks.{mark-digit, below-ten, above-ten, nothing-ten}
 use Rattle.csv_form.proofs.field.digit_at.Statement.{statement}
 use Rattle.csv_form.proofs.field.digit_at.Tie as tie

@@ -6,7 +6,7 @@ use denote.Ref.{now}
 use lib.Dec.{ltb}
 use lib.ListN.{getD}
 use Rattle.csv_form.specs.Form.{mark}
-use Rattle.csv_form.specs.Reader.{digitOr10}
+use Rattle.csv_form.specs.inner.Reader.{digitOr10}
 use Rattle.csv_form.proofs.ByteMarks.{inside}
 use Rattle.csv_form.proofs.Fields.{number-none, number-plain, number-minus, number-zero}
 use borrow.Author.Needs.{needs}

@@ -6,7 +6,7 @@ use borrow.Author.Needs.{needs}
 use denote.Ref.{now}
 use lib.ListN.{length, getD}
 use Rattle.csv_form.specs.Form.{mark}
-use Rattle.csv_form.specs.Reader.{digitOr10, digitsFrom}
+use Rattle.csv_form.specs.inner.Reader.{digitOr10, digitsFrom}
 use Rattle.csv_form.proofs.Digits.{DigitsSoFar, none-yet, one-more, fits}
 use Rattle.csv_form.proofs.FieldAnswers.{digits-stop, digits-spent, digits-step}
 use Rattle.csv_form.proofs.ByteMarks.{inside}

@@ -1,6 +1,6 @@
 -- `csv_form::field::read_number` meets its contract. Assumes nothing.
 use mathlib.Core.Path.{refl, sym, ap, _∙_}
-use Rattle.csv_form.specs.Reader.{numberOf, valued}
+use Rattle.csv_form.specs.inner.Reader.{numberOf, valued}
 use borrow.Author.Needs.{needs}
 use Rattle.csv_form.proofs.field.read_number.Statement.{statement}
 use Rattle.csv_form.proofs.field.read_number.Tie as tie

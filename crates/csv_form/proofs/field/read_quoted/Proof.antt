@@ -1,6 +1,6 @@
 -- `csv_form::field::read_quoted` meets its contract. Assumes nothing.
 use mathlib.Core.Path.{sym, ap, _∙_}
-use Rattle.csv_form.specs.Reader.{closeQuote}
+use Rattle.csv_form.specs.inner.Reader.{closeQuote}
 use Rattle.csv_form.proofs.FieldAnswers.{signed-minus, signed-plain}
 use denote.Ref.{now}
 use native.Mathlib.Omega.{arith}

@@ -1,6 +1,6 @@
 -- `csv_table::table::handed_on` meets its contract. Assumes nothing.
 use mathlib.Core.Path.{sym, ap}
-use Rattle.csv_table.specs.Tallies.{handedOn}
+use Rattle.csv_table.specs.inner.Tallies.{handedOn}
 use borrow.Author.Needs.{needs}
 use Rattle.csv_table.proofs.table.handed_on.Statement.{statement}
 use Rattle.csv_table.proofs.table.handed_on.Tie as tie

@@ -9,7 +9,7 @@ use lib.ListN.{length}
 use mir.Syntax.{w64}
 use mir.Val.{toZ, ofZ}
 use Rattle.csv_table.specs.declared.table.Tally.{Tally}
-use Rattle.csv_table.specs.Tallies.{recordTally}
+use Rattle.csv_table.specs.inner.Tallies.{recordTally}
 use Rattle.csv_table.proofs.FieldLoop.{few-field, field-ahead, field-small, field-next, record-next, along-length, valued-length, Along, Valued, along-start, countable, long-table, field-refused, field-valued, on-field, on-record, on-end, on-empty, on-refused}
 use Rattle.csv_print.proofs.PrintedSigns.{read-back}
 use Rattle.csv_table.proofs.table.scan.Statement.{statement}

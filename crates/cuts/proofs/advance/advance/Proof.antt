@@ -3,15 +3,15 @@ use Prim.Native.Nat.{_≤_}
 use native.Mathlib.Omega.{arith}
 use Rattle.cuts.proofs.Advancing.{advance-start, advance-next, advance-ready}
 use borrow.Author.Needs.{needs}
-use Rattle.cuts.specs.Advance.{Advanced}
+use Rattle.cuts.specs.inner.Advance.{Advanced}
 use Rattle.cuts.proofs.advance.advance.Statement.{statement}
 use Rattle.cuts.proofs.advance.advance.Tie as tie
 
 abbrev Inv-loop : tie.InvT-loop
-Inv-loop m n drained cost columns x serves₀ pot₀ up₀ rows₀ cols₀ v₀ left₀ serves pot up rows cols v left = (left ≤ 200) × Advanced m n cost x serves₀ pot₀ serves pot
+Inv-loop m n drained cost columns x serves₀ pot₀ up₀ rows₀ cols₀ v₀ left₀ serves pot parent sources-below terminals-below v left = (left ≤ 200) × Advanced m n cost x serves₀ pot₀ serves pot
 
 abbrev μ-loop : tie.MeasureT-loop
-μ-loop m n drained cost columns x serves₀ pot₀ up₀ rows₀ cols₀ v₀ left₀ serves pot up rows cols v left = left
+μ-loop m n drained cost columns x serves₀ pot₀ up₀ rows₀ cols₀ v₀ left₀ serves pot parent sources-below terminals-below v left = left
 
 blocked-at-start-requires : tie.Need-blocked-at-start-requires Inv-loop μ-loop
 blocked-at-start-requires c κs = search needs
@@ -25,8 +25,8 @@ returns c = c .before .before .loop .inv .1
 step-requires : tie.Need-step-requires Inv-loop μ-loop
 step-requires c κs = advance-ready (c .before .before .before .before .before .before .before .before .before .before .pre) (c .before .before .before .before .before .before .before .loop .inv .1)
 
-element-write-up : tie.Need-element-write-up Inv-loop μ-loop
-element-write-up c = search needs
+element-write-parent : tie.Need-element-write-parent Inv-loop μ-loop
+element-write-parent c = search needs
 
 returns-2 : tie.Need-returns-2 Inv-loop μ-loop
 returns-2 c = advance-next (c .before .before .before .before .before .before .before .before .before .loop .inv .1) (c .before .step .ensures)
@@ -56,7 +56,7 @@ advance-spec =
     loop-holds
     returns
     step-requires
-    element-write-up
+    element-write-parent
     returns-2
     blocked-requires
     sub-left

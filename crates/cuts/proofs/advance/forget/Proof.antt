@@ -3,7 +3,7 @@ use native.Mathlib.Omega.{arith}
 use Rattle.residual.proofs.Bits.{power-fits}
 use Rattle.cuts.proofs.Advancing.{forgot-none, forgot}
 use Rattle.cuts.proofs.PartBits.{bit-in, bit-least}
-use Rattle.residual.specs.Network.{get}
+use Rattle.residual.specs.inner.Network.{get}
 use borrow.Author.Needs.{needs}
 use Rattle.cuts.proofs.advance.forget.Statement.{statement}
 use Rattle.cuts.proofs.advance.forget.Tie as tie

@@ -40,8 +40,8 @@ next-lane-requires c κs = search needs
 returns : tie.Need-returns
 returns c = advance-cut (c .before .before .before .before .before .before .before .before .forget .ensures) (c .before .before .next-lane .ensures)
 
-rehang-requires : tie.Need-rehang-requires
-rehang-requires c κs = search needs
+reattach-requires : tie.Need-reattach-requires
+reattach-requires c κs = search needs
 
 returns-2 : tie.Need-returns-2
 returns-2 c = advance-cut (c .before .before .before .before .before .before .before .before .before .before .before .before .forget .ensures) (c .before .before .before .before .before .before .next-lane .ensures)
@@ -62,5 +62,5 @@ step-spec =
     element-copy-out-below
     next-lane-requires
     returns
-    rehang-requires
+    reattach-requires
     returns-2)

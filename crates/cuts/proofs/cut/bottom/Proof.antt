@@ -3,7 +3,7 @@ use Prim.Native.Nat.{_-_, _≤_}
 use native.Mathlib.Omega.{arith}
 use mathlib.Core.Path.{_≡_}
 use Rattle.cuts.proofs.CutSteps.{bottom-next}
-use Rattle.cuts.specs.Cut.{Bottom}
+use Rattle.cuts.specs.inner.Cut.{Bottom}
 use borrow.Author.Needs.{needs}
 use Rattle.cuts.proofs.cut.bottom.Statement.{statement}
 use Rattle.cuts.proofs.cut.bottom.Tie as tie

@@ -5,7 +5,7 @@ use lib.ListN.{getD}
 use lib.Count.{trailingZeros}
 use Rattle.cuts.proofs.PartBits.{rest-less}
 use Rattle.cuts.proofs.CutSteps.{change-start, change-in, change-old, change-next, change-end}
-use Rattle.cuts.specs.Cut.{Changed}
+use Rattle.cuts.specs.inner.Cut.{Changed}
 use Rattle.cuts.proofs.cut.change.Statement.{statement}
 use Rattle.cuts.proofs.cut.change.Tie as tie
 
@@ -15,7 +15,7 @@ Inv-loop part first up down pot₀ left₀ pot left = Changed part first up down
 abbrev μ-loop : tie.MeasureT-loop
 μ-loop part first up down pot₀ left₀ pot left = left
 
--- the node that a turn takes
+-- the node that a pass takes
 node : (c : tie.In-loop Inv-loop μ-loop) → c .before .before .args .first + trailingZeros 64 (c .before .loop .left) < 96
 node c = c .before .before .pre .within (trailingZeros 64 (c .before .loop .left)) (change-in (c .before .loop .inv .0) (c .loop-test .taken) (c .before .loop .inv .1))
 

@@ -6,7 +6,7 @@ use mathlib.Core.Path.{sym}
 use lib.Count.{trailingZeros}
 use Rattle.cuts.proofs.PartBits.{low-place, rest-less, word-fits}
 use Rattle.cuts.proofs.CutSteps.{gather-start, gather-next, gather-end}
-use Rattle.cuts.specs.Cut.{Gathered}
+use Rattle.cuts.specs.inner.Cut.{Gathered}
 use borrow.Author.Needs.{needs}
 use Rattle.cuts.proofs.cut.closed.Statement.{statement}
 use Rattle.cuts.proofs.cut.closed.Tie as tie
@@ -17,7 +17,7 @@ Inv-loop n rows cols serves out₀ left₀ out left = Gathered n cols serves lef
 abbrev μ-loop : tie.MeasureT-loop
 μ-loop n rows cols serves out₀ left₀ out left = left
 
--- the bit that a turn takes
+-- the bit that a pass takes
 place : (c : tie.In-loop Inv-loop μ-loop) → trailingZeros 64 (c .before .loop .left) < 64
 place c = low-place 64 (c .loop-test .taken) (c .before .loop .inv .1) 64 (c .before .loop .inv .1)
 

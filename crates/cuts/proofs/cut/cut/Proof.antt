@@ -16,7 +16,7 @@ weights-requires : tie.Need-weights-requires
 weights-requires c κs = let r = c .before .before .before .pre in record { high = r .high; long = r .long }
 
 nearest-requires : tie.Need-nearest-requires
-nearest-requires c κs = let r = c .before .before .before .before .before .pre in record { sources = r .sources; terminals = r .terminals; costs = r .costs; turned = r .turned; most = weigh-most (c .before .weights .ensures) (r .high) }
+nearest-requires c κs = let r = c .before .before .before .before .before .pre in record { sources = r .sources; terminals = r .terminals; costs = r .costs; transposed = r .transposed; most = weigh-most (c .before .weights .ensures) (r .high) }
 
 returns-2 : tie.Need-returns-2
 returns-2 c = shift-none (c .before .before .before .before .before .before .before .before .pre)

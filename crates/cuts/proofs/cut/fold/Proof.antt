@@ -3,7 +3,7 @@ use Prim.Native.Nat.{_-_, _≤_}
 use native.Mathlib.Omega.{arith}
 use mathlib.Core.Path.{_≡_}
 use Rattle.cuts.proofs.CutSteps.{fold-start, fold-next}
-use Rattle.cuts.specs.Cut.{Folded}
+use Rattle.cuts.specs.inner.Cut.{Folded}
 use borrow.Author.Needs.{needs}
 use Rattle.cuts.proofs.cut.fold.Statement.{statement}
 use Rattle.cuts.proofs.cut.fold.Tie as tie

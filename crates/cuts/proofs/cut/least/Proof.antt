@@ -4,7 +4,7 @@ use native.Mathlib.Omega.{arith}
 use lib.Count.{trailingZeros}
 use Rattle.cuts.proofs.PartBits.{low-place, rest-less}
 use Rattle.cuts.proofs.CutSteps.{low-start, low-next, low-end}
-use Rattle.cuts.specs.Cut.{Low}
+use Rattle.cuts.specs.inner.Cut.{Low}
 use borrow.Author.Needs.{needs}
 use Rattle.cuts.proofs.cut.least.Statement.{statement}
 use Rattle.cuts.proofs.cut.least.Tie as tie
@@ -15,7 +15,7 @@ Inv-loop part at low weight far₀ left₀ far left = Low part at low weight (fa
 abbrev μ-loop : tie.MeasureT-loop
 μ-loop part at low weight far₀ left₀ far left = left
 
--- the bit that a turn takes
+-- the bit that a pass takes
 fits : (c : tie.In-loop Inv-loop μ-loop) → c .before .loop .left < 2 ^ 64
 fits c = omega (arith, c .before .loop .inv .1)
 

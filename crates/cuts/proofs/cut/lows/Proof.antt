@@ -5,7 +5,7 @@ use lib.Count.{trailingZeros}
 use mathlib.Core.Path.{_≡_}
 use Rattle.cuts.proofs.PartBits.{own-low, rest-less}
 use Rattle.cuts.proofs.CutSteps.{lows-start, lows-next, lows-end}
-use Rattle.cuts.specs.Cut.{has, Lows}
+use Rattle.cuts.specs.inner.Cut.{has, Lows}
 use Rattle.cuts.proofs.cut.lows.Statement.{statement}
 use Rattle.cuts.proofs.cut.lows.Tie as tie
 
@@ -15,7 +15,7 @@ Inv-loop part at stride first table weight acc₀ left₀ acc left = Lows part a
 abbrev μ-loop : tie.MeasureT-loop
 μ-loop part at stride first table weight acc₀ left₀ acc left = left
 
--- the bit that a turn takes is in the part
+-- the bit that a pass takes is in the part
 mine : (c : tie.In-loop Inv-loop μ-loop) → has (c .before .before .args .part) (trailingZeros 64 (c .before .loop .left)) ≡ 1
 mine c = own-low 64 (c .before .before .args .part) (c .before .loop .inv .0 .own) (c .loop-test .taken) (c .before .loop .inv .1)
 

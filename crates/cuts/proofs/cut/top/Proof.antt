@@ -3,7 +3,7 @@ use Prim.Native.Nat.{_-_, _≤_}
 use native.Mathlib.Omega.{arith}
 use mathlib.Core.Path.{_≡_}
 use Rattle.cuts.proofs.CutSteps.{top-next}
-use Rattle.cuts.specs.Cut.{Top}
+use Rattle.cuts.specs.inner.Cut.{Top}
 use borrow.Author.Needs.{needs}
 use Rattle.cuts.proofs.cut.top.Statement.{statement}
 use Rattle.cuts.proofs.cut.top.Tie as tie

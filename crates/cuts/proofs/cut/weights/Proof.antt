@@ -3,7 +3,7 @@ use Prim.Native.Nat.{_-_, _≤_}
 use native.Mathlib.Omega.{arith}
 use mathlib.Core.Path.{_≡_, refl}
 use Rattle.cuts.proofs.CutSteps.{weigh-start, weigh-next}
-use Rattle.cuts.specs.Cut.{Weighed}
+use Rattle.cuts.specs.inner.Cut.{Weighed}
 use borrow.Author.Needs.{needs}
 use Rattle.cuts.proofs.cut.weights.Statement.{statement}
 use Rattle.cuts.proofs.cut.weights.Tie as tie

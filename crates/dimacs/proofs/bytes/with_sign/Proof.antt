@@ -1,6 +1,6 @@
 -- `dimacs::bytes::with_sign` meets its contract. Assumes nothing.
 use mathlib.Core.Path.{sym, ap}
-use Rattle.dimacs.specs.Reader.{signedAnswer}
+use Rattle.dimacs.specs.inner.Reader.{signedAnswer}
 use borrow.Author.Needs.{needs}
 use Rattle.dimacs.proofs.bytes.with_sign.Statement.{statement}
 use Rattle.dimacs.proofs.bytes.with_sign.Tie as tie

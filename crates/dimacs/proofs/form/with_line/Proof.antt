@@ -1,6 +1,6 @@
 -- `dimacs::form::with_line` meets its contract. Assumes nothing.
 use mathlib.Core.Path.{sym, ap, _∙_}
-use Rattle.dimacs.specs.FormReader.{nextOf}
+use Rattle.dimacs.specs.inner.FormReader.{nextOf}
 use borrow.Author.Needs.{needs}
 use Rattle.dimacs.proofs.form.with_line.Statement.{statement}
 use Rattle.dimacs.proofs.form.with_line.Tie as tie

@@ -7,7 +7,7 @@ use denote.Ref.{now}
 use lib.ListN.{length}
 use Rattle.dimacs.specs.declared.form.Form.{Form}
 use Rattle.dimacs.specs.declared.store.Reading.{Reading}
-use Rattle.dimacs.specs.Stored.{flagged, ReadAs}
+use Rattle.dimacs.specs.inner.Stored.{flagged, ReadAs}
 use Rattle.dimacs.proofs.FileLines.{no-lf, form-ends, stage-ends, form-wrong, stage-wrong, form-on}
 use Rattle.dimacs.proofs.StoredLines.{Kept, kept-start, kept-before, kept-ends, kept-on}
 use Rattle.dimacs.proofs.store.read_file.Statement.{statement}

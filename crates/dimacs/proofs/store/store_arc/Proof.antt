@@ -5,8 +5,8 @@ use Prim.Native.Nat.{_<_}
 use native.Mathlib.Omega.{arith}
 use lib.ListN.{length}
 use Rattle.dimacs.specs.Form.{ArcLine}
-use Rattle.dimacs.specs.LineReader.{Small}
-use Rattle.dimacs.specs.Stored.{arcIn}
+use Rattle.dimacs.specs.inner.LineReader.{Small}
+use Rattle.dimacs.specs.inner.Stored.{arcIn}
 use Rattle.dimacs.proofs.StoredLines.{arc-none, arc-some}
 use borrow.Author.Needs.{needs}
 use Rattle.dimacs.proofs.store.store_arc.Statement.{statement}

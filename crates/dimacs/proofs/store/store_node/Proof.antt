@@ -1,7 +1,7 @@
 -- `dimacs::store::store_node` meets its contract. Assumes nothing.
 use mathlib.Core.Path.{ap, subst}
-use Rattle.dimacs.specs.LineReader.{Small}
-use Rattle.dimacs.specs.Stored.{nodeIn}
+use Rattle.dimacs.specs.inner.LineReader.{Small}
+use Rattle.dimacs.specs.inner.Stored.{nodeIn}
 use Rattle.dimacs.proofs.StoredLines.{node-nothing, node-some}
 use borrow.Author.Needs.{needs}
 use Rattle.dimacs.proofs.store.store_node.Statement.{statement}

@@ -1,7 +1,7 @@
 -- `dimacs::store::with_flags` meets its contract. Assumes nothing.
 use mathlib.Core.Path.{sym, ap}
 use Rattle.dimacs.specs.declared.form.Form.{Form}
-use Rattle.dimacs.specs.Stored.{flagged}
+use Rattle.dimacs.specs.inner.Stored.{flagged}
 use borrow.Author.Needs.{needs}
 use Rattle.dimacs.proofs.store.with_flags.Statement.{statement}
 use Rattle.dimacs.proofs.store.with_flags.Tie as tie

@@ -15,7 +15,7 @@ Inv-loop m n ceilings to₀ start₀ i₀ to start i = Moving n n 64 i ceilings 
 abbrev μ-loop : tie.MeasureT-loop
 μ-loop m n ceilings to₀ start₀ i₀ to start i = m - i
 
--- the row of this turn lies within the ceilings
+-- the row of this pass lies within the ceilings
 fits : (c : tie.In-loop Inv-loop μ-loop) → c .before .loop .start + c .before .before .before .args .n ≤ length (now (c .before .before .before .args .ceilings))
 fits c = row-within (c .before .before .before .args .m) (c .before .loop .i) _ _ _ (c .loop-test .taken) (c .before .loop .inv .2) (omega (arith, c .before .before .before .pre .2))
 

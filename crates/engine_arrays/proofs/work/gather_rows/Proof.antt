@@ -15,7 +15,7 @@ Inv-loop m n cells to₀ all at₀ i₀ to at i = Moving n 64 n i cells to₀ to
 abbrev μ-loop : tie.MeasureT-loop
 μ-loop m n cells to₀ all at₀ i₀ to at i = m - i
 
--- the row of this turn has room in the slice
+-- the row of this pass has room in the slice
 fits : (c : tie.In-loop Inv-loop μ-loop) → c .before .loop .at + c .before .before .before .before .args .n ≤ length (now (c .before .before .before .before .args .to))
 fits c = row-within (c .before .before .before .before .args .m) (c .before .loop .i) _ _ _ (c .loop-test .taken) (c .before .loop .inv .2) (c .before .before .before .before .pre .2)
 

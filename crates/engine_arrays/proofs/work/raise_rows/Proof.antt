@@ -18,7 +18,7 @@ Inv-loop m n costs to₀ start₀ i₀ to start i = Moving n n 64 i (map raisedO
 abbrev μ-loop : tie.MeasureT-loop
 μ-loop m n costs to₀ start₀ i₀ to start i = m - i
 
--- the row of this turn lies within the costs
+-- the row of this pass lies within the costs
 fits : (c : tie.In-loop Inv-loop μ-loop) → c .before .loop .start + c .before .before .args .n ≤ length (now (c .before .before .args .costs))
 fits c = row-within (c .before .before .args .m) (c .before .loop .i) _ _ _ (c .loop-test .taken) (c .before .loop .inv .2) (omega (arith, c .before .before .pre .2))
 

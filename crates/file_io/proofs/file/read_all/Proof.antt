@@ -1,4 +1,4 @@
--- `file_io::file::read_all` keeps the room's length, and ends: each turn brings a byte. Assumes nothing.
+-- `file_io::file::read_all` keeps the room's length, and ends: each pass brings a byte. Assumes nothing.
 use mathlib.Core.Path.{_≡_, sym, _∙_}
 use Prim.Native.Nat.{_-_, _≤_}
 use native.Mathlib.Omega.{arith}

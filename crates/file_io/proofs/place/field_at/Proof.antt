@@ -5,7 +5,7 @@ use Prim.Native.Nat.{ℕ, _-_, _≤_}
 use native.Mathlib.Omega.{arith}
 use denote.Ref.{now}
 use lib.ListN.{length, drop}
-use Rattle.file_io.specs.Places.{fieldOver}
+use Rattle.file_io.specs.inner.Places.{fieldOver}
 use Rattle.file_io.proofs.PlaceRuns.{field-next, field-done}
 use borrow.Author.Needs.{needs}
 use Rattle.file_io.proofs.place.field_at.Statement.{statement}

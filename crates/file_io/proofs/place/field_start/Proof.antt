@@ -5,7 +5,7 @@ use Prim.Native.Nat.{_-_, _≤_}
 use native.Mathlib.Omega.{arith}
 use denote.Ref.{now}
 use lib.ListN.{length, drop}
-use Rattle.file_io.specs.Places.{startFrom}
+use Rattle.file_io.specs.inner.Places.{startFrom}
 use Rattle.file_io.proofs.PlaceRuns.{start-here, start-on, start-done}
 use borrow.Author.Needs.{needs}
 use Rattle.file_io.proofs.place.field_start.Statement.{statement}

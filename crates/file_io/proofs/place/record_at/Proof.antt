@@ -5,7 +5,7 @@ use Prim.Native.Nat.{ℕ, _-_, _≤_}
 use native.Mathlib.Omega.{arith}
 use denote.Ref.{now}
 use lib.ListN.{length, drop}
-use Rattle.file_io.specs.Places.{recordOver}
+use Rattle.file_io.specs.inner.Places.{recordOver}
 use Rattle.file_io.proofs.PlaceRuns.{record-next, record-done}
 use borrow.Author.Needs.{needs}
 use Rattle.file_io.proofs.place.record_at.Statement.{statement}

@@ -5,7 +5,7 @@ use Prim.Native.Nat.{_-_, _≤_}
 use native.Mathlib.Omega.{arith}
 use denote.Ref.{now}
 use lib.ListN.{length, drop}
-use Rattle.file_io.specs.Places.{endFrom}
+use Rattle.file_io.specs.inner.Places.{endFrom}
 use Rattle.file_io.proofs.PlaceRuns.{end-here, end-on, end-done}
 use borrow.Author.Needs.{needs}
 use Rattle.file_io.proofs.place.record_end.Statement.{statement}

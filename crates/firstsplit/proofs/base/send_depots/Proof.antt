@@ -4,9 +4,9 @@ use Prim.Native.Nat.{ℕ, _-_, _≤_}
 use native.Mathlib.Omega.{arith}
 use borrow.Author.Needs.{needs}
 use lib.ListN.{getD-replicate}
-use Rattle.residual.specs.Network.{net}
-use Rattle.firstsplit.specs.FirstPlan.{Based}
-use Rattle.residual.specs.LanesInUse.{Covers}
+use Rattle.residual.specs.inner.Network.{net}
+use Rattle.firstsplit.specs.inner.FirstPlan.{Based}
+use Rattle.residual.specs.inner.LanesInUse.{Covers}
 use Rattle.firstsplit.proofs.FirstSplit.{depot-stuck, depots-sent}
 use Rattle.firstsplit.proofs.DepotShipments.{base-start, base-next}
 use Rattle.firstsplit.proofs.base.send_depots.Statement.{statement}

@@ -2,9 +2,9 @@
 use mathlib.Core.Path.{refl}
 use Prim.Native.Nat.{_<_}
 use native.Mathlib.Omega.{arith}
-use Rattle.residual.specs.Network.{net}
-use Rattle.firstsplit.specs.Shipment.{Shipped}
-use Rattle.residual.specs.LanesInUse.{Covers}
+use Rattle.residual.specs.inner.Network.{net}
+use Rattle.firstsplit.specs.inner.Shipment.{Shipped}
+use Rattle.residual.specs.inner.LanesInUse.{Covers}
 use Rattle.firstsplit.proofs.Shipment.{ship-start, send-ready, ship-next, ship-none}
 use Rattle.firstsplit.proofs.base.ship.Statement.{statement}
 use Rattle.firstsplit.proofs.base.ship.Tie as tie

@@ -5,7 +5,7 @@ use native.Mathlib.Omega.{arith}
 use borrow.Author.Needs.{needs}
 use denote.Ref.{now}
 use lib.ListN.{length, getD}
-use Rattle.flow_case.specs.Build.{into}
+use Rattle.flow_case.specs.inner.Build.{into}
 use Rattle.flow_case.proofs.FillLoops.{into-none, into-next, at-most-value}
 use Rattle.flow_case.proofs.build.ceilings_into.Statement.{statement}
 use Rattle.flow_case.proofs.build.ceilings_into.Tie as tie

@@ -5,7 +5,7 @@ use native.Mathlib.Omega.{arith}
 use borrow.Author.Needs.{needs}
 use denote.Ref.{now}
 use lib.ListN.{length}
-use Rattle.flow_case.specs.Build.{wantIn, Filled}
+use Rattle.flow_case.specs.inner.Build.{wantIn, Filled}
 use Rattle.flow_case.proofs.FillLoops.{filled-none, filled-next, filled-all}
 use Rattle.flow_case.proofs.build.fill_demands.Statement.{statement}
 use Rattle.flow_case.proofs.build.fill_demands.Tie as tie

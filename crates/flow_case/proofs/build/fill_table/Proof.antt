@@ -4,7 +4,7 @@ use Prim.Native.Nat.{_-_, _+_, _≤_}
 use native.Mathlib.Omega.{arith}
 use borrow.Author.Needs.{needs}
 use denote.Ref.{now}
-use Rattle.flow_case.specs.Build.{entryIn, Filled}
+use Rattle.flow_case.specs.inner.Build.{entryIn, Filled}
 use Rattle.flow_case.proofs.FillLoops.{filled-none, filled-next, filled-all}
 use Rattle.flow_case.proofs.build.fill_table.Statement.{statement}
 use Rattle.flow_case.proofs.build.fill_table.Tie as tie

@@ -8,7 +8,7 @@ use denote.Ref.{now}
 use lib.ListN.{length}
 use mathlib.Core.Bool.{false}
 use Rattle.flow_problem.specs.Answer.{anyBelow}
-use Rattle.flow_case.specs.Build.{dearAt}
+use Rattle.flow_case.specs.inner.Build.{dearAt}
 use Rattle.flow_case.proofs.RowLoops.{none-yet, none-next, one-there}
 use Rattle.flow_case.proofs.checks.dear.Statement.{statement}
 use Rattle.flow_case.proofs.checks.dear.Tie as tie

@@ -8,7 +8,7 @@ use denote.Ref.{now}
 use lib.ListN.{length}
 use mathlib.Core.Bool.{false}
 use Rattle.flow_problem.specs.Answer.{anyBelow}
-use Rattle.flow_case.specs.Build.{overAt}
+use Rattle.flow_case.specs.inner.Build.{overAt}
 use Rattle.flow_case.proofs.RowLoops.{none-yet, none-next, one-there}
 use Rattle.flow_case.proofs.checks.over.Statement.{statement}
 use Rattle.flow_case.proofs.checks.over.Tie as tie

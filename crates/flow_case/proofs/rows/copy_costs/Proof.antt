@@ -6,7 +6,7 @@ use borrow.Author.Needs.{needs}
 use denote.Ref.{now}
 use lib.ListN.{length}
 use lib.IntN.{pos}
-use Rattle.flow_case.specs.Build.{Put, cellOf}
+use Rattle.flow_case.specs.inner.Build.{Put, cellOf}
 use Rattle.flow_case.proofs.RowLoops.{put-none, put-next, put-all}
 use Rattle.problem.proofs.MachineIntegers.{read-back}
 use Rattle.flow_case.proofs.rows.copy_costs.Statement.{statement}

@@ -8,8 +8,8 @@ use borrow.Author.Needs.{needs}
 use denote.Ref.{now}
 use lib.IntN.{pos}
 use lib.ListN.{length}
-use Rattle.flow_problem.specs.Reduce.{nodeOf}
-use Rattle.flow_case.specs.Build.{RowsAre, costIn}
+use Rattle.flow_problem.specs.inner.Reduce.{nodeOf}
+use Rattle.flow_case.specs.inner.Build.{RowsAre, costIn}
 use Rattle.flow_case.proofs.RowLoops.{rows-none, rows-next, put-ext, at-mul}
 use Rattle.flow_case.proofs.rows.cost_rows.Statement.{statement}
 use Rattle.flow_case.proofs.rows.cost_rows.Tie as tie

@@ -8,7 +8,7 @@ use lib.ListN.{length, getD}
 use mathlib.Core.Bool.{cond}
 use lib.Dec.{eqb}
 use lib.IntN.{ℤ, pos}
-use Rattle.flow_case.specs.Build.{Put, costIn}
+use Rattle.flow_case.specs.inner.Build.{Put, costIn}
 use Rattle.flow_case.proofs.RowLoops.{put-none, put-next, put-all}
 use Rattle.problem.proofs.MachineIntegers.{read-back}
 use Rattle.flow_case.proofs.rows.costs_into.Statement.{statement}

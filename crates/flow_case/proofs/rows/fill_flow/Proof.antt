@@ -7,7 +7,7 @@ use denote.Ref.{now}
 use lib.ListN.{length, getD}
 use mathlib.Core.Bool.{cond}
 use lib.Dec.{eqb}
-use Rattle.flow_case.specs.Build.{Put, flowIn}
+use Rattle.flow_case.specs.inner.Build.{Put, flowIn}
 use Rattle.flow_case.proofs.RowLoops.{put-none, put-next, put-all}
 use Rattle.flow_case.proofs.RowLoops.{at-cell, at-mul}
 use Rattle.flow_case.proofs.rows.fill_flow.Statement.{statement}

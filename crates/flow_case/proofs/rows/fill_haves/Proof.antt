@@ -4,7 +4,7 @@ use Prim.Native.Nat.{ℕ, _+_, _-_, _≤_}
 use native.Mathlib.Omega.{arith}
 use denote.Ref.{now}
 use lib.ListN.{length, getD}
-use Rattle.flow_case.specs.Build.{Put, haveIn}
+use Rattle.flow_case.specs.inner.Build.{Put, haveIn}
 use Rattle.flow_case.proofs.RowLoops.{put-none, put-next, put-all}
 use Rattle.flow_case.proofs.FillLoops.{into-most}
 use Rattle.flow_case.proofs.rows.fill_haves.Statement.{statement}

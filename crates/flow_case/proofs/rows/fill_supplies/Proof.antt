@@ -5,7 +5,7 @@ use native.Mathlib.Omega.{arith}
 use borrow.Author.Needs.{needs}
 use denote.Ref.{now}
 use lib.ListN.{length, getD}
-use Rattle.flow_case.specs.Build.{Put, stockIn}
+use Rattle.flow_case.specs.inner.Build.{Put, stockIn}
 use Rattle.flow_case.proofs.RowLoops.{put-none, put-next, put-all}
 use mathlib.Core.Path.{subst}
 use Rattle.flow_case.proofs.rows.fill_supplies.Statement.{statement}

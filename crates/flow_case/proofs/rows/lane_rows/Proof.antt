@@ -7,8 +7,8 @@ use native.Mathlib.Omega.{arith}
 use borrow.Author.Needs.{needs}
 use denote.Ref.{now}
 use lib.ListN.{length}
-use Rattle.flow_problem.specs.Reduce.{nodeOf}
-use Rattle.flow_case.specs.Build.{RowsAre, laneIn}
+use Rattle.flow_problem.specs.inner.Reduce.{nodeOf}
+use Rattle.flow_case.specs.inner.Build.{RowsAre, laneIn}
 use Rattle.flow_case.proofs.RowLoops.{rows-none, rows-next, put-ext, at-mul}
 use Rattle.flow_case.proofs.rows.lane_rows.Statement.{statement}
 use Rattle.flow_case.proofs.rows.lane_rows.Tie as tie

@@ -5,7 +5,7 @@ use native.Mathlib.Omega.{arith}
 use borrow.Author.Needs.{needs}
 use denote.Ref.{now}
 use lib.ListN.{length}
-use Rattle.flow_case.specs.Build.{Put, laneIn}
+use Rattle.flow_case.specs.inner.Build.{Put, laneIn}
 use Rattle.flow_case.proofs.RowLoops.{put-none, put-next, put-all}
 use Rattle.flow_case.proofs.rows.lanes_into.Statement.{statement}
 use Rattle.flow_case.proofs.rows.lanes_into.Tie as tie

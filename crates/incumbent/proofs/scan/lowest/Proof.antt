@@ -4,8 +4,8 @@ use mathlib.Core.Logic.{⊎-elim}
 use Prim.Native.Nat.{_+_, _-_, _*_, _%_, _≤_}
 use native.Mathlib.Omega.{arith}
 use borrow.Author.Needs.{needs}
-use Rattle.incumbent.specs.Scan.{LineReady}
-use Rattle.incumbent.specs.LeastOfFour.{Lowest}
+use Rattle.incumbent.specs.inner.Scan.{LineReady}
+use Rattle.incumbent.specs.inner.LeastOfFour.{Lowest}
 use Rattle.incumbent.specs.declared.Incumbent.{Incumbent}
 use Rattle.incumbent.proofs.IncumbentScan.{line-ready}
 use Rattle.incumbent.proofs.FourSplits.{lowest-start, lowest-new, lowest-old}

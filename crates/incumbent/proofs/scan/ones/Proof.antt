@@ -2,7 +2,7 @@
 use mathlib.Core.Path.{_≡_}
 use Prim.Native.Nat.{_+_, _-_, _≤_}
 use native.Mathlib.Omega.{arith}
-use Rattle.incumbent.specs.Scan.{Scanning}
+use Rattle.incumbent.specs.inner.Scan.{Scanning}
 use Rattle.incumbent.proofs.IncumbentScan.{scan-start, scan-room, scan-fall, scan-next}
 use borrow.Author.Needs.{needs}
 use Rattle.incumbent.proofs.scan.ones.Statement.{statement}

@@ -1,7 +1,7 @@
 -- `incumbent::scan::part` meets its contract. Assumes nothing.
 use native.Mathlib.Omega.{arith}
 use borrow.Author.Needs.{needs}
-use Rattle.incumbent.specs.Scan.{along}
+use Rattle.incumbent.specs.inner.Scan.{along}
 use Rattle.incumbent.proofs.IncumbentScan.{LineRoom, line-room, line-ready}
 use Rattle.incumbent.proofs.scan.part.Statement.{statement}
 use Rattle.incumbent.proofs.scan.part.Tie as tie

@@ -4,8 +4,8 @@ use mathlib.Core.Bool.{Bool, true, false, not, true≢false}
 use Prim.Native.Nat.{ℕ, _+_, _-_, _≤_, _<_}
 use native.Mathlib.Omega.{arith}
 use borrow.Author.Count.{below-more}
-use Rattle.residual.specs.Cells.{cells}
-use Rattle.residual.specs.Network.{get}
+use Rattle.residual.specs.inner.Cells.{cells}
+use Rattle.residual.specs.inner.Network.{get}
 use Rattle.lastsplit.proofs.reach.all_wide.Statement.{statement}
 use Rattle.lastsplit.proofs.reach.all_wide.Tie as tie
 

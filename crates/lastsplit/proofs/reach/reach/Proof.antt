@@ -3,9 +3,9 @@ use mathlib.Core.Path.{refl}
 use Prim.Native.Nat.{_-_, _<_}
 use native.Mathlib.Omega.{arith}
 use borrow.Author.Needs.{needs}
-use Rattle.residual.specs.Network.{net}
-use Rattle.lastsplit.specs.LastSplit.{Reaching}
-use Rattle.residual.specs.LanesInUse.{Covers}
+use Rattle.residual.specs.inner.Network.{net}
+use Rattle.lastsplit.specs.inner.LastSplit.{Reaching}
+use Rattle.residual.specs.inner.LanesInUse.{Covers}
 use Rattle.lastsplit.proofs.LastSplit.{reach-start, reach-send, reach-wanted, reach-next, reach-stuck, reach-end}
 use Rattle.lastsplit.proofs.reach.reach.Statement.{statement}
 use Rattle.lastsplit.proofs.reach.reach.Tie as tie

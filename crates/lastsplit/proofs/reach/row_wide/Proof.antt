@@ -6,7 +6,7 @@ use lib.Bits.{and-le-l, and-le-r}
 use borrow.Author.Count.{below-more}
 use borrow.Author.Needs.{needs}
 use borrow.Author.Tests.{leb-true}
-use Rattle.residual.specs.Network.{get}
+use Rattle.residual.specs.inner.Network.{get}
 use Rattle.lastsplit.proofs.reach.row_wide.Statement.{statement}
 use Rattle.lastsplit.proofs.reach.row_wide.Tie as tie
 

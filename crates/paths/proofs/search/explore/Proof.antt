@@ -2,21 +2,21 @@
 use Prim.Native.Nat.{ℕ, _-_, _<_}
 use native.Mathlib.Omega.{arith}
 use lib.ListN.{replicate, length-set, length-replicate, getD-replicate}
-use Rattle.residual.specs.Network.{net}
-use Rattle.residual.specs.Keys.{shut}
-use Rattle.paths.specs.Search.{Labelling}
+use Rattle.residual.specs.inner.Network.{net}
+use Rattle.residual.specs.inner.Keys.{shut}
+use Rattle.paths.specs.inner.Search.{Labelling}
 use Rattle.paths.proofs.SettledNode.{at-node, relax-ready, search-found, search-stuck}
-use Rattle.paths.proofs.SearchTurns.{explore-near, explore-end}
+use Rattle.paths.proofs.SearchPasses.{explore-near, explore-end}
 use Rattle.paths.proofs.FullLabels.{label-start, label-step}
 use borrow.Author.Needs.{needs}
 use Rattle.paths.proofs.search.explore.Statement.{statement}
 use Rattle.paths.proofs.search.explore.Tie as tie
 
 abbrev Inv-loop : tie.InvT-loop
-Inv-loop m n cost x cap serves pot room full want start dist₀ prev₀ key₀ next₀ turn₀ dist prev key next turn = (limit : ℕ) → 0 < limit → Labelling (net m n cost cap x) pot room start limit dist prev key next turn
+Inv-loop m n cost x cap serves pot room full want start dist₀ prev₀ key₀ next₀ pass₀ dist prev key next pass = (limit : ℕ) → 0 < limit → Labelling (net m n cost cap x) pot room start limit dist prev key next pass
 
 abbrev μ-loop : tie.MeasureT-loop
-μ-loop m n cost x cap serves pot room full want start dist₀ prev₀ key₀ next₀ turn₀ dist prev key next turn = 96 - turn
+μ-loop m n cost x cap serves pot room full want start dist₀ prev₀ key₀ next₀ pass₀ dist prev key next pass = 96 - pass
 
 mul-dist : tie.Need-mul-dist Inv-loop μ-loop
 mul-dist c = search needs
@@ -105,8 +105,8 @@ relax-requires c κs =
     let hv : c .before .before .before .before .before .before .choose .result < 96 = omega (arith, near .bound, c .before .before .before .before .before .if1 .left) in
     (relax-ready (c .before .before .before .before .before .before .before .before .before .before .before .before .before .pre .0 .sound) (c .before .before .before .before .before .before .before .before .before .loop .inv 1 (omega arith) .exploring .searching) (c .before .before .before .before .before .before .before .before .before .before .before .before .before .pre .0 .ceilings) (c .before .before .before .before .before .before .before .before .before .loop .inv 1 (omega arith) .exploring .most) (c .before .before .before .before .before .before .before .before .before .before .before .before .before .pre .1 .1 .1 .within) hv (near .fresh hv .1) (simp length-set (c .before .before .before .before .before .before .before .before .before .loop .inv 1 (omega arith) .exploring .long-key)), c .before .before .before .before .before .before .before .before .before .before .before .before .before .pre .1 .0 .tags)
 
-add-turn : tie.Need-add-turn Inv-loop μ-loop
-add-turn c = search needs
+add-pass : tie.Need-add-pass Inv-loop μ-loop
+add-pass c = search needs
 
 loop-less : tie.Need-loop-less Inv-loop μ-loop
 loop-less c = search needs
@@ -146,7 +146,7 @@ explore-spec =
     mul-base
     array-read-base
     relax-requires
-    add-turn
+    add-pass
     loop-less
     loop-again
     returns-3)

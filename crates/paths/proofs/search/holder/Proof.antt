@@ -1,7 +1,7 @@
 -- `paths::search::holder` meets its contract. Assumes nothing.
 use Prim.Native.Nat.{_-_}
 use native.Mathlib.Omega.{arith}
-use Rattle.paths.specs.NearestNode.{Held}
+use Rattle.paths.specs.inner.NearestNode.{Held}
 use Rattle.paths.proofs.NearestNode.{held-next}
 use Rattle.paths.proofs.search.holder.Statement.{statement}
 use Rattle.paths.proofs.search.holder.Tie as tie

@@ -1,7 +1,7 @@
 -- `paths::search::least_key` meets its contract. Assumes nothing.
 use Prim.Native.Nat.{_-_, _≤_}
 use native.Mathlib.Omega.{arith}
-use Rattle.paths.specs.NearestNode.{LeastKey}
+use Rattle.paths.specs.inner.NearestNode.{LeastKey}
 use Rattle.paths.proofs.NearestNode.{least-start, least-next, least-end}
 use borrow.Author.Needs.{needs}
 use Rattle.paths.proofs.search.least_key.Statement.{statement}

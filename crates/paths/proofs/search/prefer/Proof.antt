@@ -1,7 +1,7 @@
 -- `paths::search::prefer` meets its contract. Assumes nothing.
 use Prim.Native.Nat.{_+_, _-_}
 use native.Mathlib.Omega.{arith}
-use Rattle.residual.specs.Keys.{Bits}
+use Rattle.residual.specs.inner.Keys.{Bits}
 use Rattle.paths.proofs.NodeTags.{bits-set}
 use borrow.Author.Needs.{needs}
 use Rattle.paths.proofs.search.prefer.Statement.{statement}

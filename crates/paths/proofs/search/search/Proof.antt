@@ -2,7 +2,7 @@
 use mathlib.Core.Path.{refl}
 use Prim.Native.Nat.{ℕ}
 use lib.ListN.{getD-replicate}
-use Rattle.residual.specs.Labels.{far}
+use Rattle.residual.specs.inner.Labels.{far}
 use Rattle.paths.proofs.NodeTags.{tag-other, tag-plan}
 use borrow.Author.Needs.{needs}
 use Rattle.paths.proofs.search.search.Statement.{statement}

@@ -1,7 +1,7 @@
 -- `paths::search::tag` meets its contract. Assumes nothing.
 use Prim.Native.Nat.{_-_}
 use native.Mathlib.Omega.{arith}
-use Rattle.paths.specs.NodeTags.{Tagging}
+use Rattle.paths.specs.inner.NodeTags.{Tagging}
 use Rattle.paths.proofs.NodeTags.{tag-step, tag-end}
 use borrow.Author.Needs.{needs}
 use Rattle.paths.proofs.search.tag.Statement.{statement}

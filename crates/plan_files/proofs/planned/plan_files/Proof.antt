@@ -1,7 +1,7 @@
 -- `plan_files::planned::plan_files` meets its contract. Assumes nothing.
 use mathlib.Core.Path.{refl}
 use lib.ListN.{replicate}
-use Rattle.plan_files.specs.StoredCase.{Stored}
+use Rattle.plan_files.specs.inner.StoredCase.{Stored}
 use Rattle.plan_files.proofs.StoredCase.{refused-files, case-files}
 use borrow.Author.Needs.{needs}
 use Rattle.plan_files.proofs.planned.plan_files.Statement.{statement}

@@ -8,7 +8,7 @@ use Rattle.problem.specs.Case.{Case}
 use Rattle.problem.specs.Outcome.{formRefusal}
 use Rattle.validation.specs.Verdict.{verdict}
 use Rattle.planner.specs.Judge.{freeCase}
-use Rattle.planner.specs.Ready.{OnBalance}
+use Rattle.planner.specs.inner.Ready.{OnBalance}
 use Rattle.planner.proofs.LaterTests.{amounts, on-balance}
 use Rattle.planner.proofs.Judging.{case-form, case-unbalanced, case-entries, case-within}
 use borrow.Author.Needs.{needs}

@@ -1,6 +1,6 @@
 -- `residual::relax::named` meets its contract. Assumes nothing.
 use mathlib.Core.Path.{refl}
-use Rattle.residual.specs.Keys.Named.{other, this}
+use Rattle.residual.specs.inner.Keys.Named.{other, this}
 use Rattle.residual.proofs.relax.named.Statement.{statement}
 use Rattle.residual.proofs.relax.named.Tie as tie
 

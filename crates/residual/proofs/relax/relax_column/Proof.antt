@@ -7,12 +7,12 @@ use native.Mathlib.Omega.{arith}
 use lib.Bits.{bitAnd, and-le-r}
 use lib.Count.{trailingZeros}
 use lib.ListN.{length}
-use Rattle.residual.specs.Network.Arc.{back}
-use Rattle.residual.specs.Network.{Net, net, get}
-use Rattle.residual.specs.Labels.{Relabelling}
-use Rattle.residual.specs.Keys.{Rekeyed, Next}
-use Rattle.residual.specs.LanesInUse.{AtNode}
-use Rattle.residual.specs.Bits.{Left}
+use Rattle.residual.specs.inner.Network.Arc.{back}
+use Rattle.residual.specs.inner.Network.{Net, net, get}
+use Rattle.residual.specs.inner.Labels.{Relabelling}
+use Rattle.residual.specs.inner.Keys.{Rekeyed, Next}
+use Rattle.residual.specs.inner.LanesInUse.{AtNode}
+use Rattle.residual.specs.inner.Bits.{Left}
 use Rattle.residual.proofs.Relaxation.{column-left, pass-start, pass-skip, pass-open, pass-column, offer-long}
 use Rattle.residual.proofs.ResidualArc.{shut-back}
 use Rattle.residual.proofs.Keys.{rekey-start, rekey-open, next-start, next-kept, next-most, next-open}
@@ -40,7 +40,7 @@ Inv-loop v cost x serves base level pot full dist₀ prev₀ key₀ j next₀ re
 abbrev μ-loop : tie.MeasureT-loop
 μ-loop v cost x serves base level pot full dist₀ prev₀ key₀ j next₀ rest₀ dist prev key next rest = rest
 
--- ---- a turn of the loop
+-- ---- a pass of the loop
 
 positive : (c : tie.In-loop Inv-loop μ-loop) → 0 < c .before .loop .rest
 positive c = omega (arith, c .loop-test .taken)

@@ -2,10 +2,10 @@
 use mathlib.Core.Path.{refl}
 use Prim.Native.Nat.{ℕ, _+_, _-_, _≤_, _<_}
 use native.Mathlib.Omega.{arith}
-use Rattle.residual.specs.Network.Arc.{ahead}
-use Rattle.residual.specs.Network.{net}
-use Rattle.residual.specs.Labels.{Relabelling}
-use Rattle.residual.specs.Keys.{Rekeyed}
+use Rattle.residual.specs.inner.Network.Arc.{ahead}
+use Rattle.residual.specs.inner.Network.{net}
+use Rattle.residual.specs.inner.Labels.{Relabelling}
+use Rattle.residual.specs.inner.Keys.{Rekeyed}
 use Rattle.residual.proofs.Relaxation.{pass-start, pass-open, pass-row, pick-low, row-left, row-made}
 use Rattle.residual.proofs.Keys.{rekey-start, rekey-open}
 use borrow.Author.Needs.{needs}

@@ -5,10 +5,10 @@ use Rattle.simplex.proofs.flow.from_source.Statement.{statement}
 use Rattle.simplex.proofs.flow.from_source.Tie as tie
 
 abbrev Inv-loop : tie.InvT-loop
-Inv-loop i bit up cols flow node₀ amount₀ a₀ left₀ node amount a left = left ≤ 48
+Inv-loop i bit parent terminals-below flow node₀ amount₀ a₀ left₀ node amount a left = left ≤ 48
 
 abbrev μ-loop : tie.MeasureT-loop
-μ-loop i bit up cols flow node₀ amount₀ a₀ left₀ node amount a left = left
+μ-loop i bit parent terminals-below flow node₀ amount₀ a₀ left₀ node amount a left = left
 
 loop-holds : tie.Need-loop-holds Inv-loop μ-loop
 loop-holds c = search needs

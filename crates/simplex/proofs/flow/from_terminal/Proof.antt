@@ -5,10 +5,10 @@ use Rattle.simplex.proofs.flow.from_terminal.Statement.{statement}
 use Rattle.simplex.proofs.flow.from_terminal.Tie as tie
 
 abbrev Inv-loop : tie.InvT-loop
-Inv-loop j up flow top node₀ amount₀ first₀ a₀ left₀ node amount first a left = left ≤ 48
+Inv-loop j parent flow top node₀ amount₀ first₀ a₀ left₀ node amount first a left = left ≤ 48
 
 abbrev μ-loop : tie.MeasureT-loop
-μ-loop j up flow top node₀ amount₀ first₀ a₀ left₀ node amount first a left = left
+μ-loop j parent flow top node₀ amount₀ first₀ a₀ left₀ node amount first a left = left
 
 loop-holds : tie.Need-loop-holds Inv-loop μ-loop
 loop-holds c = search needs

@@ -7,10 +7,10 @@ use Rattle.simplex.proofs.solve.carried.Statement.{statement}
 use Rattle.simplex.proofs.solve.carried.Tie as tie
 
 abbrev Inv-loop : tie.InvT-loop
-Inv-loop up flow x₀ v₀ x v = (v ≤ 96) × (length x ≡ 2048)
+Inv-loop parent flow x₀ v₀ x v = (v ≤ 96) × (length x ≡ 2048)
 
 abbrev μ-loop : tie.MeasureT-loop
-μ-loop up flow x₀ v₀ x v = 96 - v
+μ-loop parent flow x₀ v₀ x v = 96 - v
 
 loop-holds : tie.Need-loop-holds Inv-loop μ-loop
 loop-holds c = search needs

@@ -5,10 +5,10 @@ use Rattle.simplex.proofs.solve.simplex.Statement.{statement}
 use Rattle.simplex.proofs.solve.simplex.Tie as tie
 
 abbrev Inv-loop : tie.InvT-loop
-Inv-loop m n cost up₀ rows₀ cols₀ flow₀ p₀ key₀ now₀ left₀ up rows cols flow p key now left = left ≤ 20000
+Inv-loop m n cost up₀ rows₀ cols₀ flow₀ p₀ key₀ now₀ left₀ parent sources-below terminals-below flow p key now left = left ≤ 20000
 
 abbrev μ-loop : tie.MeasureT-loop
-μ-loop m n cost up₀ rows₀ cols₀ flow₀ p₀ key₀ now₀ left₀ up rows cols flow p key now left = left
+μ-loop m n cost up₀ rows₀ cols₀ flow₀ p₀ key₀ now₀ left₀ parent sources-below terminals-below flow p key now left = left
 
 loop-holds : tie.Need-loop-holds Inv-loop μ-loop
 loop-holds c = search needs

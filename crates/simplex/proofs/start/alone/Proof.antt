@@ -5,37 +5,37 @@ use Rattle.simplex.proofs.start.alone.Statement.{statement}
 use Rattle.simplex.proofs.start.alone.Tie as tie
 
 abbrev Inv-loop : tie.InvT-loop
-Inv-loop rows₀ cols₀ j₀ rows cols j = j ≤ 64
+Inv-loop rows₀ cols₀ j₀ sources-below terminals-below j = j ≤ 64
 
 abbrev μ-loop : tie.MeasureT-loop
-μ-loop rows₀ cols₀ j₀ rows cols j = 64 - j
+μ-loop rows₀ cols₀ j₀ sources-below terminals-below j = 64 - j
 
 loop-holds : tie.Need-loop-holds Inv-loop μ-loop
 loop-holds c = search needs
 
-cast-rows : tie.Need-cast-rows Inv-loop μ-loop
-cast-rows c = search needs
+cast-sources-below : tie.Need-cast-sources-below Inv-loop μ-loop
+cast-sources-below c = search needs
 
-shl-rows : tie.Need-shl-rows Inv-loop μ-loop
-shl-rows c = search needs
+shl-sources-below : tie.Need-shl-sources-below Inv-loop μ-loop
+shl-sources-below c = search needs
 
-mul-rows : tie.Need-mul-rows Inv-loop μ-loop
-mul-rows c = search needs
+mul-sources-below : tie.Need-mul-sources-below Inv-loop μ-loop
+mul-sources-below c = search needs
 
-element-write-rows : tie.Need-element-write-rows Inv-loop μ-loop
-element-write-rows c = search needs
+element-write-sources-below : tie.Need-element-write-sources-below Inv-loop μ-loop
+element-write-sources-below c = search needs
 
-shl-cols : tie.Need-shl-cols Inv-loop μ-loop
-shl-cols c = search needs
+shl-terminals-below : tie.Need-shl-terminals-below Inv-loop μ-loop
+shl-terminals-below c = search needs
 
-add-cols : tie.Need-add-cols Inv-loop μ-loop
-add-cols c = search needs
+add-terminals-below : tie.Need-add-terminals-below Inv-loop μ-loop
+add-terminals-below c = search needs
 
-mul-cols : tie.Need-mul-cols Inv-loop μ-loop
-mul-cols c = search needs
+mul-terminals-below : tie.Need-mul-terminals-below Inv-loop μ-loop
+mul-terminals-below c = search needs
 
-element-write-cols : tie.Need-element-write-cols Inv-loop μ-loop
-element-write-cols c = search needs
+element-write-terminals-below : tie.Need-element-write-terminals-below Inv-loop μ-loop
+element-write-terminals-below c = search needs
 
 add-j : tie.Need-add-j Inv-loop μ-loop
 add-j c = search needs
@@ -56,14 +56,14 @@ alone-spec =
     Inv-loop
     μ-loop
     loop-holds
-    cast-rows
-    shl-rows
-    mul-rows
-    element-write-rows
-    shl-cols
-    add-cols
-    mul-cols
-    element-write-cols
+    cast-sources-below
+    shl-sources-below
+    mul-sources-below
+    element-write-sources-below
+    shl-terminals-below
+    add-terminals-below
+    mul-terminals-below
+    element-write-terminals-below
     add-j
     loop-less
     loop-again

@@ -5,10 +5,10 @@ use Rattle.simplex.proofs.start.follow_all.Statement.{statement}
 use Rattle.simplex.proofs.start.follow_all.Tie as tie
 
 abbrev Inv-loop : tie.InvT-loop
-Inv-loop count book cost up p₀ key₀ k₀ p key k = k ≤ 128
+Inv-loop count book cost parent p₀ key₀ k₀ p key k = k ≤ 128
 
 abbrev μ-loop : tie.MeasureT-loop
-μ-loop count book cost up p₀ key₀ k₀ p key k = k
+μ-loop count book cost parent p₀ key₀ k₀ p key k = k
 
 loop-holds : tie.Need-loop-holds Inv-loop μ-loop
 loop-holds c = search needs

@@ -5,10 +5,10 @@ use Rattle.simplex.proofs.start.places.Statement.{statement}
 use Rattle.simplex.proofs.start.places.Tie as tie
 
 abbrev Inv-loop : tie.InvT-loop
-Inv-loop n cost book₀ key₀ up₀ rows₀ cols₀ flow₀ now₀ turn₀ left₀ book key up rows cols flow now turn left = left ≤ 128
+Inv-loop n cost book₀ key₀ up₀ rows₀ cols₀ flow₀ now₀ waiting₀ left₀ book key parent sources-below terminals-below flow now waiting left = left ≤ 128
 
 abbrev μ-loop : tie.MeasureT-loop
-μ-loop n cost book₀ key₀ up₀ rows₀ cols₀ flow₀ now₀ turn₀ left₀ book key up rows cols flow now turn left = left
+μ-loop n cost book₀ key₀ up₀ rows₀ cols₀ flow₀ now₀ waiting₀ left₀ book key parent sources-below terminals-below flow now waiting left = left
 
 loop-holds : tie.Need-loop-holds Inv-loop μ-loop
 loop-holds c = search needs
@@ -16,8 +16,8 @@ loop-holds c = search needs
 returns : tie.Need-returns Inv-loop μ-loop
 returns c = search needs
 
-sub-turn : tie.Need-sub-turn Inv-loop μ-loop
-sub-turn c = search needs
+sub-waiting : tie.Need-sub-waiting Inv-loop μ-loop
+sub-waiting c = search needs
 
 place-requires : tie.Need-place-requires Inv-loop μ-loop
 place-requires c κs = search needs
@@ -42,7 +42,7 @@ places-spec =
     μ-loop
     loop-holds
     returns
-    sub-turn
+    sub-waiting
     place-requires
     sub-left
     loop-less

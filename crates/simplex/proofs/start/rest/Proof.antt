@@ -5,10 +5,10 @@ use Rattle.simplex.proofs.start.rest.Statement.{statement}
 use Rattle.simplex.proofs.start.rest.Tie as tie
 
 abbrev Inv-loop : tie.InvT-loop
-Inv-loop n first book₀ up₀ rows₀ cols₀ flow₀ count₀ j₀ book up rows cols flow count j = j ≤ 64
+Inv-loop n first book₀ up₀ rows₀ cols₀ flow₀ count₀ j₀ book parent sources-below terminals-below flow count j = j ≤ 64
 
 abbrev μ-loop : tie.MeasureT-loop
-μ-loop n first book₀ up₀ rows₀ cols₀ flow₀ count₀ j₀ book up rows cols flow count j = 64 - j
+μ-loop n first book₀ up₀ rows₀ cols₀ flow₀ count₀ j₀ book parent sources-below terminals-below flow count j = 64 - j
 
 loop-holds : tie.Need-loop-holds Inv-loop μ-loop
 loop-holds c = search needs
@@ -22,23 +22,23 @@ mul-if2 c = search needs
 element-copy-out-if2 : tie.Need-element-copy-out-if2 Inv-loop μ-loop
 element-copy-out-if2 c = search needs
 
-add-hang : tie.Need-add-hang Inv-loop μ-loop
-add-hang c = search needs
+add-attach : tie.Need-add-attach Inv-loop μ-loop
+add-attach c = search needs
 
-cast-hang : tie.Need-cast-hang Inv-loop μ-loop
-cast-hang c = search needs
+cast-attach : tie.Need-cast-attach Inv-loop μ-loop
+cast-attach c = search needs
 
-add-hang-2 : tie.Need-add-hang-2 Inv-loop μ-loop
-add-hang-2 c = search needs
+add-attach-2 : tie.Need-add-attach-2 Inv-loop μ-loop
+add-attach-2 c = search needs
 
-mul-hang : tie.Need-mul-hang Inv-loop μ-loop
-mul-hang c = search needs
+mul-attach : tie.Need-mul-attach Inv-loop μ-loop
+mul-attach c = search needs
 
-element-copy-out-hang : tie.Need-element-copy-out-hang Inv-loop μ-loop
-element-copy-out-hang c = search needs
+element-copy-out-attach : tie.Need-element-copy-out-attach Inv-loop μ-loop
+element-copy-out-attach c = search needs
 
-hang-requires : tie.Need-hang-requires Inv-loop μ-loop
-hang-requires c κs = search needs
+attach-requires : tie.Need-attach-requires Inv-loop μ-loop
+attach-requires c κs = search needs
 
 add-book : tie.Need-add-book Inv-loop μ-loop
 add-book c = search needs
@@ -83,12 +83,12 @@ rest-spec =
     add-if2
     mul-if2
     element-copy-out-if2
-    add-hang
-    cast-hang
-    add-hang-2
-    mul-hang
-    element-copy-out-hang
-    hang-requires
+    add-attach
+    cast-attach
+    add-attach-2
+    mul-attach
+    element-copy-out-attach
+    attach-requires
     add-book
     cast-book
     cast-book-2

@@ -2,7 +2,7 @@
 use Prim.Native.Nat.{_-_}
 use native.Mathlib.Omega.{arith}
 use borrow.Author.Needs.{needs}
-use Rattle.residual.specs.Cells.{cells}
+use Rattle.residual.specs.inner.Cells.{cells}
 use Rattle.slackcheck.proofs.Checking.{AddedTo, add-start, add-fits, add-next, add-end}
 use Rattle.slackcheck.proofs.check.add_row.Statement.{statement}
 use Rattle.slackcheck.proofs.check.add_row.Tie as tie

@@ -3,8 +3,8 @@ use Prim.Native.Nat.{_-_, _≤_}
 use native.Mathlib.Omega.{arith}
 use borrow.Author.Needs.{needs}
 use mathlib.Core.Path.{_≡_}
-use Rattle.slackcheck.specs.Checked.{Got}
-use Rattle.residual.specs.Cells.{cells}
+use Rattle.slackcheck.specs.inner.Checked.{Got}
+use Rattle.residual.specs.inner.Cells.{cells}
 use Rattle.slackcheck.proofs.Checking.{few-fewer, got-none}
 use Rattle.slackcheck.proofs.check.column_sums.Statement.{statement}
 use Rattle.slackcheck.proofs.check.column_sums.Tie as tie

@@ -2,9 +2,9 @@
 use Prim.Native.Nat.{_-_, _≤_}
 use native.Mathlib.Omega.{arith}
 use borrow.Author.Needs.{needs}
-use Rattle.slackcheck.specs.Checked.{Got}
-use Rattle.residual.specs.Network.{get}
-use Rattle.residual.specs.Cells.{cells}
+use Rattle.slackcheck.specs.inner.Checked.{Got}
+use Rattle.residual.specs.inner.Network.{get}
+use Rattle.residual.specs.inner.Cells.{cells}
 use borrow.Author.Count.{below-more}
 use Prim.Native.Nat.{ℕ, _+_, _<_}
 use mathlib.Core.Bool.{true≢false}

@@ -6,7 +6,7 @@ use mathlib.Core.Path.{sym}
 use mathlib.Core.Bool.{true≢false}
 use Prim.Native.Nat.{ℕ, _<_}
 use borrow.Author.Count.{below-more}
-use Rattle.residual.specs.Network.{get}
+use Rattle.residual.specs.inner.Network.{get}
 use Rattle.slackcheck.proofs.check.levels_good.Statement.{statement}
 use Rattle.slackcheck.proofs.check.levels_good.Tie as tie
 

@@ -2,7 +2,7 @@
 use Prim.Native.Nat.{_-_}
 use native.Mathlib.Omega.{arith}
 use borrow.Author.Needs.{needs}
-use Rattle.residual.specs.Cells.{cells}
+use Rattle.residual.specs.inner.Cells.{cells}
 use Rattle.slackcheck.proofs.Checking.{RowTo, row-start, row-next, row-end}
 use Rattle.slackcheck.proofs.check.row_good.Statement.{statement}
 use Rattle.slackcheck.proofs.check.row_good.Tie as tie

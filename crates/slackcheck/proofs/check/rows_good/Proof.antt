@@ -6,9 +6,9 @@ use Rattle.transport.specs.Curve.{amountsAt}
 use mathlib.Core.Path.{sym}
 use mathlib.Core.Bool.{true≢false}
 use borrow.Author.Count.{below-more}
-use Rattle.residual.specs.Cells.{cells}
-use Rattle.residual.specs.Network.{get}
-use Rattle.slackcheck.specs.Checked.{RowsChecked}
+use Rattle.residual.specs.inner.Cells.{cells}
+use Rattle.residual.specs.inner.Network.{get}
+use Rattle.slackcheck.specs.inner.Checked.{RowsChecked}
 use Rattle.slackcheck.proofs.Checking.{not-false}
 use Rattle.slackcheck.proofs.check.rows_good.Statement.{statement}
 use Rattle.slackcheck.proofs.check.rows_good.Tie as tie

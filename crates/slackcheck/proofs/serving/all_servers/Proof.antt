@@ -2,7 +2,7 @@
 use Prim.Native.Nat.{_-_}
 use native.Mathlib.Omega.{arith}
 use borrow.Author.Needs.{needs}
-use Rattle.slackcheck.specs.Serving.{ServersTo}
+use Rattle.slackcheck.specs.inner.Serving.{ServersTo}
 use Rattle.slackcheck.proofs.Checking.{servers-start, servers-end}
 use Rattle.slackcheck.proofs.serving.all_servers.Statement.{statement}
 use Rattle.slackcheck.proofs.serving.all_servers.Tie as tie

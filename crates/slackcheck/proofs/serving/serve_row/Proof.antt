@@ -2,7 +2,7 @@
 use Prim.Native.Nat.{ℕ, _-_, _<_}
 use borrow.Author.Needs.{needs}
 use Rattle.residual.proofs.Bits.{power-fits}
-use Rattle.slackcheck.specs.Serving.{ServersTo}
+use Rattle.slackcheck.specs.inner.Serving.{ServersTo}
 use Rattle.slackcheck.proofs.Checking.{ServedTo, serve-start, serve-next, serve-end}
 use Rattle.slackcheck.proofs.serving.serve_row.Statement.{statement}
 use Rattle.slackcheck.proofs.serving.serve_row.Tie as tie

@@ -5,10 +5,10 @@ use Rattle.spanningtree.proofs.leaving.blocked.Statement.{statement}
 use Rattle.spanningtree.proofs.leaving.blocked.Tie as tie
 
 abbrev Inv-loop : tie.InvT-loop
-Inv-loop up x last₀ v₀ left₀ last v left = left ≤ 48
+Inv-loop parent x last₀ v₀ left₀ last v left = left ≤ 48
 
 abbrev μ-loop : tie.MeasureT-loop
-μ-loop up x last₀ v₀ left₀ last v left = left
+μ-loop parent x last₀ v₀ left₀ last v left = left
 
 loop-holds : tie.Need-loop-holds Inv-loop μ-loop
 loop-holds c = search needs

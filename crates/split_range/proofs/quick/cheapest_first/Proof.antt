@@ -15,8 +15,8 @@ quick-plan-requires c κs = search needs
 returns : tie.Need-returns
 returns c = let q = c .before .quick-plan .ensures in (rw (c .if2 .taken) (q .plan (c .if2 .taken) _ (c .before .before .before .before .before .before .before .before .before .pre)), q .covers (c .if2 .taken))
 
-element-write-up : tie.Need-element-write-up
-element-write-up c = search needs
+element-write-parent : tie.Need-element-write-parent
+element-write-parent c = search needs
 
 first-plan-requires : tie.Need-first-plan-requires
 first-plan-requires c κs = let r = c .before .before .before .before .before .before .pre in (r .plants, (plants-ready r, (base-ready r (length-replicate {A = ℕ} 2048 0) (λ k h. getD-replicate {A = ℕ} 2048 k 0 0 h), cover-none (length-replicate {A = ℕ} 64 0) (λ i j a b. getD-replicate {A = ℕ} 2048 (i * 64 + j) 0 0 (omega (arith, r .sources, r .terminals))) (λ j h. getD-replicate {A = ℕ} 64 j 0 0 h) (r .terminals))))
@@ -26,4 +26,4 @@ returns-2 c = let q = c .first-plan .ensures in (record { unmet = q .0 .unmet; d
 
 pub cheapest-first-spec : {M : Type 1} → statement M
 cheapest-first-spec =
-    tie.close (tie.spec quick-plan-requires returns element-write-up first-plan-requires returns-2)
+    tie.close (tie.spec quick-plan-requires returns element-write-parent first-plan-requires returns-2)

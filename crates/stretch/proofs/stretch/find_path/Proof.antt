@@ -13,7 +13,7 @@ follow-requires : tie.Need-follow-requires
 follow-requires c κs =
     let s = c .before .before .before .before .before .before .before .before .before .before in
     let r = s .pre in
-    let k = shift-on (s .args .cap .now) (r .0) (r .1 .1 .0) (c .before .before .before .before .advance .ensures) .swinging in
+    let k = shift-on (s .args .cap .now) (r .0) (r .1 .1 .0) (c .before .before .before .before .advance .ensures) .plant-slack in
     (record { sources = k .sound .sources; terminals = k .sound .terminals; costs = k .sound .costs; high = k .sound .high; long = k .long-p }, k .plants)
 
 search-path-requires : tie.Need-search-path-requires

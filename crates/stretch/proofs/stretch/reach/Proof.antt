@@ -5,14 +5,14 @@ use borrow.Author.Needs.{needs}
 use Rattle.stretch.proofs.stretch.reach.Statement.{statement}
 use Rattle.stretch.proofs.stretch.reach.Tie as tie
 
-element-write-up : tie.Need-element-write-up
-element-write-up c = search needs
+element-write-parent : tie.Need-element-write-parent
+element-write-parent c = search needs
 
 array-write-room : tie.Need-array-write-room
 array-write-room c = search needs
 
 search-requires : tie.Need-search-requires
-search-requires c κs = let r = c .before .pre in (record { sound = r .0 .swinging .sound; ceilings = r .0 .swinging .ceilings; start = omega (arith, r .0 .swinging .plants) }, (r .1 .0, r .1 .1))
+search-requires c κs = let r = c .before .pre in (record { sound = r .0 .plant-slack .sound; ceilings = r .0 .plant-slack .ceilings; start = omega (arith, r .0 .plant-slack .plants) }, (r .1 .0, r .1 .1))
 
 returns : tie.Need-returns
 returns c = let r = c .before .before .pre .0 in reached-by r (c .search .ensures _ (r .some))
@@ -20,4 +20,4 @@ returns c = let r = c .before .before .pre .0 in reached-by r (c .search .ensure
 pub reach-spec : {M : Type 1} → statement M
 reach-spec =
     tie.close
-    (tie.spec element-write-up array-write-room search-requires returns)
+    (tie.spec element-write-parent array-write-room search-requires returns)

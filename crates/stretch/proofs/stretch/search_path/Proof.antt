@@ -14,7 +14,7 @@ reach-requires c κs = c .before .pre
 measure-requires : tie.Need-measure-requires
 measure-requires c κs =
     let s = c .before .before .before .before .before in
-    route (s .args .m) (s .args .n) (s .args .cost .now) (s .pre .0 .swinging .sound .sources) (omega arith) (c .before .before .before .reach .ensures .searched)
+    route (s .args .m) (s .args .n) (s .args .cost .now) (s .pre .0 .plant-slack .sound .sources) (omega arith) (c .before .before .before .reach .ensures .searched)
 
 array-read-gap : tie.Need-array-read-gap
 array-read-gap c = search needs
@@ -30,7 +30,7 @@ returns c =
     let s = c .before .before .before .before .before .before .before in
     let q = c .before .before .before .before .before .reach .ensures .searched in
     let w = c .before .measure .ensures in
-    let r = route (s .args .m) (s .args .n) (s .args .cost .now) (s .pre .0 .swinging .sound .sources) (omega arith) q in
+    let r = route (s .args .m) (s .args .n) (s .args .cost .now) (s .pre .0 .plant-slack .sound .sources) (omega arith) q in
     search-found (s .pre .0) q refl refl (w .arcs r) (w .width r)
 
 pub search-path-spec : {M : Type 1} → statement M

@@ -33,7 +33,7 @@ add-next : tie.Need-add-next
 add-next c = let f = c .before .before .find-path .ensures .0 in omega (arith, scan-ready (ready-on (c .before .before .before .before .before .before .before .before .before .before .pre .0) (f .ready)) (f .done) .entries, c .before .before .before .before .before .before .before .before .before .before .good)
 
 push-requires : tie.Need-push-requires
-push-requires c κs = let f = c .before .before .before .before .before .before .find-path .ensures .0 in (f .done .able, trail-wide _ (f .ready .swinging .sound .sources) _ _ (f .done .trail))
+push-requires c κs = let f = c .before .before .before .before .before .before .find-path .ensures .0 in (f .done .able, trail-wide _ (f .ready .plant-slack .sound .sources) _ _ (f .done .trail))
 
 mul-value : tie.Need-mul-value
 mul-value c =
@@ -74,7 +74,7 @@ returns c =
     let s = c .before .before .before .before .before .before .before .before .before .before .before .before .before .push .ensures in (
       stretch-done (ready-on (c .before .before .before .before .before .before .before .before .before .before .before .before .before .before .before .before .before .before .before .before .before .before .before .before .before .before .before .before .pre .0) (f .0 .ready)) (f .0 .done) (c .before .before .before .before .before .before .before .before .before .before .before .before .scan .ensures) (c .before .before .before .before .before .before .before .keep .ensures) (s .0)
           (found-lowered (f .0) (c .before .before .before .lower-by .ensures)) (c .hold .ensures),
-      cover-walk (f .0 .ready .swinging .sound .terminals) _ _ _ _ _ _ (f .0 .done .trail) (f .1) (s .0) (s .1),
+      cover-walk (f .0 .ready .plant-slack .sound .terminals) _ _ _ _ _ _ (f .0 .done .trail) (f .1) (s .0) (s .1),
     )
 
 pub stretch-spec : {M : Type 1} → statement M

@@ -1,6 +1,6 @@
 -- `stretch::undo::undo` meets its contract. Assumes nothing.
 use native.Mathlib.Omega.{arith}
-use Rattle.stretch.specs.PathUndone.{Undoing, Underway}
+use Rattle.stretch.specs.inner.PathUndone.{Undoing, Underway}
 use Rattle.stretch.proofs.UndoWalk.{under-start, under-node, under-next, under-end}
 use borrow.Author.Needs.{needs}
 use Rattle.stretch.proofs.undo.undo.Statement.{statement}

@@ -2,21 +2,21 @@
 use Prim.Native.Nat.{_-_, _≤_}
 use native.Mathlib.Omega.{arith}
 use Rattle.sweep.proofs.ClimbState.{stand-start, start-most, stretch-ready, last-ready, stand-next, most, gain-most, loss-most}
-use Rattle.sweep.proofs.StretchTurns.{stretched-start, stretched-next}
-use Rattle.sweep.proofs.ClimbTurns.{ascend-start, ascend-splits, ascend-freights, ascend-room, ascend-next, ascend-end}
+use Rattle.sweep.proofs.StretchChain.{stretched-start, stretched-next}
+use Rattle.sweep.proofs.ClimbSteps.{ascend-start, ascend-splits, ascend-freights, ascend-room, ascend-next, ascend-end}
 use mathlib.Core.Path.{refl, _∙_}
 use borrow.Author.Needs.{needs}
-use Rattle.sweep.specs.engine.StopsPassed.{Climbing}
-use Rattle.sweep.specs.engine.Climb.{curveFrom, StretchedTo, Standing}
-use Rattle.residual.specs.LanesInUse.{Covers}
+use Rattle.sweep.specs.inner.StopsPassed.{Climbing}
+use Rattle.sweep.specs.inner.Climb.{curveFrom, StretchedTo, Standing}
+use Rattle.residual.specs.inner.LanesInUse.{Covers}
 use Rattle.sweep.proofs.curve.climb.Statement.{statement}
 use Rattle.sweep.proofs.curve.climb.Tie as tie
 
 abbrev Inv-loop : tie.InvT-loop
-Inv-loop m n cost cap lo hi freight demand table added splits₀ freights₀ x₀ serves₀ pot₀ kept₀ up₀ rows₀ cols₀ columns at best₀ prices₀ y₀ value₀ count₀ rise₀ fall₀ drained₀ splits freights x serves pot kept up rows cols best prices y value count rise fall drained = Standing m n cost cap x₀ x pot kept prices y value best × Climbing (curveFrom m n cost cap x₀) table added splits₀ freights₀ lo hi splits freights y value count rise fall best × (rise ≤ 800000000) × (fall ≤ 800000000) × Covers m n x serves × StretchedTo m n cost cap x₀ lo hi y x
+Inv-loop m n cost cap lo hi freight demand table added splits₀ freights₀ x₀ serves₀ pot₀ kept₀ up₀ rows₀ cols₀ columns at best₀ prices₀ y₀ value₀ count₀ rise₀ fall₀ drained₀ splits freights x serves pot kept parent sources-below terminals-below best prices y value count rise fall drained = Standing m n cost cap x₀ x pot kept prices y value best × Climbing (curveFrom m n cost cap x₀) table added splits₀ freights₀ lo hi splits freights y value count rise fall best × (rise ≤ 800000000) × (fall ≤ 800000000) × Covers m n x serves × StretchedTo m n cost cap x₀ lo hi y x
 
 abbrev μ-loop : tie.MeasureT-loop
-μ-loop m n cost cap lo hi freight demand table added splits₀ freights₀ x₀ serves₀ pot₀ kept₀ up₀ rows₀ cols₀ columns at best₀ prices₀ y₀ value₀ count₀ rise₀ fall₀ drained₀ splits freights x serves pot kept up rows cols best prices y value count rise fall drained = hi - y
+μ-loop m n cost cap lo hi freight demand table added splits₀ freights₀ x₀ serves₀ pot₀ kept₀ up₀ rows₀ cols₀ columns at best₀ prices₀ y₀ value₀ count₀ rise₀ fall₀ drained₀ splits freights x serves pot kept parent sources-below terminals-below best prices y value count rise fall drained = hi - y
 
 mul-t33 : tie.Need-mul-t33 Inv-loop μ-loop
 mul-t33 c = omega (arith, c .before .before .pre .0 .entries, c .before .before .pre .0 .order, c .before .before .good)

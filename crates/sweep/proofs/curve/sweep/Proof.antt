@@ -10,7 +10,7 @@ freight-of-requires : tie.Need-freight-of-requires
 freight-of-requires c κs = freight-ready (c .before .before .before .pre .0 .begun) (c .before .before .before .pre .1)
 
 by-terminal-requires : tie.Need-by-terminal-requires
-by-terminal-requires c κs = let s = c .before .before .before .before .before .pre .0 .begun .swinging .sound in (record { sources = s .sources; terminals = s .terminals; costs = s .costs }, fill-start)
+by-terminal-requires c κs = let s = c .before .before .before .before .before .pre .0 .begun .plant-slack .sound in (record { sources = s .sources; terminals = s .terminals; costs = s .costs }, fill-start)
 
 climb-requires : tie.Need-climb-requires
 climb-requires c κs = let s = c .before .before .before .before .before .before .before .before .before .before .before .before .before .before .before .before in let b = s .pre .0 .begun in let r = s .pre .1 in (climb-ready b r (c .before .before .before .before .before .before .before .before .before .before .before .before .freight-of .ensures), (λ j h. omega (arith, cols-met b r j h), (b .covers, c .before .before .before .before .before .before .before .before .before .before .by-terminal .ensures)))
@@ -22,7 +22,7 @@ same-length-2 : tie.Need-same-length-2
 same-length-2 c = search needs
 
 returns : tie.Need-returns
-returns c = let r = c .before .before .before .before .before .before .before .before .before .before .before .before .before .before .before .before .before .before .before .before .pre .1 in λ made a b. swept-same _ _ (both-made b r) (λ i h l. b .at .depots i h l) (cols-met b r) (b .swinging .sound .sources) (c .before .before .before .climb .ensures)
+returns c = let r = c .before .before .before .before .before .before .before .before .before .before .before .before .before .before .before .before .before .before .before .before .pre .1 in λ made a b. swept-same _ _ (both-made b r) (λ i h l. b .at .depots i h l) (cols-met b r) (b .plant-slack .sound .sources) (c .before .before .before .climb .ensures)
 
 pub sweep-spec : {M : Type 1} → statement M
 sweep-spec =

@@ -3,7 +3,7 @@ use mathlib.Core.Path.{_≡_, sym}
 use Prim.Native.Nat.{_*_, _-_, _≤_}
 use native.Mathlib.Omega.{arith}
 use Rattle.transport.specs.Sum.{sum}
-use Rattle.residual.specs.Cells.{cells}
+use Rattle.residual.specs.inner.Cells.{cells}
 use Rattle.transport.proofs.Sums.{sum-zero, sum-more}
 use Rattle.sweep.proofs.FreightSum.{lane-most, row-most}
 use borrow.Author.Needs.{needs}

@@ -1,17 +1,17 @@
 -- `treepath::follow::follow` meets its contract. Assumes nothing.
 use Prim.Native.Nat.{_-_, _%_}
 use native.Mathlib.Omega.{arith}
-use Rattle.residual.specs.Network.{net, get}
+use Rattle.residual.specs.inner.Network.{net, get}
 use Rattle.treepath.proofs.TreeWalk.{Walk, walk-start, walk-next, walk-end}
 use borrow.Author.Needs.{needs}
 use Rattle.treepath.proofs.follow.follow.Statement.{statement}
 use Rattle.treepath.proofs.follow.follow.Tie as tie
 
 abbrev Inv-loop : tie.InvT-loop
-Inv-loop m n cost cap x pot up limit prev₀ v₀ count₀ amount₀ prev v count amount = Walk (net m n cost cap x) pot (λ a. get up a % 128) limit prev v count amount
+Inv-loop m n cost cap x pot parent limit prev₀ v₀ count₀ amount₀ prev v count amount = Walk (net m n cost cap x) pot (λ a. get parent a % 128) limit prev v count amount
 
 abbrev μ-loop : tie.MeasureT-loop
-μ-loop m n cost cap x pot up limit prev₀ v₀ count₀ amount₀ prev v count amount = 95 - count
+μ-loop m n cost cap x pot parent limit prev₀ v₀ count₀ amount₀ prev v count amount = 95 - count
 
 loop-holds : tie.Need-loop-holds Inv-loop μ-loop
 loop-holds c = walk-start (c .before .pre .1)

@@ -3,7 +3,7 @@ use mathlib.Core.Path.{_≡_}
 use Prim.Native.Nat.{_-_, _≤_}
 use native.Mathlib.Omega.{arith}
 use borrow.Author.Needs.{needs}
-use Rattle.validation.specs.Above.{NoneAbove}
+use Rattle.validation.specs.inner.Above.{NoneAbove}
 use Rattle.validation.proofs.NoneAbove.{above-start, above-bits}
 use Rattle.validation.proofs.tests.all_bits.Statement.{statement}
 use Rattle.validation.proofs.tests.all_bits.Tie as tie

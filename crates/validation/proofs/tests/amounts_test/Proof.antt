@@ -4,7 +4,7 @@ use mathlib.Core.Path.{_≡_, sym, ap, _∙_}
 use mathlib.Core.Option.{some, none}
 use native.Mathlib.Omega.{arith}
 use denote.Ref.{now}
-use Rattle.problem.specs.LentTests.{firstAbove}
+use Rattle.problem.specs.inner.LentTests.{firstAbove}
 use Rattle.validation.specs.Verdict.{found}
 use Rattle.problem.proofs.TestParts.{amounts-supply, amounts-demand, amounts-pass, above-within}
 use Rattle.validation.proofs.tests.amounts_test.Statement.{statement}

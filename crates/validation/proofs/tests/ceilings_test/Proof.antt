@@ -3,7 +3,7 @@ use mathlib.Core.Path.{_≡_, sym, ap, _∙_}
 use mathlib.Core.Option.{some}
 use native.Mathlib.Omega.{arith}
 use denote.Ref.{now}
-use Rattle.problem.specs.LentTests.{firstAbove}
+use Rattle.problem.specs.inner.LentTests.{firstAbove}
 use Rattle.validation.specs.Verdict.{found}
 use Rattle.problem.proofs.TestParts.{ceilings-length, ceilings-high, ceilings-pass, above-within}
 use borrow.Author.Needs.{needs}

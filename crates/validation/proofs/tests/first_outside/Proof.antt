@@ -35,7 +35,7 @@ Inv-lanes m n costs start₀ start = start ≡ 0
 abbrev μ-lanes : tie.MeasureT-lanes
 μ-lanes m n costs start₀ start = 0
 
--- the row of this turn lies within the costs
+-- the row of this pass lies within the costs
 row-fits : (c : tie.In-loop Inv-loop2 μ-loop2 Inv-loop μ-loop Inv-lanes μ-lanes) → c .before .loop .start + c .before .before .before .args .n ≤ length (now (c .before .before .before .args .costs))
 row-fits c =
     row-end (c .before .before .before .args .m) (c .before .before .before .args .n) (c .before .loop .i) (c .before .loop .start) _

@@ -6,7 +6,7 @@ use Prim.Native.Nat.{ℕ, _*_}
 use native.Mathlib.Omega.{arith}
 use denote.Ref.{now}
 use Rattle.problem.specs.Case.{Case, lent}
-use Rattle.problem.specs.LentTests.{firstOutside, amountsRefusal, runsRefusal, ceilingsRefusal}
+use Rattle.problem.specs.inner.LentTests.{firstOutside, amountsRefusal, runsRefusal, ceilingsRefusal}
 use Rattle.validation.specs.Verdict.{found, verdict}
 use Rattle.problem.proofs.TestParts.{outside-within, amounts-none}
 use Rattle.validation.proofs.FormTests.{Limits, lanes, in-limits, by-size, by-costs, by-supplies, by-demands, by-amounts, by-runs, by-cost, by-ceilings, by-table, by-none}

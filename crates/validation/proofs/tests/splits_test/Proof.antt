@@ -2,7 +2,7 @@
 use mathlib.Core.Path.{_≡_, sym, ap, _∙_}
 use mathlib.Core.Option.{none}
 use denote.Ref.{now}
-use Rattle.problem.specs.LentTests.{entriesRefusal}
+use Rattle.problem.specs.inner.LentTests.{entriesRefusal}
 use Rattle.validation.specs.Verdict.{verdict}
 use Rattle.problem.proofs.TestParts.{splits-entry, splits-plan, splits-split, splits-freight, splits-pass}
 use borrow.Author.Needs.{needs}

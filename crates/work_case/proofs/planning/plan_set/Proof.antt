@@ -7,7 +7,7 @@ use lib.ListN.{length, take, drop, length-drop}
 use lib.Seq.{take-all}
 use denote.Ref.{now}
 use Rattle.work_store.specs.Store.{width, start}
-use Rattle.work_store.specs.OpenStore.{Open, Front}
+use Rattle.work_store.specs.inner.OpenStore.{Open, Front}
 use Rattle.work_store.proofs.Slots.{slot-room, width-small, starts-small}
 use Rattle.work_store.proofs.CaseCells.{slot-fits}
 use Rattle.work_store.proofs.StateAfterWrites.{within, large}

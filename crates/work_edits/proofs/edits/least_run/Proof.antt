@@ -1,6 +1,6 @@
 -- `work_edits::edits::least_run` meets its contract. Assumes nothing.
 use borrow.Author.Tests.{eq-eqb, ne-eqb}
-use Rattle.work_store.specs.OpenStore.{runIn}
+use Rattle.work_store.specs.inner.OpenStore.{runIn}
 use borrow.Author.Needs.{needs}
 use Rattle.work_edits.proofs.edits.least_run.Statement.{statement}
 use Rattle.work_edits.proofs.edits.least_run.Tie as tie

@@ -1,7 +1,7 @@
 -- `write_case::rewrite::rewrite_files` meets its contract. Assumes nothing.
 use mathlib.Core.Path.{refl}
 use lib.ListN.{replicate}
-use Rattle.plan_files.specs.StoredCase.{Stored}
+use Rattle.plan_files.specs.inner.StoredCase.{Stored}
 use Rattle.write_case.proofs.Rewrites.{refused-rewritten, case-rewritten}
 use borrow.Author.Needs.{needs}
 use Rattle.write_case.proofs.rewrite.rewrite_files.Statement.{statement}

@@ -1,0 +1,5 @@
+pub mod Send
+pub mod LaneMarks
+pub mod Potentials
+pub mod PathWalk
+pub mod PathMeasure

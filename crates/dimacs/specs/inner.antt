@@ -1,0 +1,4 @@
+pub mod Reader
+pub mod LineReader
+pub mod FormReader
+pub mod Stored

@@ -1,0 +1,2 @@
+pub mod Shipment
+pub mod FirstPlan

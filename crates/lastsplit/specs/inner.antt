@@ -1,0 +1,2 @@
+pub mod PlantShift
+pub mod LastSplit

@@ -1,0 +1,3 @@
+pub mod NearestNode
+pub mod Search
+pub mod NodeTags

@@ -1,0 +1,3 @@
+pub mod ResidualPath
+pub mod PathUndone
+pub mod Stretch

@@ -1,3 +1,0 @@
-pub mod StopsPassed
-pub mod FreightSum
-pub mod Climb
