@@ -78,7 +78,7 @@ enum yadvorkhul_role {
    where the number is 0. plan, splits, freights, report and worth overlap nothing.
 
    Answers 0 where the case is planned, or the number of the first test that it fails (1 to 9, 11, 23, 26 and 27, see
-   docs/USING.md), or YADVORKHUL_SHORT_REPORT where report or worth is too short for anything to be told. On a refusal plan,
+   docs/refusals.md), or YADVORKHUL_SHORT_REPORT where report or worth is too short for anything to be told. On a refusal plan,
    splits, freights and worth keep their contents. All cells that are not named here keep theirs always. It needs about
    69 kB of stack, and no heap. */
 uint64_t yadvorkhul_plan(size_t m, size_t n, uint64_t run1, uint64_t run2,
@@ -263,7 +263,7 @@ uint64_t yadvorkhul_flow(const uint8_t *bytes, size_t bytes_cells, size_t place,
    then nothing is done. The refusals of a file are 20 (longer than 65,536 bytes; lend so many where a file cannot be read),
    21 (a byte that cannot stand there, place its offset from 0) and 22 (another count of fields, place the record from 1). All
    cells that are not named here keep their contents. What is said above of pointers holds here too; the stack that each needs
-   stands in docs/USING.md. */
+   stands in docs/using.md. */
 
 /* 10,000 times the major number of the archive's version, 100 times the minor one, and the patch: YADVORKHUL_VERSION, unless
    header and archive are of two builds. */

@@ -3,7 +3,7 @@
 import os
 import sys
 
-DONE, REFUSED, WRONG_USE, LACKING, BROKEN = 0, 1, 2, 3, 4  # what each status means: docs/USING.md
+DONE, REFUSED, WRONG_USE, LACKING, BROKEN = 0, 1, 2, 3, 4  # what each status means: docs/command.md
 
 
 class WrongUse(Exception):

@@ -1,7 +1,7 @@
 //! The proved two-plant production and freight planner, for Rust.
 //!
 //! Two plants and any number of depots supply terminals. The planner finds how much plant 1 makes (the *split*), how many
-//! drums go along each lane, and the freight curve: see `docs/USING.md`.
+//! drums go along each lane, and the freight curve: see `docs/using.md`.
 //!
 //! ```
 //! use yadvorkhul::Case;
