@@ -66,7 +66,7 @@ impl Lent {
         Lent::new(3, 2, &[2, 6, 5, 3, 1, 4], &[3, 3, 1], &[3, 2], &[99, 20, 24, 20])
     }
 
-    /// The report's example (document 002, 4.2) with a table of zeros.
+    /// The report's example (its section 4.2) with a table of zeros.
     pub fn report_example() -> Lent {
         let costs = [12, 1, 3, 4, 4, 9, 6, 2, 2, 6, 2, 10];
         Lent::new(3, 4, &costs, &[200, 200, 150], &[80, 180, 120, 70], &[0; 201])
