@@ -13,18 +13,18 @@ use Rattle.transport.specs.inner.PathFlow.{pulse}
 use Rattle.residual.specs.inner.Cells.{cells}
 use Rattle.residual.specs.inner.Network.{Net, get}
 use Rattle.residual.specs.inner.Network.Arc.{ahead, back}
-use Rattle.residual.specs.inner.Labels.{Book, far}
+use Rattle.residual.specs.inner.Labels.{Book, far, Low}
 use Rattle.paths.specs.inner.Search.{Near, Prev}
 use Rattle.paths.specs.inner.Search.Prev.{root, step}
 use Rattle.augment.specs.inner.PathWalk.{WalkReady, Carried, Walked}
 use Rattle.incumbent.specs.inner.Scan.{along}
-use Rattle.stretch.specs.inner.ResidualPath.{Arc, from, to, Open, ceiling, arcCost, PathIn, pathCost, narrowest, carried, moved, Amounts, Route}
+use Rattle.stretch.specs.inner.ResidualPath.{Arc, from, to, Open, ceiling, arcCost, PathIn, pathCost, narrowest, carried, moved, Amounts, Measured, Distances, Route}
 use Rattle.stretch.specs.inner.ResidualPath.Arc.{lane, return}
 use Rattle.transport.proofs.CellChange.{Put}
 use Rattle.transport.proofs.PathFlow.{pulse-same, pulse-off}
 use Rattle.augment.proofs.CellStores.{cells-at, cells-put}
 use Rattle.stretch.proofs.PathLanes.{last}
-use Rattle.transport.proofs.Differences.{shift, add-diff, take-diff, diff-same, diff-at-most}
+use Rattle.transport.proofs.Differences.{by-sign, pos-sub, diff-sub, diff-same, diff-at-most, add-diff, take-diff, shift}
 
 -- ---- what a path's lanes cost, what its return arcs do
 
@@ -46,6 +46,21 @@ cost-split N (lane i j ∷ l) =
 cost-split N (return i j ∷ l) =
     ap (λ z. negℤ (pos (N .c i j)) +ℤ z) (cost-split N l) ∙ take-diff (N .c i j) (lanes-cost N l) (returns-cost N l)
 
+-- ---- the distances at the ends of an arc
+
+measured-lane : (N : Net) (dist prev : List ℕ) (i j : ℕ) → get prev (32 + j) ≡ i → get dist (32 + j) ≡ get dist i + N .c i j
+    → Measured N dist prev (lane i j)
+unfolding from to arcCost
+measured-lane N dist prev i j b e = record { before = b; distance = ap pos e }
+
+measured-return : (N : Net) (dist prev : List ℕ) (i j : ℕ) → get prev i ≡ 32 + j → get dist i + N .c i j ≡ get dist (32 + j)
+    → Measured N dist prev (return i j)
+unfolding from to arcCost
+measured-return N dist prev i j b e = record {
+  before = b;
+  distance = sym (diff-same (get dist (32 + j)) (N .c i j) (get dist i) 0 (omega arith) ∙ diff-sub (get dist i) 0 ∙ sym (pos-sub (get dist i)));
+}
+
 -- ---- no path costs less than the potentials of its ends differ, where the plan is slack under them
 
 module _ (N : Net) (q : List ℕ) (slack : Slack (N .m) (N .n) (N .c) (N .u) (N .x) (λ i. get q i) (λ j. get q (32 + j))) where
@@ -61,6 +76,41 @@ module _ (N : Net) (q : List ℕ) (slack : Slack (N .m) (N .n) (N .c) (N .u) (N 
   no-less l v w h =
       subst (λ (z : ℤ). (pos (get q w) -ℤ pos (get q v)) ≤ℤ z) (sym (cost-split N l))
       (diff-at-most (get q w) (get q v) (lanes-cost N l) (returns-cost N l) (omega (arith, over l v w h)))
+
+-- ---- labels that are nowhere below the potentials, and no more at a path's end, are the potentials along it
+
+lane-distance : (N : Net) (dist prev : List ℕ) (i j : ℕ) → Measured N dist prev (lane i j) → get dist (32 + j) ≡ get dist i + N .c i j
+unfolding from to arcCost
+lane-distance N dist prev i j k = let e = k .distance in cc
+
+taken : (a b c : ℕ) → pos a ≡ pos b +ℤ negℤ (pos c) → a + c ≡ b
+taken a b c e =
+    by-sign (λ z. pos a ≡ z → a + c ≡ b) b c
+    (λ h f. let z : _≡_ {A = ℕ} 0 1 = cc in absurd (omega arith))
+    (λ h f. let z : a ≡ b - c = cc in omega arith)
+    (e ∙ diff-sub b c)
+
+return-distance : (N : Net) (dist prev : List ℕ) (i j : ℕ) → Measured N dist prev (return i j) → get dist i + N .c i j ≡ get dist (32 + j)
+unfolding from to arcCost
+return-distance N dist prev i j k = taken (get dist i) (get dist (32 + j)) (N .c i j) (k .distance)
+
+module _ (N : Net) (q T P : List ℕ) (sources : N .m ≤ 32) (terminals : N .n ≤ 64)
+    (slack : Slack (N .m) (N .n) (N .c) (N .u) (N .x) (λ i. get q i) (λ j. get q (32 + j))) (low : Low q T) where
+  pub even-path : (l : List Arc) (v g : ℕ) → PathIn N v l g → Distances N T P l → get T g ≡ get q g → (get T v ≡ get q v) × Distances N q P l
+  unfolding PathIn Open Distances from to
+  even-path [] v g h d e = (ap (λ z. get T z) h ∙ e ∙ ap (λ z. get q z) (sym h), tt)
+  even-path (lane i j ∷ l) v g h d e =
+      let k = even-path l (32 + j) g (h .2) (d .1) e in
+      let a = lane-distance N T P i j (d .0) in
+      let b = slack i j (h .1 .0) (h .1 .1) .ahead (h .1 .2) in
+      let f : get T i ≡ get q i = omega (arith, k .0, a, b, low i (omega (arith, h .1 .0))) in
+      (rw (h .0) at f, (measured-lane N q P i j (d .0 .before) (omega (arith, k .0, a, f)), k .1))
+  even-path (return i j ∷ l) v g h d e =
+      let k = even-path l i g (h .2) (d .1) e in
+      let a = return-distance N T P i j (d .0) in
+      let b = slack i j (h .1 .0) (h .1 .1) .back (h .1 .2) in
+      let f : get T (32 + j) ≡ get q (32 + j) = omega (arith, k .0, a, b, low (32 + j) (omega (arith, h .1 .1))) in
+      (rw (h .0) at f, (measured-return N q P i j (d .0 .before) (omega (arith, k .0, a, f)), k .1))
 
 -- ---- a store to the cell of a lane is what an arc makes of the amounts
 
@@ -100,16 +150,18 @@ module _ {N : Net} {p : List ℕ} {s limit : ℕ} {B : Book} {g d : ℕ} {x : Li
   record Rest (h v : ℕ) : Type 0 where
     path : List Arc
     arcs : PathIn N v path g
+    nodes : Distances N (B .dist) (B .prev) path
     even : get (B .dist) g + returns-cost N path ≡ get (B .dist) v + lanes-cost N path
     most : narrowest N limit path ≤ limit
     drums : min (get (B .width) v) (narrowest N limit path) ≡ get (B .width) g
     come : (t : ℕ) (x' : List ℕ) → Walked (B .prev) t (get (B .hops) g) g x x' → Come t path h v x'
 
   end : Rest (get (B .hops) g) g
-  unfolding PathIn narrowest lanes-cost returns-cost moved
+  unfolding PathIn Distances narrowest lanes-cost returns-cost moved
   end = record {
     path = [];
     arcs = refl;
+    nodes = tt;
     even = refl;
     most = omega arith;
     drums = omega (arith, r .label g (r .goal) (r .labelled) .most);
@@ -138,11 +190,12 @@ module _ {N : Net} {p : List ℕ} {s limit : ℕ} {B : Book} {g d : ℕ} {x : Li
 
   -- one arc more
   more : (h v : ℕ) → Prev N s (Near p (B .dist) g) B v → 0 < get (B .hops) v → Rest (suc h) v → Rest h (get (B .prev) v)
-  unfolding PathIn Open from to ceiling narrowest lanes-cost returns-cost carried moved Walked
+  unfolding PathIn Open Distances from to ceiling narrowest lanes-cost returns-cost carried moved Walked
   more h v (root z) l q = absurd (omega (arith, ap (λ w. get (B .hops) w) z))
   more h v (step k b n (ahead j a c f o t i) eh ew) l q = record {
     path = lane (get (B .prev) v) j ∷ q .path;
     arcs = (refl, (a, c, o), subst (λ (z : ℕ). PathIn N z (q .path) g) f (q .arcs));
+    nodes = (measured-lane N (B .dist) (B .prev) (get (B .prev) v) j (ap (λ z. get (B .prev) z) (sym f)) (ap (λ z. get (B .dist) z) (sym f) ∙ t), q .nodes);
     even = omega (arith, q .even);
     most = omega (arith, q .most);
     drums = omega (arith, q .drums);
@@ -154,6 +207,7 @@ module _ {N : Net} {p : List ℕ} {s limit : ℕ} {B : Book} {g d : ℕ} {x : Li
   more h v (step k b n (back j a c f o t i) eh ew) l q = record {
     path = return v j ∷ q .path;
     arcs = (sym f, (a, c, o), q .arcs);
+    nodes = (measured-return N (B .dist) (B .prev) v j f (t ∙ ap (λ z. get (B .dist) z) f), q .nodes);
     even = omega (arith, q .even);
     most = omega (arith, q .most);
     drums = omega (arith, q .drums);
@@ -180,6 +234,7 @@ module _ {N : Net} {p : List ℕ} {s limit : ℕ} {B : Book} {g d : ℕ} {x : Li
       record {
         path = q .path;
         arcs = q .arcs;
+        nodes = q .nodes;
         drums = omega (arith, q .drums, q .most);
         cost =
             cost-split N (q .path)

@@ -21,7 +21,7 @@ use Rattle.treepath.proofs.TreePath.{tree-path}
 use Rattle.lastsplit.proofs.PlantShift.{Only, plant-slack-ready, plant-slack-over}
 use Rattle.lastsplit.proofs.LastSplit.{only}
 use Rattle.stretch.proofs.PathLanes.{lanes}
-use Rattle.stretch.proofs.PathArcs.{route}
+use Rattle.stretch.proofs.PathArcs.{even-path, route}
 
 module _ {N : Net} {p room x : List ℕ} {limit : ℕ} {B : Book} {g : ℕ}
     (k : ShiftReady N p x limit) (o : Only room limit) (q : Searched N p room 0 limit B g) where
@@ -98,7 +98,7 @@ search-found {limit = limit} k q e eD eh ed = record { ready = k; done = path-do
 
 -- ---- the path of a tree: it has no reduced cost, and its distances are those of the potentials
 
-module _ {N : Net} {p x T P : List ℕ} {limit count d : ℕ} (s : PathDone N p x limit T P count 0 d) (low : Low p T) where
+module _ {N : Net} {p x T P : List ℕ} {limit count d : ℕ} (sound : Sound N p) (s : PathDone N p x limit T P count 0 d) (low : Low p T) where
   -- the potentials stay, by these labels as by the others
   lowered-too : {p' : List ℕ} → Lowered 0 p p 96 p' → Lowered 0 T p 96 p'
   lowered-too l = record { long = l .long; down = λ v h. omega (arith, l .down v h, low v h); rest = l .rest }
@@ -109,6 +109,7 @@ module _ {N : Net} {p x T P : List ℕ} {limit count d : ℕ} (s : PathDone N p 
     route = record {
       path = s .route .path;
       arcs = s .route .arcs;
+      nodes = even-path N p T P (sound .sources) (sound .terminals) (sound .slack) low (s .route .path) 0 1 (s .route .arcs) (s .route .nodes) (omega (arith, s .ends)) .1;
       drums = s .route .drums;
       cost = s .route .cost ∙ diff-same (get T 1) (get T 0) (get p 1) (get p 0) (omega (arith, s .ends, s .starts));
       amounts = s .route .amounts;
@@ -129,7 +130,7 @@ tree-found {limit = limit} k e q =
     let t = tree-path (k .plant-slack .sound) (k .plant-slack .plants) (k .some) q (set (replicate 96 0) 1 limit) (omega (arith, only limit .one, k .some)) in
     record {
       ready = k;
-      done = even-done (path-done k (only limit) (t .searched) e (omega (arith, t .goal)) (t .arcs) (t .drums)) (t .searched .low);
+      done = even-done (k .plant-slack .sound) (path-done k (only limit) (t .searched) e (omega (arith, t .goal)) (t .arcs) (t .drums)) (t .searched .low);
       low = λ v h. omega arith;
     }
 

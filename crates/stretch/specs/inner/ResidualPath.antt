@@ -69,10 +69,21 @@ moved t (a ∷ l) x = carried t a (moved t l x)
 abbrev pub Amounts : Net → ℕ → List Arc → List ℕ → Type 0
 Amounts N t l z = (i j : ℕ) → i < N .m → j < N .n → cells z i j ≡ moved t l (N .x) i j
 
+-- an arc of a path: the node that it leads to has the node that it comes from before it, and is its cost farther than that
+pub record Measured (N : Net) (dist prev : List ℕ) (a : Arc) : Type 0 where
+  pub before : get prev (to a) ≡ from a
+  pub distance : pos (get dist (to a)) ≡ pos (get dist (from a)) +ℤ arcCost N a
+
+-- each arc of a path is: node by node dist has the distance along the path, and prev the node before
+unfoldable pub Distances : Net → List ℕ → List ℕ → List Arc → Type 0
+Distances N dist prev [] = Unit {0}
+Distances N dist prev (a ∷ l) = Measured N dist prev a × Distances N dist prev l
+
 -- a path from s to g that a search found, with the labels dist and the nodes before, prev; d drums of limit can go along it
 pub record Route (N : Net) (s g limit : ℕ) (x dist prev : List ℕ) (count d : ℕ) : Type 0 where
   pub path : List Arc
   pub arcs : PathIn N s path g
+  pub nodes : Distances N dist prev path
   pub drums : d ≡ narrowest N limit path
   pub cost : pathCost N path ≡ pos (get dist g) -ℤ pos (get dist s)
   pub amounts : (t : ℕ) (z : List ℕ) → Walked prev t count g x z → Amounts N t path z
