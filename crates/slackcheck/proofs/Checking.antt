@@ -21,7 +21,7 @@ use Rattle.residual.specs.inner.Network.{get}
 use Rattle.residual.proofs.Bits.{or-above}
 use Rattle.residual.specs.inner.Bits.{bit}
 use Rattle.residual.specs.inner.LanesInUse.{Covers}
-use Rattle.slackcheck.specs.inner.Checked.{Good, RowChecked, Few, Got}
+use Rattle.slackcheck.specs.inner.Checked.{Good, Told, RowChecked, Few, Got}
 use Rattle.slackcheck.specs.inner.Serving.{Served, ServersTo}
 use Rattle.transport.proofs.Sums.{sum-zero, sum-more, sum-most}
 use Rattle.residual.proofs.Bits.{bit-most, bit-or, bit-own}
@@ -42,61 +42,61 @@ one false b e = inr e
 or-below : {k : ℕ} (a b : ℕ) → bitOr a b < k → (a < k) × (b < k)
 or-below a b h = (omega (arith, or-above a b), omega (arith, or-above a b))
 
--- the tests of a lane: gap is the source's potential and the unit cost less the terminal's potential, room the ceiling less the amount, both modulo
--- 2^32; below 2^31 neither has wrapped
-lane-good : {c u x p q gap room : ℕ} → q ≤ 800000000 → (gap + q) % 2 ^ 32 ≡ c + p → (room + x) % 2 ^ 32 ≡ u
-    → (eqb x 0 || eqb gap 0) ≡ true → gap < 2147483648 → room < 2147483648 → x < 1048576 → Good c u x p q
-lane-good {x = x} {gap = gap} h g r t a b l = record {
+-- the tests of a lane: room is the ceiling less the amount, cheap, where there is room, the source's potential and the unit cost less the terminal's
+-- potential, dear, where the lane is in use, the other way round, all modulo 2^32; below 2^31 none has wrapped
+lane-good : {c u x p q cheap dear room : ℕ} → q ≤ 800000000 → c + p ≤ 802000000 → Told room (c + p) q cheap → Told x q (c + p) dear → (room + x) % 2 ^ 32 ≡ u
+    → cheap < 2147483648 → dear < 2147483648 → room < 2147483648 → x < 1048576 → Good c u x p q
+lane-good {c} {u} {x} {p} {q} {cheap} {dear} {room} h k t s r a b e l = record {
   under = omega arith;
   few = omega arith;
   slack = record {
-    ahead = λ _. omega arith;
-    back = λ k. elim (one (eqb x 0) (eqb gap 0) t) [ inl z ↦ absurd (omega (arith, eqb-true x 0 z)) | inr z ↦ omega (arith, eqb-true gap 0 z) ];
+    ahead = λ o. let z : (cheap + q) % 2 ^ 32 ≡ c + p = t .some (omega arith) in omega arith;
+    back = λ o. let z : (dear + (c + p)) % 2 ^ 32 ≡ q = s .some o in omega arith;
   };
 }
 
--- ---- the lanes of source i before j: where those in use are tight, no difference has wrapped and no amount is large, all are good, and what they carry is summed
+-- ---- the lanes of source i before j: where no difference has wrapped and no amount is large, all are good, and what they carry is summed
 
-pub record RowTo (n : ℕ) (c u x : Table) (p : List ℕ) (i : ℕ) (tight : Bool) (signs all sent j : ℕ) : Type 0 where
+pub record RowTo (n : ℕ) (c u x : Table) (p : List ℕ) (i signs all sent j : ℕ) : Type 0 where
   pub most : j ≤ n
   pub small : sent ≤ j * 1048575
-  pub lanes : tight ≡ true → signs < 2147483648 → all < 1048576 → (b : ℕ) → b < j → Good (c i b) (u i b) (x i b) (get p i) (get p (32 + b))
+  pub lanes : signs < 2147483648 → all < 1048576 → (b : ℕ) → b < j → Good (c i b) (u i b) (x i b) (get p i) (get p (32 + b))
   pub sum : all < 1048576 → sent ≡ row j x i
 
-pub row-start : {n : ℕ} {c u x : Table} {p : List ℕ} {i : ℕ} → RowTo n c u x p i true 0 0 0 0
+pub row-start : {n : ℕ} {c u x : Table} {p : List ℕ} {i : ℕ} → RowTo n c u x p i 0 0 0 0
 unfolding row
-row-start {x = x} {i = i} = record { most = omega arith; small = omega arith; lanes = λ _ _ _ b l. absurd (omega arith); sum = λ _. sym (sum-zero (λ j. x i j)) }
+row-start {x = x} {i = i} = record { most = omega arith; small = omega arith; lanes = λ _ _ b l. absurd (omega arith); sum = λ _. sym (sum-zero (λ j. x i j)) }
 
-pub row-next : {n : ℕ} {c u x : Table} {p : List ℕ} {i : ℕ} {tight : Bool} {signs all sent j : ℕ} (gap room : ℕ) → RowTo n c u x p i tight signs all sent j → j < n
-    → get p (32 + j) ≤ 800000000 → (gap + get p (32 + j)) % 2 ^ 32 ≡ c i j + get p i → (room + x i j) % 2 ^ 32 ≡ u i j
-    → RowTo n c u x p i (tight && (eqb (x i j) 0 || eqb gap 0)) (bitOr (bitOr signs gap) room) (bitOr all (x i j)) (sent + x i j % 1048576) (j + 1)
+pub row-next : {n : ℕ} {c u x : Table} {p : List ℕ} {i signs all sent j : ℕ} (cheap dear room : ℕ) → RowTo n c u x p i signs all sent j → j < n
+    → get p (32 + j) ≤ 800000000 → c i j + get p i ≤ 802000000 → Told room (c i j + get p i) (get p (32 + j)) cheap
+    → Told (x i j) (get p (32 + j)) (c i j + get p i) dear → (room + x i j) % 2 ^ 32 ≡ u i j
+    → RowTo n c u x p i (bitOr (bitOr (bitOr signs cheap) dear) room) (bitOr all (x i j)) (sent + x i j % 1048576) (j + 1)
 unfolding row
-row-next {x = x} {i = i} {tight} {signs} {all} {sent} {j} gap room q h k g r = record {
+row-next {x = x} {i = i} {signs} {all} {sent} {j} cheap dear room q h k g t d r = record {
   most = omega arith;
   small = omega (arith, q .small);
-  lanes = λ e s a.
-      let o = both tight (eqb (x i j) 0 || eqb gap 0) e in
-      let w = or-below (bitOr signs gap) room s in
-      let v = or-below signs gap (w .0) in
+  lanes = λ s a.
+      let w = or-below (bitOr (bitOr signs cheap) dear) room s in
+      let v = or-below (bitOr signs cheap) dear (w .0) in
+      let o = or-below signs cheap (v .0) in
       let y = or-below all (x i j) a in
-      below-more _ _ (q .lanes (o .0) (v .0) (y .0)) (lane-good k g r (o .1) (v .1) (w .1) (y .1));
+      below-more _ _ (q .lanes (o .0) (y .0)) (lane-good k g t d r (o .1) (v .1) (w .1) (y .1));
   sum = λ a.
       let y = or-below all (x i j) a in
       let z : x i j % 1048576 ≡ x i j = omega arith in rw z (sum-more j (λ b. x i b) sent (q .sum (y .0)));
 }
 
-pub row-end : {n : ℕ} {c u x : Table} {p : List ℕ} {i : ℕ} {tight : Bool} {signs all sent j amount : ℕ} → RowTo n c u x p i tight signs all sent j → n ≤ j
-    → (((tight && ltb signs 2147483648) && ltb all 1048576) && eqb sent amount) ≡ true → RowChecked n c u x p i amount
-row-end {n = n} {x = x} {i = i} {tight} {signs} {all} {sent} {j} {amount} q h e =
+pub row-end : {n : ℕ} {c u x : Table} {p : List ℕ} {i signs all sent j amount : ℕ} → RowTo n c u x p i signs all sent j → n ≤ j
+    → ((ltb signs 2147483648 && ltb all 1048576) && eqb sent amount) ≡ true → RowChecked n c u x p i amount
+row-end {n = n} {x = x} {i = i} {signs} {all} {sent} {j} {amount} q h e =
     let s = ltb signs 2147483648 in
     let a = ltb all 1048576 in
-    let g = both ((tight && s) && a) (eqb sent amount) e in
-    let f = both (tight && s) a (g .0) in
-    let t = both tight s (f .0) in
+    let g = both (s && a) (eqb sent amount) e in
+    let f = both s a (g .0) in
     let few = ltb-true all 1048576 (f .1) in
     let z : j ≡ n = omega (arith, q .most) in record {
       sent = rw (← z) (sym (q .sum few) ∙ eqb-true sent amount (g .1));
-      lanes = λ b l. q .lanes (t .0) (ltb-true signs 2147483648 (t .1)) few b (omega arith);
+      lanes = λ b l. q .lanes (ltb-true signs 2147483648 (f .0)) few b (omega arith);
     }
 
 -- ---- what the terminals get, with the lanes of source i before j

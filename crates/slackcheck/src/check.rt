@@ -6,10 +6,20 @@ ghost use Prim.Native.Nat.{_+_, _≤_, _<_};
 ghost use Rattle.transport.specs.Curve.{amountsAt};
 ghost use Rattle.residual.specs.inner.Cells.{cells};
 ghost use Rattle.residual.specs.inner.Network.{get};
-ghost use Rattle.slackcheck.specs.inner.Checked.{Levels, CheckReady, RowReady, RowChecked, RowsChecked, Few, Got, ColumnsChecked, Checked};
+ghost use Rattle.slackcheck.specs.inner.Checked.{Levels, CheckReady, RowReady, RowChecked, RowsChecked, Told, Few, Got, ColumnsChecked, Checked};
 
-// Does source i send this amount, on lanes within their ceilings that are slack, each with less than 2^20, so that sums fit? Where a terminal's
-// potential is above its source's and the unit cost, or an amount above its ceiling, the difference modulo 2^32 has its top bit set. No branch, and no
+// The difference of two numbers modulo 2^32, where an amount is not 0; else 0.
+fn where_some(amount: u32, a: u32, b: u32) -> u32
+    ensures { λ r. ⌜ Told amount a b r ⌝ }
+{
+    if 0 < amount {
+        return wrapping_sub_u32(a, b);
+    }
+    0
+}
+
+// Does source i send this amount, on lanes within their ceilings that are slack, each with less than 2^20, so that sums fit? Where a lane with room
+// is too cheap, a lane in use too dear, or an amount above its ceiling, a difference modulo 2^32 has its top bit set. No branch, and no
 // comparison of words without signs, which plain vectors do not have: four lanes are looked at at a time.
 fn row_good(
     n: usize,
@@ -24,21 +34,22 @@ fn row_good(
     ensures { λ r. ⌜ (r ≡ true → RowChecked n (cells (now (cost .entry))) (cells (now (cap .entry))) (cells (now (x .entry))) (now (pot .entry)) i amount) ⌝ }
 {
     let p = pot[i];
-    let mut tight = true;
     let mut signs: u32 = 0;
     let mut all: u32 = 0;
     let mut sent: u32 = 0;
     for j in 0..n {
         let k = i * 64 + j;
         let part = x[k];
-        let gap = wrapping_sub_u32(cost[k] + p, pot[32 + j]);
+        let reach = cost[k] + p;
+        let level = pot[32 + j];
         let room = wrapping_sub_u32(cap[k], part);
-        tight = tight & ((part == 0) | (gap == 0));
-        signs = signs | gap | room;
+        let cheap = where_some(room, reach, level);
+        let dear = where_some(part, level, reach);
+        signs = signs | cheap | dear | room;
         all = all | part;
         sent = sent + part % 1_048_576;
     }
-    tight & (signs < 2_147_483_648) & (all < 1_048_576) & (sent == amount)
+    (signs < 2_147_483_648) & (all < 1_048_576) & (sent == amount)
 }
 
 // What source i sends at a split of what both plants make.

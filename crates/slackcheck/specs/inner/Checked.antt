@@ -1,7 +1,7 @@
 -- What the check of a plan x with potentials p finds: amounts of the sources, demands of the terminals, every lane slack. Assumes nothing.
 use mathlib.Core.Path.{_≡_}
 use mathlib.Core.List.{List}
-use Prim.Native.Nat.{ℕ, _+_, _≤_, _<_}
+use Prim.Native.Nat.{ℕ, _+_, _%_, _^_, _≤_, _<_}
 use lib.ListN.{length}
 use Rattle.transport.specs.Plan.{Table, row, col}
 use Rattle.transport.specs.Curve.{amountsAt}
@@ -14,6 +14,10 @@ pub record Good (c u x p q : ℕ) : Type 0 where
   pub under : x ≤ u
   pub few : x ≤ 1048575
   pub slack : Lane c u x p q
+
+-- the difference of two numbers modulo 2^32, where an amount is not 0
+pub record Told (amount a b r : ℕ) : Type 0 where
+  pub some : 0 < amount → (r + b) % 2 ^ 32 ≡ a
 
 -- the potentials are within the bounds of step 1
 pub record Levels (p : List ℕ) : Type 0 where

@@ -8,10 +8,10 @@ use Rattle.slackcheck.proofs.check.row_good.Statement.{statement}
 use Rattle.slackcheck.proofs.check.row_good.Tie as tie
 
 abbrev Inv-loop : tie.InvT-loop
-Inv-loop n i amount cost cap x pot p tight₀ signs₀ all₀ sent₀ j₀ tight signs all sent j = RowTo n (cells cost) (cells cap) (cells x) pot i tight signs all sent j
+Inv-loop n i amount cost cap x pot p signs₀ all₀ sent₀ j₀ signs all sent j = RowTo n (cells cost) (cells cap) (cells x) pot i signs all sent j
 
 abbrev μ-loop : tie.MeasureT-loop
-μ-loop n i amount cost cap x pot p tight₀ signs₀ all₀ sent₀ j₀ tight signs all sent j = n - j
+μ-loop n i amount cost cap x pot p signs₀ all₀ sent₀ j₀ signs all sent j = n - j
 
 mul-p : tie.Need-mul-p Inv-loop μ-loop
 mul-p c = search needs
@@ -34,37 +34,40 @@ mul-part c = search needs
 element-copy-out-part : tie.Need-element-copy-out-part Inv-loop μ-loop
 element-copy-out-part c = search needs
 
+mul-reach : tie.Need-mul-reach Inv-loop μ-loop
+mul-reach c = search needs
+
+element-copy-out-reach : tie.Need-element-copy-out-reach Inv-loop μ-loop
+element-copy-out-reach c = search needs
+
+add-reach : tie.Need-add-reach Inv-loop μ-loop
+add-reach c =
+    let s = c .before .before .before .before .before in
+    omega (arith, s .pre .costs (c .before .before .before .loop .j) (c .before .before .loop-test .taken), s .pre .high)
+
+add-level : tie.Need-add-level Inv-loop μ-loop
+add-level c = search needs
+
+mul-level : tie.Need-mul-level Inv-loop μ-loop
+mul-level c = search needs
+
+element-copy-out-level : tie.Need-element-copy-out-level Inv-loop μ-loop
+element-copy-out-level c = search needs
+
 mul-wrapping-sub-u32 : tie.Need-mul-wrapping-sub-u32 Inv-loop μ-loop
 mul-wrapping-sub-u32 c = search needs
 
 element-copy-out-wrapping-sub-u32 : tie.Need-element-copy-out-wrapping-sub-u32 Inv-loop μ-loop
 element-copy-out-wrapping-sub-u32 c = search needs
 
-add-wrapping-sub-u32 : tie.Need-add-wrapping-sub-u32 Inv-loop μ-loop
-add-wrapping-sub-u32 c =
-    let s = c .before .before .before .before .before in
-    omega (arith, s .pre .costs (c .before .before .before .loop .j) (c .before .before .loop-test .taken), s .pre .high)
-
-add-wrapping-sub-u32-2 : tie.Need-add-wrapping-sub-u32-2 Inv-loop μ-loop
-add-wrapping-sub-u32-2 c = search needs
-
-mul-wrapping-sub-u32-2 : tie.Need-mul-wrapping-sub-u32-2 Inv-loop μ-loop
-mul-wrapping-sub-u32-2 c = search needs
-
-element-copy-out-wrapping-sub-u32-2 : tie.Need-element-copy-out-wrapping-sub-u32-2 Inv-loop μ-loop
-element-copy-out-wrapping-sub-u32-2 c = search needs
-
 wrapping-sub-u32-requires : tie.Need-wrapping-sub-u32-requires Inv-loop μ-loop
 wrapping-sub-u32-requires c κs = search needs
 
-mul-wrapping-sub-u32-3 : tie.Need-mul-wrapping-sub-u32-3 Inv-loop μ-loop
-mul-wrapping-sub-u32-3 c = search needs
+where-some-requires : tie.Need-where-some-requires Inv-loop μ-loop
+where-some-requires c κs = search needs
 
-element-copy-out-wrapping-sub-u32-3 : tie.Need-element-copy-out-wrapping-sub-u32-3 Inv-loop μ-loop
-element-copy-out-wrapping-sub-u32-3 c = search needs
-
-wrapping-sub-u32-requires-2 : tie.Need-wrapping-sub-u32-requires-2 Inv-loop μ-loop
-wrapping-sub-u32-requires-2 c κs = search needs
+where-some-requires-2 : tie.Need-where-some-requires-2 Inv-loop μ-loop
+where-some-requires-2 c κs = search needs
 
 add-sent : tie.Need-add-sent Inv-loop μ-loop
 add-sent c = search needs
@@ -77,15 +80,20 @@ loop-less c = search needs
 
 loop-again : tie.Need-loop-again Inv-loop μ-loop
 loop-again c =
-    let l = c .before .before .before .before .before .before in
+    let l = c .before .before .before .before .before .before .before in
+    let s = l .before .before .before .pre in
+    let j = l .before .loop .j in
     row-next
+    (c .before .where-some .result)
+    (c .where-some2 .result)
     (c .before .before .wrapping-sub-u32 .result)
-    (c .wrapping-sub-u322 .result)
     (l .before .loop .inv)
     (l .loop-test .taken)
-    (l .before .before .before .pre .ends (l .before .loop .j) (l .loop-test .taken))
+    (s .ends j (l .loop-test .taken))
+    (omega (arith, s .costs j (l .loop-test .taken), s .high))
+    (c .before .where-some .ensures)
+    (c .where-some2 .ensures)
     (c .before .before .wrapping-sub-u32 .ensures)
-    (c .wrapping-sub-u322 .ensures)
 
 returns : tie.Need-returns Inv-loop μ-loop
 returns c = row-end (c .before .loop .inv) (c .loop-test .left)
@@ -103,16 +111,17 @@ row-good-spec =
     add-k
     mul-part
     element-copy-out-part
+    mul-reach
+    element-copy-out-reach
+    add-reach
+    add-level
+    mul-level
+    element-copy-out-level
     mul-wrapping-sub-u32
     element-copy-out-wrapping-sub-u32
-    add-wrapping-sub-u32
-    add-wrapping-sub-u32-2
-    mul-wrapping-sub-u32-2
-    element-copy-out-wrapping-sub-u32-2
     wrapping-sub-u32-requires
-    mul-wrapping-sub-u32-3
-    element-copy-out-wrapping-sub-u32-3
-    wrapping-sub-u32-requires-2
+    where-some-requires
+    where-some-requires-2
     add-sent
     add-j
     loop-less
