@@ -2,6 +2,6 @@
 // is promised: whoever takes it checks it.
 // The tree is that of `spanningtree`, flow[v] what the lane between v and the node above it carries.
 mod flow;
-mod price;
+pub mod price;
 pub mod solve;
 mod start;
