@@ -1,14 +1,13 @@
 // One pivot: a lane comes into the tree, and one on the cycle that it closes leaves; or the lane goes over from empty to full or back, and the tree stays.
 ghost use Prim.Native.Nat.{_<_};
 use super::leaving::Leave;
-use super::leaving::from_plant;
 use super::leaving::from_source;
 use super::leaving::from_terminal;
 use super::potentials::raise_subtree;
 use super::prices::fill;
 use super::residuals::VAST;
 use super::residuals::above;
-use super::residuals::change_upwards;
+use super::residuals::toggle_part;
 use super::residuals::gain;
 use super::residuals::loss;
 use super::residuals::pair;
@@ -51,7 +50,7 @@ fn move_subtree(
     let r = sources_below[v];
     let c = terminals_below[v];
     let from = parent[v];
-    change_upwards(
+    toggle_part(
         from,
         top,
         r,
@@ -63,7 +62,7 @@ fn move_subtree(
         terminals_below,
         residual,
     );
-    change_upwards(
+    toggle_part(
         host,
         top,
         r,
@@ -103,7 +102,7 @@ fn go_round(
     terminals_below: &mut [u64; 128],
     residual: &mut [u64; 128],
 ) {
-    change_upwards(
+    toggle_part(
         i,
         top,
         0,
@@ -115,7 +114,7 @@ fn go_round(
         terminals_below,
         residual,
     );
-    change_upwards(
+    toggle_part(
         j,
         top,
         0,
@@ -289,44 +288,6 @@ pub fn pivot(
         j,
         d,
         here,
-        own,
-        far,
-        parent,
-        sources_below,
-        terminals_below,
-        residual,
-        potential,
-        key,
-    );
-}
-
-// Drums go over from plant 1 to plant 0, as on an arc between them that is d too cheap: it comes into the tree above plant 1, and a lane on the way up
-// from there leaves. Nothing is done where none bears that.
-pub fn go_over(
-    d: u32,
-    fine: u32,
-    cost: &[u32; 2048],
-    cap: &[u32; 2048],
-    price: &mut [u32; 2048],
-    full: &mut [u64; 32],
-    parent: &mut [u32; 128],
-    sources_below: &mut [u32; 128],
-    terminals_below: &mut [u64; 128],
-    residual: &mut [u64; 128],
-    potential: &mut [u32; 32],
-    key: &mut [u32; 64],
-) {
-    let far = from_plant(parent, residual);
-    if far.node == NONE {
-        return;
-    }
-    let own = pair(far.amount, VAST / 4);
-    leave(far.node, true, fine, cost, cap, price, full, parent, residual);
-    exchange(
-        1,
-        0,
-        d,
-        true,
         own,
         far,
         parent,

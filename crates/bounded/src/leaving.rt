@@ -1,6 +1,4 @@
 // The lane that leaves the tree: the ratio test both ways on the cycle that an entering lane closes.
-use super::residuals::VAST;
-use super::residuals::above;
 use super::residuals::half;
 use spanningtree::NONE;
 
@@ -106,34 +104,5 @@ pub fn from_terminal(
         amount,
         first,
         top,
-    }
-}
-
-// From plant 1 up to plant 0, where the lanes above sources lose drums and those above terminals gain; of those that bear as little one that is above
-// its ceiling.
-pub fn from_plant(parent: &[u32; 128], residual: &[u64; 128]) -> Leave {
-    let mut node = NONE;
-    let mut amount = VAST;
-    let mut a: u32 = 1;
-    let mut left: u32 = 96;
-    while 0 < left {
-        if a == 0 {
-            break;
-        }
-        let v = (a % 128) as usize;
-        let own = residual[v];
-        let r = half(own, if a < 32 { 0 } else { 32 });
-        if (r < amount) | ((r == amount) & above(own)) {
-            node = a;
-            amount = r;
-        }
-        a = parent[v];
-        left = left - 1;
-    }
-    Leave {
-        node,
-        amount,
-        first: true,
-        top: 0,
     }
 }

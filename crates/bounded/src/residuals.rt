@@ -58,7 +58,7 @@ fn change(a: u32, source: u64, terminal: u64) -> u64 {
 
 // From a node upwards, below stop: a subtree is taken off each node that has it, and put on each that has not; the lanes above sources change by one
 // amount, those above terminals by another.
-pub fn change_upwards(
+pub fn toggle_part(
     from: u32,
     stop: u32,
     r: u32,

@@ -3,7 +3,6 @@
 ghost use mathlib.Core.Path.{_≡_};
 ghost use Prim.Native.Nat.{_≤_, _<_};
 ghost use lib.ListN.{length};
-use super::exchange::go_over;
 use super::exchange::pivot;
 use super::potentials::source_potentials;
 use super::potentials::terminal_potentials;
@@ -17,6 +16,10 @@ use simplex::price::least;
 use spanningtree::flows::lane;
 use std::num::wrapping_add_u32;
 use std::num::wrapping_sub_u32;
+
+// The turns of the first try, and of the second.
+const TURNS: u32 = 20_000;
+const AGAIN: u32 = 400;
 
 // The source that is looked at, and how many in a row had no lane with a reduced cost of the wrong sign.
 struct Turn {
@@ -137,7 +140,7 @@ fn step(
     Turn { row, clean: 0 }
 }
 
-// Until no source has a lane that enters, so many turns at most; how many are left.
+// Until no source has a lane that enters, so many turns at most.
 fn simplex(
     m: u32,
     n: usize,
@@ -153,14 +156,12 @@ fn simplex(
     residual: &mut [u64; 128],
     potential: &mut [u32; 32],
     key: &mut [u32; 64],
-) -> u32
-    ensures { λ r. ⌜ r ≤ turns ⌝ }
-{
+) {
     let mut now = Turn { row: 0, clean: 0 };
     let mut left = turns;
     while 0 < left {
         if m <= now.clean {
-            return left;
+            return;
         }
         now = step(
             m,
@@ -180,7 +181,6 @@ fn simplex(
         );
         left = left - 1;
     }
-    left
 }
 
 // Does a lane of the tree carry more than its ceiling?
@@ -192,70 +192,11 @@ fn exceeds(residual: &[u64; 128]) -> bool {
     some
 }
 
-// As long as a lane carries more than its ceiling, drums go over from plant 1 to plant 0, where that helps: each costs half a fine.
-fn go_over_all(
-    m: u32,
-    n: usize,
-    turns: u32,
-    fine: u32,
-    cost: &[u32; 2048],
-    cap: &[u32; 2048],
-    price: &mut [u32; 2048],
-    full: &mut [u64; 32],
-    parent: &mut [u32; 128],
-    sources_below: &mut [u32; 128],
-    terminals_below: &mut [u64; 128],
-    residual: &mut [u64; 128],
-    potential: &mut [u32; 32],
-    key: &mut [u32; 64],
-) {
-    let mut left = turns;
-    while 0 < left {
-        if !exceeds(residual) {
-            return;
-        }
-        let low = potential[1] % 33_554_432 + fine / 2;
-        let high = potential[0] % 33_554_432;
-        if high <= low {
-            return;
-        }
-        go_over(
-            high - low,
-            fine,
-            cost,
-            cap,
-            price,
-            full,
-            parent,
-            sources_below,
-            terminals_below,
-            residual,
-            potential,
-            key,
-        );
-        left = simplex(
-            m,
-            n,
-            left - 1,
-            fine,
-            cost,
-            cap,
-            price,
-            full,
-            parent,
-            sources_below,
-            terminals_below,
-            residual,
-            potential,
-            key,
-        );
-    }
-}
-
-// Where a lane carries more than its ceiling the fine grows, once; then drums go over.
+// Where a lane carries more than its ceiling the fine grows, once, for as many turns at most as there are given.
 fn try_again(
     m: u32,
     n: usize,
+    turns: u32,
     small: u32,
     cost: &[u32; 2048],
     cap: &[u32; 2048],
@@ -286,26 +227,10 @@ fn try_again(
         potential,
         key,
     );
-    let left = simplex(
+    simplex(
         m,
         n,
-        20_000,
-        fine,
-        cost,
-        cap,
-        price,
-        full,
-        parent,
-        sources_below,
-        terminals_below,
-        residual,
-        potential,
-        key,
-    );
-    go_over_all(
-        m,
-        n,
-        left,
+        turns,
         fine,
         cost,
         cap,
@@ -423,7 +348,7 @@ fn best_tree(
     simplex(
         m,
         n,
-        20_000,
+        TURNS,
         fine,
         cost,
         cap,
@@ -439,6 +364,7 @@ fn best_tree(
     try_again(
         m,
         n,
+        AGAIN,
         fine,
         cost,
         cap,
@@ -453,9 +379,8 @@ fn best_tree(
     );
 }
 
-// A cheapest plan at these amounts into x, where there is one, its potentials, and the tree that it is on; where there is none, at the first amounts that
-// have one when drums go over from plant 1 to plant 0, and how many do: plant 1 then hangs from plant 0. x is lent cleared; what it holds on lanes
-// that are not the tree's stays.
+// A cheapest plan at these amounts into x, where there is one, its potentials, and the tree that it is on. x is lent cleared; what it holds on lanes that
+// are neither the tree's nor full stays.
 pub fn solve(
     m: usize,
     n: usize,
@@ -468,7 +393,7 @@ pub fn solve(
     parent: &mut [u32; 128],
     sources_below: &mut [u32; 128],
     terminals_below: &mut [u64; 128],
-) -> u32
+)
     ensures { λ _. ⌜ (length (now (x .exit)) ≡ 2048) × (length (now (pot .exit)) ≡ 96) ⌝ }
 {
     *sources_below = [0u32; 128];
@@ -498,9 +423,4 @@ pub fn solve(
     *pot = [600_000_000u32; 96];
     source_potentials(&potential, pot);
     terminal_potentials(&key, pot);
-    if parent[1] == 0 {
-        half(residual[1], 0)
-    } else {
-        0
-    }
 }

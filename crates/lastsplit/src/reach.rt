@@ -6,7 +6,7 @@ ghost use Rattle.residual.specs.inner.Cells.{cells};
 ghost use Rattle.residual.specs.inner.Network.{net, get};
 ghost use Rattle.residual.specs.inner.LanesInUse.{Covers};
 ghost use Rattle.paths.specs.inner.Search.{Wanted};
-ghost use Rattle.lastsplit.specs.inner.LastSplit.{ReachReady, Reached, LastReady};
+ghost use Rattle.lastsplit.specs.inner.LastSplit.{AllWide, ReachReady, Reached, LastReady};
 use augment::send::send;
 
 // A number that has the top bit only where the ceiling is not below the demand.
@@ -31,9 +31,9 @@ fn row_wide(i: usize, cap: &[u32; 2048], demand: &[u32; 96]) -> bool
 }
 
 // Is no ceiling below a demand?
-fn all_wide(m: usize, cap: &[u32; 2048], demand: &[u32; 96]) -> bool
+pub fn all_wide(m: usize, cap: &[u32; 2048], demand: &[u32; 96]) -> bool
     requires { ⌜ m ≤ 32 ⌝ }
-    ensures { λ r. ⌜ (r ≡ true → (i j : ℕ) → i < m → j < 64 → get (now (demand .entry)) (32 + j) ≤ cells (now (cap .entry)) i j) ⌝ }
+    ensures { λ r. ⌜ (r ≡ true → AllWide m (now (cap .entry)) (now (demand .entry))) ⌝ }
 {
     for i in 0..m {
         if !row_wide(i, cap, demand) {
@@ -85,9 +85,10 @@ fn reach(
     gone
 }
 
-// The same from a plan x that is to stay. Where no ceiling is below a demand, limit drums can go over; else they go along any paths, since
-// what the lanes cost does not matter.
+// The same from a plan x that is to stay. Where no ceiling is below a demand, which is what wide tells, limit drums can go over; else they go
+// along any paths, since what the lanes cost does not matter.
 pub fn last(
+    wide: bool,
     m: usize,
     n: usize,
     cap: &[u32; 2048],
@@ -96,12 +97,13 @@ pub fn last(
     x: &[u32; 2048],
     serves: &[u32; 64],
 ) -> u32
+    requires { ⌜ (wide ≡ true → AllWide m (now cap) (now demand)) ⌝ }
     requires { ⌜ LastReady m n (cells (now cap)) (now x) limit ⌝ }
     requires { ⌜ Wanted (net m n (now x) (now cap) (now x)) (now demand) ⌝ }
     requires { ⌜ Covers m n (now x) (now serves) ⌝ }
     ensures { λ r. ⌜ Reached m n (cells (now (cap .entry))) (cells (now (x .entry))) limit r ⌝ }
 {
-    if all_wide(m, cap, demand) {
+    if wide {
         return limit;
     }
     let free = [0u32; 2048];

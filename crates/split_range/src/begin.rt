@@ -1,6 +1,7 @@
 // The first and the last split that have a plan within the ceilings.
 ghost use Rattle.split_range.specs.inner.Range.{BeginReady, Ranged};
 use super::quick::cheapest_first;
+use lastsplit::reach::all_wide;
 use lastsplit::reach::last;
 use paths::search::smaller;
 
@@ -35,8 +36,10 @@ pub fn begin(
     requires { ⌜ BeginReady m n (now cost) (now cap) (now supply) (now demand) run0 run1 made ⌝ }
     ensures { λ r. ⌜ Ranged m n (now (cost .entry)) (now (cap .entry)) (now (supply .entry)) (now (demand .entry)) run0 run1 made (now (x .exit)) (now (serves .exit)) (now (pot .exit)) (r .found) (r .lo) (r .hi) ⌝ }
 {
+    let wide = all_wide(m, cap, demand);
     let first = cheapest_first(
         quick,
+        wide,
         m,
         n,
         cost,
@@ -56,11 +59,13 @@ pub fn begin(
     if first.found {
         let split = first.split;
         let top = smaller(supply[0], made - run1);
-        let gone = last(m, n, cap, top - split, demand, x, serves);
+        let gone = last(wide, m, n, cap, top - split, demand, x, serves);
+        let lo = split as u64;
+        let hi = (split + gone) as u64;
         return Range {
             found: true,
-            lo: split as u64,
-            hi: (split + gone) as u64,
+            lo,
+            hi,
         };
     }
     Range {

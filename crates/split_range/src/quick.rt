@@ -9,6 +9,7 @@ ghost use Rattle.slackcheck.specs.inner.Checked.{CheckReady};
 ghost use Rattle.firstsplit.specs.inner.FirstPlan.{FirstPlan};
 ghost use Rattle.split_range.specs.inner.QuickPlan.{Quick};
 ghost use Rattle.split_range.specs.inner.Range.{BeginReady};
+use bounded::solve::solve as solve_within;
 use firstsplit::base::First;
 use firstsplit::base::first_plan;
 use simplex::solve::solve;
@@ -28,11 +29,13 @@ fn first_split(run0: u32, supply1: u32, made: u32) -> u32
     made - supply1
 }
 
-// The plan of the simplex at a split with its tree, for whoever checks it.
+// The plan of the simplex at a split with its tree, for whoever checks it: of the one that knows no ceilings, where none is below a demand.
 fn simplex_at(
+    wide: bool,
     m: usize,
     n: usize,
     cost: &[u32; 2048],
+    cap: &[u32; 2048],
     supply: &[u32; 32],
     demand: &[u32; 96],
     split: u32,
@@ -49,22 +52,39 @@ fn simplex_at(
     let mut amounts = *supply;
     amounts[0] = split;
     amounts[1] = made - split;
-    solve(
-        m,
-        n,
-        cost,
-        &amounts,
-        demand,
-        x,
-        pot,
-        parent,
-        sources_below,
-        terminals_below,
-    );
+    if wide {
+        solve(
+            m,
+            n,
+            cost,
+            &amounts,
+            demand,
+            x,
+            pot,
+            parent,
+            sources_below,
+            terminals_below,
+        );
+    } else {
+        solve_within(
+            m,
+            n,
+            cost,
+            cap,
+            &amounts,
+            demand,
+            x,
+            pot,
+            parent,
+            sources_below,
+            terminals_below,
+        );
+    }
 }
 
 // A cheapest plan at the first split within the supplies and the least runs, where the simplex finds one that passes the check.
 fn quick_plan(
+    wide: bool,
     m: usize,
     n: usize,
     cost: &[u32; 2048],
@@ -86,9 +106,11 @@ fn quick_plan(
 {
     let split = first_split(run0, supply[1], made);
     simplex_at(
+        wide,
         m,
         n,
         cost,
+        cap,
         supply,
         demand,
         split,
@@ -114,6 +136,7 @@ fn quick_plan(
 // and there is no tree: no node is above plant 2.
 pub fn cheapest_first(
     quick: bool,
+    wide: bool,
     m: usize,
     n: usize,
     cost: &[u32; 2048],
@@ -136,6 +159,7 @@ pub fn cheapest_first(
 {
     if quick {
         let first = quick_plan(
+            wide,
             m,
             n,
             cost,

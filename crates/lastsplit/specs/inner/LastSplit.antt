@@ -9,6 +9,10 @@ use Rattle.residual.specs.inner.Cells.{cells}
 use Rattle.residual.specs.inner.Network.{Net, get, again}
 use Rattle.lastsplit.specs.inner.PlantShift.{PlantSlack}
 
+-- no ceiling of the first m sources is below a demand
+abbrev pub AllWide : ℕ → List ℕ → List ℕ → Type 0
+AllWide m cap demand = (i j : ℕ) → i < m → j < 64 → get demand (32 + j) ≤ cells cap i j
+
 -- there is a plan within the ceilings at a split
 pub record Some (m n : ℕ) (u : Table) (a b : ℕ → ℕ) (y z : ℕ) : Type 0 where
   pub plan : Table

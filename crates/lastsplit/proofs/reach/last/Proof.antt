@@ -7,25 +7,22 @@ use borrow.Author.Needs.{needs}
 use Rattle.lastsplit.proofs.reach.last.Statement.{statement}
 use Rattle.lastsplit.proofs.reach.last.Tie as tie
 
-all-wide-requires : tie.Need-all-wide-requires
-all-wide-requires c κs = search needs
-
 returns : tie.Need-returns
 returns c =
-    let r = c .before .before .pre .0 in
+    let r = c .before .pre .1 .0 in
     wide-reached _ _ _ _ _ (r .plants) (r .left)
-    (λ i j h l. omega (arith, c .before .before .pre .1 .0 j l, c .before .all-wide .ensures (c .if1 .taken) i j h (omega (arith, r .terminals))))
+    (λ i j h l. omega (arith, c .before .pre .1 .1 .0 j l, c .before .pre .0 (c .if1 .taken) i j h (omega (arith, r .terminals))))
 
 reach-requires : tie.Need-reach-requires
 reach-requires c κs =
-    let r = c .before .before .before .before .before .before .before .before .pre .0 in (
-      free-ready (c .before .before .before .before .before .before .before .before .args .cap .now) (replicate {A = ℕ} 2048 0) r (λ k h. getD-replicate {A = ℕ} 2048 k 0 0 h) (length-replicate {A = ℕ} 96 800000000)
+    let r = c .before .before .before .before .before .before .before .pre .1 .0 in (
+      free-ready (c .before .before .before .before .before .before .before .args .cap .now) (replicate {A = ℕ} 2048 0) r (λ k h. getD-replicate {A = ℕ} 2048 k 0 0 h) (length-replicate {A = ℕ} 96 800000000)
           (λ v h. getD-replicate {A = ℕ} 96 v 800000000 0 h),
-      c .before .before .before .before .before .before .before .before .pre .1,
+      c .before .before .before .before .before .before .before .pre .1 .1,
     )
 
 returns-2 : tie.Need-returns-2
 returns-2 c = search needs
 
 pub last-spec : {M : Type 1} → statement M
-last-spec = tie.close (tie.spec all-wide-requires returns reach-requires returns-2)
+last-spec = tie.close (tie.spec returns reach-requires returns-2)

@@ -7,6 +7,9 @@ use borrow.Author.Needs.{needs}
 use Rattle.split_range.proofs.begin.begin.Statement.{statement}
 use Rattle.split_range.proofs.begin.begin.Tie as tie
 
+all-wide-requires : tie.Need-all-wide-requires
+all-wide-requires c κs = search needs
+
 cheapest-first-requires : tie.Need-cheapest-first-requires
 cheapest-first-requires c κs = search needs
 
@@ -21,45 +24,46 @@ smaller-requires c κs = search needs
 
 sub-last : tie.Need-sub-last
 sub-last c =
-    let f = rw (c .before .before .if1 .taken) at (c .before .before .before .cheapest-first .ensures .0 .done) in omega (arith, split-within (c .before .before .before .before .before .before .before .before .before .before .pre) f, c .smaller .ensures)
+    let f = rw (c .before .before .if1 .taken) at (c .before .before .before .cheapest-first .ensures .0 .done) in omega (arith, split-within (c .before .before .before .before .before .before .before .before .before .before .before .pre) f, c .smaller .ensures)
 
 last-requires : tie.Need-last-requires
 last-requires c κs =
-    let r = c .before .before .before .before .before .before .before .before .before .before .before .before .pre in
+    let r = c .before .before .before .before .before .before .before .before .before .before .before .before .before .pre in
     let f = rw (c .before .before .before .before .if1 .taken) at (c .before .before .before .before .before .cheapest-first .ensures .0 .done) in
-    (last-ready r f (ap (λ v. v - c .before .before .before .before .before .cheapest-first .result .split) (c .before .before .smaller .ensures)), (wanted r f, c .before .before .before .before .before .cheapest-first .ensures .1))
+    (c .before .before .before .before .before .before .before .before .before .before .before .before .all-wide .ensures, (last-ready r f (ap (λ v. v - c .before .before .before .before .before .cheapest-first .result .split) (c .before .before .smaller .ensures)), (wanted r f, c .before .before .before .before .before .cheapest-first .ensures .1)))
 
-cast-t34 : tie.Need-cast-t34
-cast-t34 c = search needs
+cast-lo : tie.Need-cast-lo
+cast-lo c = search needs
 
-add-t31 : tie.Need-add-t31
-add-t31 c = search needs
+add-hi : tie.Need-add-hi
+add-hi c = search needs
 
-cast-t35 : tie.Need-cast-t35
-cast-t35 c = search needs
+cast-hi : tie.Need-cast-hi
+cast-hi c = search needs
 
 returns : tie.Need-returns
 returns c =
-    let r = c .before .before .before .before .before .before .before .before .before .before .before .before .before .pre in
+    let r = c .before .before .before .before .before .before .before .before .before .before .before .before .before .before .pre in
     let f = rw (c .before .before .before .before .before .if1 .taken) at (c .before .before .before .before .before .before .cheapest-first .ensures .0 .done) in
     ranged r f (ap (λ v. v - c .before .before .before .before .before .before .cheapest-first .result .split) (c .before .before .before .smaller .ensures)) (c .last .ensures) (c .before .before .before .before .before .before .cheapest-first .ensures .1)
 
 returns-2 : tie.Need-returns-2
 returns-2 c =
-    let r = c .before .before .before .before .before .before .before .before .pre in none-ranged r 0 0 (rw (c .if1 .left) at (c .before .cheapest-first .ensures .0 .done))
+    let r = c .before .before .before .before .before .before .before .before .before .pre in none-ranged r 0 0 (rw (c .if1 .left) at (c .before .cheapest-first .ensures .0 .done))
 
 pub begin-spec : {M : Type 1} → statement M
 begin-spec =
     tie.close
     (tie.spec
+    all-wide-requires
     cheapest-first-requires
     element-copy-out-smaller
     sub-smaller
     smaller-requires
     sub-last
     last-requires
-    cast-t34
-    add-t31
-    cast-t35
+    cast-lo
+    add-hi
+    cast-hi
     returns
     returns-2)

@@ -1,10 +1,10 @@
--- `bounded::residuals::change_upwards` is safe and ends. Assumes nothing.
+-- `bounded::residuals::toggle_part` is safe and ends. Assumes nothing.
 use Prim.Native.Nat.{_≤_}
 use borrow.Author.Needs.{needs}
-use Rattle.bounded.proofs.residuals.change_upwards.Statement.{statement}
-use Rattle.bounded.proofs.residuals.change_upwards.Tie as tie
+use Rattle.bounded.proofs.residuals.toggle_part.Statement.{statement}
+use Rattle.bounded.proofs.residuals.toggle_part.Tie as tie
 
--- `bounded::residuals::change_upwards` is safe and ends. Assumes nothing.
+-- `bounded::residuals::toggle_part` is safe and ends. Assumes nothing.
 
 abbrev Inv-loop : tie.InvT-loop
 Inv-loop from stop r c source terminal parent sources-below₀ terminals-below₀ residual₀ a₀ left₀ sources-below terminals-below residual a left = left ≤ 96
@@ -81,8 +81,8 @@ loop-again c = search needs
 returns-2 : tie.Need-returns-2 Inv-loop μ-loop
 returns-2 c = search needs
 
-pub change-upwards-spec : {M : Type 1} → statement M
-change-upwards-spec =
+pub toggle-part-spec : {M : Type 1} → statement M
+toggle-part-spec =
     tie.close
     (tie.spec
     Inv-loop
