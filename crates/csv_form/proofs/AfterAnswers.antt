@@ -11,8 +11,11 @@ use Rattle.csv_form.specs.declared.Kind.{Kind}
 use Rattle.csv_form.specs.declared.Kind.the-variants.{Tariff, Production}
 use Rattle.csv_form.specs.declared.after.After.{After}
 use Rattle.csv_form.specs.declared.after.After.the-variants.{Field, Record, End, Empty, Refused}
-use Rattle.csv_form.specs.inner.Reader.{AfterRead, atField, atCost, atComma, atDemand, atCr, atLastCr, atLast, Any, Source, Known, costAt, lastAt, demandAt, commaAt, lineAt, recordAt, plainAt, afterAt}
-use Rattle.csv_form.proofs.AfterField.{demands-none, demands-more, demands-end, demand-end, demand-cr, demand-field, comma-production, comma-source, comma-later, record-none, record-tariff, record-end, record-more, cost-none, cost-comma, after-minus, after-end, after-comma, after-cr, after-none}
+use Rattle.csv_form.specs.inner.Reader.{AfterRead, atField, atCost, atComma, atDemand, atCr, atLastCr, atLast, Any, Source, Known, costAt}
+use Rattle.csv_form.specs.inner.Reader.{lastAt, demandAt, commaAt, lineAt, recordAt, plainAt, afterAt}
+use Rattle.csv_form.proofs.AfterField.{demands-none, demands-more, demands-end, demand-end, demand-cr, demand-field, comma-production}
+use Rattle.csv_form.proofs.AfterField.{comma-source, comma-later, record-none, record-tariff, record-end, record-more, cost-none, cost-comma}
+use Rattle.csv_form.proofs.AfterField.{after-minus, after-end, after-comma, after-cr, after-none}
 use Rattle.csv_form.proofs.ByteMarks.{past}
 
 -- a byte that is not 0 stands in the file

@@ -11,7 +11,8 @@ use Rattle.csv_form.specs.declared.Kind.{Kind}
 use Rattle.csv_form.specs.declared.Kind.the-variants.{Tariff, Production}
 use Rattle.csv_form.specs.declared.after.After.{After}
 use Rattle.csv_form.specs.declared.after.After.the-variants.{Field, Record, End, Empty, Refused}
-use Rattle.csv_form.specs.Form.{Mark, digit, minus, quote, comma, cr, lf, other, mark, field, fieldOrEmpty, recordOrEnd, closed, done, step, mayEnd, isProduction, afterComma, afterLine, inTariff}
+use Rattle.csv_form.specs.Form.{Mark, digit, minus, quote, comma, cr, lf, other, mark, field, fieldOrEmpty, recordOrEnd, closed, done, step}
+use Rattle.csv_form.specs.Form.{mayEnd, isProduction, afterComma, afterLine, inTariff}
 use Rattle.csv_form.specs.Records.{reading, run, signed, isFirst, absorb, recordsAtEnd, rowWith, rowsWith}
 use Rattle.csv_form.specs.inner.Reader.{AfterRead, afterEnds, onAfter, atField, atCost, atComma, atDemand, atCr, atLastCr, atLast, Any, Source, Known}
 use Rattle.csv_form.proofs.ByteMarks.{Seen, seen, known}

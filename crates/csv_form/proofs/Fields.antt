@@ -17,7 +17,8 @@ use Rattle.csv_form.specs.Form.{digit, quote, mark, field, opened, step}
 use Rattle.csv_form.specs.Records.{reading, run, isFirst, absorb, Form, broken}
 use Rattle.csv_form.specs.inner.Reader.{digitOr10, isMinus, pickBool, numberFrom, within, closedAs, NumberRead, pickField, closeQuote, onField, FieldRead, fieldEnds}
 use Rattle.csv_form.proofs.ByteMarks.{no-digit-found, digit-found, seen, known, inside, past, nothing-ten, minus-inside, no-minus}
-use Rattle.csv_form.proofs.FormRuns.{here, refused, start, start-on, start-clear, quoted-on, quoted-clear, no-field, no-opened, no-signed, no-zero, no-quote, begins, zero-alone, zero-led, bare-closed, quote-closed, minus-begins}
+use Rattle.csv_form.proofs.FormRuns.{here, refused, start, start-on, start-clear, quoted-on, quoted-clear, no-field, no-opened, no-signed}
+use Rattle.csv_form.proofs.FormRuns.{no-zero, no-quote, begins, zero-alone, zero-led, bare-closed, quote-closed, minus-begins}
 
 -- after a number: its digits are read, or there is none
 abbrev onNumber : Kind → Bool → Bool → Bool → List ℤ → List (List ℤ) → List ℕ → Field → Form
@@ -135,7 +136,8 @@ module _ (kind : Kind) (s : List ℕ) where
           closed-on m′ m (n .0) (elim (decLt next (length s)) [ yes h ↦ h | no h ↦ absurd (past s next 33 (omega arith) k) ]) k
       go false e =
           refused kind (reading (within true m 0) v m (m || b) r rs) s next
-          (no-quote kind ((m || b) || isFirst rs) m (getD s next 0) (mark (getD s next 0)) (seen (getD s next 0)) (λ k. eqb-false (getD s next 0) 34 e k)) (quoted-clear m (mark (getD s next 0)) next) (quoted-on kind m)
+          (no-quote kind ((m || b) || isFirst rs) m (getD s next 0) (mark (getD s next 0)) (seen (getD s next 0)) (λ k. eqb-false (getD s next 0) 34 e k))
+          (quoted-clear m (mark (getD s next 0)) next) (quoted-on kind m)
 
   quote-ends : (at : ℕ) (a : Field) (m : Bool) → NumberRead m s at a → fieldEnds s at (closeQuote s a)
   quote-ends at (Refused place) m n = tt

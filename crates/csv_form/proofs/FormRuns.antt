@@ -12,7 +12,8 @@ use lib.ListN.{length, getD, drop, drop-of-length-le}
 use lib.Seq.{drop-cons}
 use Rattle.csv_form.specs.declared.Kind.{Kind}
 use Rattle.csv_form.specs.declared.Kind.the-variants.{Tariff, Production}
-use Rattle.csv_form.specs.Form.{Mark, digit, minus, quote, comma, cr, lf, other, mark, State, field, opened, zeroBare, zeroQuoted, closed, minusBare, minusQuoted, closedCost, lineEnd, lastLineEnd, inTariff, leading, step, more, placeOf, mayEnd}
+use Rattle.csv_form.specs.Form.{Mark, digit, minus, quote, comma, cr, lf, other, mark, State, field, opened, zeroBare, zeroQuoted, closed}
+use Rattle.csv_form.specs.Form.{minusBare, minusQuoted, closedCost, lineEnd, lastLineEnd, inTariff, leading, step, more, placeOf, mayEnd}
 use Rattle.csv_form.specs.Records.{Reading, reading, run, absorb, recordsAtEnd, isSource, Form, whole, broken}
 use Rattle.csv_form.specs.inner.Reader.{isMinus, within, closedAs}
 use Rattle.csv_form.proofs.ByteMarks.{NotDigit, Seen}

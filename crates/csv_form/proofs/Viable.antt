@@ -6,7 +6,9 @@ use mathlib.Core.List.{List, [], _∷_, _++_}
 use Prim.Native.Nat.{ℕ, suc, _+_, _*_}
 use Rattle.csv_form.specs.declared.Kind.{Kind}
 use Rattle.csv_form.specs.declared.Kind.the-variants.{Tariff, Production}
-use Rattle.csv_form.specs.Form.{mark, State, field, fieldOrEmpty, recordOrEnd, opened, bare, quoted, zeroBare, zeroQuoted, closed, minusBare, minusQuoted, bareCost, quotedCost, closedCost, lineEnd, lastLineEnd, done, step, mayEnd, isProduction, afterComma, afterLine, leading}
+use Rattle.csv_form.specs.Form.{mark, State, field, fieldOrEmpty, recordOrEnd, opened, bare, quoted, zeroBare, zeroQuoted, closed, minusBare}
+use Rattle.csv_form.specs.Form.{minusQuoted, bareCost, quotedCost, closedCost, lineEnd, lastLineEnd, done, step, mayEnd, isProduction}
+use Rattle.csv_form.specs.Form.{afterComma, afterLine, leading}
 use Rattle.csv_form.specs.Records.{Reading, reading, run, absorb, rowWith, isFirst, signed, whole}
 
 -- bytes with which a file of the form goes on from here, and its records then

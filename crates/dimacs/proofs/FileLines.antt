@@ -184,18 +184,27 @@ moved-node t (reading f) i m v h =
 moved-arc : (t : Tally) (s : Stage) (a e low most : ℕ) (m : Bool) (c : ℕ) → Stands t s → Moved s (lines.Arc a e low most m c) (onArc t)
 unfolding _>>=_ step
 moved-arc t opening a e low most m c h =
-    subst (λ (b : Bool). Moved opening (lines.Arc a e low most m c) (cond b (cond (ltb (t .arcs) (t .said)) (nexts.On (tallyOf true (t .nodes) (t .said) (t .arcs + 1))) nexts.Wrong) nexts.Wrong)) (sym h) refl
+    subst (λ (b : Bool). Moved opening (lines.Arc a e low most m c) (cond b (cond (ltb (t .arcs) (t .said)) (nexts.On (tallyOf true (t .nodes) (t .said) (t .arcs + 1))) nexts.Wrong) nexts.Wrong))
+    (sym h) refl
 moved-arc t (reading f) a e low most m c h =
-    subst (λ (b : Bool). Moved (reading f) (lines.Arc a e low most m c) (cond b (cond (ltb (t .arcs) (t .said)) (nexts.On (tallyOf true (t .nodes) (t .said) (t .arcs + 1))) nexts.Wrong) nexts.Wrong)) (sym (h .0))
+    subst (λ (b : Bool). Moved (reading f) (lines.Arc a e low most m c) (cond b (cond (ltb (t .arcs) (t .said)) (nexts.On (tallyOf true (t .nodes) (t .said) (t .arcs + 1))) nexts.Wrong) nexts.Wrong))
+    (sym (h .0))
     (elim (decLt (t .arcs) (t .said)) [
       | yes l ↦
           subst (λ (b : Bool). Moved (reading f) (lines.Arc a e low most m c) (cond b (nexts.On (tallyOf true (t .nodes) (t .said) (t .arcs + 1))) nexts.Wrong)) (sym (lt-ltb (t .arcs) (t .said) l)) (
             withArc f (made a e low most (withSign m c)),
             ap (λ (b : Bool). onlyIf b (withArc f (made a e low most (withSign m c)))) (lt-ltb (length (f .arcs)) (f .said) (omega (arith, h .2, h .3))),
-            (refl, h .1, h .2, omega (arith, h .3, length-append (f .arcs) (made a e low most (withSign m c) ∷ [])), omega (arith, h .2, h .3, length-append (f .arcs) (made a e low most (withSign m c) ∷ []))),
+            (
+              refl,
+              h .1,
+              h .2,
+              omega (arith, h .3, length-append (f .arcs) (made a e low most (withSign m c) ∷ [])),
+              omega (arith, h .2, h .3, length-append (f .arcs) (made a e low most (withSign m c) ∷ [])),
+            ),
           )
       | no l ↦
-          subst (λ (b : Bool). Moved (reading f) (lines.Arc a e low most m c) (cond b (nexts.On (tallyOf true (t .nodes) (t .said) (t .arcs + 1))) nexts.Wrong)) (sym (le-ltb (t .arcs) (t .said) (omega arith)))
+          subst (λ (b : Bool). Moved (reading f) (lines.Arc a e low most m c) (cond b (nexts.On (tallyOf true (t .nodes) (t .said) (t .arcs + 1))) nexts.Wrong))
+          (sym (le-ltb (t .arcs) (t .said) (omega arith)))
           (ap (λ (b : Bool). onlyIf b (withArc f (made a e low most (withSign m c)))) (le-ltb (length (f .arcs)) (f .said) (omega (arith, h .2, h .3))))
     ])
 

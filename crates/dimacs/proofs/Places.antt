@@ -11,7 +11,8 @@ use lib.ListN.{length, length-append}
 use borrow.Author.Tests.{eq-eqb, ne-eqb, eqb-true, eqb-false, lt-ltb, ltb-true}
 use Rattle.dimacs.specs.Arc.{arc}
 use Rattle.dimacs.specs.Bytes.{_>>=_, digits, counting, number, signed, spaces, gap, word, field, signedField}
-use Rattle.dimacs.specs.Form.{before, pieces, ArcLine, Line, comment, problem, node, arcLine, ending, problemLine, nodeLine, arcOf, lineOf, File, file, Stage, opening, reading, isEmpty, onlyIf, step, Form, whole, broken, wholeIf, atEnd, last, run, formOf}
+use Rattle.dimacs.specs.Form.{before, pieces, ArcLine, Line, comment, problem, node, arcLine, ending, problemLine, nodeLine, arcOf, lineOf, File}
+use Rattle.dimacs.specs.Form.{file, Stage, opening, reading, isEmpty, onlyIf, step, Form, whole, broken, wholeIf, atEnd, last, run, formOf}
 use Rattle.dimacs.proofs.FileLines.{run-on, run-wrong, some-piece}
 
 -- ---- lines and bytes
@@ -107,7 +108,9 @@ zeros-clean : Clean zeros
 unfolding zeros
 zeros-clean =
     let h : (b : ℕ) → ltb 10 b ≡ true → b ≡ 10 → ⊥ = λ b d e. omega (arith, ltb-true 10 b d) in
-    byte (h 97 refl) (byte (h 32 refl) (byte (h 48 refl) (byte (h 32 refl) (byte (h 48 refl) (byte (h 32 refl) (byte (h 48 refl) (byte (h 32 refl) (byte (h 48 refl) (byte (h 32 refl) (byte (h 48 refl) nothing))))))))))
+    byte (h 97 refl)
+    (byte (h 32 refl)
+    (byte (h 48 refl) (byte (h 32 refl) (byte (h 48 refl) (byte (h 32 refl) (byte (h 48 refl) (byte (h 32 refl) (byte (h 48 refl) (byte (h 32 refl) (byte (h 48 refl) nothing))))))))))
 
 zeros-step : (f : File) → length (f .arcs) < f .said → (lineOf zeros >>= step (reading f)) ≡ some (reading (file (f .nodes) (f .said) (f .supplies) (f .arcs ++ (noArc ∷ []))))
 unfolding zeros noArc _>>=_ digits counting number signed spaces gap word field signedField ending problemLine nodeLine arcOf lineOf step

@@ -117,7 +117,10 @@ module _ (nodes : ℕ) (sup : List NodeLine) (v : NodeLine) (odd : Bool) (gives 
   node-none h =
       let other : (i : ℕ) → i < 32 → eqb (v .id) (suc i) ≡ false = λ i l. ne-eqb (v .id) (suc i) (λ e. ⊎-elim (λ q. omega arith) (λ q. omega arith) h) in
       record {
-        flag = λ few. or-first (anyOf (λ (z : NodeLine). noNode nodes (z .id)) sup || noNode nodes (v .id)) (twice sup || listedNode sup (v .id)) (sym (or-next (anyOf (λ (z : NodeLine). noNode nodes (z .id)) sup) (noNode nodes (v .id)) (out few h))) ∙ sym flags-next;
+        flag =
+            λ few. or-first (anyOf (λ (z : NodeLine). noNode nodes (z .id)) sup || noNode nodes (v .id)) (twice sup || listedNode sup (v .id))
+            (sym (or-next (anyOf (λ (z : NodeLine). noNode nodes (z .id)) sup) (noNode nodes (v .id)) (out few h))) ∙
+            sym flags-next;
         fresh = some-lines true;
         mark = marks-kept other;
         mark-one = r .mark-one;
@@ -137,7 +140,10 @@ module _ (nodes : ℕ) (sup : List NodeLine) (v : NodeLine) (odd : Bool) (gives 
     -- the node has a line already
     pub node-again : 0 < getD marks i 0 → NodesRead nodes (sup ++ (v ∷ [])) true gives takes marks
     node-again h = record {
-      flag = λ few. or-next (anyOf (λ (z : NodeLine). noNode nodes (z .id)) sup || noNode nodes (v .id)) (twice sup || listedNode sup (v .id)) (or-next (twice sup) (listedNode sup (v .id)) (sym (ap (listedNode sup) e ∙ there))) ∙ sym flags-next;
+      flag =
+          λ few. or-next (anyOf (λ (z : NodeLine). noNode nodes (z .id)) sup || noNode nodes (v .id)) (twice sup || listedNode sup (v .id))
+          (or-next (twice sup) (listedNode sup (v .id)) (sym (ap (listedNode sup) e ∙ there))) ∙
+          sym flags-next;
       fresh = some-lines true;
       mark = λ k q. r .mark k q ∙ same-mark k;
       mark-one = r .mark-one;
@@ -220,7 +226,8 @@ module _ (nodes : ℕ) (sup : List NodeLine) (v : NodeLine) (odd : Bool) (gives 
           mark-other k q z =
               ap (ltb 0) (getD-set-other marks i k 1 0 z)
               ∙ r .mark k q
-              ∙ sym (any-more (λ (z : NodeLine). eqb (z .id) (suc k)) sup v ∙ ap (λ (b : Bool). listedNode sup (suc k) || b) (ne-eqb (v .id) (suc k) (λ w. z (omega arith))) ∙ or-false (listedNode sup (suc k)))
+              ∙ sym (any-more (λ (z : NodeLine). eqb (z .id) (suc k)) sup v ∙
+              ap (λ (b : Bool). listedNode sup (suc k) || b) (ne-eqb (v .id) (suc k) (λ w. z (omega arith))) ∙ or-false (listedNode sup (suc k)))
             where
               or-false : (a : Bool) → (a || false) ≡ a
               or-false true = refl
@@ -290,7 +297,8 @@ module _ (P Q : ℕ → List NodeLine → Type 0) (p0 : (n m : ℕ) → P n [] �
       subst (λ (z : Stage). Q (nodesIn z) (suppliesIn z)) (only (isEmpty (f .arcs)) (reading (file (f .nodes) (f .said) (f .supplies ++ nodeIn (lines.Node i m v)) (f .arcs))) s′ e)
       (subst (λ (n : ℕ). Q n (f .supplies ++ nodeIn (lines.Node i m v))) (h .1) (k (f .supplies) (subst (λ (n : ℕ). P n (f .supplies)) (sym (h .1)) p)))
   nodes-on t (reading f) s′ (lines.Arc a b low most m c) h e p k =
-      subst (λ (z : Stage). Q (nodesIn z) (suppliesIn z)) (only (ltb (length (f .arcs)) (f .said)) (reading (file (f .nodes) (f .said) (f .supplies) (f .arcs ++ arcIn (lines.Arc a b low most m c)))) s′ e)
+      subst (λ (z : Stage). Q (nodesIn z) (suppliesIn z))
+      (only (ltb (length (f .arcs)) (f .said)) (reading (file (f .nodes) (f .said) (f .supplies) (f .arcs ++ arcIn (lines.Arc a b low most m c)))) s′ e)
       (subst (λ (n : ℕ). Q n (f .supplies)) (h .1) (subst (Q (t .nodes)) (append-nil (f .supplies)) (k (f .supplies) (subst (λ (n : ℕ). P n (f .supplies)) (sym (h .1)) p))))
   nodes-on t (reading f) s′ lines.Wrong h e p k = absurd (never s′ e)
 
@@ -369,7 +377,8 @@ pub kept-on : {s : List ℕ} {t t′ : Tally} {at line at′ line′ : ℕ} {odd
     {gives takes marks gives′ takes′ marks′ : List ℕ} (r : Kept s t at line odd bad starts ends ceilings costs gives takes marks) (z : SoFar s t′ at′ line′)
     (l : line-answer.Line) → (onLine l >>= step (r .so-far .stage)) ≡ some (z .stage)
     → ((sup : List NodeLine) → NodesRead (t .nodes) sup odd gives takes marks → NodesRead (t .nodes) (sup ++ nodeIn l) odd′ gives′ takes′ marks′)
-    → ((arcs : List ArcLine) → (0 < length (arcIn l) → length arcs ≡ t .arcs) → ArcsRead (t .nodes) arcs bad starts ends ceilings costs → ArcsRead (t .nodes) (arcs ++ arcIn l) bad′ starts′ ends′ ceilings′ costs′)
+    → ((arcs : List ArcLine) → (0 < length (arcIn l) → length arcs ≡ t .arcs) → ArcsRead (t .nodes) arcs bad starts ends ceilings costs →
+    ArcsRead (t .nodes) (arcs ++ arcIn l) bad′ starts′ ends′ ceilings′ costs′)
     → Kept s t′ at′ line′ odd′ bad′ starts′ ends′ ceilings′ costs′ gives′ takes′ marks′
 kept-on {t = t} {odd = odd} {bad} {odd′} {bad′} {starts} {ends} {ceilings} {starts′} {ends′} {ceilings′} {costs} {costs′} {gives} {takes} {marks} {gives′} {takes′} {marks′} r z l e n a = record {
   so-far = z;

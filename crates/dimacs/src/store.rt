@@ -82,7 +82,10 @@ fn put_arc(
     costs: &mut [i64; 64],
 ) -> bool
     requires { ⌜ cost < 10 ^ 10 ⌝ }
-    ensures { λ r. ⌜ ((arcs : List ArcLine) → length arcs ≡ k → ArcsRead nodes arcs bad (now (starts .entry)) (now (ends .entry)) (now (ceilings .entry)) (now (costs .entry)) → ArcsRead nodes (arcs ++ arcMade start end low ceiling minus cost) r (now (starts .exit)) (now (ends .exit)) (now (ceilings .exit)) (now (costs .exit))) ⌝ }
+    ensures { λ r. ⌜ ((arcs : List ArcLine) → length arcs ≡ k →
+        ArcsRead nodes arcs bad (now (starts .entry)) (now (ends .entry)) (now (ceilings .entry)) (now (costs .entry)) →
+        ArcsRead nodes (arcs ++ arcMade start end low ceiling minus cost) r (now (starts .exit)) (now (ends .exit)) (now (ceilings .exit))
+        (now (costs .exit))) ⌝ }
 {
     let worse = either(bad, bad_arc(nodes, start, end, low, ceiling, cost));
     if 64 <= k {
@@ -122,7 +125,8 @@ fn put_node(
     marks: &mut [u64; 32],
 ) -> bool
     requires { ⌜ supply < 10 ^ 10 ⌝ }
-    ensures { λ r. ⌜ ((sup : List NodeLine) → NodesRead nodes sup odd (now (gives .entry)) (now (takes .entry)) (now (marks .entry)) → NodesRead nodes (sup ++ nodeMade id minus supply) r (now (gives .exit)) (now (takes .exit)) (now (marks .exit))) ⌝ }
+    ensures { λ r. ⌜ ((sup : List NodeLine) → NodesRead nodes sup odd (now (gives .entry)) (now (takes .entry)) (now (marks .entry)) →
+        NodesRead nodes (sup ++ nodeMade id minus supply) r (now (gives .exit)) (now (takes .exit)) (now (marks .exit))) ⌝ }
 {
     if id < 1 {
         return true;
@@ -154,7 +158,9 @@ fn store_arc(
     costs: &mut [i64; 64],
 ) -> bool
     requires { ⌜ Small l ⌝ }
-    ensures { λ r. ⌜ ((arcs : List ArcLine) → (0 < length (arcIn l) → length arcs ≡ k) → ArcsRead nodes arcs bad (now (starts .entry)) (now (ends .entry)) (now (ceilings .entry)) (now (costs .entry)) → ArcsRead nodes (arcs ++ arcIn l) r (now (starts .exit)) (now (ends .exit)) (now (ceilings .exit)) (now (costs .exit))) ⌝ }
+    ensures { λ r. ⌜ ((arcs : List ArcLine) → (0 < length (arcIn l) → length arcs ≡ k) →
+        ArcsRead nodes arcs bad (now (starts .entry)) (now (ends .entry)) (now (ceilings .entry)) (now (costs .entry)) →
+        ArcsRead nodes (arcs ++ arcIn l) r (now (starts .exit)) (now (ends .exit)) (now (ceilings .exit)) (now (costs .exit))) ⌝ }
 {
     match l {
         Line::Comment => bad,
@@ -200,7 +206,8 @@ fn store_node(
     marks: &mut [u64; 32],
 ) -> bool
     requires { ⌜ Small l ⌝ }
-    ensures { λ r. ⌜ ((sup : List NodeLine) → NodesRead nodes sup odd (now (gives .entry)) (now (takes .entry)) (now (marks .entry)) → NodesRead nodes (sup ++ nodeIn l) r (now (gives .exit)) (now (takes .exit)) (now (marks .exit))) ⌝ }
+    ensures { λ r. ⌜ ((sup : List NodeLine) → NodesRead nodes sup odd (now (gives .entry)) (now (takes .entry)) (now (marks .entry)) →
+        NodesRead nodes (sup ++ nodeIn l) r (now (gives .exit)) (now (takes .exit)) (now (marks .exit))) ⌝ }
 {
     match l {
         Line::Comment => odd,
@@ -254,7 +261,8 @@ pub fn read_file(
 ) -> Reading
     requires { ⌜ ArcsRead 0 [] false (now starts) (now ends) (now ceilings) (now costs) ⌝ }
     requires { ⌜ NodesRead 0 [] false (now gives) (now takes) (now marks) ⌝ }
-    ensures { λ r. ⌜ ReadIs (now (s .entry)) r (now (starts .exit)) (now (ends .exit)) (now (ceilings .exit)) (now (costs .exit)) (now (gives .exit)) (now (takes .exit)) (now (marks .exit)) ⌝ }
+    ensures { λ r. ⌜ ReadIs (now (s .entry)) r (now (starts .exit)) (now (ends .exit)) (now (ceilings .exit)) (now (costs .exit))
+        (now (gives .exit)) (now (takes .exit)) (now (marks .exit)) ⌝ }
 {
     let mut t = Tally {
         opened: false,

@@ -25,7 +25,8 @@ fn ship(
     requires { ⌜ Stocked (net m n (now cost) (now cap) (now x)) (now pot) (now room) (now x) ⌝ }
     requires { ⌜ Short (net m n (now cost) (now cap) (now x)) (now room) (now demand) ⌝ }
     requires { ⌜ Covers m n (now x) (now serves) ⌝ }
-    ensures { λ r. ⌜ ShipDone (net m n (now (cost .entry)) (now (cap .entry)) (now (x .entry))) (now (room .entry)) start amount (now (pot .exit)) (now (room .exit)) (now (x .exit)) r ⌝ }
+    ensures { λ r. ⌜ ShipDone (net m n (now (cost .entry)) (now (cap .entry)) (now (x .entry))) (now (room .entry)) start amount
+        (now (pot .exit)) (now (room .exit)) (now (x .exit)) r ⌝ }
     ensures { λ r. ⌜ Covers m n (now (x .exit)) (now (serves .exit)) ⌝ }
 {
     let mut left = amount;
@@ -59,7 +60,8 @@ fn send_depots(
     requires { ⌜ 2 ≤ m ⌝ }
     requires { ⌜ Asked n (now room) (now demand) ⌝ }
     requires { ⌜ Covers m n (now x) (now serves) ⌝ }
-    ensures { λ r. ⌜ DepotsDone (net m n (now (cost .entry)) (now (cap .entry)) (now (x .entry))) (now (supply .entry)) (now (room .entry)) (now (pot .exit)) (now (room .exit)) (now (x .exit)) r ⌝ }
+    ensures { λ r. ⌜ DepotsDone (net m n (now (cost .entry)) (now (cap .entry)) (now (x .entry))) (now (supply .entry)) (now (room .entry))
+        (now (pot .exit)) (now (room .exit)) (now (x .exit)) r ⌝ }
     ensures { λ r. ⌜ Covers m n (now (x .exit)) (now (serves .exit)) ⌝ }
 {
     *pot = [800_000_000u32; 96];
@@ -99,7 +101,8 @@ fn send_plants(
     requires { ⌜ PlantsReady (λ i. get (now supply) i) run0 run1 made ⌝ }
     requires { ⌜ Sending (net m n (now cost) (now cap) (now x)) (λ i. get (now supply) i) (now demand) 0 0 (now pot) (now room) (now x) ⌝ }
     requires { ⌜ Covers m n (now x) (now serves) ⌝ }
-    ensures { λ r. ⌜ FirstDone (net m n (now (cost .entry)) (now (cap .entry)) (now (x .entry))) (λ i. get (now (supply .entry)) i) (now (demand .entry)) run0 run1 made (now (pot .exit)) (now (room .exit)) (now (x .exit)) (r .found) (r .split) ⌝ }
+    ensures { λ r. ⌜ FirstDone (net m n (now (cost .entry)) (now (cap .entry)) (now (x .entry))) (λ i. get (now (supply .entry)) i)
+        (now (demand .entry)) run0 run1 made (now (pot .exit)) (now (room .exit)) (now (x .exit)) (r .found) (r .split) ⌝ }
     ensures { λ r. ⌜ Covers m n (now (x .exit)) (now (serves .exit)) ⌝ }
 {
     let none = First {
@@ -157,7 +160,8 @@ pub fn first_plan(
     requires { ⌜ PlantsReady (λ i. get (now supply) i) run0 run1 made ⌝ }
     requires { ⌜ BaseReady (net m n (now cost) (now cap) (now x)) (now demand) (now x) ⌝ }
     requires { ⌜ Covers m n (now x) (now serves) ⌝ }
-    ensures { λ r. ⌜ FirstPlan (net m n (now (cost .entry)) (now (cap .entry)) (now (x .entry))) (λ i. get (now (supply .entry)) i) (now (demand .entry)) run0 run1 made (now (pot .exit)) (now (x .exit)) (r .found) (r .split) ⌝ }
+    ensures { λ r. ⌜ FirstPlan (net m n (now (cost .entry)) (now (cap .entry)) (now (x .entry))) (λ i. get (now (supply .entry)) i)
+        (now (demand .entry)) run0 run1 made (now (pot .exit)) (now (x .exit)) (r .found) (r .split) ⌝ }
     ensures { λ r. ⌜ Covers m n (now (x .exit)) (now (serves .exit)) ⌝ }
 {
     let mut room = *demand;

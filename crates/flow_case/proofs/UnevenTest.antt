@@ -15,4 +15,6 @@ module _ (gives takes haves : List ℕ) where
 
   pub uneven-2 : sum (length gives) (λ i. getD gives i 0) ≡ sum (length takes) (λ i. getD takes i 0) → (r : Bool) → r ≡ anyBelow (length haves) (underAt haves takes) → r ≡ unevenIn gives takes haves
   uneven-2 h r e =
-      e ∙ sym (let q : unevenIn gives takes haves ≡ anyBelow (length haves) (underAt haves takes) = simp (eq-eqb (sum (length gives) (λ i. getD gives i 0)) (sum (length takes) (λ i. getD takes i 0)) h) in q)
+      e ∙ sym (let q : unevenIn gives takes haves ≡
+      anyBelow (length haves) (underAt haves takes) = simp (eq-eqb (sum (length gives) (λ i. getD gives i 0)) (sum (length takes) (λ i. getD takes i 0)) h) in
+      q)

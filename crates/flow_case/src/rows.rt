@@ -16,7 +16,8 @@ use crate::build::lane;
 pub fn fill_haves(ends: &[u64], ceilings: &[u64], gives: &[u64], haves: &mut [u64])
     requires { ⌜ (length (now ends) ≡ length (now ceilings)) × (length (now gives) ≤ length (now haves)) × (length (now gives) ≤ 32) ⌝ }
     requires { ⌜ Moderate (now ceilings) × AtMostAll 10000000000 (now gives) ⌝ }
-    ensures { λ _. ⌜ Put 0 (haveIn (now (ends .entry)) (now (ceilings .entry)) (now (gives .entry))) 0 (length (now (gives .entry))) (now (haves .entry)) (now (haves .exit)) ⌝ }
+    ensures { λ _. ⌜ Put 0 (haveIn (now (ends .entry)) (now (ceilings .entry)) (now (gives .entry))) 0 (length (now (gives .entry)))
+        (now (haves .entry)) (now (haves .exit)) ⌝ }
 {
     let mut i: usize = 0;
     while i < gives.len() {
@@ -30,8 +31,10 @@ pub fn fill_haves(ends: &[u64], ceilings: &[u64], gives: &[u64], haves: &mut [u6
 // The supplies of the case: what each source's node has less what is taken there.
 pub fn fill_supplies(haves: &[u64], takes: &[u64], w: usize, v: usize, supplies: &mut [u64])
     requires { ⌜ (length (now haves) ≡ length (now takes)) × (length (now haves) ≤ length (now supplies)) ⌝ }
-    requires { ⌜ ((s : ℕ) → s < length (now haves) → (nodeOf w v s < length (now haves)) × (getD (now takes) (nodeOf w v s) 0 ≤ getD (now haves) (nodeOf w v s) 0)) ⌝ }
-    ensures { λ _. ⌜ Put 0 (stockIn (now (haves .entry)) (now (takes .entry)) w v) 0 (length (now (haves .entry))) (now (supplies .entry)) (now (supplies .exit)) ⌝ }
+    requires { ⌜ ((s : ℕ) → s < length (now haves) →
+        (nodeOf w v s < length (now haves)) × (getD (now takes) (nodeOf w v s) 0 ≤ getD (now haves) (nodeOf w v s) 0)) ⌝ }
+    ensures { λ _. ⌜ Put 0 (stockIn (now (haves .entry)) (now (takes .entry)) w v) 0 (length (now (haves .entry))) (now (supplies .entry))
+        (now (supplies .exit)) ⌝ }
 {
     let mut s: usize = 0;
     while s < haves.len() {
@@ -57,7 +60,9 @@ fn lanes_into(starts: &[u64], ends: &[u64], id: u64, at: usize, to: &mut [u64; 2
 pub fn lane_rows(m: usize, w: usize, v: usize, starts: &[u64], ends: &[u64], to: &mut [u64; 2048])
     requires { ⌜ (m ≤ 32) × (length (now starts) ≤ 64) × (length (now starts) ≡ length (now ends)) × (length (now to) ≡ 2048) ⌝ }
     requires { ⌜ ((s : ℕ) → s < m → nodeOf w v s < m) ⌝ }
-    ensures { λ _. ⌜ RowsAre 0 (λ s j. laneIn (now (starts .entry)) (now (ends .entry)) (nodeOf w v s + 1) j) m (length (now (starts .entry))) (now (to .exit)) × (length (now (to .exit)) ≡ 2048) ⌝ }
+    ensures { λ _.
+        ⌜ RowsAre 0 (λ s j. laneIn (now (starts .entry)) (now (ends .entry)) (nodeOf w v s + 1) j) m (length (now (starts .entry))) (now (to .exit)) ×
+        (length (now (to .exit)) ≡ 2048) ⌝ }
 {
     let mut at: usize = 0;
     for s in 0..m {
@@ -89,7 +94,9 @@ fn costs_into(starts: &[u64], costs: &[i64], id: u64, at: usize, to: &mut [i64; 
 pub fn cost_rows(m: usize, w: usize, v: usize, starts: &[u64], costs: &[i64], to: &mut [i64; 2048])
     requires { ⌜ (m ≤ 32) × (length (now starts) ≤ 64) × (length (now starts) ≡ length (now costs)) × (length (now to) ≡ 2048) ⌝ }
     requires { ⌜ ((s : ℕ) → s < m → nodeOf w v s < m) ⌝ }
-    ensures { λ _. ⌜ RowsAre (pos 0) (λ s j. costIn (now (starts .entry)) (now (costs .entry)) (nodeOf w v s + 1) j) m (length (now (starts .entry))) (now (to .exit)) × (length (now (to .exit)) ≡ 2048) ⌝ }
+    ensures { λ _.
+        ⌜ RowsAre (pos 0) (λ s j. costIn (now (starts .entry)) (now (costs .entry)) (nodeOf w v s + 1) j) m (length (now (starts .entry))) (now (to .exit)) ×
+        (length (now (to .exit)) ≡ 2048) ⌝ }
 {
     let mut at: usize = 0;
     for s in 0..m {
@@ -117,7 +124,8 @@ pub fn fill_flow(
 )
     requires { ⌜ (length (now starts) ≤ 64) × (length (now starts) ≤ length (now flow)) × (length (now plan) ≡ 2048) ⌝ }
     requires { ⌜ ((j : ℕ) → j < length (now starts) → (1 ≤ getD (now starts) j 0) × (sourceOf w v (getD (now starts) j 0 - 1) < 32)) ⌝ }
-    ensures { λ _. ⌜ Put 0 (flowIn (now (plan .entry)) (now (starts .entry)) w v named carried) 0 (length (now (starts .entry))) (now (flow .entry)) (now (flow .exit)) ⌝ }
+    ensures { λ _. ⌜ Put 0 (flowIn (now (plan .entry)) (now (starts .entry)) w v named carried) 0 (length (now (starts .entry)))
+        (now (flow .entry)) (now (flow .exit)) ⌝ }
 {
     let mut j: usize = 0;
     while j < starts.len() {

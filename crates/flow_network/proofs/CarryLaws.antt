@@ -60,7 +60,9 @@ module _ (c : Case) (f : Formed c) where
         go (inl a) (inr b) d = inr (inl (one (refused 8 0) (from8 c form-passes a ∙ first-decides (test8 c) _ (refused 8 0) b)))
         go (inl a) (inl b) (inr d) = inr (inr (one (refused 27 0) (from27 c form-passes a b ∙ first-decides (test27 c) _ (refused 27 0) d)))
         go (inl a) (inl b) (inl d) =
-            absurd (let q : some (refused k p) ≡ none = sym r ∙ from9 c form-passes a b d ∙ second-decides (test9 c) (test11 c) ninth ∙ never-11 c f room stops freights in let z : _≡_ {A = ℕ} 0 1 = cc in omega arith)
+            absurd (let q : some (refused k p) ≡ none = sym r ∙ from9 c form-passes a b d ∙ second-decides (test9 c) (test11 c) ninth ∙ never-11 c f room stops freights in
+            let z : _≡_ {A = ℕ} 0 1 = cc in
+            omega arith)
 
     pub no-plan-there : (k p : ℕ) → outcomeOf c ≡ refused k p → BalanceRule c (refused k p) → NoPlan c
     no-plan-there k p e r = r .no-plan form-passes (for-balance k p e)
@@ -85,7 +87,8 @@ module _ (m n run : ℕ) (rates : List ℤ) (supplies demands ceilings entries :
       → FoundAs (lent m n run 0 rates supplies demands ceilings entries 2048 4001 4001) (before .plan) (after .plan) (founds.Split s (toZ w64 (ofZ w64 t)))
   found-some s t f k e =
       let w = a .written s t f k (ap outcome e) in
-      subst (λ (z : ℤ). FoundAs (lent m n run 0 rates supplies demands ceilings entries 2048 4001 4001) (before .plan) (after .plan) (founds.Split s z)) (sym (read-back t (bounded-fits t (w .bounded))))
+      subst (λ (z : ℤ). FoundAs (lent m n run 0 rates supplies demands ceilings entries 2048 4001 4001) (before .plan) (after .plan) (founds.Split s z))
+      (sym (read-back t (bounded-fits t (w .bounded))))
       (here (founds.Split s t) (w .cheapest, w .cells, w .bounded))
 
   pub found-none : (k p : ℕ) → r ≡ Refused k p → FoundAs (lent m n run 0 rates supplies demands ceilings entries 2048 4001 4001) (before .plan) (after .plan) founds.Nothing

@@ -48,7 +48,8 @@ read-refused {s} {r} {starts} {ends} {ceilings} {costs} {gives} {takes} {marks} 
 pub read-whole : {s : List ℕ} {r : Reading} {starts ends ceilings : List ℕ} {costs : List ℤ} {gives takes marks : List ℕ} {nodes arcs : ℕ} {odd bad : Bool}
     → ReadIs s r starts ends ceilings costs gives takes marks → r ≡ readings.Whole nodes arcs odd bad
     → (f : File) × (formOf s ≡ whole f) × FileRead f nodes arcs odd bad starts ends ceilings costs gives takes marks
-read-whole {s} {r} {starts} {ends} {ceilings} {costs} {gives} {takes} {marks} {nodes} {arcs} {odd} {bad} h e = subst (λ (r : Reading). ReadAs s r starts ends ceilings costs gives takes marks) e (h .reads)
+read-whole {s} {r} {starts} {ends} {ceilings} {costs} {gives} {takes} {marks} {nodes} {arcs} {odd} {bad} h e =
+    subst (λ (r : Reading). ReadAs s r starts ends ceilings costs gives takes marks) e (h .reads)
 
 -- ---- cells of zeros, before the first line
 
@@ -295,7 +296,8 @@ module _ (f : File) (nodes arcs : ℕ) (odd bad : Bool) (tails heads caps : List
     unfolding networkOf
     costs-are = sym (slices.costs-are G T S E C P (arcs-good .ends-long) (arcs-good .ceilings-long) (arcs-good .costs-long)) ∙ ap costsOf net-is
 
-    module _ (bytes : List ℕ) (place : ℕ) (table : List ℕ) (form : formOf bytes ≡ whole f) (r : Outcome) (before after : Slices) (J : Judged (netOf G T S E C P) S E C P place table r before after) where
+    module _ (bytes : List ℕ) (place : ℕ) (table : List ℕ) (form : formOf bytes ≡ whole f) (r : Outcome) (before after : Slices)
+        (J : Judged (netOf G T S E C P) S E C P place table r before after) where
       limits-are : beyond (networkOf f) place table (roomOf before) ≡ outOfLimits f place table (roomOf before)
       unfolding outOfLimits networkOf
       limits-are =

@@ -63,7 +63,9 @@ module _ (ceilings : List ℕ) (place : ℕ) (table : List ℕ) where
 
   pub name-4 : 1 ≤ place → place ≤ length ceilings → length table ≡ getD ceilings (place - 1) 0 + 1 → (r : Bool) → r ≡ anyBelow (length table) (dearAt table) → r ≡ badNameIn ceilings place table
   name-4 h1 h2 h3 r e =
-      e ∙ sym (let q : badNameIn ceilings place table ≡ anyBelow (length table) (dearAt table) = simp (le-ltb place 1 h1, le-ltb (length ceilings) place h2, eq-eqb (length table) (getD ceilings (place - 1) 0 + 1) h3) in q)
+      e ∙ sym (let q : badNameIn ceilings place table ≡
+      anyBelow (length table) (dearAt table) = simp (le-ltb place 1 h1, le-ltb (length ceilings) place h2, eq-eqb (length table) (getD ceilings (place - 1) 0 + 1) h3) in
+      q)
 
 -- ---- a list's members, from the front and from the end
 
@@ -193,8 +195,12 @@ module _ (gives takes haves starts ends ceilings : List ℕ) (costs : List ℤ) 
         ];
       }
 
-      shorts : (ltb (room .flow) (length starts) ≡ false) × (ltb (room .starts) (length starts) ≡ false) × (ltb (room .ends) (length starts) ≡ false) × ((ltb (room .ceilings) (length starts) || ltb (room .costs) (length starts)) ≡ false)
-      shorts = four (ltb (room .flow) (length starts)) (ltb (room .starts) (length starts)) (ltb (room .ends) (length starts)) (ltb (room .ceilings) (length starts) || ltb (room .costs) (length starts)) (sym s)
+      shorts :
+          (ltb (room .flow) (length starts) ≡ false) × (ltb (room .starts) (length starts) ≡ false) × (ltb (room .ends) (length starts) ≡ false) ×
+          ((ltb (room .ceilings) (length starts) || ltb (room .costs) (length starts)) ≡ false)
+      shorts =
+          four (ltb (room .flow) (length starts)) (ltb (room .starts) (length starts)) (ltb (room .ends) (length starts))
+          (ltb (room .ceilings) (length starts) || ltb (room .costs) (length starts)) (sym s)
 
       pub flow-room : length starts ≤ length (before .flow)
       flow-room = ltb-false (length (before .flow)) (length starts) (shorts .0)
@@ -206,10 +212,12 @@ module _ (gives takes haves starts ends ceilings : List ℕ) (costs : List ℤ) 
       ends-room = omega (arith, A .ends-long, ltb-false (length (before .ends)) (length starts) (shorts .2))
 
       pub ceilings-room : length ceilings ≤ length (before .ceilings)
-      ceilings-room = omega (arith, A .ceilings-long, ltb-false (length (before .ceilings)) (length starts) (either-first (ltb (room .ceilings) (length starts)) (ltb (room .costs) (length starts)) (shorts .3)))
+      ceilings-room =
+          omega (arith, A .ceilings-long, ltb-false (length (before .ceilings)) (length starts) (either-first (ltb (room .ceilings) (length starts)) (ltb (room .costs) (length starts)) (shorts .3)))
 
       pub costs-room : length costs ≤ length (before .costs)
-      costs-room = omega (arith, A .costs-long, ltb-false (length (before .costs)) (length starts) (either-second (ltb (room .ceilings) (length starts)) (ltb (room .costs) (length starts)) (shorts .3)))
+      costs-room =
+          omega (arith, A .costs-long, ltb-false (length (before .costs)) (length starts) (either-second (ltb (room .ceilings) (length starts)) (ltb (room .costs) (length starts)) (shorts .3)))
 
       pub amounts-there : false ≡ unevenIn gives takes haves → Amounts gives takes haves ends ceilings
       amounts-there u =

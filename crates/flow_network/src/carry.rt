@@ -34,7 +34,9 @@ pub fn plan_case(
     cells: &mut [u64],
 ) -> Found
     requires { ⌜ length (now cells) ≡ 2048 ⌝ }
-    ensures { λ r. ⌜ FoundIs (lent m n run 0 (now (rates .entry)) (now (supplies .entry)) (now (demands .entry)) (now (lanes .entry)) (now (entries .entry)) 2048 4001 4001) (now (cells .entry)) (now (cells .exit)) r ⌝ }
+    ensures { λ r. ⌜ FoundIs
+        (lent m n run 0 (now (rates .entry)) (now (supplies .entry)) (now (demands .entry)) (now (lanes .entry)) (now (entries .entry)) 2048 4001 4001)
+        (now (cells .entry)) (now (cells .exit)) r ⌝ }
 {
     let mut splits = [0u64; 4001];
     let mut freights = [0i64; 4001];
@@ -94,7 +96,9 @@ pub fn carry(
     requires { ⌜ Amounts (now gives) (now takes) (now haves) (now ends) (now ceilings) ⌝ }
     requires { ⌜ Named (now starts) named (now table) ⌝ }
     requires { ⌜ length (now starts) ≤ length (now flow) ⌝ }
-    ensures { λ r. ⌜ CarriedIs (netOf (now (gives .entry)) (now (takes .entry)) (now (starts .entry)) (now (ends .entry)) (now (ceilings .entry)) (now (costs .entry))) named (now (table .entry)) (now (flow .entry)) (now (flow .exit)) r ⌝ }
+    ensures { λ r. ⌜ CarriedIs
+        (netOf (now (gives .entry)) (now (takes .entry)) (now (starts .entry)) (now (ends .entry)) (now (ceilings .entry)) (now (costs .entry)))
+        named (now (table .entry)) (now (flow .entry)) (now (flow .exit)) r ⌝ }
 {
     let m = gives.len();
     let n = starts.len();

@@ -86,7 +86,12 @@ fn judge_by(
     requires { ⌜ Arcs (length (now gives)) (now tails) (now heads) (now capacities) (now prices) ⌝ }
     requires { ⌜ Given (now gives) (now takes) ⌝ }
     requires { ⌜ Holding (now gives) (now heads) (now capacities) (now haves) ⌝ }
-    ensures { λ r. ⌜ Judged (netOf (now (gives .entry)) (now (takes .entry)) (now (tails .entry)) (now (heads .entry)) (now (capacities .entry)) (now (prices .entry))) (now (tails .entry)) (now (heads .entry)) (now (capacities .entry)) (now (prices .entry)) place (now (table .entry)) (outcome r) (slicesOf (now (flow .entry)) (now (starts .entry)) (now (ends .entry)) (now (ceilings .entry)) (now (costs .entry))) (slicesOf (now (flow .exit)) (now (starts .exit)) (now (ends .exit)) (now (ceilings .exit)) (now (costs .exit))) × (countIn r ≡ countOf (outcome r) (length (now (tails .entry)))) ⌝ }
+    ensures { λ r. ⌜ Judged
+        (netOf (now (gives .entry)) (now (takes .entry)) (now (tails .entry)) (now (heads .entry)) (now (capacities .entry)) (now (prices .entry)))
+        (now (tails .entry)) (now (heads .entry)) (now (capacities .entry)) (now (prices .entry)) place (now (table .entry)) (outcome r)
+        (slicesOf (now (flow .entry)) (now (starts .entry)) (now (ends .entry)) (now (ceilings .entry)) (now (costs .entry)))
+        (slicesOf (now (flow .exit)) (now (starts .exit)) (now (ends .exit)) (now (ceilings .exit)) (now (costs .exit))) ×
+        (countIn r ≡ countOf (outcome r) (length (now (tails .entry)))) ⌝ }
 {
     if over(haves, takes) {
         return refused(30, 0);
@@ -150,7 +155,12 @@ pub fn judge(
 ) -> Answer
     requires { ⌜ Arcs (length (now gives)) (now tails) (now heads) (now capacities) (now prices) ⌝ }
     requires { ⌜ Given (now gives) (now takes) ⌝ }
-    ensures { λ r. ⌜ Judged (netOf (now (gives .entry)) (now (takes .entry)) (now (tails .entry)) (now (heads .entry)) (now (capacities .entry)) (now (prices .entry))) (now (tails .entry)) (now (heads .entry)) (now (capacities .entry)) (now (prices .entry)) place (now (table .entry)) (outcome r) (slicesOf (now (flow .entry)) (now (starts .entry)) (now (ends .entry)) (now (ceilings .entry)) (now (costs .entry))) (slicesOf (now (flow .exit)) (now (starts .exit)) (now (ends .exit)) (now (ceilings .exit)) (now (costs .exit))) × (countIn r ≡ countOf (outcome r) (length (now (tails .entry)))) ⌝ }
+    ensures { λ r. ⌜ Judged
+        (netOf (now (gives .entry)) (now (takes .entry)) (now (tails .entry)) (now (heads .entry)) (now (capacities .entry)) (now (prices .entry)))
+        (now (tails .entry)) (now (heads .entry)) (now (capacities .entry)) (now (prices .entry)) place (now (table .entry)) (outcome r)
+        (slicesOf (now (flow .entry)) (now (starts .entry)) (now (ends .entry)) (now (ceilings .entry)) (now (costs .entry)))
+        (slicesOf (now (flow .exit)) (now (starts .exit)) (now (ends .exit)) (now (ceilings .exit)) (now (costs .exit))) ×
+        (countIn r ≡ countOf (outcome r) (length (now (tails .entry)))) ⌝ }
 {
     let m = gives.len();
     let mut cells = [0u64; 32];

@@ -53,7 +53,10 @@ pub fn cheapest_flow(
     ceilings: &mut [u64],
     costs: &mut [i64],
 ) -> Answer
-    ensures { λ r. ⌜ Answered (now (bytes .entry)) place (now (table .entry)) (outcome r) (slicesOf (now (flow .entry)) (now (starts .entry)) (now (ends .entry)) (now (ceilings .entry)) (now (costs .entry))) (slicesOf (now (flow .exit)) (now (starts .exit)) (now (ends .exit)) (now (ceilings .exit)) (now (costs .exit))) × (countIn r ≡ countOf (outcome r) (arcsSaid (formOf (now (bytes .entry))))) ⌝ }
+    ensures { λ r. ⌜ Answered (now (bytes .entry)) place (now (table .entry)) (outcome r)
+        (slicesOf (now (flow .entry)) (now (starts .entry)) (now (ends .entry)) (now (ceilings .entry)) (now (costs .entry)))
+        (slicesOf (now (flow .exit)) (now (starts .exit)) (now (ends .exit)) (now (ceilings .exit)) (now (costs .exit))) ×
+        (countIn r ≡ countOf (outcome r) (arcsSaid (formOf (now (bytes .entry))))) ⌝ }
 {
     let mut tails = [0u64; 64];
     let mut heads = [0u64; 64];

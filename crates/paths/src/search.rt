@@ -98,7 +98,8 @@ fn explore(
     requires { ⌜ PlanTagged (net m n (now cost) (now cap) (now x)) (now room) (now full) (now want) ⌝ }
     requires { ⌜ Blank (blank .dist) (blank .prev) ⌝ }
     requires { ⌜ Covers m n (now x) (now serves) ⌝ }
-    ensures { λ r. ⌜ Answered (net m n (now (cost .entry)) (now (cap .entry)) (now (x .entry))) (now (pot .entry)) (now (room .entry)) start (r .dist) (r .prev) (r .goal) ⌝ }
+    ensures { λ r. ⌜ Answered (net m n (now (cost .entry)) (now (cap .entry)) (now (x .entry))) (now (pot .entry)) (now (room .entry)) start
+        (r .dist) (r .prev) (r .goal) ⌝ }
 {
     let mut dist = blank.dist;
     let mut prev = blank.prev;
@@ -217,7 +218,8 @@ pub fn search(
     requires { ⌜ SearchReady (net m n (now cost) (now cap) (now x)) (now pot) start ⌝ }
     requires { ⌜ Wanted (net m n (now cost) (now cap) (now x)) (now demand) ⌝ }
     requires { ⌜ Covers m n (now x) (now serves) ⌝ }
-    ensures { λ r. ⌜ Answered (net m n (now (cost .entry)) (now (cap .entry)) (now (x .entry))) (now (pot .entry)) (now (room .entry)) start (r .dist) (r .prev) (r .goal) ⌝ }
+    ensures { λ r. ⌜ Answered (net m n (now (cost .entry)) (now (cap .entry)) (now (x .entry))) (now (pot .entry)) (now (room .entry)) start
+        (r .dist) (r .prev) (r .goal) ⌝ }
 {
     let blank = Paths {
         goal: 96,

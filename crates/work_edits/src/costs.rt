@@ -18,7 +18,7 @@ pub fn raised(cost: i64) -> u64
 }
 
 // The unit cost of a cell.
-pub fn cost_in(cell: u64) -> i64
+fn cost_in(cell: u64) -> i64
     ensures { λ r. ⌜ r ≡ costIn cell ⌝ }
 {
     if 2_000_001 < cell {

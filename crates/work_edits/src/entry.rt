@@ -41,7 +41,9 @@ pub fn put_case(
     store: &mut [u64],
 )
     requires { ⌜ Sized (draft m n run1 run2 (now costs) (now supplies) (now demands) (now ceilings) (now table)) (now store) ⌝ }
-    ensures { λ _. ⌜ now (store .exit) ≡ written (cellsOf (draft m n run1 run2 (now (costs .entry)) (now (supplies .entry)) (now (demands .entry)) (now (ceilings .entry)) (now (table .entry)))) (now (store .entry)) ⌝ }
+    ensures { λ _. ⌜ now (store .exit) ≡
+        written (cellsOf (draft m n run1 run2 (now (costs .entry)) (now (supplies .entry)) (now (demands .entry)) (now (ceilings .entry)) (now (table .entry))))
+        (now (store .entry)) ⌝ }
 {
     let head = [
         m as u64,

@@ -17,7 +17,8 @@ use Rattle.problem.specs.Outcome.{refuseIf, _orElse_}
 use Rattle.problem.proofs.TestsPassed.{first-passes, second-passes, refuseIf-none, either-first, either-second}
 use Rattle.work_store.specs.State.{Draft}
 use Rattle.work_store.specs.Calls.{editDemand, editSupply, editCost, editEntry, refuseWhen, absent, leastRun, refusalIn, acted, withCase, withEntry}
-use Rattle.work_store.specs.Store.{suppliesAt, demandsAt, costsAt, tableAt, inCase, width, slot, draftIn, stateAt, sources, terminals, signedAt, opens, heldIn, entriesFor, entriesIn, zeroed, extended, writes}
+use Rattle.work_store.specs.Store.{suppliesAt, demandsAt, costsAt, tableAt, inCase, width, slot, draftIn, stateAt, sources, terminals, signedAt}
+use Rattle.work_store.specs.Store.{opens, heldIn, entriesFor, entriesIn, zeroed, extended, writes}
 use Rattle.work_store.specs.inner.OpenStore.{Open}
 use Rattle.work_store.proofs.StoreInSlot.{demand-draft, supply-draft, cost-draft, entry-draft}
 use Rattle.work_store.proofs.StateAfterWrites.{inside, held-eq, is-open, edit-state}

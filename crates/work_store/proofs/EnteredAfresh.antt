@@ -124,7 +124,8 @@ module _ (d : Draft) (i v : ℕ) (one : 1 ≤ i) (run : leastRun d i ≤ v) (f :
   table-long = elim (ℕ-discrete i 1) [
     | yes e ↦
         ap (λ (t : Bool). length (cond t (resized (v + 1) (d .table)) (d .table))) (eq-eqb i 1 e) ∙ resized-length (v + 1) (d .table)
-        ∙ ap (λ (k : ℕ). k + 1) (sym (ap (λ (k : ℕ). getD (set (d .supplies) k v) 0 0) (let z : i - 1 ≡ 0 = omega arith in z) ∙ getD-set-same (d .supplies) 0 v 0 (omega (arith, f .supplies-long, f .two-sources))))
+        ∙ ap (λ (k : ℕ). k + 1)
+        (sym (ap (λ (k : ℕ). getD (set (d .supplies) k v) 0 0) (let z : i - 1 ≡ 0 = omega arith in z) ∙ getD-set-same (d .supplies) 0 v 0 (omega (arith, f .supplies-long, f .two-sources))))
     | no e ↦
         ap (λ (t : Bool). length (cond t (resized (v + 1) (d .table)) (d .table))) (ne-eqb i 1 e) ∙ f .table-long
         ∙ ap (λ (k : ℕ). k + 1) (sym (getD-set-other (d .supplies) (i - 1) 0 v 0 (λ z. omega arith)))

@@ -15,7 +15,8 @@ use Rattle.problem.specs.Outcome.{Outcome, refused, refuseIf, formRefusal}
 use Rattle.problem.proofs.TestsPassed.{formed, first-decides, second-decides}
 use Rattle.work_store.specs.State.{Draft, lentWith, entered}
 use Rattle.work_store.specs.Calls.{absent}
-use Rattle.work_store.specs.Store.{cellsFor, suppliesAt, demandsAt, costsAt, ceilingsAt, tableAt, inCase, width, slot, costIn, entriesFor, draftIn, markIn, stateAt, signature, opens, signed, inLimits, heldIn, header, cellsOf}
+use Rattle.work_store.specs.Store.{cellsFor, suppliesAt, demandsAt, costsAt, ceilingsAt, tableAt, inCase, width, slot, costIn, entriesFor}
+use Rattle.work_store.specs.Store.{draftIn, markIn, stateAt, signature, opens, signed, inLimits, heldIn, header, cellsOf}
 use Rattle.work_store.specs.Promise.{entryRefusal, Entered}
 use Rattle.work_store.specs.inner.OpenStore.{Sized}
 use Rattle.work_store.proofs.ListParts.{part-at}

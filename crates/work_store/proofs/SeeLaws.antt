@@ -85,7 +85,8 @@ module _ (m n : ℕ) (cells : List ℕ) (op : Open m n cells) where
     pub supplies-shown : (old new : List ℕ) → new ≡ paste old 0 (take (a - inCase suppliesAt) (drop (inCase suppliesAt) cells)) (length (take (a - inCase suppliesAt) (drop (inCase suppliesAt) cells)))
         → new ≡ written (stateAt m n cells .case .supplies) old
     supplies-shown old new =
-        shown (stateAt m n cells .case .supplies) (inCase suppliesAt) m (inCase suppliesAt) (a - inCase suppliesAt) old new (ap (λ (d : Draft). d .supplies) (case-cells m n cells op)) refl (omega arith)
+        shown (stateAt m n cells .case .supplies) (inCase suppliesAt) m (inCase suppliesAt) (a - inCase suppliesAt) old new
+        (ap (λ (d : Draft). d .supplies) (case-cells m n cells op)) refl (omega arith)
 
     pub demands-shown : (old new : List ℕ) → new ≡ paste old 0 (take (b - a) (drop a cells)) (length (take (b - a) (drop a cells)))
         → new ≡ written (stateAt m n cells .case .demands) old

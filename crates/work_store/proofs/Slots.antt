@@ -78,7 +78,8 @@ module _ (m n : ℕ) (cells : List ℕ) (room : cellsFor m n ≤ length cells) w
         (omega (arith, copied-length, slot-room m n k (length cells) hk room)) (slot-room m n k (length cells) hk room)
         (λ i h. elim (decLt k to) [
           | yes l ↦ copy-below cells (start m n to) (drop (start m n from) cells) (width m n) (slot-room m n to (length cells) ht room) long (start m n k + i) (omega (arith, slots-apart m n k to l))
-          | no g ↦ let l : to < k = omega arith in copy-above cells (start m n to) (drop (start m n from) cells) (width m n) (slot-room m n to (length cells) ht room) long (start m n k + i) (omega (arith, slots-apart m n to k l))
+          | no g ↦ let l : to < k = omega arith in
+              copy-above cells (start m n to) (drop (start m n from) cells) (width m n) (slot-room m n to (length cells) ht room) long (start m n k + i) (omega (arith, slots-apart m n to k l))
         ])
 
 -- a store in the cells before the slots

@@ -109,7 +109,11 @@ put-number-returns-2 : (t : ℕ) → put-number-lts.Need-returns-2 (
   put-number-below t,
   put-number.Post,
 ) (put-number-at t) put-number.Post
-put-number-returns-2 t c = written-large _ (c .before .before .before .before .before .before .before .before .if1 .left) (c .before .before .before .before .before .before .before .before .before .before .fits .n .fits) (c .before .before .before .before .before .before .put-number .ensures) (c .before .before .put-byte2 .ensures)
+put-number-returns-2 t c =
+    let at-put-number = c .before .before .before .before .before .before in
+    let at-if1 = at-put-number .before .before in
+    let entry = at-if1 .before .before in
+    written-large _ (at-if1 .if1 .left) (entry .fits .n .fits) (at-put-number .put-number .ensures) (c .before .before .put-byte2 .ensures)
 
 pub +put-number-spec : {M : Type 1} → statement M
 +put-number-spec = close μ-put-number λ t. put-number-lts.spec (

@@ -36,7 +36,10 @@ loop-less : tie.Need-loop-less Inv-loop μ-loop
 loop-less c = search needs
 
 loop-again : tie.Need-loop-again Inv-loop μ-loop
-loop-again c = (omega (arith, c .before .before .loop-test .taken), λ i h. elim (ℕ-discrete i (c .before .before .before .loop .k)) [ yes z ↦ rw z (omega (arith, c .if2 .left)) | no z ↦ c .before .before .before .loop .inv .1 i (omega arith) ])
+loop-again c = (
+  omega (arith, c .before .before .loop-test .taken),
+  λ i h. elim (ℕ-discrete i (c .before .before .before .loop .k)) [ yes z ↦ rw z (omega (arith, c .if2 .left)) | no z ↦ c .before .before .before .loop .inv .1 i (omega arith) ],
+)
 
 returns-3 : tie.Need-returns-3 Inv-loop μ-loop
 returns-3 c = record { yes = λ e. record { there = omega (arith, c .before .before .if1 .left); below = λ k h. c .before .loop .inv .1 k (omega arith) }; no = λ e p. true≢false e }

@@ -36,10 +36,16 @@ magnitude-requires c κs = search needs
 -- the size of the integer of this pass
 size : (c : tie.After-magnitude Inv-loop μ-loop)
     → c .magnitude .result ≡ natAbs (getD (now (c .before .before .before .before .before .args .s)) (c .before .before .before .loop .k) (pos 0))
-size c = c .magnitude .ensures ∙ ap (λ (z : ℤ). natAbs z) (read-back (getD (now (c .before .before .before .before .before .args .s)) (c .before .before .before .loop .k) (pos 0)) (c .before .magnitude-arg .given))
+size c =
+    c .magnitude .ensures ∙
+    ap (λ (z : ℤ). natAbs z) (read-back (getD (now (c .before .before .before .before .before .args .s)) (c .before .before .before .loop .k) (pos 0)) (c .before .magnitude-arg .given))
 
 returns-2 : tie.Need-returns-2 Inv-loop μ-loop
-returns-2 c = record { yes = λ e. absurd (false≢true e); no = λ e p. omega (arith, p .below (c .before .before .before .before .loop .k) (c .before .before .before .loop-test .taken), size (c .before), c .if2 .taken) }
+returns-2 c =
+    record {
+      yes = λ e. absurd (false≢true e);
+      no = λ e p. omega (arith, p .below (c .before .before .before .before .loop .k) (c .before .before .before .loop-test .taken), size (c .before), c .if2 .taken);
+    }
 
 add-k : tie.Need-add-k Inv-loop μ-loop
 add-k c = omega (arith, c .before .before .before .loop-test .taken)
@@ -48,7 +54,12 @@ loop-less : tie.Need-loop-less Inv-loop μ-loop
 loop-less c = omega (arith, c .before .before .before .loop-test .taken)
 
 loop-again : tie.Need-loop-again Inv-loop μ-loop
-loop-again c = (omega (arith, c .before .before .before .loop-test .taken), λ i h. elim (ℕ-discrete i (c .before .before .before .before .loop .k)) [ yes z ↦ rw z (omega (arith, c .if2 .left, size (c .before))) | no z ↦ c .before .before .before .before .loop .inv .1 i (omega arith) ])
+loop-again c =
+    let at-loop-test = c .before .before .before in
+    let at-loop = at-loop-test .before in (
+      omega (arith, at-loop-test .loop-test .taken),
+      λ i h. elim (ℕ-discrete i (at-loop .loop .k)) [ yes z ↦ rw z (omega (arith, c .if2 .left, size (c .before))) | no z ↦ at-loop .loop .inv .1 i (omega arith) ],
+    )
 
 returns-3 : tie.Need-returns-3 Inv-loop μ-loop
 returns-3 c = record { yes = λ e. record { there = omega (arith, c .before .before .if1 .left); below = λ k h. c .before .loop .inv .1 k (omega arith) }; no = λ e p. true≢false e }

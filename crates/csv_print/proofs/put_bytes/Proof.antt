@@ -33,7 +33,10 @@ loop-less : tie.Need-loop-less Inv-loop μ-loop
 loop-less c = search needs
 
 loop-again : tie.Need-loop-again Inv-loop μ-loop
-loop-again c = storing-next _ _ _ _ _ _ _ 0 (c .before .before .before .before .before .loop-test .taken) refl (c .before .before .put-byte .ensures .bytes) (c .before .before .before .before .before .before .loop .inv)
+loop-again c =
+    let at-loop-test = c .before .before .before .before .before in
+    let at-loop = at-loop-test .before in
+    storing-next _ _ _ _ _ _ _ 0 (at-loop-test .loop-test .taken) refl (c .before .before .put-byte .ensures .bytes) (at-loop .loop .inv)
 
 add-result : tie.Need-add-result Inv-loop μ-loop
 add-result c = omega (arith, c .before .before .before .before .pre)

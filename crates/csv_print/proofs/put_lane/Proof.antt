@@ -28,10 +28,15 @@ same-length c = search needs
 returns : tie.Need-returns
 unfolding recordText
 returns c =
-    then (c .before .before .before .before .before .before .before .before .before .before .before .before .before .before .before .before .before .before .put-field .ensures)
-    (then (c .before .before .before .before .before .before .before .before .before .before .before .before .before .before .put-field2 .ensures)
-    (then (c .before .before .before .before .before .before .before .before .before .before .put-field3 .ensures)
-    (then (rw (toZ-ofZ w64 (c .before .before .before .before .before .before .before .before .before .before .before .before .before .before .before .before .before .before .before .before .before .args .d) (c .before .before .before .before .before .before .before .before .before .before .before .before .before .before .before .before .before .before .before .before .before .fits .d)) at (c .before .before .before .before .before .before .put-signed-field .ensures)) (c .before .before .put-byte .ensures))))
+    let at-put-signed-field = c .before .before .before .before .before .before in
+    let at-put-field3 = at-put-signed-field .before .before .before .before in
+    let at-put-field2 = at-put-field3 .before .before .before .before in
+    let at-put-field = at-put-field2 .before .before .before .before in
+    let entry = at-put-field .before .before .before in
+    then (at-put-field .put-field .ensures)
+    (then (at-put-field2 .put-field2 .ensures)
+    (then (at-put-field3 .put-field3 .ensures)
+    (then (rw (toZ-ofZ w64 (entry .args .d) (entry .fits .d)) at (at-put-signed-field .put-signed-field .ensures)) (c .before .before .put-byte .ensures))))
 
 pub put-lane-spec : {M : Type 1} → statement M
 put-lane-spec =

@@ -19,7 +19,10 @@ same-length c = search needs
 
 returns : tie.Need-returns
 unfolding recordText
-returns c = then (c .before .before .before .before .before .before .before .before .before .before .put-field .ensures) (then (c .before .before .before .before .before .before .put-field2 .ensures) (c .before .before .put-pair .ensures))
+returns c =
+    let at-put-field2 = c .before .before .before .before .before .before in
+    let at-put-field = at-put-field2 .before .before .before .before in
+    then (at-put-field .put-field .ensures) (then (at-put-field2 .put-field2 .ensures) (c .before .before .put-pair .ensures))
 
 pub put-record-spec : {M : Type 1} → statement M
 put-record-spec =

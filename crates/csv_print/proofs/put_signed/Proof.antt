@@ -21,7 +21,13 @@ same-length : tie.Need-same-length
 same-length c = search needs
 
 returns : tie.Need-returns
-returns c = written-minus (c .before .before .before .before .before .before .before .before .before .before .before .args .v) (c .before .before .before .before .before .before .before .before .before .before .before .fits .v) _ (c .before .before .before .before .before .before .before .before .before .magnitude .ensures ∙ ap natAbs (toZ-ofZ w64 _ (c .before .before .before .before .before .before .before .before .before .before .before .fits .v))) (c .before .before .before .before .before .before .before .before .if1 .taken) (c .before .before .before .before .before .before .put-byte .ensures) (c .before .before .put-number .ensures)
+returns c =
+    let at-put-byte = c .before .before .before .before .before .before in
+    let at-if1 = at-put-byte .before .before in
+    let at-magnitude = at-if1 .before in
+    let entry = at-magnitude .before .before in
+    written-minus (entry .args .v) (entry .fits .v) _ (at-magnitude .magnitude .ensures ∙ ap natAbs (toZ-ofZ w64 _ (entry .fits .v)))
+    (at-if1 .if1 .taken) (at-put-byte .put-byte .ensures) (c .before .before .put-number .ensures)
 
 put-number-requires-2 : tie.Need-put-number-requires-2
 put-number-requires-2 c κs = search needs
@@ -30,7 +36,11 @@ same-length-2 : tie.Need-same-length-2
 same-length-2 c = search needs
 
 returns-2 : tie.Need-returns-2
-returns-2 c = written-plain (c .before .before .before .before .before .before .before .args .v) (c .before .before .before .before .before .before .before .fits .v) _ (c .before .before .before .before .before .magnitude .ensures ∙ ap natAbs (toZ-ofZ w64 _ (c .before .before .before .before .before .before .before .fits .v))) (c .before .before .before .before .if1 .left) (c .before .before .put-number2 .ensures)
+returns-2 c =
+    let at-if1 = c .before .before .before .before in
+    let at-magnitude = at-if1 .before in
+    let entry = at-magnitude .before .before in
+    written-plain (entry .args .v) (entry .fits .v) _ (at-magnitude .magnitude .ensures ∙ ap natAbs (toZ-ofZ w64 _ (entry .fits .v))) (at-if1 .if1 .left) (c .before .before .put-number2 .ensures)
 
 pub put-signed-spec : {M : Type 1} → statement M
 put-signed-spec =

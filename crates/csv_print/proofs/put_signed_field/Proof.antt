@@ -18,7 +18,10 @@ same-length c = search needs
 
 returns : tie.Need-returns
 unfolding fieldText
-returns c = then (rw (toZ-ofZ w64 (c .before .before .before .before .before .before .before .before .before .args .v) (c .before .before .before .before .before .before .before .before .before .fits .v)) at (c .before .before .before .before .before .before .put-signed .ensures)) (c .before .before .put-byte .ensures)
+returns c =
+    let at-put-signed = c .before .before .before .before .before .before in
+    let entry = at-put-signed .before .before .before in
+    then (rw (toZ-ofZ w64 (entry .args .v) (entry .fits .v)) at (at-put-signed .put-signed .ensures)) (c .before .before .put-byte .ensures)
 
 pub put-signed-field-spec : {M : Type 1} → statement M
 put-signed-field-spec =

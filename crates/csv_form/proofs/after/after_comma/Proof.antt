@@ -22,7 +22,9 @@ returns-2 : tie.Need-returns-2
 returns-2 c = let a = c .before .before .before .before .args in rw (c .before .enum-told2 .given .1) (comma-of-source (now (a .s)) (a .at) (a .source) (c .if1 .taken))
 
 returns-3 : tie.Need-returns-3
-returns-3 c = let a = c .before .before .before .before .before .args in rw (c .before .before .enum-told2 .given .1) (c .after-demand .ensures ∙ comma-of-demands (now (a .s)) (a .at) (a .source) (c .before .if1 .left))
+returns-3 c =
+    let a = c .before .before .before .before .before .args in
+    rw (c .before .before .enum-told2 .given .1) (c .after-demand .ensures ∙ comma-of-demands (now (a .s)) (a .at) (a .source) (c .before .if1 .left))
 
 pub after-comma-spec : {M : Type 1} → statement M
 after-comma-spec =

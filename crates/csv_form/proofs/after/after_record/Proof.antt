@@ -27,13 +27,18 @@ enum-told-2 : tie.Need-enum-told-2
 enum-told-2 c = search needs
 
 returns-3 : tie.Need-returns-3
-returns-3 c = let a = c .before .before .before .before .before .args in rw (c .enum-told .given .1) (line-tariff (now (a .s)) _ ∙ record-yes (now (a .s)) (a .at) Tariff (c .before .before .if2 .left))
+returns-3 c =
+    let a = c .before .before .before .before .before .args in rw (c .enum-told .given .1) (line-tariff (now (a .s)) _ ∙ record-yes (now (a .s)) (a .at) Tariff (c .before .before .if2 .left))
 
 returns-4 : tie.Need-returns-4
-returns-4 c = let a = c .before .before .before .before .before .before .args in rw (c .before .enum-told2 .given .1) (line-more (now (a .s)) _ (c .if3 .taken) ∙ record-yes (now (a .s)) (a .at) Production (c .before .before .before .if2 .left))
+returns-4 c =
+    let a = c .before .before .before .before .before .before .args in
+    rw (c .before .enum-told2 .given .1) (line-more (now (a .s)) _ (c .if3 .taken) ∙ record-yes (now (a .s)) (a .at) Production (c .before .before .before .if2 .left))
 
 returns-5 : tie.Need-returns-5
-returns-5 c = let a = c .before .before .before .before .before .before .args in rw (c .before .enum-told2 .given .1) (line-end (now (a .s)) _ (c .if3 .left) ∙ record-yes (now (a .s)) (a .at) Production (c .before .before .before .if2 .left))
+returns-5 c =
+    let a = c .before .before .before .before .before .before .args in
+    rw (c .before .enum-told2 .given .1) (line-end (now (a .s)) _ (c .if3 .left) ∙ record-yes (now (a .s)) (a .at) Production (c .before .before .before .if2 .left))
 
 pub after-record-spec : {M : Type 1} → statement M
 after-record-spec =

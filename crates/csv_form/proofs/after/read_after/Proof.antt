@@ -16,7 +16,10 @@ after-all-requires : tie.Need-after-all-requires
 after-all-requires c κs = search needs
 
 returns-2 : tie.Need-returns-2
-returns-2 c = let a = c .before .before .before .before .args in c .after-all .ensures ∙ plain-past (now (a .s)) (a .at) (a .kind) (a .source) (c .before .if2 .taken) ∙ after-of-plain (now (a .s)) (a .at) (a .kind) (a .source) (a .minus) (c .before .before .if1 .left)
+returns-2 c =
+    let a = c .before .before .before .before .args in
+    c .after-all .ensures ∙ plain-past (now (a .s)) (a .at) (a .kind) (a .source) (c .before .if2 .taken) ∙
+    after-of-plain (now (a .s)) (a .at) (a .kind) (a .source) (a .minus) (c .before .before .if1 .left)
 
 shared-slice-read-b : tie.Need-shared-slice-read-b
 shared-slice-read-b c = search needs
@@ -28,16 +31,35 @@ after-comma-requires : tie.Need-after-comma-requires
 after-comma-requires c κs = search needs
 
 returns-3 : tie.Need-returns-3
-returns-3 c = let a = c .before .before .before .before .before .before .args in c .after-comma .ensures ∙ plain-comma (now (a .s)) (a .at) (a .kind) (a .source) (c .before .before .before .if2 .left) (c .before .if3 .taken) ∙ after-of-plain (now (a .s)) (a .at) (a .kind) (a .source) (a .minus) (c .before .before .before .before .if1 .left)
+returns-3 c =
+    let at-if2 = c .before .before .before in
+    let at-if1 = at-if2 .before in
+    let entry = at-if1 .before .before in
+    let a = entry .args in
+    c .after-comma .ensures ∙ plain-comma (now (a .s)) (a .at) (a .kind) (a .source) (at-if2 .if2 .left) (c .before .if3 .taken) ∙
+    after-of-plain (now (a .s)) (a .at) (a .kind) (a .source) (a .minus) (at-if1 .if1 .left)
 
 after-record-requires : tie.Need-after-record-requires
 after-record-requires c κs = search needs
 
 returns-4 : tie.Need-returns-4
-returns-4 c = let a = c .before .before .before .before .before .before .before .args in c .after-record .ensures ∙ plain-return (now (a .s)) (a .at) (a .kind) (a .source) (c .before .before .before .before .if2 .left) (c .before .before .if3 .left) (c .before .if4 .taken) ∙ after-of-plain (now (a .s)) (a .at) (a .kind) (a .source) (a .minus) (c .before .before .before .before .before .if1 .left)
+returns-4 c =
+    let at-if2 = c .before .before .before .before in
+    let at-if1 = at-if2 .before in
+    let entry = at-if1 .before .before in
+    let a = entry .args in
+    c .after-record .ensures ∙
+    plain-return (now (a .s)) (a .at) (a .kind) (a .source) (at-if2 .if2 .left) (c .before .before .if3 .left) (c .before .if4 .taken) ∙
+    after-of-plain (now (a .s)) (a .at) (a .kind) (a .source) (a .minus) (at-if1 .if1 .left)
 
 returns-5 : tie.Need-returns-5
-returns-5 c = let a = c .before .before .before .before .before .before .args in plain-none (now (a .s)) (a .at) (a .kind) (a .source) (c .before .before .before .if2 .left) (c .before .if3 .left) (c .if4 .left) ∙ after-of-plain (now (a .s)) (a .at) (a .kind) (a .source) (a .minus) (c .before .before .before .before .if1 .left)
+returns-5 c =
+    let at-if2 = c .before .before .before in
+    let at-if1 = at-if2 .before in
+    let entry = at-if1 .before .before in
+    let a = entry .args in
+    plain-none (now (a .s)) (a .at) (a .kind) (a .source) (at-if2 .if2 .left) (c .before .if3 .left) (c .if4 .left) ∙
+    after-of-plain (now (a .s)) (a .at) (a .kind) (a .source) (a .minus) (at-if1 .if1 .left)
 
 pub read-after-spec : {M : Type 1} → statement M
 read-after-spec =

@@ -18,19 +18,28 @@ returns : tie.Need-returns
 returns c = search needs
 
 returns-2 : tie.Need-returns-2
-returns-2 c = rw (c .before .before .f .given .1) (rw (ne-eqb (getD (now (c .before .before .before .before .args .s)) (c .before .before .f .given .0 .1 .1 .0) 0) 34 (past (now (c .before .before .before .before .args .s)) _ 33 (c .if1 .taken))) refl)
+returns-2 c =
+    let at-f = c .before .before in
+    let entry = at-f .before .before in
+    rw (at-f .f .given .1) (rw (ne-eqb (getD (now (entry .args .s)) (at-f .f .given .0 .1 .1 .0) 0) 34 (past (now (entry .args .s)) _ 33 (c .if1 .taken))) refl)
 
 shared-slice-read-if2 : tie.Need-shared-slice-read-if2
 shared-slice-read-if2 c = search needs
 
 returns-3 : tie.Need-returns-3
-returns-3 c = rw (c .before .before .before .before .f .given .1) (rw (ne-eqb (getD (now (c .before .before .before .before .before .before .args .s)) (c .before .before .before .before .f .given .0 .1 .1 .0) 0) 34 (c .if2 .taken)) refl)
+returns-3 c =
+    let at-f = c .before .before .before .before in
+    let entry = at-f .before .before in
+    rw (at-f .f .given .1) (rw (ne-eqb (getD (now (entry .args .s)) (at-f .f .given .0 .1 .1 .0) 0) 34 (c .if2 .taken)) refl)
 
 add-t6 : tie.Need-add-t6
 add-t6 c = search needs
 
 returns-4 : tie.Need-returns-4
-returns-4 c = rw (c .before .before .before .before .f .given .1) (rw (eq-eqb (getD (now (c .before .before .before .before .before .before .args .s)) (c .before .before .before .before .f .given .0 .1 .1 .0) 0) 34 (c .if2 .left)) refl)
+returns-4 c =
+    let at-f = c .before .before .before .before in
+    let entry = at-f .before .before in
+    rw (at-f .f .given .1) (rw (eq-eqb (getD (now (entry .args .s)) (at-f .f .given .0 .1 .1 .0) 0) 34 (c .if2 .left)) refl)
 
 pub close-quote-spec : {M : Type 1} → statement M
 close-quote-spec =

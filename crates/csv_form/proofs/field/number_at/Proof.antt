@@ -17,22 +17,46 @@ digit-at-requires : tie.Need-digit-at-requires
 digit-at-requires c κs = search needs
 
 returns : tie.Need-returns
-returns c = number-none (c .before .before .before .args .minus) (digitOr10 (mark (getD (now (c .before .before .before .args .s)) (c .before .before .before .args .at) 0))) (digitOr10 (mark (getD (now (c .before .before .before .args .s)) (c .before .before .before .args .at + 1) 0))) (omega (arith, c .before .digit-at .ensures, c .if1 .taken))
+returns c =
+    let entry = c .before .before .before in
+    number-none (entry .args .minus) (digitOr10 (mark (getD (now (entry .args .s)) (entry .args .at) 0)))
+    (digitOr10 (mark (getD (now (entry .args .s)) (entry .args .at + 1) 0))) (omega (arith, c .before .digit-at .ensures, c .if1 .taken))
 
 returns-2 : tie.Need-returns-2
-returns-2 c = number-plain (c .before .before .before .before .args .minus) (digitOr10 (mark (getD (now (c .before .before .before .before .args .s)) (c .before .before .before .before .args .at) 0))) (digitOr10 (mark (getD (now (c .before .before .before .before .args .s)) (c .before .before .before .before .args .at + 1) 0))) (omega (arith, c .before .before .digit-at .ensures, c .before .if1 .left)) (omega (arith, c .before .before .digit-at .ensures, c .if2 .taken))
+returns-2 c =
+    let at-digit-at = c .before .before in
+    let entry = at-digit-at .before .before in
+    number-plain (entry .args .minus) (digitOr10 (mark (getD (now (entry .args .s)) (entry .args .at) 0)))
+    (digitOr10 (mark (getD (now (entry .args .s)) (entry .args .at + 1) 0))) (omega (arith, at-digit-at .digit-at .ensures, c .before .if1 .left))
+    (omega (arith, at-digit-at .digit-at .ensures, c .if2 .taken))
 
 returns-3 : tie.Need-returns-3
-returns-3 c = number-minus (c .before .before .before .before .before .args .minus) (digitOr10 (mark (getD (now (c .before .before .before .before .before .args .s)) (c .before .before .before .before .before .args .at) 0))) (digitOr10 (mark (getD (now (c .before .before .before .before .before .args .s)) (c .before .before .before .before .before .args .at + 1) 0))) (omega (arith, c .before .before .before .digit-at .ensures, c .before .before .if1 .left)) (omega (arith, c .before .before .before .digit-at .ensures, c .before .if2 .left)) (c .if3 .taken)
+returns-3 c =
+    let at-digit-at = c .before .before .before in
+    let entry = at-digit-at .before .before in
+    number-minus (entry .args .minus) (digitOr10 (mark (getD (now (entry .args .s)) (entry .args .at) 0)))
+    (digitOr10 (mark (getD (now (entry .args .s)) (entry .args .at + 1) 0)))
+    (omega (arith, at-digit-at .digit-at .ensures, c .before .before .if1 .left)) (omega (arith, at-digit-at .digit-at .ensures, c .before .if2 .left))
+    (c .if3 .taken)
 
 add-digit-at : tie.Need-add-digit-at
-add-digit-at c = let h = inside (now (c .before .before .before .before .before .args .s)) (c .before .before .before .before .before .args .at) (omega (arith, c .before .before .before .digit-at .ensures, c .before .before .if1 .left)) in search (needs, h)
+add-digit-at c =
+    let at-digit-at = c .before .before .before in
+    let entry = at-digit-at .before .before in
+    let h = inside (now (entry .args .s)) (entry .args .at) (omega (arith, at-digit-at .digit-at .ensures, c .before .before .if1 .left)) in search (needs, h)
 
 digit-at-requires-2 : tie.Need-digit-at-requires-2
 digit-at-requires-2 c κs = search needs
 
 returns-4 : tie.Need-returns-4
-returns-4 c = ap (λ (x : ℕ). ltb 9 x) (c .digit-at2 .ensures) ∙ number-zero (c .before .before .before .before .before .before .args .minus) (digitOr10 (mark (getD (now (c .before .before .before .before .before .before .args .s)) (c .before .before .before .before .before .before .args .at) 0))) (digitOr10 (mark (getD (now (c .before .before .before .before .before .before .args .s)) (c .before .before .before .before .before .before .args .at + 1) 0))) (omega (arith, c .before .before .before .before .digit-at .ensures, c .before .before .before .if1 .left)) (omega (arith, c .before .before .before .before .digit-at .ensures, c .before .before .if2 .left)) (c .before .if3 .left)
+returns-4 c =
+    let at-if1 = c .before .before .before in
+    let at-digit-at = at-if1 .before in
+    let entry = at-digit-at .before .before in
+    ap (λ (x : ℕ). ltb 9 x) (c .digit-at2 .ensures) ∙
+    number-zero (entry .args .minus) (digitOr10 (mark (getD (now (entry .args .s)) (entry .args .at) 0)))
+    (digitOr10 (mark (getD (now (entry .args .s)) (entry .args .at + 1) 0))) (omega (arith, at-digit-at .digit-at .ensures, at-if1 .if1 .left))
+    (omega (arith, at-digit-at .digit-at .ensures, c .before .before .if2 .left)) (c .before .if3 .left)
 
 pub number-at-spec : {M : Type 1} → statement M
 number-at-spec =

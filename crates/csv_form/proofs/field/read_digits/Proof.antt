@@ -55,9 +55,11 @@ loop-less c = search needs
 
 loop-again : tie.Need-loop-again Inv-loop μ-loop
 loop-again c =
+    let at-loop-test = c .before .before in
+    let at-loop = at-loop-test .before in
     rw (c .before .digit-at .ensures) (
-      one-more _ _ _ _ _ (c .before .before .before .loop .inv .0) (found c) (c .before .before .loop-test .taken),
-      c .before .before .before .loop .inv .1 ∙ digits-step _ _ _ _ (c .before .before .loop-test .taken) (found c),
+      one-more _ _ _ _ _ (at-loop .loop .inv .0) (found c) (at-loop-test .loop-test .taken),
+      at-loop .loop .inv .1 ∙ digits-step _ _ _ _ (at-loop-test .loop-test .taken) (found c),
     )
 
 returns-2 : tie.Need-returns-2 Inv-loop μ-loop

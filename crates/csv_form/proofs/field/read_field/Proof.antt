@@ -31,13 +31,23 @@ read-number-requires : tie.Need-read-number-requires
 read-number-requires c κs = search needs
 
 returns-3 : tie.Need-returns-3
-returns-3 c = let a = c .before .before .before .before .before .before .before .args in c .read-number .ensures ∙ signed-minus (now (a .s)) (a .kind) (a .at) (sym (c .before .before .minus-at .ensures) ∙ c .before .if3 .taken) ∙ field-bare (now (a .s)) (a .kind) (a .at) (c .before .before .before .if2 .left)
+returns-3 c =
+    let at-if2 = c .before .before .before in
+    let entry = at-if2 .before .before .before .before in
+    let a = entry .args in
+    c .read-number .ensures ∙ signed-minus (now (a .s)) (a .kind) (a .at) (sym (c .before .before .minus-at .ensures) ∙ c .before .if3 .taken) ∙
+    field-bare (now (a .s)) (a .kind) (a .at) (at-if2 .if2 .left)
 
 read-number-requires-2 : tie.Need-read-number-requires-2
 read-number-requires-2 c κs = search needs
 
 returns-4 : tie.Need-returns-4
-returns-4 c = let a = c .before .before .before .before .before .before .before .args in c .read-number2 .ensures ∙ signed-plain (now (a .s)) (a .kind) (a .at) (sym (c .before .before .minus-at .ensures) ∙ c .before .if3 .left) ∙ field-bare (now (a .s)) (a .kind) (a .at) (c .before .before .before .if2 .left)
+returns-4 c =
+    let at-if2 = c .before .before .before in
+    let entry = at-if2 .before .before .before .before in
+    let a = entry .args in
+    c .read-number2 .ensures ∙ signed-plain (now (a .s)) (a .kind) (a .at) (sym (c .before .before .minus-at .ensures) ∙ c .before .if3 .left) ∙
+    field-bare (now (a .s)) (a .kind) (a .at) (at-if2 .if2 .left)
 
 pub read-field-spec : {M : Type 1} → statement M
 read-field-spec =

@@ -22,7 +22,12 @@ close-quote-requires : tie.Need-close-quote-requires
 close-quote-requires c κs = search needs
 
 returns : tie.Need-returns
-returns c = let a = c .before .before .before .before .before .args in c .close-quote .ensures ∙ ap (closeQuote (now (a .s))) (c .before .read-number .ensures ∙ signed-minus (now (a .s)) (a .kind) (a .at) (sym (c .before .before .before .minus-at .ensures) ∙ c .before .before .if1 .taken))
+returns c =
+    let at-minus-at = c .before .before .before in
+    let entry = at-minus-at .before .before in
+    let a = entry .args in
+    c .close-quote .ensures ∙
+    ap (closeQuote (now (a .s))) (c .before .read-number .ensures ∙ signed-minus (now (a .s)) (a .kind) (a .at) (sym (at-minus-at .minus-at .ensures) ∙ c .before .before .if1 .taken))
 
 read-number-requires-2 : tie.Need-read-number-requires-2
 read-number-requires-2 c κs = search needs
@@ -31,7 +36,12 @@ close-quote-requires-2 : tie.Need-close-quote-requires-2
 close-quote-requires-2 c κs = search needs
 
 returns-2 : tie.Need-returns-2
-returns-2 c = let a = c .before .before .before .before .before .args in c .close-quote2 .ensures ∙ ap (closeQuote (now (a .s))) (c .before .read-number2 .ensures ∙ signed-plain (now (a .s)) (a .kind) (a .at) (sym (c .before .before .before .minus-at .ensures) ∙ c .before .before .if1 .left))
+returns-2 c =
+    let at-minus-at = c .before .before .before in
+    let entry = at-minus-at .before .before in
+    let a = entry .args in
+    c .close-quote2 .ensures ∙
+    ap (closeQuote (now (a .s))) (c .before .read-number2 .ensures ∙ signed-plain (now (a .s)) (a .kind) (a .at) (sym (at-minus-at .minus-at .ensures) ∙ c .before .before .if1 .left))
 
 pub read-quoted-spec : {M : Type 1} → statement M
 read-quoted-spec =

@@ -25,10 +25,17 @@ wide-requires : tie.Need-wide-requires
 wide-requires c κs = search needs
 
 read-digits-requires : tie.Need-read-digits-requires
-read-digits-requires c κs = let a = c .before .before .before .before .before .args in (omega (arith, there (now (a .s)) (a .at) _ (c .before .before .before .byte-at .ensures) (λ q. omega (arith, c .before .before .if1 .left))), omega (arith, c .wide .ensures, c .before .if2 .left))
+read-digits-requires c κs =
+    let at-byte-at = c .before .before .before in
+    let entry = at-byte-at .before .before in
+    let a = entry .args in
+    (omega (arith, there (now (a .s)) (a .at) _ (at-byte-at .byte-at .ensures) (λ q. omega (arith, c .before .before .if1 .left))), omega (arith, c .wide .ensures, c .before .if2 .left))
 
 returns-3 : tie.Need-returns-3
-returns-3 c = counting-read _ _ _ (c .before .before .before .before .byte-at .ensures) (c .before .before .before .if1 .left) (c .before .before .if2 .left) _ _ _ (c .before .wide .ensures) (c .read-digits .ensures)
+returns-3 c =
+    let at-if1 = c .before .before .before in
+    let at-byte-at = at-if1 .before in
+    counting-read _ _ _ (at-byte-at .byte-at .ensures) (at-if1 .if1 .left) (c .before .before .if2 .left) _ _ _ (c .before .wide .ensures) (c .read-digits .ensures)
 
 pub read-counting-spec : {M : Type 1} → statement M
 read-counting-spec =

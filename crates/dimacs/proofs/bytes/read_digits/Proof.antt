@@ -32,10 +32,19 @@ wide-requires : tie.Need-wide-requires Inv-loop μ-loop
 wide-requires c κs = search needs
 
 add-value : tie.Need-add-value Inv-loop μ-loop
-add-value c = omega (arith, fits _ _ _ _ _ _ (c .before .before .before .before .before .loop .inv) (c .wide .result) (omega (arith, c .wide .ensures, c .before .if2 .left)) (c .before .before .before .before .loop-test .taken))
+add-value c =
+    omega (
+      arith,
+      fits _ _ _ _ _ _ (c .before .before .before .before .before .loop .inv) (c .wide .result)
+          (omega (arith, c .wide .ensures, c .before .if2 .left)) (c .before .before .before .before .loop-test .taken),
+    )
 
 add-next : tie.Need-add-next Inv-loop μ-loop
-add-next c = omega (arith, there (now (c .before .before .before .before .before .before .before .args .s)) (c .before .before .before .before .before .loop .next) _ (c .before .before .before .byte-at .ensures) (λ q. omega (arith, c .before .before .if1 .left)))
+add-next c =
+    let at-byte-at = c .before .before .before in
+    let at-loop = at-byte-at .before .before in
+    let entry = at-loop .before .before in
+    omega (arith, there (now (entry .args .s)) (at-loop .loop .next) _ (at-byte-at .byte-at .ensures) (λ q. omega (arith, c .before .before .if1 .left)))
 
 sub-left : tie.Need-sub-left Inv-loop μ-loop
 sub-left c = search needs
@@ -44,7 +53,11 @@ loop-less : tie.Need-loop-less Inv-loop μ-loop
 loop-less c = search needs
 
 loop-again : tie.Need-loop-again Inv-loop μ-loop
-loop-again c = one-more _ _ _ _ _ _ (c .before .before .before .before .before .loop .inv) _ (c .before .before .before .byte-at .ensures) (c .before .before .before .before .loop-test .taken) _ (c .wide .ensures) (c .before .before .if1 .left) (c .before .if2 .left)
+loop-again c =
+    let at-byte-at = c .before .before .before in
+    let at-loop-test = at-byte-at .before in
+    let at-loop = at-loop-test .before in
+    one-more _ _ _ _ _ _ (at-loop .loop .inv) _ (at-byte-at .byte-at .ensures) (at-loop-test .loop-test .taken) _ (c .wide .ensures) (c .before .before .if1 .left) (c .before .if2 .left)
 
 returns-3 : tie.Need-returns-3 Inv-loop μ-loop
 returns-3 c = all-read _ _ _ _ _ _ (c .before .loop .inv) (c .loop-test .left)

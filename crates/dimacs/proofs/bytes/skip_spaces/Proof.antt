@@ -23,7 +23,12 @@ byte-at-requires : tie.Need-byte-at-requires Inv-loop μ-loop
 byte-at-requires c κs = search needs
 
 returns : tie.Need-returns Inv-loop μ-loop
-returns c = let s = now (c .before .before .before .before .args .s) in let n = c .before .before .loop .next in record { upto = c .before .before .loop .inv .0; meaning = c .before .before .loop .inv .1 ∙ spaces-stop s n _ (c .before .byte-at .ensures) (c .if1 .taken) }
+returns c =
+    let at-loop = c .before .before in
+    let entry = at-loop .before .before in
+    let s = now (entry .args .s) in
+    let n = at-loop .loop .next in
+    record { upto = at-loop .loop .inv .0; meaning = at-loop .loop .inv .1 ∙ spaces-stop s n _ (c .before .byte-at .ensures) (c .if1 .taken) }
 
 add-next : tie.Need-add-next Inv-loop μ-loop
 add-next c = omega (arith, there (now (c .before .before .before .before .args .s)) (c .before .before .loop .next) _ (c .before .byte-at .ensures) (λ q. omega (arith, c .if1 .left)))
@@ -32,7 +37,14 @@ loop-less : tie.Need-loop-less Inv-loop μ-loop
 loop-less c = omega (arith, there (now (c .before .before .before .before .args .s)) (c .before .before .loop .next) _ (c .before .byte-at .ensures) (λ q. omega (arith, c .if1 .left)))
 
 loop-again : tie.Need-loop-again Inv-loop μ-loop
-loop-again c = let s = now (c .before .before .before .before .args .s) in let n = c .before .before .loop .next in (omega (arith, there (now (c .before .before .before .before .args .s)) (c .before .before .loop .next) _ (c .before .byte-at .ensures) (λ q. omega (arith, c .if1 .left))), c .before .before .loop .inv .1 ∙ spaces-more s n _ (c .before .byte-at .ensures) (c .if1 .left))
+loop-again c =
+    let at-loop = c .before .before in
+    let entry = at-loop .before .before in
+    let s = now (entry .args .s) in
+    let n = at-loop .loop .next in (
+      omega (arith, there (now (entry .args .s)) (at-loop .loop .next) _ (c .before .byte-at .ensures) (λ q. omega (arith, c .if1 .left))),
+      at-loop .loop .inv .1 ∙ spaces-more s n _ (c .before .byte-at .ensures) (c .if1 .left),
+    )
 
 pub skip-spaces-spec : {M : Type 1} → statement M
 skip-spaces-spec =

@@ -26,7 +26,10 @@ enum-told-2 : tie.Need-enum-told-2
 enum-told-2 c = search needs
 
 returns-2 : tie.Need-returns-2
-returns-2 c = arc-2 (c .before .before .before .before .before .before .read-field .ensures) _ _ (c .before .before .before .before .f1 .given .1) (c .before .before .read-field2 .ensures) (c .enum-told2 .given .1)
+returns-2 c =
+    let at-f1 = c .before .before .before .before in
+    let at-read-field = at-f1 .before .before in
+    arc-2 (at-read-field .read-field .ensures) _ _ (at-f1 .f1 .given .1) (c .before .before .read-field2 .ensures) (c .enum-told2 .given .1)
 
 read-field-requires-3 : tie.Need-read-field-requires-3
 read-field-requires-3 c κs = field-in (c .before .before .before .read-field2 .ensures) _ _ (c .before .f2 .given .1)
@@ -38,7 +41,13 @@ enum-told-3 : tie.Need-enum-told-3
 enum-told-3 c = search needs
 
 returns-3 : tie.Need-returns-3
-returns-3 c = arc-3 (c .before .before .before .before .before .before .before .before .before .before .read-field .ensures) _ _ (c .before .before .before .before .before .before .before .before .f1 .given .1) (c .before .before .before .before .before .before .read-field2 .ensures) _ _ (c .before .before .before .before .f2 .given .1) (c .before .before .read-field3 .ensures) (c .enum-told3 .given .1)
+returns-3 c =
+    let at-f2 = c .before .before .before .before in
+    let at-read-field2 = at-f2 .before .before in
+    let at-f1 = at-read-field2 .before .before in
+    let at-read-field = at-f1 .before .before in
+    arc-3 (at-read-field .read-field .ensures) _ _ (at-f1 .f1 .given .1) (at-read-field2 .read-field2 .ensures) _ _ (at-f2 .f2 .given .1)
+    (c .before .before .read-field3 .ensures) (c .enum-told3 .given .1)
 
 read-field-requires-4 : tie.Need-read-field-requires-4
 read-field-requires-4 c κs = field-in (c .before .before .before .read-field3 .ensures) _ _ (c .before .f3 .given .1)
@@ -50,7 +59,15 @@ enum-told-4 : tie.Need-enum-told-4
 enum-told-4 c = search needs
 
 returns-4 : tie.Need-returns-4
-returns-4 c = arc-4 (c .before .before .before .before .before .before .before .before .before .before .before .before .before .before .read-field .ensures) _ _ (c .before .before .before .before .before .before .before .before .before .before .before .before .f1 .given .1) (c .before .before .before .before .before .before .before .before .before .before .read-field2 .ensures) _ _ (c .before .before .before .before .before .before .before .before .f2 .given .1) (c .before .before .before .before .before .before .read-field3 .ensures) _ _ (c .before .before .before .before .f3 .given .1) (c .before .before .read-field4 .ensures) (c .enum-told4 .given .1)
+returns-4 c =
+    let at-f3 = c .before .before .before .before in
+    let at-read-field3 = at-f3 .before .before in
+    let at-f2 = at-read-field3 .before .before in
+    let at-read-field2 = at-f2 .before .before in
+    let at-f1 = at-read-field2 .before .before in
+    let at-read-field = at-f1 .before .before in
+    arc-4 (at-read-field .read-field .ensures) _ _ (at-f1 .f1 .given .1) (at-read-field2 .read-field2 .ensures) _ _ (at-f2 .f2 .given .1)
+    (at-read-field3 .read-field3 .ensures) _ _ (at-f3 .f3 .given .1) (c .before .before .read-field4 .ensures) (c .enum-told4 .given .1)
 
 read-signed-field-requires : tie.Need-read-signed-field-requires
 read-signed-field-requires c κs = field-in (c .before .before .before .read-field4 .ensures) _ _ (c .before .f4 .given .1)
@@ -62,13 +79,48 @@ enum-told-5 : tie.Need-enum-told-5
 enum-told-5 c = search needs
 
 returns-5 : tie.Need-returns-5
-returns-5 c = arc-5 (c .before .before .before .before .before .before .before .before .before .before .before .before .before .before .before .before .before .before .read-field .ensures) _ _ (c .before .before .before .before .before .before .before .before .before .before .before .before .before .before .before .before .f1 .given .1) (c .before .before .before .before .before .before .before .before .before .before .before .before .before .before .read-field2 .ensures) _ _ (c .before .before .before .before .before .before .before .before .before .before .before .before .f2 .given .1) (c .before .before .before .before .before .before .before .before .before .before .read-field3 .ensures) _ _ (c .before .before .before .before .before .before .before .before .f3 .given .1) (c .before .before .before .before .before .before .read-field4 .ensures) _ _ (c .before .before .before .before .f4 .given .1) (c .before .before .read-signed-field .ensures) (c .enum-told5 .given .1)
+returns-5 c =
+    let at-f4 = c .before .before .before .before in
+    let at-read-field4 = at-f4 .before .before in
+    let at-f3 = at-read-field4 .before .before in
+    let at-read-field3 = at-f3 .before .before in
+    let at-f2 = at-read-field3 .before .before in
+    let at-read-field2 = at-f2 .before .before in
+    let at-f1 = at-read-field2 .before .before in
+    let at-read-field = at-f1 .before .before in
+    arc-5 (at-read-field .read-field .ensures) _ _ (at-f1 .f1 .given .1) (at-read-field2 .read-field2 .ensures) _ _ (at-f2 .f2 .given .1)
+    (at-read-field3 .read-field3 .ensures) _ _ (at-f3 .f3 .given .1) (at-read-field4 .read-field4 .ensures) _ _ (at-f4 .f4 .given .1)
+    (c .before .before .read-signed-field .ensures) (c .enum-told5 .given .1)
 
 returns-6 : tie.Need-returns-6
-returns-6 c = arc-long (c .before .before .before .before .before .before .before .before .before .before .before .before .before .before .before .before .before .before .before .before .read-field .ensures) _ _ (c .before .before .before .before .before .before .before .before .before .before .before .before .before .before .before .before .before .before .f1 .given .1) (c .before .before .before .before .before .before .before .before .before .before .before .before .before .before .before .before .read-field2 .ensures) _ _ (c .before .before .before .before .before .before .before .before .before .before .before .before .before .before .f2 .given .1) (c .before .before .before .before .before .before .before .before .before .before .before .before .read-field3 .ensures) _ _ (c .before .before .before .before .before .before .before .before .before .before .f3 .given .1) (c .before .before .before .before .before .before .before .before .read-field4 .ensures) _ _ (c .before .before .before .before .before .before .f4 .given .1) (c .before .before .before .before .read-signed-field .ensures) _ _ _ (c .before .before .f5 .given .1) (c .if1 .taken)
+returns-6 c =
+    let at-read-signed-field = c .before .before .before .before in
+    let at-f4 = at-read-signed-field .before .before in
+    let at-read-field4 = at-f4 .before .before in
+    let at-f3 = at-read-field4 .before .before in
+    let at-read-field3 = at-f3 .before .before in
+    let at-f2 = at-read-field3 .before .before in
+    let at-read-field2 = at-f2 .before .before in
+    let at-f1 = at-read-field2 .before .before in
+    let at-read-field = at-f1 .before .before in
+    arc-long (at-read-field .read-field .ensures) _ _ (at-f1 .f1 .given .1) (at-read-field2 .read-field2 .ensures) _ _ (at-f2 .f2 .given .1)
+    (at-read-field3 .read-field3 .ensures) _ _ (at-f3 .f3 .given .1) (at-read-field4 .read-field4 .ensures) _ _ (at-f4 .f4 .given .1)
+    (at-read-signed-field .read-signed-field .ensures) _ _ _ (c .before .before .f5 .given .1) (c .if1 .taken)
 
 returns-7 : tie.Need-returns-7
-returns-7 c = arc-read (c .before .before .before .before .before .before .before .before .before .before .before .before .before .before .before .before .before .before .before .before .read-field .ensures) _ _ (c .before .before .before .before .before .before .before .before .before .before .before .before .before .before .before .before .before .before .f1 .given .1) (c .before .before .before .before .before .before .before .before .before .before .before .before .before .before .before .before .read-field2 .ensures) _ _ (c .before .before .before .before .before .before .before .before .before .before .before .before .before .before .f2 .given .1) (c .before .before .before .before .before .before .before .before .before .before .before .before .read-field3 .ensures) _ _ (c .before .before .before .before .before .before .before .before .before .before .f3 .given .1) (c .before .before .before .before .before .before .before .before .read-field4 .ensures) _ _ (c .before .before .before .before .before .before .f4 .given .1) (c .before .before .before .before .read-signed-field .ensures) _ _ _ (c .before .before .f5 .given .1) (c .if1 .left)
+returns-7 c =
+    let at-read-signed-field = c .before .before .before .before in
+    let at-f4 = at-read-signed-field .before .before in
+    let at-read-field4 = at-f4 .before .before in
+    let at-f3 = at-read-field4 .before .before in
+    let at-read-field3 = at-f3 .before .before in
+    let at-f2 = at-read-field3 .before .before in
+    let at-read-field2 = at-f2 .before .before in
+    let at-f1 = at-read-field2 .before .before in
+    let at-read-field = at-f1 .before .before in
+    arc-read (at-read-field .read-field .ensures) _ _ (at-f1 .f1 .given .1) (at-read-field2 .read-field2 .ensures) _ _ (at-f2 .f2 .given .1)
+    (at-read-field3 .read-field3 .ensures) _ _ (at-f3 .f3 .given .1) (at-read-field4 .read-field4 .ensures) _ _ (at-f4 .f4 .given .1)
+    (at-read-signed-field .read-signed-field .ensures) _ _ _ (c .before .before .f5 .given .1) (c .if1 .left)
 
 pub read-arc-spec : {M : Type 1} → statement M
 read-arc-spec =

@@ -31,7 +31,10 @@ returns-4 : tie.Need-returns-4
 returns-4 c = line-arc _ _ (c .before .before .before .before .before .byte-at .ensures) _ (c .before .if4 .taken) (c .read-arc .ensures)
 
 returns-5 : tie.Need-returns-5
-returns-5 c = line-wrong _ _ (c .before .before .before .before .byte-at .ensures) (c .before .before .before .if1 .left) (c .before .before .if2 .left) (c .before .if3 .left) (c .if4 .left)
+returns-5 c =
+    let at-if1 = c .before .before .before in
+    let at-byte-at = at-if1 .before in
+    line-wrong _ _ (at-byte-at .byte-at .ensures) (at-if1 .if1 .left) (c .before .before .if2 .left) (c .before .if3 .left) (c .if4 .left)
 
 pub read-line-spec : {M : Type 1} → statement M
 read-line-spec =

@@ -26,13 +26,24 @@ enum-told-2 : tie.Need-enum-told-2
 enum-told-2 c = search needs
 
 returns-2 : tie.Need-returns-2
-returns-2 c = node-no-supply (c .before .before .before .before .before .before .read-field .ensures) _ _ (c .before .before .before .before .n .given .1) (c .before .before .read-signed-field .ensures) (c .enum-told2 .given .1)
+returns-2 c =
+    let at-n = c .before .before .before .before in
+    let at-read-field = at-n .before .before in
+    node-no-supply (at-read-field .read-field .ensures) _ _ (at-n .n .given .1) (c .before .before .read-signed-field .ensures) (c .enum-told2 .given .1)
 
 returns-3 : tie.Need-returns-3
-returns-3 c = node-long (c .before .before .before .before .before .before .before .before .read-field .ensures) _ _ (c .before .before .before .before .before .before .n .given .1) (c .before .before .before .before .read-signed-field .ensures) _ _ _ (c .before .before .v .given .1) (c .if1 .taken)
+returns-3 c =
+    let at-read-signed-field = c .before .before .before .before in
+    let at-n = at-read-signed-field .before .before in
+    let at-read-field = at-n .before .before in
+    node-long (at-read-field .read-field .ensures) _ _ (at-n .n .given .1) (at-read-signed-field .read-signed-field .ensures) _ _ _ (c .before .before .v .given .1) (c .if1 .taken)
 
 returns-4 : tie.Need-returns-4
-returns-4 c = node-read (c .before .before .before .before .before .before .before .before .read-field .ensures) _ _ (c .before .before .before .before .before .before .n .given .1) (c .before .before .before .before .read-signed-field .ensures) _ _ _ (c .before .before .v .given .1) (c .if1 .left)
+returns-4 c =
+    let at-read-signed-field = c .before .before .before .before in
+    let at-n = at-read-signed-field .before .before in
+    let at-read-field = at-n .before .before in
+    node-read (at-read-field .read-field .ensures) _ _ (at-n .n .given .1) (at-read-signed-field .read-signed-field .ensures) _ _ _ (c .before .before .v .given .1) (c .if1 .left)
 
 pub read-node-spec : {M : Type 1} → statement M
 read-node-spec =

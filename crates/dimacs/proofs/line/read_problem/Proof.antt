@@ -26,7 +26,10 @@ enum-told-2 : tie.Need-enum-told-2
 enum-told-2 c = search needs
 
 returns-2 : tie.Need-returns-2
-returns-2 c = problem-no-nodes (c .before .before .before .before .before .before .after-min .ensures) _ (c .before .before .before .before .w .given .1) (c .before .before .read-field .ensures) (c .enum-told2 .given .1)
+returns-2 c =
+    let at-w = c .before .before .before .before in
+    let at-after-min = at-w .before .before in
+    problem-no-nodes (at-after-min .after-min .ensures) _ (at-w .w .given .1) (c .before .before .read-field .ensures) (c .enum-told2 .given .1)
 
 read-field-requires-2 : tie.Need-read-field-requires-2
 read-field-requires-2 c κs = field-in (c .before .before .before .read-field .ensures) _ _ (c .before .n .given .1)
@@ -38,13 +41,33 @@ enum-told-3 : tie.Need-enum-told-3
 enum-told-3 c = search needs
 
 returns-3 : tie.Need-returns-3
-returns-3 c = problem-no-arcs (c .before .before .before .before .before .before .before .before .before .before .after-min .ensures) _ (c .before .before .before .before .before .before .before .before .w .given .1) (c .before .before .before .before .before .before .read-field .ensures) _ _ (c .before .before .before .before .n .given .1) (c .before .before .read-field2 .ensures) (c .enum-told3 .given .1)
+returns-3 c =
+    let at-n = c .before .before .before .before in
+    let at-read-field = at-n .before .before in
+    let at-w = at-read-field .before .before in
+    let at-after-min = at-w .before .before in
+    problem-no-arcs (at-after-min .after-min .ensures) _ (at-w .w .given .1) (at-read-field .read-field .ensures) _ _ (at-n .n .given .1)
+    (c .before .before .read-field2 .ensures) (c .enum-told3 .given .1)
 
 returns-4 : tie.Need-returns-4
-returns-4 c = problem-long (c .before .before .before .before .before .before .before .before .before .before .before .before .after-min .ensures) _ (c .before .before .before .before .before .before .before .before .before .before .w .given .1) (c .before .before .before .before .before .before .before .before .read-field .ensures) _ _ (c .before .before .before .before .before .before .n .given .1) (c .before .before .before .before .read-field2 .ensures) _ _ (c .before .before .a .given .1) (c .if1 .taken)
+returns-4 c =
+    let at-read-field2 = c .before .before .before .before in
+    let at-n = at-read-field2 .before .before in
+    let at-read-field = at-n .before .before in
+    let at-w = at-read-field .before .before in
+    let at-after-min = at-w .before .before in
+    problem-long (at-after-min .after-min .ensures) _ (at-w .w .given .1) (at-read-field .read-field .ensures) _ _ (at-n .n .given .1)
+    (at-read-field2 .read-field2 .ensures) _ _ (c .before .before .a .given .1) (c .if1 .taken)
 
 returns-5 : tie.Need-returns-5
-returns-5 c = problem-read (c .before .before .before .before .before .before .before .before .before .before .before .before .after-min .ensures) _ (c .before .before .before .before .before .before .before .before .before .before .w .given .1) (c .before .before .before .before .before .before .before .before .read-field .ensures) _ _ (c .before .before .before .before .before .before .n .given .1) (c .before .before .before .before .read-field2 .ensures) _ _ (c .before .before .a .given .1) (c .if1 .left)
+returns-5 c =
+    let at-read-field2 = c .before .before .before .before in
+    let at-n = at-read-field2 .before .before in
+    let at-read-field = at-n .before .before in
+    let at-w = at-read-field .before .before in
+    let at-after-min = at-w .before .before in
+    problem-read (at-after-min .after-min .ensures) _ (at-w .w .given .1) (at-read-field .read-field .ensures) _ _ (at-n .n .given .1)
+    (at-read-field2 .read-field2 .ensures) _ _ (c .before .before .a .given .1) (c .if1 .left)
 
 pub read-problem-spec : {M : Type 1} → statement M
 read-problem-spec =

@@ -25,7 +25,15 @@ returns-7 : tie.Need-returns-7
 returns-7 c minus = let a = c .before .before .before .before .before .before .before .args in bad-7 (a .nodes) (a .start) (a .end) (a .low) (a .ceiling) minus (a .cost) (c .if7 .taken)
 
 returns-8 : tie.Need-returns-8
-returns-8 c minus = let a = c .before .before .before .before .before .before .before .args in bad-8 (a .nodes) (a .start) (a .end) (a .low) (a .ceiling) minus (a .cost) (c .before .before .before .before .before .before .if1 .left) (c .before .before .before .before .before .if2 .left) (c .before .before .before .before .if3 .left) (c .before .before .before .if4 .left) (c .before .before .if5 .left) (c .before .if6 .left) (c .if7 .left)
+returns-8 c minus =
+    let at-if4 = c .before .before .before in
+    let at-if3 = at-if4 .before in
+    let at-if2 = at-if3 .before in
+    let at-if1 = at-if2 .before in
+    let entry = at-if1 .before in
+    let a = entry .args in
+    bad-8 (a .nodes) (a .start) (a .end) (a .low) (a .ceiling) minus (a .cost) (at-if1 .if1 .left) (at-if2 .if2 .left) (at-if3 .if3 .left)
+    (at-if4 .if4 .left) (c .before .before .if5 .left) (c .before .if6 .left) (c .if7 .left)
 
 pub bad-arc-spec : {M : Type 1} → statement M
 bad-arc-spec =

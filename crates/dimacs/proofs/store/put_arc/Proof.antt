@@ -16,7 +16,9 @@ either-requires : tie.Need-either-requires
 either-requires c κs = search needs
 
 returns : tie.Need-returns
-returns c = λ arcs e r. let a = c .before .before .before .args in arc-past (a .nodes) arcs _ (a .bad) _ _ _ _ _ (c .before .either .ensures ∙ ap (λ (b : Bool). a .bad || b) (c .before .before .bad-arc .ensures (a .minus))) r (omega (arith, c .if1 .taken))
+returns c =
+    λ arcs e r. let a = c .before .before .before .args in
+    arc-past (a .nodes) arcs _ (a .bad) _ _ _ _ _ (c .before .either .ensures ∙ ap (λ (b : Bool). a .bad || b) (c .before .before .bad-arc .ensures (a .minus))) r (omega (arith, c .if1 .taken))
 
 with-sign-requires : tie.Need-with-sign-requires
 with-sign-requires c κs = search needs
@@ -46,7 +48,13 @@ element-set-from-value : tie.Need-element-set-from-value
 element-set-from-value c = search needs
 
 returns-2 : tie.Need-returns-2
-returns-2 c = λ arcs e r. let a = c .before .before .before .before .args in arc-next (a .nodes) arcs _ (a .bad) _ _ _ _ _ (c .before .before .either .ensures ∙ ap (λ (b : Bool). a .bad || b) (c .before .before .before .bad-arc .ensures (a .minus))) r (a .k) _ e (c .before .if1 .left) (toZ-ofZ w64 (c .with-sign .result) (record { sfits = c .with-sign .ok }) ∙ c .with-sign .ensures)
+returns-2 c =
+    let at-bad-arc = c .before .before .before in
+    let entry = at-bad-arc .before in
+    λ arcs e r. let a = entry .args in
+    arc-next (a .nodes) arcs _ (a .bad) _ _ _ _ _
+    (c .before .before .either .ensures ∙ ap (λ (b : Bool). a .bad || b) (at-bad-arc .bad-arc .ensures (a .minus))) r (a .k) _ e (c .before .if1 .left)
+    (toZ-ofZ w64 (c .with-sign .result) (record { sfits = c .with-sign .ok }) ∙ c .with-sign .ensures)
 
 pub put-arc-spec : {M : Type 1} → statement M
 put-arc-spec =

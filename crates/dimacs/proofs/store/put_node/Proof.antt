@@ -23,7 +23,11 @@ element-copy-out-if3 : tie.Need-element-copy-out-if3
 element-copy-out-if3 c = search needs
 
 returns-3 : tie.Need-returns-3
-returns-3 c = λ sup r. let a = c .before .before .before .before .args in node-again (a .nodes) sup _ (a .odd) _ _ _ r (a .id - 1) (omega (arith, c .before .before .before .if1 .left)) (omega (arith, c .before .before .if2 .left, c .before .before .before .if1 .left)) (c .if3 .taken)
+returns-3 c =
+    let at-if1 = c .before .before .before in
+    let entry = at-if1 .before in
+    λ sup r. let a = entry .args in
+    node-again (a .nodes) sup _ (a .odd) _ _ _ r (a .id - 1) (omega (arith, at-if1 .if1 .left)) (omega (arith, c .before .before .if2 .left, at-if1 .if1 .left)) (c .if3 .taken)
 
 given-requires : tie.Need-given-requires
 given-requires c κs = search needs
@@ -53,7 +57,19 @@ either-requires : tie.Need-either-requires
 either-requires c κs = search needs
 
 returns-4 : tie.Need-returns-4
-returns-4 c = λ sup r. let a = c .before .before .before .before .before .before .before .args in let g = c .before .before .given in let t = c .before .taken in node-next (a .nodes) sup _ (a .odd) _ _ _ r (a .id - 1) (omega (arith, c .before .before .before .before .before .before .if1 .left)) (omega (arith, c .before .before .before .before .before .if2 .left, c .before .before .before .before .before .before .if1 .left)) (g .result) (t .result) (c .before .before .before .if3 .left) (ap₂ (λ (x y : ℕ). subℕ x y) (g .ensures) (t .ensures) ∙ supply-parts (a .minus) (a .supply)) (rw (g .ensures, t .ensures) (one-part (a .minus) (a .supply))) (subst (λ (x : ℕ). x < 10 ^ 10) (sym (g .ensures)) (given-small (a .minus) (a .supply) (c .before .before .before .before .before .before .before .pre))) (subst (λ (x : ℕ). x < 10 ^ 10) (sym (t .ensures)) (taken-small (a .minus) (a .supply) (c .before .before .before .before .before .before .before .pre))) (c .either .result) (c .either .ensures)
+returns-4 c =
+    let at-if3 = c .before .before .before in
+    let at-if2 = at-if3 .before .before in
+    let at-if1 = at-if2 .before in
+    let entry = at-if1 .before in
+    λ sup r. let a = entry .args in
+    let g = c .before .before .given in
+    let t = c .before .taken in
+    node-next (a .nodes) sup _ (a .odd) _ _ _ r (a .id - 1) (omega (arith, at-if1 .if1 .left)) (omega (arith, at-if2 .if2 .left, at-if1 .if1 .left))
+    (g .result) (t .result) (at-if3 .if3 .left) (ap₂ (λ (x y : ℕ). subℕ x y) (g .ensures) (t .ensures) ∙ supply-parts (a .minus) (a .supply))
+    (rw (g .ensures, t .ensures) (one-part (a .minus) (a .supply)))
+    (subst (λ (x : ℕ). x < 10 ^ 10) (sym (g .ensures)) (given-small (a .minus) (a .supply) (entry .pre)))
+    (subst (λ (x : ℕ). x < 10 ^ 10) (sym (t .ensures)) (taken-small (a .minus) (a .supply) (entry .pre))) (c .either .result) (c .either .ensures)
 
 pub put-node-spec : {M : Type 1} → statement M
 put-node-spec =

@@ -40,7 +40,10 @@ returns-3 : tie.Need-returns-3
 returns-3 c = λ arcs h r. arc-none (c .before .before .args .l) (ap arcIn (c .enum-told3 .given .1)) r
 
 returns-4 : tie.Need-returns-4
-returns-4 c = λ arcs h r. let e = ap arcIn (c .before .before .before .before .before .before .l .given .1) in arc-some arcs (c .before .before .before .before .before .before .before .before .args .l) e (c .put-arc .ensures arcs (h (subst (λ (z : List ArcLine). 0 < length z) (sym e) (omega arith))) r)
+returns-4 c =
+    let at-l = c .before .before .before .before .before .before in
+    let entry = at-l .before .before in
+    λ arcs h r. let e = ap arcIn (at-l .l .given .1) in arc-some arcs (entry .args .l) e (c .put-arc .ensures arcs (h (subst (λ (z : List ArcLine). 0 < length z) (sym e) (omega arith))) r)
 
 returns-5 : tie.Need-returns-5
 returns-5 c = λ arcs h r. arc-none (c .before .before .args .l) (ap arcIn (c .enum-told4 .given .1)) r

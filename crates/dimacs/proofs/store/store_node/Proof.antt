@@ -32,7 +32,10 @@ returns-2 : tie.Need-returns-2
 returns-2 c = λ sup r. node-nothing (c .before .before .args .l) (ap nodeIn (c .enum-told2 .given .1)) r
 
 returns-3 : tie.Need-returns-3
-returns-3 c = λ sup r. node-some sup (c .before .before .before .before .before .before .before .args .l) (ap nodeIn (c .before .before .before .before .before .l .given .1)) (c .put-node .ensures sup r)
+returns-3 c =
+    let at-l = c .before .before .before .before .before in
+    let entry = at-l .before .before in
+    λ sup r. node-some sup (entry .args .l) (ap nodeIn (at-l .l .given .1)) (c .put-node .ensures sup r)
 
 returns-4 : tie.Need-returns-4
 returns-4 c = λ sup r. node-nothing (c .before .before .args .l) (ap nodeIn (c .enum-told3 .given .1)) r

@@ -5,12 +5,17 @@ use Rattle.firstsplit.proofs.base.first_plan.Statement.{statement}
 use Rattle.firstsplit.proofs.base.first_plan.Tie as tie
 
 send-depots-requires : tie.Need-send-depots-requires
-send-depots-requires c κs = (c .before .before .before .before .before .pre .1 .1 .0, (c .before .before .before .before .before .pre .0, (λ j h. omega arith, c .before .before .before .before .before .pre .1 .1 .1)))
+send-depots-requires c κs =
+    let entry = c .before .before .before .before .before in
+    (entry .pre .1 .1 .0, (entry .pre .0, (λ j h. omega arith, entry .pre .1 .1 .1)))
 
 send-plants-requires : tie.Need-send-plants-requires
 send-plants-requires c κs =
-    let d = c .before .before .before .before .before .send-depots .ensures in
-    (c .before .before .before .before .before .before .before .before .before .before .before .pre .0, (c .before .before .before .before .before .before .before .before .before .before .before .pre .1 .0, (sending-again _ (d .0 .sending (c .before .before .before .before .if1 .taken)), d .1)))
+    let at-if1 = c .before .before .before .before in
+    let at-send-depots = at-if1 .before in
+    let entry = at-send-depots .before .before .before .before .before .before in
+    let d = at-send-depots .send-depots .ensures in
+    (entry .pre .0, (entry .pre .1 .0, (sending-again _ (d .0 .sending (at-if1 .if1 .taken)), d .1)))
 
 returns : tie.Need-returns
 returns c =
@@ -18,8 +23,9 @@ returns c =
 
 returns-2 : tie.Need-returns-2
 returns-2 c =
+    let entry = c .before .before .before .before .before .before .before in
     let d = c .before .send-depots .ensures in
-    (record { unmet = _; done = depots-none (c .before .before .before .before .before .before .before .args .run0) (c .before .before .before .before .before .before .before .args .run1) (c .before .before .before .before .before .before .before .args .made) (d .0) (c .if1 .left) }, d .1)
+    (record { unmet = _; done = depots-none (entry .args .run0) (entry .args .run1) (entry .args .made) (d .0) (c .if1 .left) }, d .1)
 
 pub first-plan-spec : {M : Type 1} → statement M
 first-plan-spec = tie.close (tie.spec send-depots-requires send-plants-requires returns returns-2)

@@ -39,13 +39,18 @@ element-copy-out-ship c = omega (arith, c .before .before .before .pre .0 .sourc
 
 ship-requires : tie.Need-ship-requires Inv-loop μ-loop
 ship-requires c κs =
-    let inv = c .before .before .before .before .before .before .loop .inv in
-    (omega (arith, c .before .before .before .before .before .loop-test .taken), (inv .1 .stocked, (λ j h. omega (arith, inv .1 .cols j h, c .before .before .before .before .before .before .before .before .pre .1 .1 .0 j h), inv .2)))
+    let at-loop-test = c .before .before .before .before .before in
+    let at-loop = at-loop-test .before in
+    let entry = at-loop .before .before in
+    let inv = at-loop .loop .inv in
+    (omega (arith, at-loop-test .loop-test .taken), (inv .1 .stocked, (λ j h. omega (arith, inv .1 .cols j h, entry .pre .1 .1 .0 j h), inv .2)))
 
 returns : tie.Need-returns Inv-loop μ-loop
 returns c =
-    let inv = c .before .before .before .before .before .before .before .before .loop .inv .1 in
-    let l = c .before .before .before .before .before .before .before .loop-test .taken in
+    let at-loop-test = c .before .before .before .before .before .before .before in
+    let at-loop = at-loop-test .before in
+    let inv = at-loop .loop .inv .1 in
+    let l = at-loop-test .loop-test .taken in
     (depot-stuck inv (omega arith) (omega arith) (c .before .ship .ensures .0) (c .if1 .taken), c .before .ship .ensures .1)
 
 add-k : tie.Need-add-k Inv-loop μ-loop
@@ -56,8 +61,10 @@ loop-less c = search needs
 
 loop-again : tie.Need-loop-again Inv-loop μ-loop
 loop-again c =
-    let inv = c .before .before .before .before .before .before .before .before .loop .inv .1 in
-    let l = c .before .before .before .before .before .before .before .loop-test .taken in
+    let at-loop-test = c .before .before .before .before .before .before .before in
+    let at-loop = at-loop-test .before in
+    let inv = at-loop .loop .inv .1 in
+    let l = at-loop-test .loop-test .taken in
     let s = c .before .ship .ensures .0 in
     (omega arith, base-next inv (omega arith) (s .shipped) (c .if1 .left), c .before .ship .ensures .1)
 

@@ -19,7 +19,13 @@ loop-holds : tie.Need-loop-holds Inv-loop μ-loop
 loop-holds c = (ship-start (c .args .start) (c .args .amount) (c .pre .1 .0) refl, c .pre .1 .1 .1)
 
 send-requires : tie.Need-send-requires Inv-loop μ-loop
-send-requires c κs = (send-ready (c .before .before .before .before .before .loop .inv .0 .stocked) (c .before .before .before .before .before .before .pre .0) (c .before .before .before .before .loop-test .taken), (λ j h. omega (arith, c .before .before .before .before .before .loop .inv .0 .cols j h, c .before .before .before .before .before .before .pre .1 .1 .0 j h), c .before .before .before .before .before .loop .inv .1))
+send-requires c κs =
+    let at-loop-test = c .before .before .before .before in
+    let at-loop = at-loop-test .before in
+    let entry = at-loop .before in (
+      send-ready (at-loop .loop .inv .0 .stocked) (entry .pre .0) (at-loop-test .loop-test .taken),
+      (λ j h. omega (arith, at-loop .loop .inv .0 .cols j h, entry .pre .1 .1 .0 j h), at-loop .loop .inv .1),
+    )
 
 returns : tie.Need-returns Inv-loop μ-loop
 returns c = (ship-none (c .before .before .before .before .before .before .before .loop .inv .0) (c .before .send .ensures .0 .none (c .if1 .taken)), c .before .send .ensures .1)
@@ -53,8 +59,11 @@ loop-less c =
 
 loop-again : tie.Need-loop-again Inv-loop μ-loop
 loop-again c =
-    let s = c .before .before .send .ensures .0 in let hg : c .before .before .send .result .goal < 96 = omega (arith, s .bound, c .before .if1 .left) in
-    (ship-next (c .before .before .before .before .before .before .before .before .before .pre .0) (c .before .before .before .before .before .before .before .before .loop .inv .0) hg (s .found hg), c .before .before .send .ensures .1)
+    let at-send = c .before .before in
+    let at-loop = at-send .before .before .before .before .before .before in
+    let entry = at-loop .before in
+    let s = at-send .send .ensures .0 in let hg : at-send .send .result .goal < 96 = omega (arith, s .bound, c .before .if1 .left) in
+    (ship-next (entry .pre .0) (at-loop .loop .inv .0) hg (s .found hg), at-send .send .ensures .1)
 
 returns-2 : tie.Need-returns-2 Inv-loop μ-loop
 returns-2 c = (record { shipped = c .before .loop .inv .0; none = λ h. absurd (omega (arith, c .loop-test .left)) }, c .before .loop .inv .1)

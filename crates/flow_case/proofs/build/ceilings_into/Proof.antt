@@ -35,7 +35,21 @@ counted-requires : tie.Need-counted-requires Inv-loop μ-loop
 counted-requires c κs = search needs
 
 add-sum : tie.Need-add-sum Inv-loop μ-loop
-add-sum c = let a = c .before .before .before .before .before .before .before .args in omega (arith, c .before .before .before .before .loop .inv .1, c .before .before .before .loop-test .taken, c .before .before .before .before .before .before .before .pre .1 .few, c .before .before .before .before .before .before .before .pre .0, at-most-value (getD (now (a .ends)) (c .before .before .before .before .loop .j) 0) (a .id) (getD (now (a .ceilings)) (c .before .before .before .before .loop .j) 0), c .counted .ensures, c .before .before .before .before .before .before .before .pre .1 .small (c .before .before .before .before .loop .j) (omega (arith, c .before .before .before .loop-test .taken, c .before .before .before .before .before .before .before .pre .0)))
+add-sum c =
+    let at-loop-test = c .before .before .before in
+    let at-loop = at-loop-test .before in
+    let entry = at-loop .before .before .before in
+    let a = entry .args in
+    omega (
+      arith,
+      at-loop .loop .inv .1,
+      at-loop-test .loop-test .taken,
+      entry .pre .1 .few,
+      entry .pre .0,
+      at-most-value (getD (now (a .ends)) (at-loop .loop .j) 0) (a .id) (getD (now (a .ceilings)) (at-loop .loop .j) 0),
+      c .counted .ensures,
+      entry .pre .1 .small (at-loop .loop .j) (omega (arith, at-loop-test .loop-test .taken, entry .pre .0)),
+    )
 
 add-j : tie.Need-add-j Inv-loop μ-loop
 add-j c = omega (arith, c .before .before .before .loop-test .taken)
@@ -44,10 +58,27 @@ loop-less : tie.Need-loop-less Inv-loop μ-loop
 loop-less c = omega (arith, c .before .before .before .loop-test .taken)
 
 loop-again : tie.Need-loop-again Inv-loop μ-loop
-loop-again c = let a = c .before .before .before .before .before .before .before .args in (into-next (now (a .ends)) (now (a .ceilings)) (a .id) _ _ _ (c .counted .ensures) (c .before .before .before .before .loop .inv .0), omega (arith, c .before .before .before .before .loop .inv .1, at-most-value (getD (now (a .ends)) (c .before .before .before .before .loop .j) 0) (a .id) (getD (now (a .ceilings)) (c .before .before .before .before .loop .j) 0), c .counted .ensures, c .before .before .before .before .before .before .before .pre .1 .small (c .before .before .before .before .loop .j) (omega (arith, c .before .before .before .loop-test .taken, c .before .before .before .before .before .before .before .pre .0))), omega (arith, c .before .before .before .loop-test .taken))
+loop-again c =
+    let at-loop-test = c .before .before .before in
+    let at-loop = at-loop-test .before in
+    let entry = at-loop .before .before .before in
+    let a = entry .args in (
+      into-next (now (a .ends)) (now (a .ceilings)) (a .id) _ _ _ (c .counted .ensures) (at-loop .loop .inv .0),
+      omega (
+        arith,
+        at-loop .loop .inv .1,
+        at-most-value (getD (now (a .ends)) (at-loop .loop .j) 0) (a .id) (getD (now (a .ceilings)) (at-loop .loop .j) 0),
+        c .counted .ensures,
+        entry .pre .1 .small (at-loop .loop .j) (omega (arith, at-loop-test .loop-test .taken, entry .pre .0)),
+      ),
+      omega (arith, at-loop-test .loop-test .taken),
+    )
 
 returns : tie.Need-returns Inv-loop μ-loop
-returns c = let a = c .before .before .before .before .args in c .before .loop .inv .0 ∙ ap (into (now (a .ends)) (now (a .ceilings)) (a .id)) (let q : c .before .loop .j ≡ length (now (a .ends)) = omega (arith, c .before .loop .inv .2, c .loop-test .left) in q)
+returns c =
+    let a = c .before .before .before .before .args in
+    c .before .loop .inv .0 ∙
+    ap (into (now (a .ends)) (now (a .ceilings)) (a .id)) (let q : c .before .loop .j ≡ length (now (a .ends)) = omega (arith, c .before .loop .inv .2, c .loop-test .left) in q)
 
 pub ceilings-into-spec : {M : Type 1} → statement M
 ceilings-into-spec =

@@ -41,13 +41,23 @@ loop-less : tie.Need-loop-less Inv-loop μ-loop
 loop-less c = omega (arith, c .before .before .loop-test .taken)
 
 loop-again : tie.Need-loop-again Inv-loop μ-loop
-loop-again c = let a = c .before .before .before .before .before .before .args in (filled-next (wantIn (now (a .ceilings)) (a .named)) (now (a .demands)) (c .before .before .before .loop .j) _ _ (omega (arith, c .before .before .before .before .before .before .pre, c .before .before .loop-test .taken)) (c .want .ensures) (c .before .before .before .loop .inv .0), omega (arith, c .before .before .loop-test .taken))
+loop-again c =
+    let at-loop-test = c .before .before in
+    let at-loop = at-loop-test .before in
+    let entry = at-loop .before .before .before in
+    let a = entry .args in (
+      filled-next (wantIn (now (a .ceilings)) (a .named)) (now (a .demands)) (at-loop .loop .j) _ _
+          (omega (arith, entry .pre, at-loop-test .loop-test .taken)) (c .want .ensures) (at-loop .loop .inv .0),
+      omega (arith, at-loop-test .loop-test .taken),
+    )
 
 same-length : tie.Need-same-length Inv-loop μ-loop
 same-length c = c .before .loop .inv .0 .long
 
 returns : tie.Need-returns Inv-loop μ-loop
-returns c = let a = c .before .before .before .before .args in filled-all _ _ (let q : c .before .loop .j ≡ length (now (a .ceilings)) = omega (arith, c .before .loop .inv .1, c .loop-test .left) in q) (c .before .loop .inv .0)
+returns c =
+    let a = c .before .before .before .before .args in
+    filled-all _ _ (let q : c .before .loop .j ≡ length (now (a .ceilings)) = omega (arith, c .before .loop .inv .1, c .loop-test .left) in q) (c .before .loop .inv .0)
 
 pub fill-demands-spec : {M : Type 1} → statement M
 fill-demands-spec =

@@ -40,13 +40,22 @@ loop-less : tie.Need-loop-less Inv-loop μ-loop
 loop-less c = omega (arith, c .before .loop-test .taken)
 
 loop-again : tie.Need-loop-again Inv-loop μ-loop
-loop-again c = let a = c .before .before .before .before .before .args in (filled-next (entryIn (now (a .table)) (a .ceiling) (a .most)) (now (a .entries)) (c .before .before .loop .y) _ _ (omega (arith, c .before .before .before .before .before .pre .0, c .before .loop-test .taken)) (c .moved-entry .ensures) (c .before .before .loop .inv .0), omega (arith, c .before .loop-test .taken))
+loop-again c =
+    let at-loop = c .before .before in
+    let entry = at-loop .before .before .before in
+    let a = entry .args in (
+      filled-next (entryIn (now (a .table)) (a .ceiling) (a .most)) (now (a .entries)) (at-loop .loop .y) _ _
+          (omega (arith, entry .pre .0, c .before .loop-test .taken)) (c .moved-entry .ensures) (at-loop .loop .inv .0),
+      omega (arith, c .before .loop-test .taken),
+    )
 
 same-length : tie.Need-same-length Inv-loop μ-loop
 same-length c = c .before .loop .inv .0 .long
 
 returns : tie.Need-returns Inv-loop μ-loop
-returns c = let a = c .before .before .before .before .args in filled-all _ _ (let q : c .before .loop .y ≡ a .most + 1 = omega (arith, c .before .loop .inv .1, c .loop-test .left) in q) (c .before .loop .inv .0)
+returns c =
+    let a = c .before .before .before .before .args in
+    filled-all _ _ (let q : c .before .loop .y ≡ a .most + 1 = omega (arith, c .before .loop .inv .1, c .loop-test .left) in q) (c .before .loop .inv .0)
 
 pub fill-table-spec : {M : Type 1} → statement M
 fill-table-spec =

@@ -38,10 +38,16 @@ loop-less : tie.Need-loop-less Inv-loop μ-loop
 loop-less c = omega (arith, c .before .before .loop-test .taken)
 
 loop-again : tie.Need-loop-again Inv-loop μ-loop
-loop-again c = (omega (arith, c .before .before .loop-test .taken), none-next (dearAt (now (c .before .before .before .before .args .table))) _ (c .before .before .before .loop .inv .1) (le-ltb _ _ (c .if1 .left)))
+loop-again c = (
+  omega (arith, c .before .before .loop-test .taken),
+  none-next (dearAt (now (c .before .before .before .before .args .table))) _ (c .before .before .before .loop .inv .1) (le-ltb _ _ (c .if1 .left)),
+)
 
 returns-2 : tie.Need-returns-2 Inv-loop μ-loop
-returns-2 c = sym (ap (λ (k : ℕ). anyBelow k (dearAt (now (c .before .before .args .table)))) (let q : length (now (c .before .before .args .table)) ≡ c .before .loop .i = omega (arith, c .before .loop .inv .0, c .loop-test .left) in q) ∙ c .before .loop .inv .1)
+returns-2 c =
+    sym (ap (λ (k : ℕ). anyBelow k (dearAt (now (c .before .before .args .table))))
+    (let q : length (now (c .before .before .args .table)) ≡ c .before .loop .i = omega (arith, c .before .loop .inv .0, c .loop-test .left) in q) ∙
+    c .before .loop .inv .1)
 
 pub dear-spec : {M : Type 1} → statement M
 dear-spec =

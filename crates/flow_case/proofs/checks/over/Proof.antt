@@ -29,7 +29,9 @@ shared-slice-read-if1 : tie.Need-shared-slice-read-if1 Inv-loop μ-loop
 shared-slice-read-if1 c = omega (arith, c .before .loop-test .taken, c .before .before .before .pre .0)
 
 add-if1 : tie.Need-add-if1 Inv-loop μ-loop
-add-if1 c = omega (arith, c .before .before .before .pre .1 (c .before .before .loop .i) (omega (arith, c .before .loop-test .taken, c .before .before .before .pre .0)))
+add-if1 c =
+    let entry = c .before .before .before in
+    omega (arith, entry .pre .1 (c .before .before .loop .i) (omega (arith, c .before .loop-test .taken, entry .pre .0)))
 
 mul-if1-2 : tie.Need-mul-if1-2 Inv-loop μ-loop
 mul-if1-2 c = omega (arith, c .before .loop-test .taken)
@@ -38,7 +40,11 @@ shared-slice-read-if1-2 : tie.Need-shared-slice-read-if1-2 Inv-loop μ-loop
 shared-slice-read-if1-2 c = omega (arith, c .before .before .loop-test .taken)
 
 returns : tie.Need-returns Inv-loop μ-loop
-returns c = one-there (overAt (now (c .before .before .before .before .before .args .haves)) (now (c .before .before .before .before .before .args .takes))) _ (c .before .before .before .before .loop .i) (c .before .before .before .loop-test .taken) (lt-ltb _ _ (c .if1 .taken))
+returns c =
+    let at-loop-test = c .before .before .before in
+    let at-loop = at-loop-test .before in
+    let entry = at-loop .before in
+    one-there (overAt (now (entry .args .haves)) (now (entry .args .takes))) _ (at-loop .loop .i) (at-loop-test .loop-test .taken) (lt-ltb _ _ (c .if1 .taken))
 
 add-i : tie.Need-add-i Inv-loop μ-loop
 add-i c = omega (arith, c .before .before .before .loop-test .taken)
@@ -47,10 +53,17 @@ loop-less : tie.Need-loop-less Inv-loop μ-loop
 loop-less c = omega (arith, c .before .before .before .loop-test .taken)
 
 loop-again : tie.Need-loop-again Inv-loop μ-loop
-loop-again c = (omega (arith, c .before .before .before .loop-test .taken), none-next (overAt (now (c .before .before .before .before .before .args .haves)) (now (c .before .before .before .before .before .args .takes))) _ (c .before .before .before .before .loop .inv .1) (le-ltb _ _ (c .if1 .left)))
+loop-again c =
+    let at-loop-test = c .before .before .before in
+    let at-loop = at-loop-test .before in
+    let entry = at-loop .before in
+    (omega (arith, at-loop-test .loop-test .taken), none-next (overAt (now (entry .args .haves)) (now (entry .args .takes))) _ (at-loop .loop .inv .1) (le-ltb _ _ (c .if1 .left)))
 
 returns-2 : tie.Need-returns-2 Inv-loop μ-loop
-returns-2 c = sym (ap (λ (k : ℕ). anyBelow k (overAt (now (c .before .before .args .haves)) (now (c .before .before .args .takes)))) (let q : length (now (c .before .before .args .haves)) ≡ c .before .loop .i = omega (arith, c .before .loop .inv .0, c .loop-test .left) in q) ∙ c .before .loop .inv .1)
+returns-2 c =
+    sym (ap (λ (k : ℕ). anyBelow k (overAt (now (c .before .before .args .haves)) (now (c .before .before .args .takes))))
+    (let q : length (now (c .before .before .args .haves)) ≡ c .before .loop .i = omega (arith, c .before .loop .inv .0, c .loop-test .left) in q) ∙
+    c .before .loop .inv .1)
 
 pub over-spec : {M : Type 1} → statement M
 over-spec =

@@ -26,7 +26,10 @@ shared-slice-read-total : tie.Need-shared-slice-read-total Inv-loop μ-loop
 shared-slice-read-total c = omega (arith, c .before .loop-test .taken)
 
 add-total : tie.Need-add-total Inv-loop μ-loop
-add-total c = omega (arith, c .before .before .loop .inv .1, c .before .before .before .pre .1 (c .before .before .loop .i) (c .before .loop-test .taken), c .before .loop-test .taken, c .before .before .before .pre .0)
+add-total c =
+    let at-loop = c .before .before in
+    let entry = at-loop .before in
+    omega (arith, at-loop .loop .inv .1, entry .pre .1 (at-loop .loop .i) (c .before .loop-test .taken), c .before .loop-test .taken, entry .pre .0)
 
 add-i : tie.Need-add-i Inv-loop μ-loop
 add-i c = omega (arith, c .before .loop-test .taken)
@@ -35,10 +38,19 @@ loop-less : tie.Need-loop-less Inv-loop μ-loop
 loop-less c = omega (arith, c .before .loop-test .taken)
 
 loop-again : tie.Need-loop-again Inv-loop μ-loop
-loop-again c = (sum-more (c .before .before .loop .i) (λ k. getD (now (c .before .before .before .args .l)) k 0) _ (c .before .before .loop .inv .0), omega (arith, c .before .before .loop .inv .1, c .before .before .before .pre .1 (c .before .before .loop .i) (c .before .loop-test .taken)), omega (arith, c .before .loop-test .taken))
+loop-again c =
+    let at-loop = c .before .before in
+    let entry = at-loop .before in (
+      sum-more (at-loop .loop .i) (λ k. getD (now (entry .args .l)) k 0) _ (at-loop .loop .inv .0),
+      omega (arith, at-loop .loop .inv .1, entry .pre .1 (at-loop .loop .i) (c .before .loop-test .taken)),
+      omega (arith, c .before .loop-test .taken),
+    )
 
 returns : tie.Need-returns Inv-loop μ-loop
-returns c = c .before .loop .inv .0 ∙ ap (λ (n : ℕ). sum n (λ k. getD (now (c .before .before .args .l)) k 0)) (let q : c .before .loop .i ≡ length (now (c .before .before .args .l)) = omega (arith, c .before .loop .inv .2, c .loop-test .left) in q)
+returns c =
+    c .before .loop .inv .0 ∙
+    ap (λ (n : ℕ). sum n (λ k. getD (now (c .before .before .args .l)) k 0))
+    (let q : c .before .loop .i ≡ length (now (c .before .before .args .l)) = omega (arith, c .before .loop .inv .2, c .loop-test .left) in q)
 
 pub sum-of-spec : {M : Type 1} → statement M
 sum-of-spec =

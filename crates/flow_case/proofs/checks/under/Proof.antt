@@ -35,7 +35,11 @@ shared-slice-read-if1-2 : tie.Need-shared-slice-read-if1-2 Inv-loop μ-loop
 shared-slice-read-if1-2 c = omega (arith, c .before .before .loop-test .taken, c .before .before .before .before .pre)
 
 returns : tie.Need-returns Inv-loop μ-loop
-returns c = one-there (underAt (now (c .before .before .before .before .before .args .haves)) (now (c .before .before .before .before .before .args .takes))) _ (c .before .before .before .before .loop .i) (c .before .before .before .loop-test .taken) (lt-ltb _ _ (c .if1 .taken))
+returns c =
+    let at-loop-test = c .before .before .before in
+    let at-loop = at-loop-test .before in
+    let entry = at-loop .before in
+    one-there (underAt (now (entry .args .haves)) (now (entry .args .takes))) _ (at-loop .loop .i) (at-loop-test .loop-test .taken) (lt-ltb _ _ (c .if1 .taken))
 
 add-i : tie.Need-add-i Inv-loop μ-loop
 add-i c = omega (arith, c .before .before .before .loop-test .taken)
@@ -44,10 +48,17 @@ loop-less : tie.Need-loop-less Inv-loop μ-loop
 loop-less c = omega (arith, c .before .before .before .loop-test .taken)
 
 loop-again : tie.Need-loop-again Inv-loop μ-loop
-loop-again c = (omega (arith, c .before .before .before .loop-test .taken), none-next (underAt (now (c .before .before .before .before .before .args .haves)) (now (c .before .before .before .before .before .args .takes))) _ (c .before .before .before .before .loop .inv .1) (le-ltb _ _ (c .if1 .left)))
+loop-again c =
+    let at-loop-test = c .before .before .before in
+    let at-loop = at-loop-test .before in
+    let entry = at-loop .before in
+    (omega (arith, at-loop-test .loop-test .taken), none-next (underAt (now (entry .args .haves)) (now (entry .args .takes))) _ (at-loop .loop .inv .1) (le-ltb _ _ (c .if1 .left)))
 
 returns-2 : tie.Need-returns-2 Inv-loop μ-loop
-returns-2 c = sym (ap (λ (k : ℕ). anyBelow k (underAt (now (c .before .before .args .haves)) (now (c .before .before .args .takes)))) (let q : length (now (c .before .before .args .haves)) ≡ c .before .loop .i = omega (arith, c .before .loop .inv .0, c .loop-test .left) in q) ∙ c .before .loop .inv .1)
+returns-2 c =
+    sym (ap (λ (k : ℕ). anyBelow k (underAt (now (c .before .before .args .haves)) (now (c .before .before .args .takes))))
+    (let q : length (now (c .before .before .args .haves)) ≡ c .before .loop .i = omega (arith, c .before .loop .inv .0, c .loop-test .left) in q) ∙
+    c .before .loop .inv .1)
 
 pub under-spec : {M : Type 1} → statement M
 under-spec =

@@ -40,7 +40,13 @@ loop-less : tie.Need-loop-less Inv-loop μ-loop
 loop-less c = omega (arith, c .before .loop-test .taken)
 
 loop-again : tie.Need-loop-again Inv-loop μ-loop
-loop-again c = (put-next (pos 0) (cellOf (pos 0) (now (c .before .before .before .args .from))) 0 (now (c .before .before .before .args .to)) (c .before .before .loop .k) (c .before .before .loop .k) _ _ (omega arith) (omega (arith, c .before .loop-test .taken, c .before .before .before .pre)) (read-back _ (c .to .given)) (c .before .before .loop .inv .0), omega (arith, c .before .loop-test .taken))
+loop-again c =
+    let at-loop = c .before .before in
+    let entry = at-loop .before in (
+      put-next (pos 0) (cellOf (pos 0) (now (entry .args .from))) 0 (now (entry .args .to)) (at-loop .loop .k) (at-loop .loop .k) _ _ (omega arith)
+          (omega (arith, c .before .loop-test .taken, entry .pre)) (read-back _ (c .to .given)) (at-loop .loop .inv .0),
+      omega (arith, c .before .loop-test .taken),
+    )
 
 same-length : tie.Need-same-length Inv-loop μ-loop
 same-length c = c .before .loop .inv .0 .long

@@ -54,10 +54,21 @@ loop-less : tie.Need-loop-less Inv-loop μ-loop
 loop-less c = omega (arith, c .before .before .before .loop-test .taken)
 
 loop-again : tie.Need-loop-again Inv-loop μ-loop
-loop-again c = let a = c .before .before .before .before .before .before .args in (put-next (pos 0) (costIn (now (c .before .before .before .before .before .before .args .starts)) (now (c .before .before .before .before .before .before .args .costs)) (c .before .before .before .before .before .before .args .id)) (a .at) (now (a .to)) (c .before .before .before .before .loop .j) _ _ _ refl (omega (arith, c .before .before .before .loop-test .taken, c .before .before .before .before .before .before .pre .1, c .before .before .before .before .before .before .pre .2)) (read-back _ (c .rate .ok) ∙ c .rate .ensures ∙ ap (λ (z : ℤ). cond (eqb (getD (now (a .starts)) (c .before .before .before .before .loop .j) 0) (a .id)) z (pos 0)) (read-back _ (c .before .rate-arg .given))) (c .before .before .before .before .loop .inv .0), omega (arith, c .before .before .before .loop-test .taken))
+loop-again c =
+    let at-loop-test = c .before .before .before in
+    let at-loop = at-loop-test .before in
+    let entry = at-loop .before .before in
+    let a = entry .args in (
+      put-next (pos 0) (costIn (now (entry .args .starts)) (now (entry .args .costs)) (entry .args .id)) (a .at) (now (a .to)) (at-loop .loop .j) _ _
+          _ refl (omega (arith, at-loop-test .loop-test .taken, entry .pre .1, entry .pre .2))
+          (read-back _ (c .rate .ok) ∙ c .rate .ensures ∙ ap (λ (z : ℤ). cond (eqb (getD (now (a .starts)) (at-loop .loop .j) 0) (a .id)) z (pos 0)) (read-back _ (c .before .rate-arg .given)))
+          (at-loop .loop .inv .0),
+      omega (arith, at-loop-test .loop-test .taken),
+    )
 
 returns : tie.Need-returns Inv-loop μ-loop
-returns c = put-all _ _ (let q : c .before .loop .j ≡ length (now (c .before .before .before .args .starts)) = omega (arith, c .before .loop .inv .1, c .loop-test .left) in q) (c .before .loop .inv .0)
+returns c =
+    put-all _ _ (let q : c .before .loop .j ≡ length (now (c .before .before .before .args .starts)) = omega (arith, c .before .loop .inv .1, c .loop-test .left) in q) (c .before .loop .inv .0)
 
 pub costs-into-spec : {M : Type 1} → statement M
 costs-into-spec =

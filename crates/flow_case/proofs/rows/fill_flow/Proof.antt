@@ -20,7 +20,9 @@ abbrev μ-loop : tie.MeasureT-loop
 μ-loop plan starts w v named carried flow₀ j₀ flow j = length starts - j
 
 loop-holds : tie.Need-loop-holds Inv-loop μ-loop
-loop-holds c = (put-none 0 (flowIn (now (c .before .before .before .args .plan)) (now (c .before .before .before .args .starts)) (c .before .before .before .args .w) (c .before .before .before .args .v) (c .before .before .before .args .named) (c .before .before .before .args .carried)) 0 (now (c .before .before .before .args .flow)), omega arith)
+loop-holds c =
+    let entry = c .before .before .before in
+    (put-none 0 (flowIn (now (entry .args .plan)) (now (entry .args .starts)) (entry .args .w) (entry .args .v) (entry .args .named) (entry .args .carried)) 0 (now (entry .args .flow)), omega arith)
 
 mul-source-of : tie.Need-mul-source-of Inv-loop μ-loop
 mul-source-of c = search needs
@@ -35,16 +37,35 @@ source-of-requires : tie.Need-source-of-requires Inv-loop μ-loop
 source-of-requires c κs = search needs
 
 mul-at : tie.Need-mul-at Inv-loop μ-loop
-mul-at c = omega (arith, at-mul _ _ _ (c .source-of .ensures) (c .before .before .before .before .before .before .before .pre .1 (c .before .before .before .loop .j) (c .before .before .loop-test .taken) .1) (c .before .before .before .before .before .before .before .pre .0 .0))
+mul-at c =
+    let at-loop = c .before .before .before in
+    let entry = at-loop .before .before .before .before in
+    omega (arith, at-mul _ _ _ (c .source-of .ensures) (entry .pre .1 (at-loop .loop .j) (c .before .before .loop-test .taken) .1) (entry .pre .0 .0))
 
 add-at : tie.Need-add-at Inv-loop μ-loop
-add-at c = omega (arith, at-cell _ _ _ (c .source-of .ensures) (c .before .before .before .before .before .before .before .pre .1 (c .before .before .before .loop .j) (c .before .before .loop-test .taken) .1) (c .before .before .loop-test .taken) (c .before .before .before .before .before .before .before .pre .0 .0))
+add-at c =
+    let at-loop-test = c .before .before in
+    let at-loop = at-loop-test .before in
+    let entry = at-loop .before .before .before .before in
+    omega (arith, at-cell _ _ _ (c .source-of .ensures) (entry .pre .1 (at-loop .loop .j) (at-loop-test .loop-test .taken) .1) (at-loop-test .loop-test .taken) (entry .pre .0 .0))
 
 mul-flow-at : tie.Need-mul-flow-at Inv-loop μ-loop
-mul-flow-at c = omega (arith, at-cell _ _ _ (c .source-of .ensures) (c .before .before .before .before .before .before .before .pre .1 (c .before .before .before .loop .j) (c .before .before .loop-test .taken) .1) (c .before .before .loop-test .taken) (c .before .before .before .before .before .before .before .pre .0 .0))
+mul-flow-at c =
+    let at-loop-test = c .before .before in
+    let at-loop = at-loop-test .before in
+    let entry = at-loop .before .before .before .before in
+    omega (arith, at-cell _ _ _ (c .source-of .ensures) (entry .pre .1 (at-loop .loop .j) (at-loop-test .loop-test .taken) .1) (at-loop-test .loop-test .taken) (entry .pre .0 .0))
 
 shared-slice-read-flow-at : tie.Need-shared-slice-read-flow-at Inv-loop μ-loop
-shared-slice-read-flow-at c = omega (arith, c .before .before .before .before .before .before .before .before .pre .0 .2, at-cell _ _ _ (c .before .source-of .ensures) (c .before .before .before .before .before .before .before .before .pre .1 (c .before .before .before .before .loop .j) (c .before .before .before .loop-test .taken) .1) (c .before .before .before .loop-test .taken) (c .before .before .before .before .before .before .before .before .pre .0 .0))
+shared-slice-read-flow-at c =
+    let at-loop-test = c .before .before .before in
+    let at-loop = at-loop-test .before in
+    let entry = at-loop .before .before .before .before in
+    omega (
+      arith,
+      entry .pre .0 .2,
+      at-cell _ _ _ (c .before .source-of .ensures) (entry .pre .1 (at-loop .loop .j) (at-loop-test .loop-test .taken) .1) (at-loop-test .loop-test .taken) (entry .pre .0 .0),
+    )
 
 flow-at-requires : tie.Need-flow-at-requires Inv-loop μ-loop
 flow-at-requires c κs = search needs
@@ -53,7 +74,11 @@ mul-flow : tie.Need-mul-flow Inv-loop μ-loop
 mul-flow c = omega (arith, c .before .before .before .before .loop-test .taken)
 
 slice-write-flow : tie.Need-slice-write-flow Inv-loop μ-loop
-slice-write-flow c = omega (arith, c .before .before .before .before .loop-test .taken, c .before .before .before .before .before .before .before .before .before .pre .0 .1, c .before .before .before .before .before .loop .inv .0 .long)
+slice-write-flow c =
+    let at-loop-test = c .before .before .before .before in
+    let at-loop = at-loop-test .before in
+    let entry = at-loop .before .before .before .before in
+    omega (arith, at-loop-test .loop-test .taken, entry .pre .0 .1, at-loop .loop .inv .0 .long)
 
 add-j : tie.Need-add-j Inv-loop μ-loop
 add-j c = omega (arith, c .before .before .before .before .loop-test .taken)
@@ -62,13 +87,28 @@ loop-less : tie.Need-loop-less Inv-loop μ-loop
 loop-less c = omega (arith, c .before .before .before .before .loop-test .taken)
 
 loop-again : tie.Need-loop-again Inv-loop μ-loop
-loop-again c = let a = c .before .before .before .before .before .before .before .before .before .args in (put-next 0 (flowIn (now (c .before .before .before .before .before .before .before .before .before .args .plan)) (now (c .before .before .before .before .before .before .before .before .before .args .starts)) (c .before .before .before .before .before .before .before .before .before .args .w) (c .before .before .before .before .before .before .before .before .before .args .v) (c .before .before .before .before .before .before .before .before .before .args .named) (c .before .before .before .before .before .before .before .before .before .args .carried)) 0 (now (a .flow)) (c .before .before .before .before .before .loop .j) (c .before .before .before .before .before .loop .j) _ _ (omega arith) (omega (arith, c .before .before .before .before .loop-test .taken, c .before .before .before .before .before .before .before .before .before .pre .0 .1)) (c .flow-at .ensures ∙ ap (λ (s : ℕ). cond (eqb (c .before .before .before .before .before .loop .j) (a .named)) (a .carried) (getD (now (a .plan)) (s * length (now (a .starts)) + c .before .before .before .before .before .loop .j) 0)) (c .before .before .source-of .ensures)) (c .before .before .before .before .before .loop .inv .0), omega (arith, c .before .before .before .before .loop-test .taken))
+loop-again c =
+    let at-loop-test = c .before .before .before .before in
+    let at-loop = at-loop-test .before in
+    let entry = at-loop .before .before .before .before in
+    let a = entry .args in (
+      put-next 0
+          (flowIn (now (entry .args .plan)) (now (entry .args .starts)) (entry .args .w) (entry .args .v) (entry .args .named) (entry .args .carried)) 0
+          (now (a .flow)) (at-loop .loop .j) (at-loop .loop .j) _ _ (omega arith) (omega (arith, at-loop-test .loop-test .taken, entry .pre .0 .1))
+          (c .flow-at .ensures ∙
+          ap (λ (s : ℕ). cond (eqb (at-loop .loop .j) (a .named)) (a .carried) (getD (now (a .plan)) (s * length (now (a .starts)) + at-loop .loop .j) 0)) (c .before .before .source-of .ensures))
+          (at-loop .loop .inv .0),
+      omega (arith, at-loop-test .loop-test .taken),
+    )
 
 same-length : tie.Need-same-length Inv-loop μ-loop
 same-length c = c .before .loop .inv .0 .long
 
 returns : tie.Need-returns Inv-loop μ-loop
-returns c = put-all _ _ (let q : c .before .loop .j ≡ length (now (c .before .before .before .before .before .args .starts)) = omega (arith, c .before .loop .inv .1, c .loop-test .left) in q) (c .before .loop .inv .0)
+returns c =
+    put-all _ _
+    (let q : c .before .loop .j ≡ length (now (c .before .before .before .before .before .args .starts)) = omega (arith, c .before .loop .inv .1, c .loop-test .left) in q)
+    (c .before .loop .inv .0)
 
 pub fill-flow-spec : {M : Type 1} → statement M
 fill-flow-spec =

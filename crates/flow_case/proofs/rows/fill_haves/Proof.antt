@@ -17,13 +17,17 @@ abbrev μ-loop : tie.MeasureT-loop
 μ-loop ends ceilings gives haves₀ i₀ haves i = length gives - i
 
 loop-holds : tie.Need-loop-holds Inv-loop μ-loop
-loop-holds c = (put-none 0 (haveIn (now (c .before .before .before .before .args .ends)) (now (c .before .before .before .before .args .ceilings)) (now (c .before .before .before .before .args .gives))) 0 (now (c .before .before .before .before .args .haves)), omega arith)
+loop-holds c =
+    let entry = c .before .before .before .before in
+    (put-none 0 (haveIn (now (entry .args .ends)) (now (entry .args .ceilings)) (now (entry .args .gives))) 0 (now (entry .args .haves)), omega arith)
 
 add-id : tie.Need-add-id Inv-loop μ-loop
 add-id c = omega (arith, c .loop-test .taken, c .before .before .before .before .before .before .pre .0 .2)
 
 ceilings-into-requires : tie.Need-ceilings-into-requires Inv-loop μ-loop
-ceilings-into-requires c κs = (c .before .before .before .before .before .before .pre .0 .0, c .before .before .before .before .before .before .pre .1 .0)
+ceilings-into-requires c κs =
+    let entry = c .before .before .before .before .before .before in
+    (entry .pre .0 .0, entry .pre .1 .0)
 
 mul-haves : tie.Need-mul-haves Inv-loop μ-loop
 mul-haves c = omega (arith, c .before .loop-test .taken)
@@ -32,7 +36,15 @@ shared-slice-read-haves : tie.Need-shared-slice-read-haves Inv-loop μ-loop
 shared-slice-read-haves c = omega (arith, c .before .before .loop-test .taken)
 
 add-haves : tie.Need-add-haves Inv-loop μ-loop
-add-haves c = omega (arith, c .before .before .before .before .before .before .before .before .pre .1 .1 (c .before .before .before .loop .i) (c .before .before .loop-test .taken), c .before .ceilings-into .ensures, into-most (now (c .before .before .before .before .before .before .before .before .args .ends)) (now (c .before .before .before .before .before .before .before .before .args .ceilings)) (c .before .before .before .loop .i + 1) (c .before .before .before .before .before .before .before .before .pre .0 .0) (c .before .before .before .before .before .before .before .before .pre .1 .0))
+add-haves c =
+    let at-loop = c .before .before .before in
+    let entry = at-loop .before .before .before .before .before in
+    omega (
+      arith,
+      entry .pre .1 .1 (at-loop .loop .i) (c .before .before .loop-test .taken),
+      c .before .ceilings-into .ensures,
+      into-most (now (entry .args .ends)) (now (entry .args .ceilings)) (at-loop .loop .i + 1) (entry .pre .0 .0) (entry .pre .1 .0),
+    )
 
 mul-haves-2 : tie.Need-mul-haves-2 Inv-loop μ-loop
 mul-haves-2 c = omega (arith, c .before .before .loop-test .taken)
@@ -47,13 +59,24 @@ loop-less : tie.Need-loop-less Inv-loop μ-loop
 loop-less c = omega (arith, c .before .before .loop-test .taken)
 
 loop-again : tie.Need-loop-again Inv-loop μ-loop
-loop-again c = (put-next 0 (haveIn (now (c .before .before .before .before .before .before .before .before .args .ends)) (now (c .before .before .before .before .before .before .before .before .args .ceilings)) (now (c .before .before .before .before .before .before .before .before .args .gives))) 0 (now (c .before .before .before .before .before .before .before .before .args .haves)) (c .before .before .before .loop .i) (c .before .before .before .loop .i) _ _ (omega arith) (omega (arith, c .before .before .loop-test .taken, c .before .before .before .before .before .before .before .before .pre .0 .1)) (ap (λ (n : ℕ). getD (now (c .before .before .before .before .before .before .before .before .args .gives)) (c .before .before .before .loop .i) 0 + n) (c .before .ceilings-into .ensures)) (c .before .before .before .loop .inv .0), omega (arith, c .before .before .loop-test .taken))
+loop-again c =
+    let at-loop-test = c .before .before in
+    let at-loop = at-loop-test .before in
+    let entry = at-loop .before .before .before .before .before in (
+      put-next 0 (haveIn (now (entry .args .ends)) (now (entry .args .ceilings)) (now (entry .args .gives))) 0 (now (entry .args .haves))
+          (at-loop .loop .i) (at-loop .loop .i) _ _ (omega arith) (omega (arith, at-loop-test .loop-test .taken, entry .pre .0 .1))
+          (ap (λ (n : ℕ). getD (now (entry .args .gives)) (at-loop .loop .i) 0 + n) (c .before .ceilings-into .ensures)) (at-loop .loop .inv .0),
+      omega (arith, at-loop-test .loop-test .taken),
+    )
 
 same-length : tie.Need-same-length Inv-loop μ-loop
 same-length c = c .before .loop .inv .0 .long
 
 returns : tie.Need-returns Inv-loop μ-loop
-returns c = put-all _ _ (let q : c .before .loop .i ≡ length (now (c .before .before .before .before .before .before .args .gives)) = omega (arith, c .before .loop .inv .1, c .loop-test .left) in q) (c .before .loop .inv .0)
+returns c =
+    put-all _ _
+    (let q : c .before .loop .i ≡ length (now (c .before .before .before .before .before .before .args .gives)) = omega (arith, c .before .loop .inv .1, c .loop-test .left) in q)
+    (c .before .loop .inv .0)
 
 pub fill-haves-spec : {M : Type 1} → statement M
 fill-haves-spec =

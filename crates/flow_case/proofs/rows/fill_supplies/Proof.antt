@@ -18,7 +18,9 @@ abbrev μ-loop : tie.MeasureT-loop
 μ-loop haves takes w v supplies₀ s₀ supplies s = length haves - s
 
 loop-holds : tie.Need-loop-holds Inv-loop μ-loop
-loop-holds c = (put-none 0 (stockIn (now (c .before .before .before .args .haves)) (now (c .before .before .before .args .takes)) (c .before .before .before .args .w) (c .before .before .before .args .v)) 0 (now (c .before .before .before .args .supplies)), omega arith)
+loop-holds c =
+    let entry = c .before .before .before in
+    (put-none 0 (stockIn (now (entry .args .haves)) (now (entry .args .takes)) (entry .args .w) (entry .args .v)) 0 (now (entry .args .supplies)), omega arith)
 
 node-of-requires : tie.Need-node-of-requires Inv-loop μ-loop
 node-of-requires c κs = search needs
@@ -27,22 +29,41 @@ mul-supplies : tie.Need-mul-supplies Inv-loop μ-loop
 mul-supplies c = omega (arith, c .node-of .ensures, c .before .before .before .before .before .before .pre .1 (c .before .before .loop .s) (c .before .loop-test .taken) .0)
 
 shared-slice-read-supplies : tie.Need-shared-slice-read-supplies Inv-loop μ-loop
-shared-slice-read-supplies c = omega (arith, c .before .node-of .ensures, c .before .before .before .before .before .before .before .pre .1 (c .before .before .before .loop .s) (c .before .before .loop-test .taken) .0)
+shared-slice-read-supplies c =
+    let at-loop = c .before .before .before in
+    let entry = at-loop .before .before .before .before in
+    omega (arith, c .before .node-of .ensures, entry .pre .1 (at-loop .loop .s) (c .before .before .loop-test .taken) .0)
 
 mul-supplies-2 : tie.Need-mul-supplies-2 Inv-loop μ-loop
-mul-supplies-2 c = omega (arith, c .before .node-of .ensures, c .before .before .before .before .before .before .before .pre .1 (c .before .before .before .loop .s) (c .before .before .loop-test .taken) .0, c .before .before .before .before .before .before .before .pre .0 .0)
+mul-supplies-2 c =
+    let at-loop = c .before .before .before in
+    let entry = at-loop .before .before .before .before in
+    omega (arith, c .before .node-of .ensures, entry .pre .1 (at-loop .loop .s) (c .before .before .loop-test .taken) .0, entry .pre .0 .0)
 
 shared-slice-read-supplies-2 : tie.Need-shared-slice-read-supplies-2 Inv-loop μ-loop
-shared-slice-read-supplies-2 c = omega (arith, c .before .before .node-of .ensures, c .before .before .before .before .before .before .before .before .pre .1 (c .before .before .before .before .loop .s) (c .before .before .before .loop-test .taken) .0, c .before .before .before .before .before .before .before .before .pre .0 .0)
+shared-slice-read-supplies-2 c =
+    let at-loop-test = c .before .before .before in
+    let at-loop = at-loop-test .before in
+    let entry = at-loop .before .before .before .before in
+    omega (arith, c .before .before .node-of .ensures, entry .pre .1 (at-loop .loop .s) (at-loop-test .loop-test .taken) .0, entry .pre .0 .0)
 
 sub-supplies : tie.Need-sub-supplies Inv-loop μ-loop
-sub-supplies c = let a = c .before .before .before .before .before .before .before .before .args in subst (λ (i : ℕ). getD (now (a .takes)) i 0 ≤ getD (now (a .haves)) i 0) (sym (c .before .before .node-of .ensures)) (c .before .before .before .before .before .before .before .before .pre .1 (c .before .before .before .before .loop .s) (c .before .before .before .loop-test .taken) .1)
+sub-supplies c =
+    let at-loop-test = c .before .before .before in
+    let at-loop = at-loop-test .before in
+    let entry = at-loop .before .before .before .before in
+    let a = entry .args in
+    subst (λ (i : ℕ). getD (now (a .takes)) i 0 ≤ getD (now (a .haves)) i 0) (sym (c .before .before .node-of .ensures)) (entry .pre .1 (at-loop .loop .s) (at-loop-test .loop-test .taken) .1)
 
 mul-supplies-3 : tie.Need-mul-supplies-3 Inv-loop μ-loop
 mul-supplies-3 c = omega (arith, c .before .before .before .loop-test .taken)
 
 slice-write-supplies : tie.Need-slice-write-supplies Inv-loop μ-loop
-slice-write-supplies c = omega (arith, c .before .before .before .loop-test .taken, c .before .before .before .before .before .before .before .before .pre .0 .1, c .before .before .before .before .loop .inv .0 .long)
+slice-write-supplies c =
+    let at-loop-test = c .before .before .before in
+    let at-loop = at-loop-test .before in
+    let entry = at-loop .before .before .before .before in
+    omega (arith, at-loop-test .loop-test .taken, entry .pre .0 .1, at-loop .loop .inv .0 .long)
 
 add-s : tie.Need-add-s Inv-loop μ-loop
 add-s c = omega (arith, c .before .before .before .loop-test .taken)
@@ -51,13 +72,25 @@ loop-less : tie.Need-loop-less Inv-loop μ-loop
 loop-less c = omega (arith, c .before .before .before .loop-test .taken)
 
 loop-again : tie.Need-loop-again Inv-loop μ-loop
-loop-again c = let a = c .before .before .before .before .before .before .before .before .args in (put-next 0 (stockIn (now (c .before .before .before .before .before .before .before .before .args .haves)) (now (c .before .before .before .before .before .before .before .before .args .takes)) (c .before .before .before .before .before .before .before .before .args .w) (c .before .before .before .before .before .before .before .before .args .v)) 0 (now (a .supplies)) (c .before .before .before .before .loop .s) (c .before .before .before .before .loop .s) _ _ (omega arith) (omega (arith, c .before .before .before .loop-test .taken, c .before .before .before .before .before .before .before .before .pre .0 .1)) (ap (λ (i : ℕ). getD (now (a .haves)) i 0 - getD (now (a .takes)) i 0) (c .before .before .node-of .ensures)) (c .before .before .before .before .loop .inv .0), omega (arith, c .before .before .before .loop-test .taken))
+loop-again c =
+    let at-loop-test = c .before .before .before in
+    let at-loop = at-loop-test .before in
+    let entry = at-loop .before .before .before .before in
+    let a = entry .args in (
+      put-next 0 (stockIn (now (entry .args .haves)) (now (entry .args .takes)) (entry .args .w) (entry .args .v)) 0 (now (a .supplies))
+          (at-loop .loop .s) (at-loop .loop .s) _ _ (omega arith) (omega (arith, at-loop-test .loop-test .taken, entry .pre .0 .1))
+          (ap (λ (i : ℕ). getD (now (a .haves)) i 0 - getD (now (a .takes)) i 0) (c .before .before .node-of .ensures)) (at-loop .loop .inv .0),
+      omega (arith, at-loop-test .loop-test .taken),
+    )
 
 same-length : tie.Need-same-length Inv-loop μ-loop
 same-length c = c .before .loop .inv .0 .long
 
 returns : tie.Need-returns Inv-loop μ-loop
-returns c = put-all _ _ (let q : c .before .loop .s ≡ length (now (c .before .before .before .before .before .args .haves)) = omega (arith, c .before .loop .inv .1, c .loop-test .left) in q) (c .before .loop .inv .0)
+returns c =
+    put-all _ _
+    (let q : c .before .loop .s ≡ length (now (c .before .before .before .before .before .args .haves)) = omega (arith, c .before .loop .inv .1, c .loop-test .left) in q)
+    (c .before .loop .inv .0)
 
 pub fill-supplies-spec : {M : Type 1} → statement M
 fill-supplies-spec =

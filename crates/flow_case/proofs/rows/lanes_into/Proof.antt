@@ -17,7 +17,10 @@ abbrev μ-loop : tie.MeasureT-loop
 μ-loop starts ends id at to₀ j₀ to j = length starts - j
 
 loop-holds : tie.Need-loop-holds Inv-loop μ-loop
-loop-holds c = (put-none 0 (laneIn (now (c .before .before .args .starts)) (now (c .before .before .args .ends)) (c .before .before .args .id)) (c .before .before .args .at) (now (c .before .before .args .to)), omega arith)
+loop-holds c = (
+  put-none 0 (laneIn (now (c .before .before .args .starts)) (now (c .before .before .args .ends)) (c .before .before .args .id)) (c .before .before .args .at) (now (c .before .before .args .to)),
+  omega arith,
+)
 
 mul-lane : tie.Need-mul-lane Inv-loop μ-loop
 mul-lane c = search needs
@@ -50,10 +53,21 @@ loop-less : tie.Need-loop-less Inv-loop μ-loop
 loop-less c = omega (arith, c .before .before .before .loop-test .taken)
 
 loop-again : tie.Need-loop-again Inv-loop μ-loop
-loop-again c = (put-next 0 (laneIn (now (c .before .before .before .before .before .before .before .args .starts)) (now (c .before .before .before .before .before .before .before .args .ends)) (c .before .before .before .before .before .before .before .args .id)) (c .before .before .before .before .before .before .before .args .at) (now (c .before .before .before .before .before .before .before .args .to)) (c .before .before .before .before .loop .j) _ _ _ refl (omega (arith, c .before .before .before .loop-test .taken, c .before .before .before .before .before .before .before .pre .1, c .before .before .before .before .before .before .before .pre .2)) (c .lane .ensures) (c .before .before .before .before .loop .inv .0), omega (arith, c .before .before .before .loop-test .taken))
+loop-again c =
+    let at-loop-test = c .before .before .before in
+    let at-loop = at-loop-test .before in
+    let entry = at-loop .before .before .before in (
+      put-next 0 (laneIn (now (entry .args .starts)) (now (entry .args .ends)) (entry .args .id)) (entry .args .at) (now (entry .args .to))
+          (at-loop .loop .j) _ _ _ refl (omega (arith, at-loop-test .loop-test .taken, entry .pre .1, entry .pre .2)) (c .lane .ensures)
+          (at-loop .loop .inv .0),
+      omega (arith, at-loop-test .loop-test .taken),
+    )
 
 returns : tie.Need-returns Inv-loop μ-loop
-returns c = put-all _ _ (let q : c .before .loop .j ≡ length (now (c .before .before .before .before .args .starts)) = omega (arith, c .before .loop .inv .1, c .loop-test .left) in q) (c .before .loop .inv .0)
+returns c =
+    put-all _ _
+    (let q : c .before .loop .j ≡ length (now (c .before .before .before .before .args .starts)) = omega (arith, c .before .loop .inv .1, c .loop-test .left) in q)
+    (c .before .loop .inv .0)
 
 pub lanes-into-spec : {M : Type 1} → statement M
 lanes-into-spec =

@@ -26,13 +26,25 @@ same-length : tie.Need-same-length
 same-length c = search needs
 
 returns : tie.Need-returns
-returns c = record { found = found-some _ _ _ _ _ _ _ _ _ _ _ (c .before .before .before .before .before .before .before .before .before .before .before .before .before .before .before .before .pre) (length-replicate {A = ℕ} 4001 0) (length-replicate {A = ℤ} 4001 (pos 0)) (c .before .before .before .before .before .before .before .plan .result) _ _ (c .before .before .before .before .before .before .before .plan .ensures) _ _ _ _ (c .before .answer .given .1) }
+returns c =
+    let at-plan = c .before .before .before .before .before .before .before in
+    let entry = at-plan .before .before .before .before .before .before .before .before .before in
+    record {
+      found = found-some _ _ _ _ _ _ _ _ _ _ _ (entry .pre) (length-replicate {A = ℕ} 4001 0) (length-replicate {A = ℤ} 4001 (pos 0))
+          (at-plan .plan .result) _ _ (at-plan .plan .ensures) _ _ _ _ (c .before .answer .given .1);
+    }
 
 same-length-2 : tie.Need-same-length-2
 same-length-2 c = search needs
 
 returns-2 : tie.Need-returns-2
-returns-2 c = record { found = found-none _ _ _ _ _ _ _ _ _ _ _ (c .before .before .before .before .before .before .before .before .before .before .before .before .before .before .before .pre) (length-replicate {A = ℕ} 4001 0) (length-replicate {A = ℤ} 4001 (pos 0)) (c .before .before .before .before .before .before .plan .result) _ _ (c .before .before .before .before .before .before .plan .ensures) _ _ (c .enum-told .given .1) }
+returns-2 c =
+    let at-plan = c .before .before .before .before .before .before in
+    let entry = at-plan .before .before .before .before .before .before .before .before .before in
+    record {
+      found = found-none _ _ _ _ _ _ _ _ _ _ _ (entry .pre) (length-replicate {A = ℕ} 4001 0) (length-replicate {A = ℤ} 4001 (pos 0))
+          (at-plan .plan .result) _ _ (at-plan .plan .ensures) _ _ (c .enum-told .given .1);
+    }
 
 pub plan-case-spec : {M : Type 1} → statement M
 plan-case-spec = tie.close (tie.spec slice-aggregate-plan slice-aggregate-plan-2 plan-requires enum-known-answer enum-told same-length returns same-length-2 returns-2)

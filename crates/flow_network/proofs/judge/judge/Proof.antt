@@ -13,7 +13,14 @@ slice-aggregate-fill-haves : tie.Need-slice-aggregate-fill-haves
 slice-aggregate-fill-haves c = search needs
 
 fill-haves-requires : tie.Need-fill-haves-requires
-fill-haves-requires c κs = ((c .before .before .before .before .before .before .before .before .before .before .before .pre .0 .ends-long ∙ sym (c .before .before .before .before .before .before .before .before .before .before .before .pre .0 .ceilings-long), omega (arith, c .before .before .before .before .before .before .before .before .before .before .before .pre .1 .few, length-replicate {A = ℕ} 32 0), c .before .before .before .before .before .before .before .before .before .before .before .pre .1 .few), (record { few = omega (arith, c .before .before .before .before .before .before .before .before .before .before .before .pre .0 .ceilings-long, c .before .before .before .before .before .before .before .before .before .before .before .pre .0 .few); small = λ k l. c .before .before .before .before .before .before .before .before .before .before .before .pre .0 .ceiling-most k (omega (arith, l, c .before .before .before .before .before .before .before .before .before .before .before .pre .0 .ceilings-long)) }, c .before .before .before .before .before .before .before .before .before .before .before .pre .1 .gives-small))
+fill-haves-requires c κs =
+    let entry = c .before .before .before .before .before .before .before .before .before .before .before in (
+      (entry .pre .0 .ends-long ∙ sym (entry .pre .0 .ceilings-long), omega (arith, entry .pre .1 .few, length-replicate {A = ℕ} 32 0), entry .pre .1 .few),
+      (
+        record { few = omega (arith, entry .pre .0 .ceilings-long, entry .pre .0 .few); small = λ k l. entry .pre .0 .ceiling-most k (omega (arith, l, entry .pre .0 .ceilings-long)) },
+        entry .pre .1 .gives-small,
+      ),
+    )
 
 sub-judge-by : tie.Need-sub-judge-by
 sub-judge-by c = search needs
@@ -22,10 +29,21 @@ part-judge-by-start : tie.Need-part-judge-by-start
 part-judge-by-start c = search needs
 
 part-judge-by-end : tie.Need-part-judge-by-end
-part-judge-by-end c = omega (arith, c .before .before .before .before .before .before .before .before .before .before .before .before .before .before .pre .1 .few, c .before .before .fill-haves .ensures .long, length-replicate {A = ℕ} 32 0)
+part-judge-by-end c =
+    let entry = c .before .before .before .before .before .before .before .before .before .before .before .before .before .before in
+    omega (arith, entry .pre .1 .few, c .before .before .fill-haves .ensures .long, length-replicate {A = ℕ} 32 0)
 
 judge-by-requires : tie.Need-judge-by-requires
-judge-by-requires c κs = (c .before .before .before .before .before .before .before .before .before .before .before .before .before .before .before .before .before .before .before .before .pre .0, (c .before .before .before .before .before .before .before .before .before .before .before .before .before .before .before .before .before .before .before .before .pre .1, holding-of (now (c .before .before .before .before .before .before .before .before .before .before .before .before .before .before .before .before .before .before .before .before .args .gives)) (now (c .before .before .before .before .before .before .before .before .before .before .before .before .before .before .before .before .before .before .before .before .args .heads)) (now (c .before .before .before .before .before .before .before .before .before .before .before .before .before .before .before .before .before .before .before .before .args .capacities)) _ _ (omega (arith, c .before .before .before .before .before .before .before .before .before .before .before .before .before .before .before .before .before .before .before .before .pre .1 .few, length-replicate {A = ℕ} 32 0)) (c .before .before .before .before .before .before .before .before .fill-haves .ensures)))
+judge-by-requires c κs =
+    let at-fill-haves = c .before .before .before .before .before .before .before .before in
+    let entry = at-fill-haves .before .before .before .before .before .before .before .before .before .before .before .before in (
+      entry .pre .0,
+      (
+        entry .pre .1,
+        holding-of (now (entry .args .gives)) (now (entry .args .heads)) (now (entry .args .capacities)) _ _
+            (omega (arith, entry .pre .1 .few, length-replicate {A = ℕ} 32 0)) (at-fill-haves .fill-haves .ensures),
+      ),
+    )
 
 same-length : tie.Need-same-length
 same-length c = search needs
@@ -46,4 +64,7 @@ returns : tie.Need-returns
 returns c = c .before .before .before .before .before .before .before .before .before .judge-by .ensures
 
 pub judge-spec : {M : Type 1} → statement M
-judge-spec = tie.close (tie.spec slice-aggregate-fill-haves fill-haves-requires sub-judge-by part-judge-by-start part-judge-by-end judge-by-requires same-length same-length-2 same-length-3 same-length-4 same-length-5 returns)
+judge-spec =
+    tie.close
+    (tie.spec slice-aggregate-fill-haves fill-haves-requires sub-judge-by part-judge-by-start part-judge-by-end judge-by-requires same-length
+    same-length-2 same-length-3 same-length-4 same-length-5 returns)

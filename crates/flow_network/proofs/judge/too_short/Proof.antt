@@ -16,7 +16,10 @@ returns-4 : tie.Need-returns-4
 returns-4 c = let a = c .before .before .before .before .args in short-4 (a .n) (a .flow) (a .starts) (a .ends) (a .ceilings) (a .costs) (c .if4 .taken)
 
 returns-5 : tie.Need-returns-5
-returns-5 c = let a = c .before .before .before .before .args in short-5 (a .n) (a .flow) (a .starts) (a .ends) (a .ceilings) (a .costs) (c .before .before .before .if1 .left) (c .before .before .if2 .left) (c .before .if3 .left) (c .if4 .left)
+returns-5 c =
+    let at-if1 = c .before .before .before in
+    let entry = at-if1 .before in
+    let a = entry .args in short-5 (a .n) (a .flow) (a .starts) (a .ends) (a .ceilings) (a .costs) (at-if1 .if1 .left) (c .before .before .if2 .left) (c .before .if3 .left) (c .if4 .left)
 
 pub too-short-spec : {M : Type 1} → statement M
 too-short-spec = tie.close (tie.spec returns returns-2 returns-3 returns-4 returns-5)

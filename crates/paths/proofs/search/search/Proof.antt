@@ -15,13 +15,15 @@ prefer-requires : tie.Need-prefer-requires
 prefer-requires c κs = search needs
 
 explore-requires : tie.Need-explore-requires
-explore-requires c κs = (
-  c .before .before .before .before .before .before .before .pre .0,
-  (
-    tag-plan (c .before .before .before .before .before .before .before .pre .0 .sound .terminals) (c .before .before .before .before .before .before .before .pre .1 .0) (tag-other (c .before .before .before .before .tag .ensures) (c .before .before .prefer .ensures)),
-    (record { long-dist = refl; long-prev = refl; dists = λ v h. getD-replicate {A = ℕ} 96 v far 0 h }, c .before .before .before .before .before .before .before .pre .1 .1),
-  ),
-)
+explore-requires c κs =
+    let at-tag = c .before .before .before .before in
+    let entry = at-tag .before .before .before in (
+      entry .pre .0,
+      (
+        tag-plan (entry .pre .0 .sound .terminals) (entry .pre .1 .0) (tag-other (at-tag .tag .ensures) (c .before .before .prefer .ensures)),
+        (record { long-dist = refl; long-prev = refl; dists = λ v h. getD-replicate {A = ℕ} 96 v far 0 h }, entry .pre .1 .1),
+      ),
+    )
 
 returns : tie.Need-returns
 returns c = search needs

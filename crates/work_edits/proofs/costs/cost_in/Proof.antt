@@ -18,10 +18,15 @@ cast-result : tie.Need-cast-result
 cast-result c = search needs
 
 sub-result : tie.Need-sub-result
-sub-result c = subst (λ (z : ℤ). SFits w64 z) (sym (lowered-is (c .before .args .cell) 1000000 (omega (arith, c .if1 .left)) (omega arith))) (sub-fits (c .before .args .cell) 1000000 (omega (arith, c .if1 .left)) (omega arith))
+sub-result c =
+    subst (λ (z : ℤ). SFits w64 z) (sym (lowered-is (c .before .args .cell) 1000000 (omega (arith, c .if1 .left)) (omega arith)))
+    (sub-fits (c .before .args .cell) 1000000 (omega (arith, c .if1 .left)) (omega arith))
 
 returns-2 : tie.Need-returns-2
-returns-2 c = ap (λ (z : ℤ). toZ w64 (ofZ w64 z)) (lowered-is (c .before .args .cell) 1000000 (omega (arith, c .if1 .left)) (omega arith)) ∙ toZ-ofZ w64 _ (sub-fits (c .before .args .cell) 1000000 (omega (arith, c .if1 .left)) (omega arith)) ∙ cost-low (c .before .args .cell) (c .if1 .left)
+returns-2 c =
+    ap (λ (z : ℤ). toZ w64 (ofZ w64 z)) (lowered-is (c .before .args .cell) 1000000 (omega (arith, c .if1 .left)) (omega arith)) ∙
+    toZ-ofZ w64 _ (sub-fits (c .before .args .cell) 1000000 (omega (arith, c .if1 .left)) (omega arith)) ∙
+    cost-low (c .before .args .cell) (c .if1 .left)
 
 pub cost-in-spec : {M : Type 1} → statement M
 cost-in-spec =

@@ -35,7 +35,10 @@ mul-t9 : tie.Need-mul-t9 Inv-loop μ-loop
 mul-t9 c = omega arith
 
 slice-set-from-to : tie.Need-slice-set-from-to Inv-loop μ-loop
-slice-set-from-to c = omega (arith, c .before .before .before .before .before .pre, filling-length _ _ _ (lower-fits (now (c .before .before .before .before .before .args .source)) _ (c .before .before .before .before .before .pre)) _ _ (c .before .before .before .loop .inv .0))
+slice-set-from-to c =
+    let at-loop = c .before .before .before in
+    let entry = at-loop .before .before in
+    omega (arith, entry .pre, filling-length _ _ _ (lower-fits (now (entry .args .source)) _ (entry .pre)) _ _ (at-loop .loop .inv .0))
 
 add-k : tie.Need-add-k Inv-loop μ-loop
 add-k c = omega arith
@@ -44,7 +47,10 @@ loop-less : tie.Need-loop-less Inv-loop μ-loop
 loop-less c = omega arith
 
 loop-again : tie.Need-loop-again Inv-loop μ-loop
-loop-again c = (lower-next (now (c .before .before .before .before .before .args .source)) _ _ _ _ (c .before .before .before .loop .inv .0) (c .before .before .before .before .before .pre) (c .before .before .loop-test .taken) (read-back _ (c .cost-in .ok) ∙ c .cost-in .ensures), omega arith)
+loop-again c =
+    let at-loop = c .before .before .before in
+    let entry = at-loop .before .before in
+    (lower-next (now (entry .args .source)) _ _ _ _ (at-loop .loop .inv .0) (entry .pre) (c .before .before .loop-test .taken) (read-back _ (c .cost-in .ok) ∙ c .cost-in .ensures), omega arith)
 
 same-length : tie.Need-same-length Inv-loop μ-loop
 same-length c = filling-length _ _ _ (lower-fits (now (c .before .before .before .args .source)) _ (c .before .before .before .pre)) _ _ (c .before .loop .inv .0)

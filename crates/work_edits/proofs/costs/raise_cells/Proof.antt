@@ -37,7 +37,10 @@ mul-store : tie.Need-mul-store Inv-loop μ-loop
 mul-store c = omega (arith, c .before .before .before .before .before .pre .0)
 
 slice-write-store : tie.Need-slice-write-store Inv-loop μ-loop
-slice-write-store c = omega (arith, c .before .before .before .before .before .pre .0, filling-length _ _ _ (raise-fits (now (c .before .before .before .before .before .args .source)) _ _ (c .before .before .before .before .before .pre .0)) _ _ (c .before .before .before .loop .inv .0))
+slice-write-store c =
+    let at-loop = c .before .before .before in
+    let entry = at-loop .before .before in
+    omega (arith, entry .pre .0, filling-length _ _ _ (raise-fits (now (entry .args .source)) _ _ (entry .pre .0)) _ _ (at-loop .loop .inv .0))
 
 add-k : tie.Need-add-k Inv-loop μ-loop
 add-k c = omega arith
@@ -46,13 +49,21 @@ loop-less : tie.Need-loop-less Inv-loop μ-loop
 loop-less c = omega arith
 
 loop-again : tie.Need-loop-again Inv-loop μ-loop
-loop-again c = (raise-next (now (c .before .before .before .before .before .args .source)) _ _ _ _ _ (c .before .before .before .loop .inv .0) (c .before .before .before .before .before .pre .0) (c .before .before .loop-test .taken) (c .raised .ensures ∙ ap raisedOf (read-back _ (c .before .raised-arg .given))), omega arith)
+loop-again c =
+    let at-loop = c .before .before .before in
+    let entry = at-loop .before .before in (
+      raise-next (now (entry .args .source)) _ _ _ _ _ (at-loop .loop .inv .0) (entry .pre .0) (c .before .before .loop-test .taken)
+          (c .raised .ensures ∙ ap raisedOf (read-back _ (c .before .raised-arg .given))),
+      omega arith,
+    )
 
 same-length : tie.Need-same-length Inv-loop μ-loop
 same-length c = filling-length _ _ _ (raise-fits (now (c .before .before .before .args .source)) _ _ (c .before .before .before .pre .0)) _ _ (c .before .loop .inv .0)
 
 returns : tie.Need-returns Inv-loop μ-loop
-returns c = filling-end _ _ _ (raise-fits (now (c .before .before .before .args .source)) _ _ (c .before .before .before .pre .0)) _ _ (c .before .loop .inv .0) (omega (arith, length-map (now (c .before .before .before .args .source)) raisedOf, c .loop-test .left))
+returns c =
+    let entry = c .before .before .before in
+    filling-end _ _ _ (raise-fits (now (entry .args .source)) _ _ (entry .pre .0)) _ _ (c .before .loop .inv .0) (omega (arith, length-map (now (entry .args .source)) raisedOf, c .loop-test .left))
 
 pub raise-cells-spec : {M : Type 1} → statement M
 raise-cells-spec =

@@ -17,7 +17,9 @@ shared-slice-read-result-2 c = search needs
 
 returns-2 : tie.Need-returns-2
 unfolding runIn
-returns-2 c = simp (ne-eqb (c .before .before .before .args .i) 1 (c .before .before .if1 .left), eq-eqb (c .before .before .before .args .i) 2 (c .before .if2 .taken))
+returns-2 c =
+    let entry = c .before .before .before in
+    simp (ne-eqb (entry .args .i) 1 (c .before .before .if1 .left), eq-eqb (entry .args .i) 2 (c .before .if2 .taken))
 
 returns-3 : tie.Need-returns-3
 unfolding runIn

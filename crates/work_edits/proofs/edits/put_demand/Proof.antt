@@ -28,10 +28,14 @@ demands-at-requires : tie.Need-demands-at-requires
 demands-at-requires c κs = search needs
 
 add-at : tie.Need-add-at
-add-at c = omega (arith, c .before .before .before .before .before .pre .few, c .before .before .before .before .before .pre .many, c .demands-at .ensures, c .before .before .if2 .left)
+add-at c =
+    let entry = c .before .before .before .before .before in
+    omega (arith, entry .pre .few, entry .pre .many, c .demands-at .ensures, c .before .before .if2 .left)
 
 mul-store : tie.Need-mul-store
-mul-store c = omega (arith, c .before .before .before .before .before .pre .few, c .before .before .before .before .before .pre .many, c .demands-at .ensures, c .before .before .if2 .left)
+mul-store c =
+    let entry = c .before .before .before .before .before in
+    omega (arith, entry .pre .few, entry .pre .many, c .demands-at .ensures, c .before .before .if2 .left)
 
 slice-write-store : tie.Need-slice-write-store
 slice-write-store c = omega (arith, room-0 _ _ _ (c .before .before .before .before .before .pre), c .demands-at .ensures, c .before .before .if2 .left)
@@ -41,7 +45,11 @@ same-length c = search needs
 
 returns-4 : tie.Need-returns-4
 unfolding writes
-returns-4 c = works _ _ _ _ _ (demand-none _ _ _ _ _ (within _ _ (c .before .before .before .if1 .left) (c .before .before .if2 .left)) (c .before .if3 .left)) (placed (now (c .before .before .before .before .before .args .store)) (c .demands-at .result) (c .before .before .before .before .before .args .j - 1) (demandsAt (c .before .before .before .before .before .args .m)) _ (c .demands-at .ensures))
+returns-4 c =
+    let at-if1 = c .before .before .before in
+    let entry = at-if1 .before .before in
+    works _ _ _ _ _ (demand-none _ _ _ _ _ (within _ _ (at-if1 .if1 .left) (c .before .before .if2 .left)) (c .before .if3 .left))
+    (placed (now (entry .args .store)) (c .demands-at .result) (entry .args .j - 1) (demandsAt (entry .args .m)) _ (c .demands-at .ensures))
 
 pub put-demand-spec : {M : Type 1} → statement M
 put-demand-spec =

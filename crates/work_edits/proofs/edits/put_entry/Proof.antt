@@ -23,20 +23,56 @@ table-at-requires : tie.Need-table-at-requires
 table-at-requires c κs = search needs
 
 add-at : tie.Need-add-at
-add-at c = omega (arith, room-0 _ _ _ (c .before .before .before .before .before .pre), lanes-few _ _ _ (c .before .before .before .before .before .pre), c .before .before .before .before .before .pre .few, c .before .before .before .before .before .pre .many, few-entries (now (c .before .before .before .before .before .args .store)), c .before .before .entries .ensures, c .table-at .ensures)
+add-at c =
+    let entry = c .before .before .before .before .before in
+    omega (
+      arith,
+      room-0 _ _ _ (entry .pre),
+      lanes-few _ _ _ (entry .pre),
+      entry .pre .few,
+      entry .pre .many,
+      few-entries (now (entry .args .store)),
+      c .before .before .entries .ensures,
+      c .table-at .ensures,
+    )
 
 mul-store : tie.Need-mul-store
-mul-store c = omega (arith, room-0 _ _ _ (c .before .before .before .before .before .pre), lanes-few _ _ _ (c .before .before .before .before .before .pre), c .before .before .before .before .before .pre .few, c .before .before .before .before .before .pre .many, few-entries (now (c .before .before .before .before .before .args .store)), c .before .before .entries .ensures, c .table-at .ensures)
+mul-store c =
+    let entry = c .before .before .before .before .before in
+    omega (
+      arith,
+      room-0 _ _ _ (entry .pre),
+      lanes-few _ _ _ (entry .pre),
+      entry .pre .few,
+      entry .pre .many,
+      few-entries (now (entry .args .store)),
+      c .before .before .entries .ensures,
+      c .table-at .ensures,
+    )
 
 slice-write-store : tie.Need-slice-write-store
-slice-write-store c = omega (arith, room-0 _ _ _ (c .before .before .before .before .before .pre), lanes-few _ _ _ (c .before .before .before .before .before .pre), c .before .before .before .before .before .pre .few, c .before .before .before .before .before .pre .many, few-entries (now (c .before .before .before .before .before .args .store)), c .before .before .entries .ensures, c .table-at .ensures)
+slice-write-store c =
+    let entry = c .before .before .before .before .before in
+    omega (
+      arith,
+      room-0 _ _ _ (entry .pre),
+      lanes-few _ _ _ (entry .pre),
+      entry .pre .few,
+      entry .pre .many,
+      few-entries (now (entry .args .store)),
+      c .before .before .entries .ensures,
+      c .table-at .ensures,
+    )
 
 same-length-2 : tie.Need-same-length-2
 same-length-2 c = search needs
 
 returns-2 : tie.Need-returns-2
 unfolding writes
-returns-2 c = works _ _ _ _ _ (entry-none _ _ _ (c .before .before .before .before .before .pre) _ _ _ (c .before .before .entries .ensures) (c .before .if1 .left)) (placed (now (c .before .before .before .before .before .args .store)) (c .table-at .result) (c .before .before .before .before .before .args .y) (tableAt (c .before .before .before .before .before .args .m) (c .before .before .before .before .before .args .n)) _ (c .table-at .ensures))
+returns-2 c =
+    let entry = c .before .before .before .before .before in
+    works _ _ _ _ _ (entry-none _ _ _ (entry .pre) _ _ _ (c .before .before .entries .ensures) (c .before .if1 .left))
+    (placed (now (entry .args .store)) (c .table-at .result) (entry .args .y) (tableAt (entry .args .m) (entry .args .n)) _ (c .table-at .ensures))
 
 pub put-entry-spec : {M : Type 1} → statement M
 put-entry-spec =

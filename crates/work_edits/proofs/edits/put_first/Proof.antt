@@ -8,13 +8,27 @@ use Rattle.work_edits.proofs.edits.put_first.Statement.{statement}
 use Rattle.work_edits.proofs.edits.put_first.Tie as tie
 
 entries-requires : tie.Need-entries-requires
-entries-requires c κs = omega (arith, room-0 _ _ _ (c .before .before .pre .0), lanes-few _ _ _ (c .before .before .pre .0), c .before .before .pre .0 .few, c .before .before .pre .0 .many, c .before .before .pre .1, few-entries (now (c .before .before .args .store)))
+entries-requires c κs =
+    let entry = c .before .before in
+    omega (arith, room-0 _ _ _ (entry .pre .0), lanes-few _ _ _ (entry .pre .0), entry .pre .0 .few, entry .pre .0 .many, entry .pre .1, few-entries (now (entry .args .store)))
 
 table-at-requires : tie.Need-table-at-requires
 table-at-requires c κs = search needs
 
 add-zero-cells : tie.Need-add-zero-cells
-add-zero-cells c = omega (arith, room-0 _ _ _ (c .before .before .before .before .pre .0), lanes-few _ _ _ (c .before .before .before .before .pre .0), c .before .before .before .before .pre .0 .few, c .before .before .before .before .pre .0 .many, c .before .before .before .before .pre .1, few-entries (now (c .before .before .before .before .args .store)), c .before .entries .ensures, c .table-at .ensures)
+add-zero-cells c =
+    let entry = c .before .before .before .before in
+    omega (
+      arith,
+      room-0 _ _ _ (entry .pre .0),
+      lanes-few _ _ _ (entry .pre .0),
+      entry .pre .0 .few,
+      entry .pre .0 .many,
+      entry .pre .1,
+      few-entries (now (entry .args .store)),
+      c .before .entries .ensures,
+      c .table-at .ensures,
+    )
 
 add-excess : tie.Need-add-excess
 add-excess c = search needs
@@ -23,16 +37,45 @@ excess-requires : tie.Need-excess-requires
 excess-requires c κs = search needs
 
 zero-cells-requires : tie.Need-zero-cells-requires
-zero-cells-requires c κs = omega (arith, room-0 _ _ _ (c .before .before .before .before .before .before .pre .0), lanes-few _ _ _ (c .before .before .before .before .before .before .pre .0), c .before .before .before .before .before .before .pre .0 .few, c .before .before .before .before .before .before .pre .0 .many, c .before .before .before .before .before .before .pre .1, few-entries (now (c .before .before .before .before .before .before .args .store)), c .before .before .before .entries .ensures, c .before .before .table-at .ensures, c .before .excess .ensures)
+zero-cells-requires c κs =
+    let at-entries = c .before .before .before in
+    let entry = at-entries .before .before .before in
+    omega (
+      arith,
+      room-0 _ _ _ (entry .pre .0),
+      lanes-few _ _ _ (entry .pre .0),
+      entry .pre .0 .few,
+      entry .pre .0 .many,
+      entry .pre .1,
+      few-entries (now (entry .args .store)),
+      at-entries .entries .ensures,
+      c .before .before .table-at .ensures,
+      c .before .excess .ensures,
+    )
 
 slice-write-store : tie.Need-slice-write-store
-slice-write-store c = omega (arith, room-0 _ _ _ (c .before .before .before .before .before .before .before .before .before .pre .0), lanes-few _ _ _ (c .before .before .before .before .before .before .before .before .before .pre .0), c .before .before .before .before .before .before .before .before .before .pre .0 .few, c .before .before .before .before .before .before .before .before .before .pre .0 .many, c .before .before .before .before .before .before .before .before .before .pre .1, few-entries (now (c .before .before .before .before .before .before .before .before .before .args .store)), c .before .before .zero-cells .kept)
+slice-write-store c =
+    let entry = c .before .before .before .before .before .before .before .before .before in
+    omega (
+      arith,
+      room-0 _ _ _ (entry .pre .0),
+      lanes-few _ _ _ (entry .pre .0),
+      entry .pre .0 .few,
+      entry .pre .0 .many,
+      entry .pre .1,
+      few-entries (now (entry .args .store)),
+      c .before .before .zero-cells .kept,
+    )
 
 same-length : tie.Need-same-length
 same-length c = search needs
 
 returns : tie.Need-returns
-returns c = first-set _ _ _ _ _ _ _ _ (c .before .before .zero-cells .ensures) (c .before .before .before .before .before .table-at .ensures) (c .before .before .before .before .before .before .entries .ensures) (c .before .before .before .before .excess .ensures)
+returns c =
+    let at-excess = c .before .before .before .before in
+    let at-table-at = at-excess .before in
+    let at-entries = at-table-at .before in
+    first-set _ _ _ _ _ _ _ _ (c .before .before .zero-cells .ensures) (at-table-at .table-at .ensures) (at-entries .entries .ensures) (at-excess .excess .ensures)
 
 pub put-first-spec : {M : Type 1} → statement M
 put-first-spec =

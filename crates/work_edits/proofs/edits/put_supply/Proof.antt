@@ -25,7 +25,12 @@ same-length : tie.Need-same-length
 same-length c = search needs
 
 returns-4 : tie.Need-returns-4
-returns-4 c = refuses _ _ _ _ _ (supply-23 _ _ _ (c .before .before .before .before .before .before .before .pre) _ _ (within _ _ (c .before .before .before .before .before .if1 .left) (c .before .before .before .before .if2 .left)) (c .before .before .before .if3 .left) _ (c .before .least-run .ensures) (c .if4 .taken))
+returns-4 c =
+    let at-if3 = c .before .before .before in
+    let at-if2 = at-if3 .before in
+    let at-if1 = at-if2 .before in
+    let entry = at-if1 .before .before in
+    refuses _ _ _ _ _ (supply-23 _ _ _ (entry .pre) _ _ (within _ _ (at-if1 .if1 .left) (at-if2 .if2 .left)) (at-if3 .if3 .left) _ (c .before .least-run .ensures) (c .if4 .taken))
 
 put-first-requires : tie.Need-put-first-requires
 put-first-requires c κs = search needs
@@ -34,7 +39,17 @@ same-length-2 : tie.Need-same-length-2
 same-length-2 c = search needs
 
 returns-5 : tie.Need-returns-5
-returns-5 c = works _ _ _ _ _ (supply-none _ _ _ (c .before .before .before .before .before .before .before .before .before .before .before .before .pre) _ _ (within _ _ (c .before .before .before .before .before .before .before .before .before .before .if1 .left) (c .before .before .before .before .before .before .before .before .before .if2 .left)) (c .before .before .before .before .before .before .before .before .if3 .left) _ (c .before .before .before .before .before .before .least-run .ensures) (c .before .before .before .before .before .if4 .left)) (first-writes _ _ _ _ _ (c .before .before .before .before .if5 .taken) _ (c .before .before .put-first .ensures))
+returns-5 c =
+    let at-if5 = c .before .before .before .before in
+    let at-if4 = at-if5 .before in
+    let at-least-run = at-if4 .before in
+    let at-if3 = at-least-run .before .before in
+    let at-if2 = at-if3 .before in
+    let at-if1 = at-if2 .before in
+    let entry = at-if1 .before .before in
+    works _ _ _ _ _
+    (supply-none _ _ _ (entry .pre) _ _ (within _ _ (at-if1 .if1 .left) (at-if2 .if2 .left)) (at-if3 .if3 .left) _ (at-least-run .least-run .ensures) (at-if4 .if4 .left))
+    (first-writes _ _ _ _ _ (at-if5 .if5 .taken) _ (c .before .before .put-first .ensures))
 
 add-at : tie.Need-add-at
 add-at c = search needs
@@ -49,7 +64,14 @@ same-length-3 : tie.Need-same-length-3
 same-length-3 c = search needs
 
 returns-6 : tie.Need-returns-6
-returns-6 c = works _ _ _ _ _ (supply-none _ _ _ (c .before .before .before .before .before .before .before .before .pre) _ _ (within _ _ (c .before .before .before .before .before .before .if1 .left) (c .before .before .before .before .before .if2 .left)) (c .before .before .before .before .if3 .left) _ (c .before .before .least-run .ensures) (c .before .if4 .left)) (other-writes _ _ _ _ _ (c .if5 .left))
+returns-6 c =
+    let at-if3 = c .before .before .before .before in
+    let at-if2 = at-if3 .before in
+    let at-if1 = at-if2 .before in
+    let entry = at-if1 .before .before in
+    works _ _ _ _ _
+    (supply-none _ _ _ (entry .pre) _ _ (within _ _ (at-if1 .if1 .left) (at-if2 .if2 .left)) (at-if3 .if3 .left) _ (c .before .before .least-run .ensures) (c .before .if4 .left))
+    (other-writes _ _ _ _ _ (c .if5 .left))
 
 pub put-supply-spec : {M : Type 1} → statement M
 put-supply-spec =

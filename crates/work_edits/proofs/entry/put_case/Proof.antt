@@ -23,33 +23,192 @@ slice-aggregate-put-cells c = search needs
 
 put-cells-requires : tie.Need-put-cells-requires
 unfolding cellsFor
-put-cells-requires c κs = omega (arith, c .before .before .before .before .before .before .before .before .before .before .before .pre .opening .room, c .before .before .before .before .before .before .before .before .before .before .before .pre .supplies-long, c .before .before .before .before .before .before .before .before .before .before .before .pre .demands-long, c .before .before .before .before .before .before .before .before .before .before .before .pre .costs-long, c .before .before .before .before .before .before .before .before .before .before .before .pre .ceilings-long, c .before .before .before .before .before .before .before .before .before .before .before .pre .table-long, c .before .before .before .before .before .before .before .before .before .before .before .pre .first-small, c .before .before .before .before .before .demands-at .ensures, c .before .before .before .before .costs-at .ensures, c .before .before .before .ceilings-at .ensures, c .before .before .table-at .ensures)
+put-cells-requires c κs =
+    let at-ceilings-at = c .before .before .before in
+    let at-costs-at = at-ceilings-at .before in
+    let at-demands-at = at-costs-at .before in
+    let entry = at-demands-at .before .before .before .before .before .before in
+    omega (
+      arith,
+      entry .pre .opening .room,
+      entry .pre .supplies-long,
+      entry .pre .demands-long,
+      entry .pre .costs-long,
+      entry .pre .ceilings-long,
+      entry .pre .table-long,
+      entry .pre .first-small,
+      at-demands-at .demands-at .ensures,
+      at-costs-at .costs-at .ensures,
+      at-ceilings-at .ceilings-at .ensures,
+      c .before .before .table-at .ensures,
+    )
 
 put-cells-requires-2 : tie.Need-put-cells-requires-2
 unfolding cellsFor
-put-cells-requires-2 c κs = omega (arith, c .before .before .before .before .before .before .before .before .before .before .before .before .before .before .before .pre .opening .room, c .before .before .before .before .before .before .before .before .before .before .before .before .before .before .before .pre .supplies-long, c .before .before .before .before .before .before .before .before .before .before .before .before .before .before .before .pre .demands-long, c .before .before .before .before .before .before .before .before .before .before .before .before .before .before .before .pre .costs-long, c .before .before .before .before .before .before .before .before .before .before .before .before .before .before .before .pre .ceilings-long, c .before .before .before .before .before .before .before .before .before .before .before .before .before .before .before .pre .table-long, c .before .before .before .before .before .before .before .before .before .before .before .before .before .before .before .pre .first-small, c .before .before .before .before .before .before .before .before .before .demands-at .ensures, c .before .before .before .before .before .before .before .before .costs-at .ensures, c .before .before .before .before .before .before .before .ceilings-at .ensures, c .before .before .before .before .before .before .table-at .ensures, c .before .before .before .put-cells .kept)
+put-cells-requires-2 c κs =
+    let at-put-cells = c .before .before .before in
+    let at-table-at = at-put-cells .before .before .before in
+    let at-ceilings-at = at-table-at .before in
+    let at-costs-at = at-ceilings-at .before in
+    let at-demands-at = at-costs-at .before in
+    let entry = at-demands-at .before .before .before .before .before .before in
+    omega (
+      arith,
+      entry .pre .opening .room,
+      entry .pre .supplies-long,
+      entry .pre .demands-long,
+      entry .pre .costs-long,
+      entry .pre .ceilings-long,
+      entry .pre .table-long,
+      entry .pre .first-small,
+      at-demands-at .demands-at .ensures,
+      at-costs-at .costs-at .ensures,
+      at-ceilings-at .ceilings-at .ensures,
+      at-table-at .table-at .ensures,
+      at-put-cells .put-cells .kept,
+    )
 
 put-cells-requires-3 : tie.Need-put-cells-requires-3
 unfolding cellsFor
-put-cells-requires-3 c κs = omega (arith, c .before .before .before .before .before .before .before .before .before .before .before .before .before .before .before .before .before .before .before .pre .opening .room, c .before .before .before .before .before .before .before .before .before .before .before .before .before .before .before .before .before .before .before .pre .supplies-long, c .before .before .before .before .before .before .before .before .before .before .before .before .before .before .before .before .before .before .before .pre .demands-long, c .before .before .before .before .before .before .before .before .before .before .before .before .before .before .before .before .before .before .before .pre .costs-long, c .before .before .before .before .before .before .before .before .before .before .before .before .before .before .before .before .before .before .before .pre .ceilings-long, c .before .before .before .before .before .before .before .before .before .before .before .before .before .before .before .before .before .before .before .pre .table-long, c .before .before .before .before .before .before .before .before .before .before .before .before .before .before .before .before .before .before .before .pre .first-small, c .before .before .before .before .before .before .before .before .before .before .before .before .before .demands-at .ensures, c .before .before .before .before .before .before .before .before .before .before .before .before .costs-at .ensures, c .before .before .before .before .before .before .before .before .before .before .before .ceilings-at .ensures, c .before .before .before .before .before .before .before .before .before .before .table-at .ensures, c .before .before .before .before .before .before .before .put-cells .kept, c .before .before .before .put-cells2 .kept)
+put-cells-requires-3 c κs =
+    let at-put-cells2 = c .before .before .before in
+    let at-put-cells = at-put-cells2 .before .before .before .before in
+    let at-table-at = at-put-cells .before .before .before in
+    let at-ceilings-at = at-table-at .before in
+    let at-costs-at = at-ceilings-at .before in
+    let at-demands-at = at-costs-at .before in
+    let entry = at-demands-at .before .before .before .before .before .before in
+    omega (
+      arith,
+      entry .pre .opening .room,
+      entry .pre .supplies-long,
+      entry .pre .demands-long,
+      entry .pre .costs-long,
+      entry .pre .ceilings-long,
+      entry .pre .table-long,
+      entry .pre .first-small,
+      at-demands-at .demands-at .ensures,
+      at-costs-at .costs-at .ensures,
+      at-ceilings-at .ceilings-at .ensures,
+      at-table-at .table-at .ensures,
+      at-put-cells .put-cells .kept,
+      at-put-cells2 .put-cells2 .kept,
+    )
 
 raise-cells-requires : tie.Need-raise-cells-requires
 unfolding cellsFor
-raise-cells-requires c κs = (omega (arith, c .before .before .before .before .before .before .before .before .before .before .before .before .before .before .before .before .before .before .before .before .before .before .before .pre .opening .room, c .before .before .before .before .before .before .before .before .before .before .before .before .before .before .before .before .before .before .before .before .before .before .before .pre .supplies-long, c .before .before .before .before .before .before .before .before .before .before .before .before .before .before .before .before .before .before .before .before .before .before .before .pre .demands-long, c .before .before .before .before .before .before .before .before .before .before .before .before .before .before .before .before .before .before .before .before .before .before .before .pre .costs-long, c .before .before .before .before .before .before .before .before .before .before .before .before .before .before .before .before .before .before .before .before .before .before .before .pre .ceilings-long, c .before .before .before .before .before .before .before .before .before .before .before .before .before .before .before .before .before .before .before .before .before .before .before .pre .table-long, c .before .before .before .before .before .before .before .before .before .before .before .before .before .before .before .before .before .before .before .before .before .before .before .pre .first-small, c .before .before .before .before .before .before .before .before .before .before .before .before .before .before .before .before .before .demands-at .ensures, c .before .before .before .before .before .before .before .before .before .before .before .before .before .before .before .before .costs-at .ensures, c .before .before .before .before .before .before .before .before .before .before .before .before .before .before .before .ceilings-at .ensures, c .before .before .before .before .before .before .before .before .before .before .before .before .before .before .table-at .ensures, c .before .before .before .before .before .before .before .before .before .before .before .put-cells .kept, c .before .before .before .before .before .before .before .put-cells2 .kept, c .before .before .before .put-cells3 .kept), c .before .before .before .before .before .before .before .before .before .before .before .before .before .before .before .before .before .before .before .before .before .before .before .pre .costs-inside)
+raise-cells-requires c κs =
+    let at-put-cells3 = c .before .before .before in
+    let at-put-cells2 = at-put-cells3 .before .before .before .before in
+    let at-put-cells = at-put-cells2 .before .before .before .before in
+    let at-table-at = at-put-cells .before .before .before in
+    let at-ceilings-at = at-table-at .before in
+    let at-costs-at = at-ceilings-at .before in
+    let at-demands-at = at-costs-at .before in
+    let entry = at-demands-at .before .before .before .before .before .before in (
+      omega (
+        arith,
+        entry .pre .opening .room,
+        entry .pre .supplies-long,
+        entry .pre .demands-long,
+        entry .pre .costs-long,
+        entry .pre .ceilings-long,
+        entry .pre .table-long,
+        entry .pre .first-small,
+        at-demands-at .demands-at .ensures,
+        at-costs-at .costs-at .ensures,
+        at-ceilings-at .ceilings-at .ensures,
+        at-table-at .table-at .ensures,
+        at-put-cells .put-cells .kept,
+        at-put-cells2 .put-cells2 .kept,
+        at-put-cells3 .put-cells3 .kept,
+      ),
+      entry .pre .costs-inside,
+    )
 
 put-cells-requires-4 : tie.Need-put-cells-requires-4
 unfolding cellsFor
-put-cells-requires-4 c κs = omega (arith, c .before .before .before .before .before .before .before .before .before .before .before .before .before .before .before .before .before .before .before .before .before .before .before .before .before .before .before .pre .opening .room, c .before .before .before .before .before .before .before .before .before .before .before .before .before .before .before .before .before .before .before .before .before .before .before .before .before .before .before .pre .supplies-long, c .before .before .before .before .before .before .before .before .before .before .before .before .before .before .before .before .before .before .before .before .before .before .before .before .before .before .before .pre .demands-long, c .before .before .before .before .before .before .before .before .before .before .before .before .before .before .before .before .before .before .before .before .before .before .before .before .before .before .before .pre .costs-long, c .before .before .before .before .before .before .before .before .before .before .before .before .before .before .before .before .before .before .before .before .before .before .before .before .before .before .before .pre .ceilings-long, c .before .before .before .before .before .before .before .before .before .before .before .before .before .before .before .before .before .before .before .before .before .before .before .before .before .before .before .pre .table-long, c .before .before .before .before .before .before .before .before .before .before .before .before .before .before .before .before .before .before .before .before .before .before .before .before .before .before .before .pre .first-small, c .before .before .before .before .before .before .before .before .before .before .before .before .before .before .before .before .before .before .before .before .before .demands-at .ensures, c .before .before .before .before .before .before .before .before .before .before .before .before .before .before .before .before .before .before .before .before .costs-at .ensures, c .before .before .before .before .before .before .before .before .before .before .before .before .before .before .before .before .before .before .before .ceilings-at .ensures, c .before .before .before .before .before .before .before .before .before .before .before .before .before .before .before .before .before .before .table-at .ensures, c .before .before .before .before .before .before .before .before .before .before .before .before .before .before .before .put-cells .kept, c .before .before .before .before .before .before .before .before .before .before .before .put-cells2 .kept, c .before .before .before .before .before .before .before .put-cells3 .kept, c .before .before .before .raise-cells .kept)
+put-cells-requires-4 c κs =
+    let at-raise-cells = c .before .before .before in
+    let at-put-cells3 = at-raise-cells .before .before .before .before in
+    let at-put-cells2 = at-put-cells3 .before .before .before .before in
+    let at-put-cells = at-put-cells2 .before .before .before .before in
+    let at-table-at = at-put-cells .before .before .before in
+    let at-ceilings-at = at-table-at .before in
+    let at-costs-at = at-ceilings-at .before in
+    let at-demands-at = at-costs-at .before in
+    let entry = at-demands-at .before .before .before .before .before .before in
+    omega (
+      arith,
+      entry .pre .opening .room,
+      entry .pre .supplies-long,
+      entry .pre .demands-long,
+      entry .pre .costs-long,
+      entry .pre .ceilings-long,
+      entry .pre .table-long,
+      entry .pre .first-small,
+      at-demands-at .demands-at .ensures,
+      at-costs-at .costs-at .ensures,
+      at-ceilings-at .ceilings-at .ensures,
+      at-table-at .table-at .ensures,
+      at-put-cells .put-cells .kept,
+      at-put-cells2 .put-cells2 .kept,
+      at-put-cells3 .put-cells3 .kept,
+      at-raise-cells .raise-cells .kept,
+    )
 
 put-cells-requires-5 : tie.Need-put-cells-requires-5
 unfolding cellsFor
-put-cells-requires-5 c κs = omega (arith, c .before .before .before .before .before .before .before .before .before .before .before .before .before .before .before .before .before .before .before .before .before .before .before .before .before .before .before .before .before .before .before .pre .opening .room, c .before .before .before .before .before .before .before .before .before .before .before .before .before .before .before .before .before .before .before .before .before .before .before .before .before .before .before .before .before .before .before .pre .supplies-long, c .before .before .before .before .before .before .before .before .before .before .before .before .before .before .before .before .before .before .before .before .before .before .before .before .before .before .before .before .before .before .before .pre .demands-long, c .before .before .before .before .before .before .before .before .before .before .before .before .before .before .before .before .before .before .before .before .before .before .before .before .before .before .before .before .before .before .before .pre .costs-long, c .before .before .before .before .before .before .before .before .before .before .before .before .before .before .before .before .before .before .before .before .before .before .before .before .before .before .before .before .before .before .before .pre .ceilings-long, c .before .before .before .before .before .before .before .before .before .before .before .before .before .before .before .before .before .before .before .before .before .before .before .before .before .before .before .before .before .before .before .pre .table-long, c .before .before .before .before .before .before .before .before .before .before .before .before .before .before .before .before .before .before .before .before .before .before .before .before .before .before .before .before .before .before .before .pre .first-small, c .before .before .before .before .before .before .before .before .before .before .before .before .before .before .before .before .before .before .before .before .before .before .before .before .before .demands-at .ensures, c .before .before .before .before .before .before .before .before .before .before .before .before .before .before .before .before .before .before .before .before .before .before .before .before .costs-at .ensures, c .before .before .before .before .before .before .before .before .before .before .before .before .before .before .before .before .before .before .before .before .before .before .before .ceilings-at .ensures, c .before .before .before .before .before .before .before .before .before .before .before .before .before .before .before .before .before .before .before .before .before .before .table-at .ensures, c .before .before .before .before .before .before .before .before .before .before .before .before .before .before .before .before .before .before .before .put-cells .kept, c .before .before .before .before .before .before .before .before .before .before .before .before .before .before .before .put-cells2 .kept, c .before .before .before .before .before .before .before .before .before .before .before .put-cells3 .kept, c .before .before .before .before .before .before .before .raise-cells .kept, c .before .before .before .put-cells4 .kept)
+put-cells-requires-5 c κs =
+    let at-put-cells4 = c .before .before .before in
+    let at-raise-cells = at-put-cells4 .before .before .before .before in
+    let at-put-cells3 = at-raise-cells .before .before .before .before in
+    let at-put-cells2 = at-put-cells3 .before .before .before .before in
+    let at-put-cells = at-put-cells2 .before .before .before .before in
+    let at-table-at = at-put-cells .before .before .before in
+    let at-ceilings-at = at-table-at .before in
+    let at-costs-at = at-ceilings-at .before in
+    let at-demands-at = at-costs-at .before in
+    let entry = at-demands-at .before .before .before .before .before .before in
+    omega (
+      arith,
+      entry .pre .opening .room,
+      entry .pre .supplies-long,
+      entry .pre .demands-long,
+      entry .pre .costs-long,
+      entry .pre .ceilings-long,
+      entry .pre .table-long,
+      entry .pre .first-small,
+      at-demands-at .demands-at .ensures,
+      at-costs-at .costs-at .ensures,
+      at-ceilings-at .ceilings-at .ensures,
+      at-table-at .table-at .ensures,
+      at-put-cells .put-cells .kept,
+      at-put-cells2 .put-cells2 .kept,
+      at-put-cells3 .put-cells3 .kept,
+      at-raise-cells .raise-cells .kept,
+      at-put-cells4 .put-cells4 .kept,
+    )
 
 same-length : tie.Need-same-length
 same-length c = search needs
 
 returns : tie.Need-returns
-returns c = filled _ _ (c .before .before .before .before .before .before .before .before .before .before .before .before .before .before .before .before .before .before .before .before .before .before .before .before .before .before .before .before .before .before .before .before .before .before .pre) _ _ _ _ _ _ _ _ _ _ (c .before .before .before .before .before .before .before .before .before .before .before .before .before .before .before .before .before .before .before .before .before .before .before .before .before .before .before .before .demands-at .ensures) (c .before .before .before .before .before .before .before .before .before .before .before .before .before .before .before .before .before .before .before .before .before .before .before .before .before .before .before .costs-at .ensures) (c .before .before .before .before .before .before .before .before .before .before .before .before .before .before .before .before .before .before .before .before .before .before .before .before .before .before .ceilings-at .ensures) (c .before .before .before .before .before .before .before .before .before .before .before .before .before .before .before .before .before .before .before .before .before .before .before .before .before .table-at .ensures) (c .before .before .before .before .before .before .before .before .before .before .before .before .before .before .before .before .before .before .before .before .before .before .put-cells .ensures) (c .before .before .before .before .before .before .before .before .before .before .before .before .before .before .before .before .before .before .put-cells2 .ensures) (c .before .before .before .before .before .before .before .before .before .before .before .before .before .before .put-cells3 .ensures) (c .before .before .before .before .before .before .before .before .before .before .raise-cells .ensures) (c .before .before .before .before .before .before .put-cells4 .ensures) (c .before .before .put-cells5 .ensures)
+returns c =
+    let at-put-cells4 = c .before .before .before .before .before .before in
+    let at-raise-cells = at-put-cells4 .before .before .before .before in
+    let at-put-cells3 = at-raise-cells .before .before .before .before in
+    let at-put-cells2 = at-put-cells3 .before .before .before .before in
+    let at-put-cells = at-put-cells2 .before .before .before .before in
+    let at-table-at = at-put-cells .before .before .before in
+    let at-ceilings-at = at-table-at .before in
+    let at-costs-at = at-ceilings-at .before in
+    let at-demands-at = at-costs-at .before in
+    let entry = at-demands-at .before .before .before .before .before .before in
+    filled _ _ (entry .pre) _ _ _ _ _ _ _ _ _ _ (at-demands-at .demands-at .ensures) (at-costs-at .costs-at .ensures)
+    (at-ceilings-at .ceilings-at .ensures) (at-table-at .table-at .ensures) (at-put-cells .put-cells .ensures) (at-put-cells2 .put-cells2 .ensures)
+    (at-put-cells3 .put-cells3 .ensures) (at-raise-cells .raise-cells .ensures) (at-put-cells4 .put-cells4 .ensures)
+    (c .before .before .put-cells5 .ensures)
 
 pub put-case-spec : {M : Type 1} → statement M
 put-case-spec =

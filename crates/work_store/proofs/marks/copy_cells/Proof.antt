@@ -21,7 +21,9 @@ mul-x : tie.Need-mul-x Inv-loop μ-loop
 mul-x c = omega (arith, c .before .before .pre .from-room, c .before .before .good)
 
 slice-read-x : tie.Need-slice-read-x Inv-loop μ-loop
-slice-read-x c = omega (arith, c .before .before .before .pre .from-room, c .before .loop-test .taken, copying-length _ _ _ _ (c .before .before .before .pre) _ _ (c .before .before .loop .inv))
+slice-read-x c =
+    let entry = c .before .before .before in
+    omega (arith, entry .pre .from-room, c .before .loop-test .taken, copying-length _ _ _ _ (entry .pre) _ _ (c .before .before .loop .inv))
 
 add-store : tie.Need-add-store Inv-loop μ-loop
 add-store c = omega (arith, c .before .before .before .pre .to-room, c .before .before .before .good, c .before .loop-test .taken)
@@ -30,7 +32,9 @@ mul-store : tie.Need-mul-store Inv-loop μ-loop
 mul-store c = omega (arith, c .before .before .before .pre .to-room, c .before .before .before .good, c .before .loop-test .taken)
 
 slice-write-store : tie.Need-slice-write-store Inv-loop μ-loop
-slice-write-store c = omega (arith, c .before .before .before .pre .to-room, c .before .loop-test .taken, copying-length _ _ _ _ (c .before .before .before .pre) _ _ (c .before .before .loop .inv))
+slice-write-store c =
+    let entry = c .before .before .before in
+    omega (arith, entry .pre .to-room, c .before .loop-test .taken, copying-length _ _ _ _ (entry .pre) _ _ (c .before .before .loop .inv))
 
 add-i : tie.Need-add-i Inv-loop μ-loop
 add-i c = omega arith

@@ -18,7 +18,10 @@ slot-width-requires c κs = search needs
 
 -- src/marks.rt:48:5
 copy-cells-requires : tie.Need-copy-cells-requires
-copy-cells-requires c κs = slots-pair _ _ _ _ _ _ _ _ (c .before .before .before .slot-start .ensures) (c .before .before .slot-start2 .ensures) (c .before .slot-width .ensures) (c .before .before .before .before .before .pre .0) (c .before .before .before .before .before .pre .1)
+copy-cells-requires c κs =
+    let at-slot-start = c .before .before .before in
+    let entry = at-slot-start .before .before in
+    slots-pair _ _ _ _ _ _ _ _ (at-slot-start .slot-start .ensures) (c .before .before .slot-start2 .ensures) (c .before .slot-width .ensures) (entry .pre .0) (entry .pre .1)
 
 -- src/marks.rt:40:1
 same-length : tie.Need-same-length
@@ -26,7 +29,11 @@ same-length c = search needs
 
 -- src/marks.rt:40:1
 returns : tie.Need-returns
-returns c = slot-copied _ _ _ _ _ _ _ _ (c .before .before .before .before .before .before .slot-start .ensures) (c .before .before .before .before .before .slot-start2 .ensures) (c .before .before .before .before .slot-width .ensures) _ (c .before .before .copy-cells .ensures)
+returns c =
+    let at-slot-width = c .before .before .before .before in
+    let at-slot-start2 = at-slot-width .before in
+    let at-slot-start = at-slot-start2 .before in
+    slot-copied _ _ _ _ _ _ _ _ (at-slot-start .slot-start .ensures) (at-slot-start2 .slot-start2 .ensures) (at-slot-width .slot-width .ensures) _ (c .before .before .copy-cells .ensures)
 
 pub copy-slot-spec : {M : Type 1} → statement M
 copy-slot-spec =

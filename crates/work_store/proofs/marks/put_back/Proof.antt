@@ -26,7 +26,9 @@ mul-set c = search needs
 
 -- src/marks.rt:76:15
 slice-read-set : tie.Need-slice-read-set
-slice-read-set c = let p = c .before .before .before .before in omega (arith, p .pre .room, large (p .args .m) (p .args .n), c .before .if2 .left)
+slice-read-set c =
+    let p = c .before .before .before .before in
+    omega (arith, p .pre .room, large (p .args .m) (p .args .n), c .before .if2 .left)
 
 -- src/marks.rt:78:9
 returns-3 : tie.Need-returns-3
@@ -34,7 +36,11 @@ returns-3 c = let i = (within _ _ (c .before .before .before .if1 .left) (c .bef
 
 -- src/marks.rt:80:5
 copy-slot-requires : tie.Need-copy-slot-requires
-copy-slot-requires c κs = (c .before .before .before .before .before .before .pre, record { from-slot = c .before .before .before .if2 .left; to-slot = omega arith; differ = inr (c .before .before .before .before .if1 .left) })
+copy-slot-requires c κs =
+    let at-if2 = c .before .before .before in
+    let at-if1 = at-if2 .before in
+    let entry = at-if1 .before .before in
+    (entry .pre, record { from-slot = at-if2 .if2 .left; to-slot = omega arith; differ = inr (at-if1 .if1 .left) })
 
 -- src/marks.rt:66:1
 same-length : tie.Need-same-length
@@ -43,7 +49,11 @@ same-length c = search needs
 -- src/marks.rt:66:1
 returns-4 : tie.Need-returns-4
 unfolding writes
-returns-4 c = let i = (within _ _ (c .before .before .before .before .before .before .before .if1 .left) (c .before .before .before .before .before .before .if2 .left)) in works _ _ _ _ _ (back-none _ _ i (flag-set _ _ _ _ i (c .before .before .before .before .if3 .left))) (c .before .before .copy-slot .ensures)
+returns-4 c =
+    let at-if3 = c .before .before .before .before in
+    let at-if2 = at-if3 .before .before in
+    let at-if1 = at-if2 .before in
+    let i = (within _ _ (at-if1 .if1 .left) (at-if2 .if2 .left)) in works _ _ _ _ _ (back-none _ _ i (flag-set _ _ _ _ i (at-if3 .if3 .left))) (c .before .before .copy-slot .ensures)
 
 pub put-back-spec : {M : Type 1} → statement M
 put-back-spec =

@@ -34,7 +34,10 @@ mul-store c = search needs
 
 -- src/marks.rt:62:5
 slice-write-store : tie.Need-slice-write-store
-slice-write-store c = let p = c .before .before .before .before .before .before .before in omega (arith, c .before .before .copy-slot .kept, p .pre .room, large (p .args .m) (p .args .n), c .before .before .before .before .if2 .left)
+slice-write-store c =
+    let at-if2 = c .before .before .before .before in
+    let p = at-if2 .before .before .before in
+    omega (arith, c .before .before .copy-slot .kept, p .pre .room, large (p .args .m) (p .args .n), at-if2 .if2 .left)
 
 -- src/marks.rt:51:1
 same-length : tie.Need-same-length
@@ -43,7 +46,11 @@ same-length c = search needs
 -- src/marks.rt:51:1
 returns-3 : tie.Need-returns-3
 unfolding writes
-returns-3 c = works _ _ _ _ _ (mark-none _ _ (within _ _ (c .before .before .before .before .before .if1 .left) (c .before .before .before .before .if2 .left))) (ap (λ (l : List ℕ). set l (1 + c .before .before .before .before .before .before .before .args .k) 1) (c .before .before .copy-slot .ensures))
+returns-3 c =
+    let at-if2 = c .before .before .before .before in
+    let at-if1 = at-if2 .before in
+    let entry = at-if1 .before .before in
+    works _ _ _ _ _ (mark-none _ _ (within _ _ (at-if1 .if1 .left) (at-if2 .if2 .left))) (ap (λ (l : List ℕ). set l (1 + entry .args .k) 1) (c .before .before .copy-slot .ensures))
 
 pub put-mark-spec : {M : Type 1} → statement M
 put-mark-spec =

@@ -40,13 +40,17 @@ returns-7 c = shut-room _ (omega (arith, c .if7 .taken, c .before .cells-for .en
 
 returns-8 : tie.Need-returns-8
 returns-8 c =
+    let at-if5 = c .before .before .before in
+    let at-if4 = at-if5 .before in
+    let at-if3 = at-if4 .before in
+    let at-if2 = at-if3 .before .before .before in
     found _ (record {
-      two = c .before .before .before .before .before .if3 .left;
-      few = c .before .before .before .before .if4 .left;
-      one = c .before .before .before .if5 .left;
+      two = at-if3 .if3 .left;
+      few = at-if4 .if4 .left;
+      one = at-if5 .if5 .left;
       many = c .before .before .if6 .left;
       room = omega (arith, c .if7 .left, c .before .cells-for .ensures);
-    }) (c .before .before .before .before .before .before .before .before .if2 .left)
+    }) (at-if2 .if2 .left)
 
 pub open-store-spec : {M : Type 1} → statement M
 open-store-spec =
