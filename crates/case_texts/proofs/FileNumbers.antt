@@ -11,7 +11,9 @@ use lib.IntN.{ℤ, natAbs}
 use lib.ListN.{length, getD}
 use Rattle.csv_form.specs.declared.Kind.{Kind}
 use Rattle.csv_form.specs.declared.Kind.the-variants.{Tariff, Production}
-use Rattle.csv_form.specs.Form.{Mark, digit, minus, quote, comma, cr, lf, other, mark, State, field, fieldOrEmpty, recordOrEnd, opened, bare, quoted, zeroBare, zeroQuoted, closed, minusBare, minusQuoted, bareCost, quotedCost, closedCost, lineEnd, lastLineEnd, done, row, step, placeOf, leading, more, inTariff, mayEnd, afterComma, afterLine}
+use Rattle.csv_form.specs.Form.{Mark, digit, minus, quote, comma, cr, lf, other, mark, State, field, fieldOrEmpty, recordOrEnd, opened, bare, quoted}
+use Rattle.csv_form.specs.Form.{zeroBare, zeroQuoted, closed, minusBare, minusQuoted, bareCost, quotedCost, closedCost, lineEnd, lastLineEnd, done}
+use Rattle.csv_form.specs.Form.{row, step, placeOf, leading, more, inTariff, mayEnd, afterComma, afterLine}
 use Rattle.csv_form.specs.Records.{Reading, reading, run, absorb, signed, number, recordsAtEnd, isSource, rowWith, rowsWith, Form, whole, broken, formOf}
 use Rattle.csv_table.specs.Files.{inOrder}
 use Rattle.csv_form.proofs.ByteMarks.{NotDigit, mark-digit, below-digit, above-digit}

@@ -144,7 +144,8 @@ entries-go table (suc k) h =
     goes-then (entries-go table k (λ y l. h y (omega arith)))
     (line-goes Production (entryState k) (starts-entry k) false [] (tab k (λ y. pos (getD table y 0) ∷ [])) (getD table k 0) (h k (omega arith)))
 
-record-whole : (k : ℕ) (text : List ℕ) (rs : List (List ℤ)) → 1 ≤ k → Goes Production (reading field 0 false false [] []) text (reading (entryState k) 0 false false [] rs) → formOf Production text ≡ whole rs
+record-whole :
+    (k : ℕ) (text : List ℕ) (rs : List (List ℤ)) → 1 ≤ k → Goes Production (reading field 0 false false [] []) text (reading (entryState k) 0 false false [] rs) → formOf Production text ≡ whole rs
 unfolding formOf run mayEnd recordsAtEnd entryState
 record-whole zero text rs h g = absurd (omega arith)
 record-whole (suc k) text rs h g = ap (λ (t : List ℕ). run Production 0 (reading field 0 false false [] []) t) (sym (append-nil text)) ∙ g .on 0 []

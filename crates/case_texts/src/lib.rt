@@ -63,7 +63,8 @@ pub fn put_tariff(
 ) -> usize
     requires { ⌜ (m ≤ 32) × (n ≤ 64) ⌝ }
     requires { ⌜ (m * n ≤ length (now costs)) × (m ≤ length (now supplies)) × (n ≤ length (now demands)) ⌝ }
-    ensures { λ r. ⌜ Written (now (out .entry)) (now (out .exit)) 0 r (tariffOf m n (now (costs .entry)) (now (supplies .entry)) (now (demands .entry))) (1366 * m + 1346) ⌝ }
+    ensures { λ r. ⌜ Written (now (out .entry)) (now (out .exit)) 0 r
+        (tariffOf m n (now (costs .entry)) (now (supplies .entry)) (now (demands .entry))) (1366 * m + 1346) ⌝ }
 {
     let last = put_sources(out, m, n, costs, supplies);
     let empty = put_list(out, last, demands, n);

@@ -40,7 +40,8 @@ entries-read p table table′ held held′ records one t long e read shared =
     record {
       answered = rw told refl;
       counted = λ count w. let k : records ≡ count = cc in sym k ∙ sym (entries-long p records one a) ∙ sym (ap length same);
-      stored = λ count w. shared ∙ ap (λ (l : List ℕ). sets table 0 l) (stored-entries held held′ (a .rows) records long (fields-long p records one a) kept ∙ ap (λ (l : List ℕ). take 4002 l) (sym same));
+      stored =
+          λ count w. shared ∙ ap (λ (l : List ℕ). sets table 0 l) (stored-entries held held′ (a .rows) records long (fields-long p records one a) kept ∙ ap (λ (l : List ℕ). take 4002 l) (sym same));
       kept = λ number place w. absurd (let z : _≡_ {A = ℕ} 0 1 = cc in omega arith);
     }
 

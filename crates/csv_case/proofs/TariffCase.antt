@@ -19,7 +19,8 @@ use Rattle.csv_form.specs.Records.{Form, whole, broken, formOf}
 use Rattle.csv_table.specs.Files.{pick, wanted, oddFrom, judge, tableOf, pickTable, inOrder}
 use Rattle.csv_case.specs.declared.case.CaseAnswer.the-variants as answers
 use Rattle.csv_table.specs.inner.Tallies.{TableRead}
-use Rattle.csv_case.specs.CaseFiles.{sourcesIn, terminalsIn, sourceRecords, costsIn, suppliesIn, demandsIn, entriesIn, costRows, supplyRows, onRefused, caseAnswer, TariffKept, Shared, CaseStored}
+use Rattle.csv_case.specs.CaseFiles.{sourcesIn, terminalsIn, sourceRecords, costsIn, suppliesIn, demandsIn, entriesIn, costRows, supplyRows}
+use Rattle.csv_case.specs.CaseFiles.{onRefused, caseAnswer, TariffKept, Shared, CaseStored}
 use Rattle.csv_table.proofs.FieldCounts.{judged-whole}
 use Rattle.csv_print.proofs.Stores.{stored-part}
 
@@ -222,7 +223,8 @@ module _ (t p : List ℕ) (costs : List ℤ) (supplies demands table : List ℕ)
       rw e (refused-case number place (let w : tableOf Production p ≡ Refused number place = sym k ∙ e in rw (← a, w) refl))
 
   pub both-accepted :
-      (costs′ : List ℤ) (supplies′ demands′ table′ : List ℕ) (cells cells′ held₀ held : List ℤ) (records fields entries one : ℕ) (whole-a whole-b : Table) → length cells ≡ 2145 → length held₀ ≡ 4002 → whole-a ≡ Whole records fields →
+      (costs′ : List ℤ) (supplies′ demands′ table′ : List ℕ) (cells cells′ held₀ held : List ℤ) (records fields entries one : ℕ) (whole-a whole-b : Table) →
+      length cells ≡ 2145 → length held₀ ≡ 4002 → whole-a ≡ Whole records fields →
       TableRead Tariff t cells cells′ whole-a → whole-b ≡ Whole entries one → TableRead Production p held₀ held whole-b →
       Shared (records - 1) (fields - 1) cells′ costs supplies demands costs′ supplies′ demands′ →
       table′ ≡ sets table 0 (map natAbs (take (min entries 4002) held)) →
@@ -250,9 +252,14 @@ module _ (t p : List ℕ) (costs : List ℤ) (supplies demands table : List ℕ)
             let width : wanted Tariff rs ≡ n + 1 = (sym (ap (λ (l : List (List ℤ)). wanted Tariff l) same) ∙ sym (wa .width)) ∙ ef in
             let kept : cells′ ≡ sets cells 0 (inOrder rs) = fields-read a (sym (a .answered)) f in
             record {
-              costs-stored = share .costs-shared few narrow ∙ ap (λ (l : List ℤ). sets costs 0 l) (ap (λ (l : List ℤ). costRows m n l) kept ∙ stored-costs cells rs m n long count even-rows few narrow width);
-              supplies-stored = share .supplies-shared few narrow ∙ ap (λ (l : List ℕ). sets supplies 0 l) (ap (λ (l : List ℤ). supplyRows m n l) kept ∙ stored-supplies cells rs m n long count even-rows few narrow width);
-              demands-stored = share .demands-shared few narrow ∙ ap (λ (l : List ℕ). sets demands 0 l) (ap (λ (l : List ℤ). map natAbs (take n (drop (m * (n + 1)) l))) kept ∙ stored-demands cells rs m n long count even-rows few narrow width);
+              costs-stored =
+                  share .costs-shared few narrow ∙ ap (λ (l : List ℤ). sets costs 0 l) (ap (λ (l : List ℤ). costRows m n l) kept ∙ stored-costs cells rs m n long count even-rows few narrow width);
+              supplies-stored =
+                  share .supplies-shared few narrow ∙
+                  ap (λ (l : List ℕ). sets supplies 0 l) (ap (λ (l : List ℤ). supplyRows m n l) kept ∙ stored-supplies cells rs m n long count even-rows few narrow width);
+              demands-stored =
+                  share .demands-shared few narrow ∙
+                  ap (λ (l : List ℕ). sets demands 0 l) (ap (λ (l : List ℤ). map natAbs (take n (drop (m * (n + 1)) l))) kept ∙ stored-demands cells rs m n long count even-rows few narrow width);
             };
         large-kept = λ m′ n′ entries′ w no-room.
             let em : m ≡ m′ = cc in

@@ -65,7 +65,8 @@ fn share(
     demands: &mut [u64],
 )
     requires { ⌜ length (now cells) ≡ 2145 ⌝ }
-    ensures { λ _. ⌜ Shared m n (now (cells .entry)) (now (costs .entry)) (now (supplies .entry)) (now (demands .entry)) (now (costs .exit)) (now (supplies .exit)) (now (demands .exit)) ⌝ }
+    ensures { λ _. ⌜ Shared m n (now (cells .entry)) (now (costs .entry)) (now (supplies .entry)) (now (demands .entry)) (now (costs .exit))
+        (now (supplies .exit)) (now (demands .exit)) ⌝ }
 {
     if 32 < m {
         return;
@@ -111,7 +112,8 @@ pub fn read_case(
     demands: &mut [u64],
     table: &mut [u64],
 ) -> CaseAnswer
-    ensures { λ r. ⌜ CaseStored (now (tariff .entry)) (now (production .entry)) (now (costs .entry)) (now (supplies .entry)) (now (demands .entry)) (now (table .entry)) (now (costs .exit)) (now (supplies .exit)) (now (demands .exit)) (now (table .exit)) r ⌝ }
+    ensures { λ r. ⌜ CaseStored (now (tariff .entry)) (now (production .entry)) (now (costs .entry)) (now (supplies .entry))
+        (now (demands .entry)) (now (table .entry)) (now (costs .exit)) (now (supplies .exit)) (now (demands .exit)) (now (table .exit)) r ⌝ }
 {
     let mut cells = blank();
     let t = read_table(Kind::Tariff, tariff, &mut cells);

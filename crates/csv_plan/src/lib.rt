@@ -94,7 +94,8 @@ pub fn put_plan(
     split: u64,
     entry: u64,
 ) -> usize
-    ensures { λ r. ⌜ PlanWritten (Fits m n (now (costs .entry)) (now (plan .entry))) (now (out .entry)) (now (out .exit)) r (planText m n (now (costs .entry)) (now (plan .entry)) split «entry») (185 + 5440 * m) ⌝ }
+    ensures { λ r. ⌜ PlanWritten (Fits m n (now (costs .entry)) (now (plan .entry))) (now (out .entry)) (now (out .exit)) r
+        (planText m n (now (costs .entry)) (now (plan .entry)) split «entry») (185 + 5440 * m) ⌝ }
 {
     if fits(m, n, costs, plan) {
         return put_fitting(out, m, n, costs, plan, split, entry);

@@ -136,7 +136,9 @@ module _ (kind : Kind) (s : List ℕ) (cells₀ : List ℤ) where
           row = along .row;
           rows = along .rows;
           so-far = along .so-far ∙ known .meaning (along .rebate) (along .row) (along .rows);
-          tally = subst (λ (a : Tally). Tallied kind (m || along .rebate) (along .rows) (rowWith z (along .row)) a) (sym et) (tally-field kind (along .rebate) (along .rows) (along .row) t m z (along .tally));
+          tally =
+              subst (λ (a : Tally). Tallied kind (m || along .rebate) (along .rows) (rowWith z (along .row)) a) (sym et)
+              (tally-field kind (along .rebate) (along .rows) (along .row) t m z (along .tally));
           stored =
               ec ∙ rw (ey, along .stored, count) (sym (sets-snoc cells₀ 0 (inOrder (along .rows) ++ along .row) z))
               ∙ ap (λ (l : List ℤ). sets cells₀ 0 l) (append-assoc (inOrder (along .rows)) (along .row) (z ∷ []));

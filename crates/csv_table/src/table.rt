@@ -10,7 +10,8 @@ ghost use mathlib.Core.Path.{_≡_};
 ghost use mathlib.Core.Bool.{_||_};
 ghost use Rattle.csv_table.specs.Files.{judged, tableOf, stands};
 ghost use Rattle.csv_form.specs.declared.Kind.the-variants as kinds;
-ghost use Rattle.csv_table.specs.inner.Tallies.{startTally, fieldTally, recordTally, sourceTally, widthOr, oddOr, Countable, handedOn, Scanned, TableRead};
+ghost use Rattle.csv_table.specs.inner.Tallies.{startTally, fieldTally, recordTally, sourceTally, widthOr, oddOr, Countable, handedOn};
+ghost use Rattle.csv_table.specs.inner.Tallies.{Scanned, TableRead};
 
 // The whole file's count of records and of each record's fields, or a refusal.
 pub enum Table {
@@ -48,7 +49,7 @@ impl Tally {
     }
 
     // One more field, with a minus or not.
-    pub fn with_field(self, minus: bool) -> Self
+    fn with_field(self, minus: bool) -> Self
         requires { ⌜ Countable self ⌝ }
         ensures { λ r. ⌜ r ≡ fieldTally minus self ⌝ }
     {
@@ -64,7 +65,7 @@ impl Tally {
     }
 
     // The record ends.
-    pub fn with_record(self) -> Self
+    fn with_record(self) -> Self
         requires { ⌜ Countable self ⌝ }
         ensures { λ r. ⌜ r ≡ recordTally self ⌝ }
     {

@@ -36,7 +36,8 @@ ceilings-long l e = ap length e ∙ length-replicate {A = ℕ} 2048 4000
 
 -- a case lent in parts that have these lengths is the cut case
 pub cut-printed :
-    (m n entries a b e : ℕ) (costs : List ℤ) (supplies demands ceilings table out out′ : List ℕ) (answer : Printed) → a ≡ min m 32 → b ≡ min n 64 → e ≡ min entries 4002 → ceilings ≡ replicate {A = ℕ} 2048 4000 →
+    (m n entries a b e : ℕ) (costs : List ℤ) (supplies demands ceilings table out out′ : List ℕ) (answer : Printed) → a ≡ min m 32 → b ≡ min n 64 →
+    e ≡ min entries 4002 → ceilings ≡ replicate {A = ℕ} 2048 4000 →
     CasePrinted (filedCase m n (take (a * b) costs) (take a supplies) (take b demands) (take (a * b) ceilings) (take e table)) out out′ answer →
     CasePrinted (cutCase m n entries costs supplies demands table) out out′ answer
 cut-printed m n entries a b e costs supplies demands ceilings table out out′ answer ea eb ee ec p =
@@ -54,7 +55,8 @@ carry c c′ m n out out′ answer a p = record {
   plan = λ s t f k h. subst (λ (x : Case). PlanPrinted x s t out out′ answer) (a .one s t f k h) (p .plan s t f k (a .same ∙ h));
 }
 
-module _ (t p : List ℕ) (costs : List ℤ) (supplies demands table : List ℕ) (costs′ : List ℤ) (supplies′ demands′ table′ : List ℕ) (room : Stored costs supplies demands table) (m n entries : ℕ) {answer : CaseAnswer}
+module _ (t p : List ℕ) (costs : List ℤ) (supplies demands table : List ℕ) (costs′ : List ℤ) (supplies′ demands′ table′ : List ℕ)
+    (room : Stored costs supplies demands table) (m n entries : ℕ) {answer : CaseAnswer}
     (told : answer ≡ answers.Case m n entries) (stored : CaseStored t p costs supplies demands table costs′ supplies′ demands′ table′ answer) where
   module _ (b : BothStand t p m n entries) where
     -- the case of the files, with its counts
@@ -99,14 +101,17 @@ module _ (t p : List ℕ) (costs : List ℤ) (supplies demands table : List ℕ)
       unfolding cut-table full
       short-table k =
           let all : take 4002 (entriesIn (b .qs)) ≡ entriesIn (b .qs) = take-all 4002 (entriesIn (b .qs)) (omega (arith, b .table-long)) in
-          let e : take (min entries 4002) table′ ≡ entriesIn (b .qs) = rw (min-eq-left k, held-table, all) (cut-stored (entriesIn (b .qs)) table entries (b .table-long) (omega (arith, room .entries))) in
+          let e : take (min entries 4002) table′ ≡
+          entriesIn (b .qs) = rw (min-eq-left k, held-table, all) (cut-stored (entriesIn (b .qs)) table entries (b .table-long) (omega (arith, room .entries))) in
           rw e refl
 
       long-table : 4002 < entries → Alike cut-table full
       unfolding cut-table full
       long-table k =
-          let e : length (take (min entries 4002) table′) ≡ min entries 4002 = length-take-le (min entries 4002) table′ (omega (arith, ap length held-table, length-sets table 0 (take 4002 (entriesIn (b .qs))), room .entries)) in
-          alike-long m n (costsIn (b .rs)) (suppliesIn (b .rs)) (demandsIn (b .rs)) (take (min entries 4002) table′) (entriesIn (b .qs)) h (b .costs-long) (b .supplies-long) (b .demands-long) (omega arith) (omega (arith, b .table-long))
+          let e : length (take (min entries 4002) table′) ≡
+          min entries 4002 = length-take-le (min entries 4002) table′ (omega (arith, ap length held-table, length-sets table 0 (take 4002 (entriesIn (b .qs))), room .entries)) in
+          alike-long m n (costsIn (b .rs)) (suppliesIn (b .rs)) (demandsIn (b .rs)) (take (min entries 4002) table′) (entriesIn (b .qs)) h
+          (b .costs-long) (b .supplies-long) (b .demands-long) (omega arith) (omega (arith, b .table-long))
 
       alike-within : Alike (cutCase m n entries costs′ supplies′ demands′ table′) full
       alike-within = rw cut-is (elim (decLt 4002 entries) [ yes k ↦ long-table k | no k ↦ alike-equal cut-table full (short-table (omega arith)) ])
@@ -138,7 +143,8 @@ module _ (t p : List ℕ) (costs : List ℤ) (supplies demands table : List ℕ)
 
 -- a file is refused
 pub refused-files :
-    (t p : List ℕ) (costs : List ℤ) (supplies demands table : List ℕ) (costs′ : List ℤ) (supplies′ demands′ table′ : List ℕ) {number place : ℕ} {answer : CaseAnswer} → answer ≡ answers.Refused number place →
+    (t p : List ℕ) (costs : List ℤ) (supplies demands table : List ℕ) (costs′ : List ℤ) (supplies′ demands′ table′ : List ℕ) {number place : ℕ} {answer : CaseAnswer} →
+    answer ≡ answers.Refused number place →
     CaseStored t p costs supplies demands table costs′ supplies′ demands′ table′ answer → {out out′ : List ℕ} {r : Printed} →
     Told number place 0 0 (refusalText number place) out out′ r → FilesPrinted t p out out′ r
 unfolding fileOutcome

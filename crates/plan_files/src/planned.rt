@@ -53,7 +53,8 @@ fn print_plan(
 ) -> Printed
     requires { ⌜ m * n ≤ length (now plan) ⌝ }
     requires { ⌜ Fits m n (now costs) (take (m * n) (now plan)) ⌝ }
-    ensures { λ r. ⌜ Told 0 0 m n (planText m n (now (costs .entry)) (take (m * n) (now (plan .entry))) split «entry») (now (out .entry)) (now (out .exit)) r ⌝ }
+    ensures { λ r. ⌜ Told 0 0 m n (planText m n (now (costs .entry)) (take (m * n) (now (plan .entry))) split «entry») (now (out .entry))
+        (now (out .exit)) r ⌝ }
 {
     let lanes = m * n;
     let amounts = &plan[..lanes];
@@ -78,7 +79,9 @@ fn print_case(
     table: &[u64],
     out: &mut [u8],
 ) -> Printed
-    ensures { λ r. ⌜ CasePrinted (filedCase m n (now (costs .entry)) (now (supplies .entry)) (now (demands .entry)) (now (ceilings .entry)) (now (table .entry))) (now (out .entry)) (now (out .exit)) r ⌝ }
+    ensures { λ r. ⌜ CasePrinted
+        (filedCase m n (now (costs .entry)) (now (supplies .entry)) (now (demands .entry)) (now (ceilings .entry)) (now (table .entry)))
+        (now (out .entry)) (now (out .exit)) r ⌝ }
 {
     let mut plan = lane_cells();
     let mut splits = stop_cells();
@@ -124,7 +127,9 @@ fn print_stored(
     out: &mut [u8],
 ) -> Printed
     requires { ⌜ Stored (now costs) (now supplies) (now demands) (now table) ⌝ }
-    ensures { λ r. ⌜ CasePrinted (cutCase m n entries (now (costs .entry)) (now (supplies .entry)) (now (demands .entry)) (now (table .entry))) (now (out .entry)) (now (out .exit)) r ⌝ }
+    ensures { λ r. ⌜ CasePrinted
+        (cutCase m n entries (now (costs .entry)) (now (supplies .entry)) (now (demands .entry)) (now (table .entry))) (now (out .entry))
+        (now (out .exit)) r ⌝ }
 {
     let a = smaller(m, 32);
     let b = smaller(n, 64);

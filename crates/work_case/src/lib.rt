@@ -65,7 +65,9 @@ pub fn enter(
     table: &[u64],
     store: &mut [u64],
 ) -> Verdict
-    ensures { λ r. ⌜ Entered (draft m n run1 run2 (now (costs .entry)) (now (supplies .entry)) (now (demands .entry)) (now (ceilings .entry)) (now (table .entry))) (now (store .entry)) (now (store .exit)) (verdict r) ⌝ }
+    ensures { λ r. ⌜ Entered
+        (draft m n run1 run2 (now (costs .entry)) (now (supplies .entry)) (now (demands .entry)) (now (ceilings .entry)) (now (table .entry)))
+        (now (store .entry)) (now (store .exit)) (verdict r) ⌝ }
 {
     if let Verdict::Refused(number, place) = form_test(
         m,
@@ -165,7 +167,9 @@ pub fn plan_case(
     splits: &mut [u64],
     freights: &mut [i64],
 ) -> Answer
-    ensures { λ r. ⌜ PlannedFrom (heldIn (now (store .entry))) (length (now (plan .entry))) (length (now (splits .entry))) (length (now (freights .entry))) (outcome r) (slices (now (plan .entry)) (now (splits .entry)) (now (freights .entry))) (slices (now (plan .exit)) (now (splits .exit)) (now (freights .exit))) ⌝ }
+    ensures { λ r. ⌜ PlannedFrom (heldIn (now (store .entry))) (length (now (plan .entry))) (length (now (splits .entry)))
+        (length (now (freights .entry))) (outcome r) (slices (now (plan .entry)) (now (splits .entry)) (now (freights .entry)))
+        (slices (now (plan .exit)) (now (splits .exit)) (now (freights .exit))) ⌝ }
 {
     match open_store(store) {
         Opened::Closed => Answer::Refused {
@@ -183,7 +187,8 @@ pub fn see_tariff(
     supplies: &mut [u64],
     demands: &mut [u64],
 ) -> Verdict
-    ensures { λ r. ⌜ TariffShown (heldIn (now (store .entry))) (now (costs .entry)) (now (supplies .entry)) (now (demands .entry)) (now (costs .exit)) (now (supplies .exit)) (now (demands .exit)) (verdict r) ⌝ }
+    ensures { λ r. ⌜ TariffShown (heldIn (now (store .entry))) (now (costs .entry)) (now (supplies .entry)) (now (demands .entry))
+        (now (costs .exit)) (now (supplies .exit)) (now (demands .exit)) (verdict r) ⌝ }
 {
     match open_store(store) {
         Opened::Closed => Verdict::Refused(11, 0),
@@ -203,7 +208,8 @@ pub fn see_table(store: &[u64], table: &mut [u64]) -> Verdict
 
 // Shows the two least runs and the ceilings.
 pub fn see_limits(store: &[u64], runs: &mut [u64], ceilings: &mut [u64]) -> Verdict
-    ensures { λ r. ⌜ LimitsShown (heldIn (now (store .entry))) (now (runs .entry)) (now (ceilings .entry)) (now (runs .exit)) (now (ceilings .exit)) (verdict r) ⌝ }
+    ensures { λ r. ⌜ LimitsShown (heldIn (now (store .entry))) (now (runs .entry)) (now (ceilings .entry)) (now (runs .exit))
+        (now (ceilings .exit)) (verdict r) ⌝ }
 {
     match open_store(store) {
         Opened::Closed => Verdict::Refused(11, 0),
@@ -229,7 +235,9 @@ pub fn plan_mark(
     splits: &mut [u64],
     freights: &mut [i64],
 ) -> Answer
-    ensures { λ r. ⌜ MarkPlanned k (heldIn (now (store .entry))) (length (now (plan .entry))) (length (now (splits .entry))) (length (now (freights .entry))) (outcome r) (slices (now (plan .entry)) (now (splits .entry)) (now (freights .entry))) (slices (now (plan .exit)) (now (splits .exit)) (now (freights .exit))) ⌝ }
+    ensures { λ r. ⌜ MarkPlanned k (heldIn (now (store .entry))) (length (now (plan .entry))) (length (now (splits .entry)))
+        (length (now (freights .entry))) (outcome r) (slices (now (plan .entry)) (now (splits .entry)) (now (freights .entry)))
+        (slices (now (plan .exit)) (now (splits .exit)) (now (freights .exit))) ⌝ }
 {
     match open_store(store) {
         Opened::Closed => Answer::Refused {

@@ -29,7 +29,10 @@ pub fn plan_open(
     freights: &mut [i64],
 ) -> Answer
     requires { ⌜ Front m n (now store) ⌝ }
-    ensures { λ r. ⌜ Answered (lentWith (draftIn m n (slot m n 0 (now (store .entry)))) (length (now (plan .entry))) (length (now (splits .entry))) (length (now (freights .entry)))) (outcome r) (slices (now (plan .entry)) (now (splits .entry)) (now (freights .entry))) (slices (now (plan .exit)) (now (splits .exit)) (now (freights .exit))) ⌝ }
+    ensures { λ r. ⌜ Answered
+        (lentWith (draftIn m n (slot m n 0 (now (store .entry)))) (length (now (plan .entry))) (length (now (splits .entry))) (length (now (freights .entry))))
+        (outcome r) (slices (now (plan .entry)) (now (splits .entry)) (now (freights .entry)))
+        (slices (now (plan .exit)) (now (splits .exit)) (now (freights .exit))) ⌝ }
 {
     let s = SUPPLIES;
     let a = demands_at(m);
@@ -68,7 +71,9 @@ pub fn plan_set(
     freights: &mut [i64],
 ) -> Answer
     requires { ⌜ Open m n (now store) ⌝ }
-    ensures { λ r. ⌜ MarkPlanned k (some (stateAt m n (now (store .entry)))) (length (now (plan .entry))) (length (now (splits .entry))) (length (now (freights .entry))) (outcome r) (slices (now (plan .entry)) (now (splits .entry)) (now (freights .entry))) (slices (now (plan .exit)) (now (splits .exit)) (now (freights .exit))) ⌝ }
+    ensures { λ r. ⌜ MarkPlanned k (some (stateAt m n (now (store .entry)))) (length (now (plan .entry))) (length (now (splits .entry)))
+        (length (now (freights .entry))) (outcome r) (slices (now (plan .entry)) (now (splits .entry)) (now (freights .entry)))
+        (slices (now (plan .exit)) (now (splits .exit)) (now (freights .exit))) ⌝ }
 {
     if k < 1 {
         return Answer::Refused {

@@ -30,7 +30,9 @@ pub fn show_tariff(
     demands: &mut [u64],
 ) -> Verdict
     requires { ⌜ Open m n (now store) ⌝ }
-    ensures told { λ r. ⌜ verdict r ≡ tariffRefusal (length (now (costs .entry))) (length (now (supplies .entry))) (length (now (demands .entry))) (stateAt m n (now (store .entry)) .case) ⌝ }
+    ensures told { λ r. ⌜ verdict r ≡
+        tariffRefusal (length (now (costs .entry))) (length (now (supplies .entry))) (length (now (demands .entry)))
+        (stateAt m n (now (store .entry)) .case) ⌝ }
     ensures costs { λ r. ⌜ now (costs .exit) ≡ shownUnless (verdict r) (stateAt m n (now (store .entry)) .case .costs) (now (costs .entry)) ⌝ }
     ensures supplies { λ r. ⌜ now (supplies .exit) ≡ shownUnless (verdict r) (stateAt m n (now (store .entry)) .case .supplies) (now (supplies .entry)) ⌝ }
     ensures demands { λ r. ⌜ now (demands .exit) ≡ shownUnless (verdict r) (stateAt m n (now (store .entry)) .case .demands) (now (demands .entry)) ⌝ }
@@ -80,7 +82,8 @@ pub fn show_limits(
 ) -> Verdict
     requires { ⌜ Open m n (now store) ⌝ }
     ensures told { λ r. ⌜ verdict r ≡ limitsRefusal (length (now (runs .entry))) (length (now (ceilings .entry))) (stateAt m n (now (store .entry)) .case) ⌝ }
-    ensures runs { λ r. ⌜ now (runs .exit) ≡ shownUnless (verdict r) (stateAt m n (now (store .entry)) .case .run1 ∷ stateAt m n (now (store .entry)) .case .run2 ∷ []) (now (runs .entry)) ⌝ }
+    ensures runs { λ r. ⌜ now (runs .exit) ≡
+        shownUnless (verdict r) (stateAt m n (now (store .entry)) .case .run1 ∷ stateAt m n (now (store .entry)) .case .run2 ∷ []) (now (runs .entry)) ⌝ }
     ensures ceilings { λ r. ⌜ now (ceilings .exit) ≡ shownUnless (verdict r) (stateAt m n (now (store .entry)) .case .ceilings) (now (ceilings .entry)) ⌝ }
 {
     let a = RUN1;

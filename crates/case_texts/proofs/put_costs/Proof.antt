@@ -44,11 +44,14 @@ loop-less c = search needs
 
 loop-again : tie.Need-loop-again Inv-loop μ-loop
 loop-again c =
-    let l = c .before .before .before .before .before .before .loop in
-    let s = c .before .before .before .before .before .before .before .before in
+    let at-put-signed-field-arg2 = c .before .before .before in
+    let at-loop-test = at-put-signed-field-arg2 .before .before in
+    let at-loop = at-loop-test .before in
+    let s = at-loop .before .before in
+    let l = at-loop .loop in
     let w = c .before .before .put-signed-field in
-    let e = read-back (getD (now (s .args .costs)) (s .args .start + l .j) (pos 0)) (c .before .before .before .put-signed-field-arg2 .given) in (
-      omega (arith, c .before .before .before .before .before .loop-test .taken),
+    let e = read-back (getD (now (s .args .costs)) (s .args .start + l .j) (pos 0)) (at-put-signed-field-arg2 .put-signed-field-arg2 .given) in (
+      omega (arith, at-loop-test .loop-test .taken),
       each-next _ 21 _ (l .inv .1) (subst (λ (v : ℤ). Written (l .out) (w .last .0) (l .next) (w .result) (fieldText v 44) 21) e (w .ensures)),
     )
 

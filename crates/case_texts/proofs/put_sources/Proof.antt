@@ -23,39 +23,55 @@ loop-holds c = (omega arith, omega (arith, zero-mul (c .before .before .args .n)
 
 put-costs-requires : tie.Need-put-costs-requires Inv-loop μ-loop
 put-costs-requires c κs =
-    let s = c .before .before .before .before .before in
-    let w = row-within (s .args .m) (s .args .n) (c .before .before .loop .i) (c .before .before .loop .start) (c .before .loop-test .taken) (c .before .before .loop .inv .1) in
-    ((omega (arith, s .pre .0, c .before .before .loop .inv), s .pre .0 .1), omega (arith, w, s .pre .1))
+    let at-loop = c .before .before in
+    let s = at-loop .before .before .before in
+    let w = row-within (s .args .m) (s .args .n) (at-loop .loop .i) (at-loop .loop .start) (c .before .loop-test .taken) (at-loop .loop .inv .1) in
+    ((omega (arith, s .pre .0, at-loop .loop .inv), s .pre .0 .1), omega (arith, w, s .pre .1))
 
 mul-put-line : tie.Need-mul-put-line Inv-loop μ-loop
 mul-put-line c = omega (arith, c .before .before .before .before .before .before .before .before .before .pre, c .before .before .before .before .before .loop-test .taken)
 
 shared-slice-read-put-line : tie.Need-shared-slice-read-put-line Inv-loop μ-loop
-shared-slice-read-put-line c = omega (arith, c .before .before .before .before .before .before .before .before .before .before .pre, c .before .before .before .before .before .before .loop-test .taken)
+shared-slice-read-put-line c =
+    let at-loop-test = c .before .before .before .before .before .before in
+    let entry = at-loop-test .before .before .before .before in
+    omega (arith, entry .pre, at-loop-test .loop-test .taken)
 
 put-line-requires : tie.Need-put-line-requires Inv-loop μ-loop
-put-line-requires c κs = omega (arith, c .before .before .before .before .before .before .before .before .before .before .pre .0, c .before .before .before .before .before .before .before .loop .inv, c .before .before .before .before .put-costs .ensures)
+put-line-requires c κs =
+    let at-put-costs = c .before .before .before .before in
+    let at-loop = at-put-costs .before .before .before in
+    let entry = at-loop .before .before .before in
+    omega (arith, entry .pre .0, at-loop .loop .inv, at-put-costs .put-costs .ensures)
 
 add-start : tie.Need-add-start Inv-loop μ-loop
 add-start c =
-    let s = c .before .before .before .before .before .before .before .before .before .before .before .before .before in
-    let l = c .before .before .before .before .before .before .before .before .before .before .loop in
-    let w = row-within (s .args .m) (s .args .n) (l .i) (l .start) (c .before .before .before .before .before .before .before .before .before .loop-test .taken) (l .inv .1) in
+    let at-loop-test = c .before .before .before .before .before .before .before .before .before in
+    let at-loop = at-loop-test .before in
+    let s = at-loop .before .before .before in
+    let l = at-loop .loop in
+    let w = row-within (s .args .m) (s .args .n) (l .i) (l .start) (at-loop-test .loop-test .taken) (l .inv .1) in
     omega (arith, w, s .pre .1)
 
 add-i : tie.Need-add-i Inv-loop μ-loop
-add-i c = omega (arith, c .before .before .before .before .before .before .before .before .before .before .before .before .before .pre, c .before .before .before .before .before .before .before .before .before .loop-test .taken)
+add-i c =
+    let at-loop-test = c .before .before .before .before .before .before .before .before .before in
+    let entry = at-loop-test .before .before .before .before in
+    omega (arith, entry .pre, at-loop-test .loop-test .taken)
 
 loop-less : tie.Need-loop-less Inv-loop μ-loop
 loop-less c = omega (arith, c .before .before .before .before .before .before .before .before .before .loop-test .taken)
 
 loop-again : tie.Need-loop-again Inv-loop μ-loop
 loop-again c =
-    let s = c .before .before .before .before .before .before .before .before .before .before .before .before .before in
-    let l = c .before .before .before .before .before .before .before .before .before .before .loop in (
-      omega (arith, c .before .before .before .before .before .before .before .before .before .loop-test .taken),
+    let at-put-costs = c .before .before .before .before .before .before .before in
+    let at-loop-test = at-put-costs .before .before in
+    let at-loop = at-loop-test .before in
+    let s = at-loop .before .before .before in
+    let l = at-loop .loop in (
+      omega (arith, at-loop-test .loop-test .taken),
       next-start (s .args .n) (l .i) (l .start) (l .inv .1),
-      each-next _ 1366 _ (l .inv .2) (source-written _ _ (s .args .n) (l .start) (l .i) (l .inv .1) (s .pre .0 .1) (c .before .before .before .before .before .before .before .put-costs .ensures) (c .before .before .put-line .ensures)),
+      each-next _ 1366 _ (l .inv .2) (source-written _ _ (s .args .n) (l .start) (l .i) (l .inv .1) (s .pre .0 .1) (at-put-costs .put-costs .ensures) (c .before .before .put-line .ensures)),
     )
 
 same-length : tie.Need-same-length Inv-loop μ-loop

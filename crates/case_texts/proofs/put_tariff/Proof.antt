@@ -24,8 +24,12 @@ same-length c = search needs
 returns : tie.Need-returns
 unfolding tariffOf demandsText
 returns c =
-    widen (omega (arith, c .before .before .before .before .before .before .before .before .before .before .before .before .before .before .before .before .before .before .before .pre))
-    (then (c .before .before .before .before .before .before .before .before .before .before .before .before .before .before .put-sources .ensures) (then (c .before .before .before .before .before .before .before .before .before .before .put-list .ensures) (then (c .before .before .before .before .before .before .put-byte .ensures) (c .before .before .put-byte2 .ensures))))
+    let at-put-byte = c .before .before .before .before .before .before in
+    let at-put-list = at-put-byte .before .before .before .before in
+    let at-put-sources = at-put-list .before .before .before .before in
+    let entry = at-put-sources .before .before .before .before .before in
+    widen (omega (arith, entry .pre))
+    (then (at-put-sources .put-sources .ensures) (then (at-put-list .put-list .ensures) (then (at-put-byte .put-byte .ensures) (c .before .before .put-byte2 .ensures))))
 
 pub put-tariff-spec : {M : Type 1} → statement M
 put-tariff-spec =

@@ -20,16 +20,21 @@ narrow-costs-requires : tie.Need-narrow-costs-requires
 narrow-costs-requires c κs = search needs
 
 mul-narrow : tie.Need-mul-narrow
-mul-narrow c = let z : c .before .before .before .before .before .args .m * c .before .before .before .before .before .args .n ≤ 32 * 64 = mul-le-mul (c .before .before .before .if1 .left) (c .before .before .if2 .left) in omega arith
+mul-narrow c =
+    let at-if1 = c .before .before .before in
+    let entry = at-if1 .before .before in
+    let z : entry .args .m * entry .args .n ≤ 32 * 64 = mul-le-mul (at-if1 .if1 .left) (c .before .before .if2 .left) in omega arith
 
 narrow-requires : tie.Need-narrow-requires
 narrow-requires c κs = search needs
 
 returns-3 : tie.Need-returns-3
 returns-3 c =
+    let at-if2 = c .before .before .before in
+    let at-if1 = at-if2 .before in
     let costs = c .before .before .narrow-costs .ensures .yes (c .before .if3 .taken) in
     record {
-      yes = λ e. record { sources = c .before .before .before .before .if1 .left; terminals = c .before .before .before .if2 .left; narrow-costs = costs; narrow-plan = c .narrow .ensures .yes e };
+      yes = λ e. record { sources = at-if1 .if1 .left; terminals = at-if2 .if2 .left; narrow-costs = costs; narrow-plan = c .narrow .ensures .yes e };
       no = λ e p. c .narrow .ensures .no e (p .narrow-plan);
     }
 

@@ -19,7 +19,10 @@ same-length c = search needs
 
 returns : tie.Need-returns
 unfolding planText planHeader
-returns c = then (then (c .before .before .before .before .before .before .before .before .before .before .put-bytes .ensures) (c .before .before .before .before .before .before .put-record .ensures)) (c .before .before .put-lanes .ensures)
+returns c =
+    let at-put-record = c .before .before .before .before .before .before in
+    let at-put-bytes = at-put-record .before .before .before .before in
+    then (then (at-put-bytes .put-bytes .ensures) (at-put-record .put-record .ensures)) (c .before .before .put-lanes .ensures)
 
 pub put-fitting-spec : {M : Type 1} → statement M
 put-fitting-spec =

@@ -26,7 +26,10 @@ loop-holds : tie.Need-loop-holds Inv-loop μ-loop
 loop-holds c = (omega arith, sym (zero-mul (c .before .before .args .n)), each-start _ 5440 _ _)
 
 put-row-requires : tie.Need-put-row-requires Inv-loop μ-loop
-put-row-requires c κs = let h = c .before in let s = c .before .before .before .before .before in ((omega (arith, s .pre, h .before .loop .inv .2, h .loop-test .taken), omega (arith, s .pre, h .loop-test .taken), s .pre .0 .2), printable-row _ _ _ _ _ (within h) (s .pre .1))
+put-row-requires c κs =
+    let h = c .before in
+    let s = h .before .before .before .before in
+    ((omega (arith, s .pre, h .before .loop .inv .2, h .loop-test .taken), omega (arith, s .pre, h .loop-test .taken), s .pre .0 .2), printable-row _ _ _ _ _ (within h) (s .pre .1))
 
 add-start : tie.Need-add-start Inv-loop μ-loop
 add-start c = omega (arith, within (c .before .before .before .before), c .before .before .before .before .before .before .before .before .pre .1)
@@ -39,13 +42,17 @@ loop-less c = search needs
 
 loop-again : tie.Need-loop-again Inv-loop μ-loop
 loop-again c =
-    let a = c .before .before .before .before .before .before .before .before .args in
-    let l = c .before .before .before .before .before .loop in
-    let row = widen {l = 5440} (omega (arith, c .before .before .before .before .before .before .before .before .pre)) (c .before .before .put-row .ensures) in (
-      omega (arith, c .before .before .before .before .loop-test .taken),
+    let at-put-row = c .before .before in
+    let at-loop-test = at-put-row .before .before in
+    let at-loop = at-loop-test .before in
+    let entry = at-loop .before .before .before in
+    let a = entry .args in
+    let l = at-loop .loop in
+    let row = widen {l = 5440} (omega (arith, entry .pre)) (at-put-row .put-row .ensures) in (
+      omega (arith, at-loop-test .loop-test .taken),
       next-start (a .n) (l .i) (l .start) (l .inv .1),
       each-next _ 5440 _ (l .inv .2)
-          (subst (λ (x : ℕ). Written (l .out) (c .before .before .put-row .last .0) (l .next) (c .before .before .put-row .result) (rowText (now (a .costs)) (now (a .plan)) (a .n) (l .i) x) 5440)
+          (subst (λ (x : ℕ). Written (l .out) (at-put-row .put-row .last .0) (l .next) (at-put-row .put-row .result) (rowText (now (a .costs)) (now (a .plan)) (a .n) (l .i) x) 5440)
           (l .inv .1) row),
     )
 

@@ -15,7 +15,10 @@ same-length : tie.Need-same-length
 same-length c = search needs
 
 returns : tie.Need-returns
-returns c = record { text-written = λ f. c .before .before .put-fitting .ensures; nothing = λ d. absurd (d (c .before .before .before .before .before .fits2 .ensures .yes (c .before .before .before .before .if1 .taken))) }
+returns c =
+    let at-if1 = c .before .before .before .before in
+    let at-fits2 = at-if1 .before in
+    record { text-written = λ f. c .before .before .put-fitting .ensures; nothing = λ d. absurd (d (at-fits2 .fits2 .ensures .yes (at-if1 .if1 .taken))) }
 
 returns-2 : tie.Need-returns-2
 returns-2 c = record { text-written = λ f. absurd (c .before .fits2 .ensures .no (c .if1 .left) f); nothing = λ d. (refl, refl) }

@@ -50,8 +50,9 @@ shared-slice-copy-out-cost c = omega (arith, inside (c .before))
 
 mul-cost-2 : tie.Need-mul-cost-2 Inv-loop μ-loop
 mul-cost-2 c =
-    let s = c .before .before .before .before .before .before in
-    let k = s .args .start + c .before .before .before .loop .j in
+    let at-loop = c .before .before .before in
+    let s = at-loop .before .before .before in
+    let k = s .args .start + at-loop .loop .j in
     let h = c .before .before .loop-test .taken in
     product-fits (getD (now (s .args .plan)) k 0) (getD (now (s .args .costs)) k (pos 0))
     (s .pre .1 .drums k (omega arith) (omega (arith, h))) (c .cost .given) (s .pre .1 .fit k (omega arith) (omega (arith, h)))
@@ -74,14 +75,17 @@ loop-less c = search needs
 loop-again : tie.Need-loop-again Inv-loop μ-loop
 unfolding laneText
 loop-again c =
-    let s = c .before .before .before .before .before .before .before .before .before .before in
-    let l = c .before .before .before .before .before .before .before .loop in
+    let at-cost = c .before .before .before .before in
+    let at-loop-test = at-cost .before .before in
+    let at-loop = at-loop-test .before in
+    let s = at-loop .before .before .before in
+    let l = at-loop .loop in
     let k = s .args .start + l .j in
-    let h = c .before .before .before .before .before .before .loop-test .taken in
+    let h = at-loop-test .loop-test .taken in
     let w = c .before .before .put-lane in
     let e =
     product-stored (getD (now (s .args .plan)) k 0) (getD (now (s .args .costs)) k (pos 0))
-    (s .pre .1 .drums k (omega arith) (omega (arith, h))) (c .before .before .before .before .cost .given) (s .pre .1 .fit k (omega arith) (omega (arith, h))) in (
+    (s .pre .1 .drums k (omega arith) (omega (arith, h))) (at-cost .cost .given) (s .pre .1 .fit k (omega arith) (omega (arith, h))) in (
       omega (arith, h),
       each-next _ 85 _ (l .inv .1)
           (subst (λ (v : ℤ). Written (l .out) (w .last .0) (l .next) (w .result) (recordText (pos (s .args .i + 1) ∷ pos (l .j + 1) ∷ pos (getD (now (s .args .plan)) k 0) ∷ v ∷ [])) 85)

@@ -32,9 +32,11 @@ same-length-2 c = search needs
 
 returns-2 : tie.Need-returns-2
 returns-2 c =
-    let s = c .before .before .before .before .before .before .before .before .before .before in
+    let at-m = c .before .before .before .before .before in
+    let at-open-store = at-m .before .before in
+    let s = at-open-store .before .before .before in
     same-cost _ _ _ _ _ _ _ (toZ-ofZ w64 (s .args .value) (s .fits .value))
-    (by-work _ (cost-faithful _ _ _) _ _ _ _ _ (sym (c .before .before .before .before .before .before .before .open-store .ensures) ∙ c .before .before .before .before .before .m .given .1)
+    (by-work _ (cost-faithful _ _ _) _ _ _ _ _ (sym (at-open-store .open-store .ensures) ∙ at-m .m .given .1)
     (c .before .before .put-cost .ensures))
 
 pub edit-cost-spec : {M : Type 1} → statement M

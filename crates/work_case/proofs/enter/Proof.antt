@@ -33,7 +33,9 @@ enum-told : tie.Need-enum-told
 enum-told c = search needs
 
 cells-for-requires : tie.Need-cells-for-requires
-cells-for-requires c κs = entry-size (given (c .before .before .before .before .before .before .before .before)) (now (c .before .before .before .before .before .before .before .before .args .store)) (passed c)
+cells-for-requires c κs =
+    let entry = c .before .before .before .before .before .before .before .before in
+    entry-size (given entry) (now (entry .args .store)) (passed c)
 
 returns-2 : tie.Need-returns-2
 returns-2 c = entry-short _ _ (passed (c .before .before)) (omega (arith, c .if1 .taken, c .before .cells-for .ensures))
@@ -45,7 +47,11 @@ same-length : tie.Need-same-length
 same-length c = search needs
 
 returns-3 : tie.Need-returns-3
-returns-3 c = entry-done _ _ (passed (c .before .before .before .before .before .before)) _ (entry-sized _ _ (passed (c .before .before .before .before .before .before)) (omega (arith, c .before .before .before .before .if1 .left, c .before .before .before .before .before .cells-for .ensures))) (c .before .before .put-case .ensures)
+returns-3 c =
+    let at-if1 = c .before .before .before .before in
+    let at-cells-for = at-if1 .before in
+    let at-enum-told = at-cells-for .before in
+    entry-done _ _ (passed at-enum-told) _ (entry-sized _ _ (passed at-enum-told) (omega (arith, at-if1 .if1 .left, at-cells-for .cells-for .ensures))) (c .before .before .put-case .ensures)
 
 pub enter-spec : {M : Type 1} → statement M
 enter-spec =

@@ -29,7 +29,9 @@ same-length-2 c = search needs
 
 returns-2 : tie.Need-returns-2
 returns-2 c =
-    by-work _ (back-faithful _) _ _ _ _ _ (sym (c .before .before .before .before .before .before .before .open-store .ensures) ∙ c .before .before .before .before .before .m .given .1)
+    let at-m = c .before .before .before .before .before in
+    let at-open-store = at-m .before .before in
+    by-work _ (back-faithful _) _ _ _ _ _ (sym (at-open-store .open-store .ensures) ∙ at-m .m .given .1)
     (c .before .before .put-back .ensures)
 
 pub go-back-spec : {M : Type 1} → statement M

@@ -26,7 +26,9 @@ same-length c = search needs
 
 returns-2 : tie.Need-returns-2
 returns-2 c =
-    let s = c .before .before .show-marks .ensures in marks-work _ _ _ (sym (c .before .before .before .before .before .before .before .open-store .ensures) ∙ c .before .before .before .before .before .m .given .1) _ _ _ (s .0) (s .1)
+    let at-m = c .before .before .before .before .before in
+    let at-open-store = at-m .before .before in
+    let s = c .before .before .show-marks .ensures in marks-work _ _ _ (sym (at-open-store .open-store .ensures) ∙ at-m .m .given .1) _ _ _ (s .0) (s .1)
 
 pub marks-set-spec : {M : Type 1} → statement M
 marks-set-spec =

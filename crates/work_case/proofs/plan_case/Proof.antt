@@ -31,7 +31,11 @@ same-length-3 : tie.Need-same-length-3
 same-length-3 c = search needs
 
 returns-2 : tie.Need-returns-2
-returns-2 c = plan-work _ _ _ _ _ _ _ _ _ (sym (c .before .before .before .before .before .before .before .before .before .before .before .before .open-store .ensures) ∙ c .before .before .before .before .before .before .before .before .before .before .m .given .1) (c .before .before .before .before .before .plan-open .ensures)
+returns-2 c =
+    let at-plan-open = c .before .before .before .before .before in
+    let at-m = at-plan-open .before .before .before .before .before in
+    let at-open-store = at-m .before .before in
+    plan-work _ _ _ _ _ _ _ _ _ (sym (at-open-store .open-store .ensures) ∙ at-m .m .given .1) (at-plan-open .plan-open .ensures)
 
 pub plan-case-spec : {M : Type 1} → statement M
 plan-case-spec =

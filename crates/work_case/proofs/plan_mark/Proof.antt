@@ -32,7 +32,10 @@ same-length-3 c = search needs
 
 returns-2 : tie.Need-returns-2
 returns-2 c =
-    mark-work _ _ _ _ _ _ _ _ _ _ (sym (c .before .before .before .before .before .before .before .before .before .before .before .before .open-store .ensures) ∙ c .before .before .before .before .before .before .before .before .before .before .m .given .1) (c .before .before .before .before .before .plan-set .ensures)
+    let at-plan-set = c .before .before .before .before .before in
+    let at-m = at-plan-set .before .before .before .before .before in
+    let at-open-store = at-m .before .before in
+    mark-work _ _ _ _ _ _ _ _ _ _ (sym (at-open-store .open-store .ensures) ∙ at-m .m .given .1) (at-plan-set .plan-set .ensures)
 
 pub plan-mark-spec : {M : Type 1} → statement M
 plan-mark-spec =

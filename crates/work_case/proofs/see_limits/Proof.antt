@@ -29,8 +29,11 @@ same-length-2 c = search needs
 
 returns-2 : tie.Need-returns-2
 returns-2 c =
-    let s = c .before .before .before .before .show-limits .ensures in
-    limits-work _ _ _ (sym (c .before .before .before .before .before .before .before .before .before .before .open-store .ensures) ∙ c .before .before .before .before .before .before .before .before .m .given .1) _ _ _ _ _ (s .0) (s .1 .0) (s .1 .1)
+    let at-show-limits = c .before .before .before .before in
+    let at-m = at-show-limits .before .before .before .before in
+    let at-open-store = at-m .before .before in
+    let s = at-show-limits .show-limits .ensures in
+    limits-work _ _ _ (sym (at-open-store .open-store .ensures) ∙ at-m .m .given .1) _ _ _ _ _ (s .0) (s .1 .0) (s .1 .1)
 
 pub see-limits-spec : {M : Type 1} → statement M
 see-limits-spec =

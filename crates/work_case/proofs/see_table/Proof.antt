@@ -25,7 +25,11 @@ same-length : tie.Need-same-length
 same-length c = search needs
 
 returns-2 : tie.Need-returns-2
-returns-2 c = table-work _ _ _ (sym (c .before .before .before .before .before .before .before .open-store .ensures) ∙ c .before .before .before .before .before .m .given .1) _ _ _ (c .before .before .show-table .ensures .0) (c .before .before .show-table .ensures .1)
+returns-2 c =
+    let at-show-table = c .before .before in
+    let at-m = at-show-table .before .before .before in
+    let at-open-store = at-m .before .before in
+    table-work _ _ _ (sym (at-open-store .open-store .ensures) ∙ at-m .m .given .1) _ _ _ (at-show-table .show-table .ensures .0) (at-show-table .show-table .ensures .1)
 
 pub see-table-spec : {M : Type 1} → statement M
 see-table-spec =

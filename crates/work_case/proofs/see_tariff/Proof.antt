@@ -31,7 +31,12 @@ same-length-3 : tie.Need-same-length-3
 same-length-3 c = search needs
 
 returns-2 : tie.Need-returns-2
-returns-2 c = tariff-work _ _ _ (sym (c .before .before .before .before .before .before .before .before .before .before .before .before .open-store .ensures) ∙ c .before .before .before .before .before .before .before .before .before .before .m .given .1) _ _ _ _ _ _ _ (c .before .before .before .before .before .show-tariff .ensures .0) (c .before .before .before .before .before .show-tariff .ensures .1 .0) (c .before .before .before .before .before .show-tariff .ensures .1 .1 .0) (c .before .before .before .before .before .show-tariff .ensures .1 .1 .1)
+returns-2 c =
+    let at-show-tariff = c .before .before .before .before .before in
+    let at-m = at-show-tariff .before .before .before .before .before in
+    let at-open-store = at-m .before .before in
+    tariff-work _ _ _ (sym (at-open-store .open-store .ensures) ∙ at-m .m .given .1) _ _ _ _ _ _ _ (at-show-tariff .show-tariff .ensures .0)
+    (at-show-tariff .show-tariff .ensures .1 .0) (at-show-tariff .show-tariff .ensures .1 .1 .0) (at-show-tariff .show-tariff .ensures .1 .1 .1)
 
 pub see-tariff-spec : {M : Type 1} → statement M
 see-tariff-spec =

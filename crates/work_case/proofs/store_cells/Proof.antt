@@ -21,8 +21,10 @@ cells-for-requires c κs = (c .before .before .if2 .left, c .if4 .left)
 
 returns-5 : tie.Need-returns-5
 returns-5 c =
+    let at-if2 = c .before .before .before in
+    let at-if1 = at-if2 .before in
     c .cells-for .ensures
-    ∙ lent-cells _ _ (c .before .before .before .before .if1 .left) (c .before .before .before .if2 .left) (c .before .before .if3 .left) (c .before .if4 .left)
+    ∙ lent-cells _ _ (at-if1 .if1 .left) (at-if2 .if2 .left) (c .before .before .if3 .left) (c .before .if4 .left)
 
 pub store-cells-spec : {M : Type 1} → statement M
 store-cells-spec = tie.close (tie.spec returns returns-2 returns-3 returns-4 cells-for-requires returns-5)

@@ -53,13 +53,25 @@ handed-on-requires-2 : tie.Need-handed-on-requires-2
 handed-on-requires-2 c κs = search needs
 
 returns-2 : tie.Need-returns-2
-returns-2 c = rw (c .handed-on2 .ensures) (production-refused _ _ _ _ _ _ _ _ _ _ _ (sym (c .before .before .before .before .before .before .before .before .t .given .1) ∙ c .before .before .before .before .before .before .before .before .before .before .before .read-table .ensures .answered) (c .before .enum-told2 .given .1) (c .before .before .before .before .read-table2 .ensures .answered))
+returns-2 c =
+    let at-read-table2 = c .before .before .before .before in
+    let at-t = at-read-table2 .before .before .before .before in
+    let at-read-table = at-t .before .before .before in
+    rw (c .handed-on2 .ensures)
+    (production-refused _ _ _ _ _ _ _ _ _ _ _ (sym (at-t .t .given .1) ∙ at-read-table .read-table .ensures .answered)
+    (c .before .enum-told2 .given .1) (at-read-table2 .read-table2 .ensures .answered))
 
 sub-m : tie.Need-sub-m
-sub-m c = c .before .before .before .before .before .before .before .before .before .before .before .read-table .ensures .some _ _ (c .before .before .before .before .before .before .before .before .t .given .1) .0
+sub-m c =
+    let at-t = c .before .before .before .before .before .before .before .before in
+    let at-read-table = at-t .before .before .before in
+    at-read-table .read-table .ensures .some _ _ (at-t .t .given .1) .0
 
 sub-n : tie.Need-sub-n
-sub-n c = c .before .before .before .before .before .before .before .before .before .before .before .read-table .ensures .some _ _ (c .before .before .before .before .before .before .before .before .t .given .1) .1
+sub-n c =
+    let at-t = c .before .before .before .before .before .before .before .before in
+    let at-read-table = at-t .before .before .before in
+    at-read-table .read-table .ensures .some _ _ (at-t .t .given .1) .1
 
 slice-aggregate-share : tie.Need-slice-aggregate-share
 slice-aggregate-share c = search needs
@@ -86,7 +98,17 @@ same-length-4 : tie.Need-same-length-4
 same-length-4 c = search needs
 
 returns-3 : tie.Need-returns-3
-returns-3 c = both-accepted _ _ _ _ _ _ _ _ _ _ _ _ _ _ _ _ _ _ _ _ (long-cells ((c .before .before .before .before .before .before .before .before .before .before .before .before .before .before .before .before .before .before .before .before .before .before .before .before .before .before .before .before))) (long-held ((c .before .before .before .before .before .before .before .before .before .before .before .before .before .before .before .before .before .before .before .before .before))) (c .before .before .before .before .before .before .before .before .before .before .before .before .before .before .before .before .before .before .before .before .before .before .before .t .given .1) (c .before .before .before .before .before .before .before .before .before .before .before .before .before .before .before .before .before .before .before .before .before .before .before .before .before .before .read-table .ensures) (c .before .before .before .before .before .before .before .before .before .before .before .before .before .before .before .before .p .given .1) (c .before .before .before .before .before .before .before .before .before .before .before .before .before .before .before .before .before .before .before .read-table2 .ensures) (c .before .before .before .before .before .before .before .before .before .before .share .ensures) (c .before .before .share-entries .ensures)
+returns-3 c =
+    let at-share = c .before .before .before .before .before .before .before .before .before .before in
+    let at-p = at-share .before .before .before .before .before .before in
+    let at-read-table2 = at-p .before .before .before in
+    let at-entry-blank = at-read-table2 .before .before in
+    let at-t = at-entry-blank .before .before in
+    let at-read-table = at-t .before .before .before in
+    let at-blank = at-read-table .before .before in
+    both-accepted _ _ _ _ _ _ _ _ _ _ _ _ _ _ _ _ _ _ _ _ (long-cells at-blank) (long-held at-entry-blank) (at-t .t .given .1)
+    (at-read-table .read-table .ensures) (at-p .p .given .1) (at-read-table2 .read-table2 .ensures) (at-share .share .ensures)
+    (c .before .before .share-entries .ensures)
 
 pub read-case-spec : {M : Type 1} → statement M
 read-case-spec =

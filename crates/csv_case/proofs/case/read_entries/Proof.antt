@@ -35,7 +35,11 @@ same-length : tie.Need-same-length
 same-length c = search needs
 
 returns : tie.Need-returns
-returns c = entries-read _ _ _ _ _ _ _ _ (long-held (c .before .before .before .before .before .before .before .before .before .before .before)) (c .before .before .before .before .before .before .p .given .1) (c .before .before .before .before .before .before .before .before .before .read-table .ensures) (c .before .before .share-entries .ensures)
+returns c =
+    let at-p = c .before .before .before .before .before .before in
+    let at-read-table = at-p .before .before .before in
+    let at-entry-blank = at-read-table .before .before in
+    entries-read _ _ _ _ _ _ _ _ (long-held at-entry-blank) (at-p .p .given .1) (at-read-table .read-table .ensures) (c .before .before .share-entries .ensures)
 
 returns-2 : tie.Need-returns-2
 returns-2 c = entries-refused _ _ _ _ _ (c .before .p2 .given .1) (c .before .before .before .before .read-table .ensures .answered)

@@ -12,16 +12,28 @@ returns-2 : tie.Need-returns-2
 returns-2 c = too-large _ _ _ _ _ _ (λ few narrow. omega (arith, c .if2 .taken))
 
 share-sources-requires : tie.Need-share-sources-requires
-share-sources-requires c κs = let a = c .before .before .before .before .before .before .args in (omega (arith, c .before .before .before .before .before .before .pre, share-room (a .m) (a .n) (c .before .before .before .if1 .left) (c .before .before .if2 .left)), c .before .before .if2 .left)
+share-sources-requires c κs =
+    let at-if2 = c .before .before in
+    let at-if1 = at-if2 .before in
+    let entry = at-if1 .before .before .before in
+    let a = entry .args in (omega (arith, entry .pre, share-room (a .m) (a .n) (at-if1 .if1 .left) (at-if2 .if2 .left)), at-if2 .if2 .left)
 
 add-copy-sizes : tie.Need-add-copy-sizes
 add-copy-sizes c = search needs
 
 mul-copy-sizes : tie.Need-mul-copy-sizes
-mul-copy-sizes c = let a = c .before .before .before .before .before .before .before .before .before .before .args in record { fits = omega (arith, share-room (a .m) (a .n) (c .before .before .before .before .before .before .before .if1 .left) (c .before .before .before .before .before .before .if2 .left)) }
+mul-copy-sizes c =
+    let at-if2 = c .before .before .before .before .before .before in
+    let at-if1 = at-if2 .before in
+    let entry = at-if1 .before .before .before in
+    let a = entry .args in record { fits = omega (arith, share-room (a .m) (a .n) (at-if1 .if1 .left) (at-if2 .if2 .left)) }
 
 copy-sizes-requires : tie.Need-copy-sizes-requires
-copy-sizes-requires c κs = let a = c .before .before .before .before .before .before .before .before .before .before .before .args in (omega (arith, c .before .before .before .before .before .before .before .before .before .before .before .pre, c .before .before .before .before .before .before .before .if2 .left, share-room (a .m) (a .n) (c .before .before .before .before .before .before .before .before .if1 .left) (c .before .before .before .before .before .before .before .if2 .left)), omega (arith, c .before .before .before .before .before .before .before .if2 .left))
+copy-sizes-requires c κs =
+    let at-if2 = c .before .before .before .before .before .before .before in
+    let at-if1 = at-if2 .before in
+    let entry = at-if1 .before .before .before in
+    let a = entry .args in (omega (arith, entry .pre, at-if2 .if2 .left, share-room (a .m) (a .n) (at-if1 .if1 .left) (at-if2 .if2 .left)), omega (arith, at-if2 .if2 .left))
 
 same-length : tie.Need-same-length
 same-length c = search needs
@@ -33,12 +45,15 @@ same-length-3 : tie.Need-same-length-3
 same-length-3 c = search needs
 
 returns-3 : tie.Need-returns-3
-returns-3 c = record {
-  costs-shared = search needs;
-  supplies-shared = search needs;
-  demands-shared = search needs;
-  large-kept = λ no-room. absurd (no-room (c .before .before .before .before .before .before .before .before .before .before .before .if1 .left) (c .before .before .before .before .before .before .before .before .before .before .if2 .left));
-}
+returns-3 c =
+    let at-if2 = c .before .before .before .before .before .before .before .before .before .before in
+    let at-if1 = at-if2 .before in
+    record {
+      costs-shared = search needs;
+      supplies-shared = search needs;
+      demands-shared = search needs;
+      large-kept = λ no-room. absurd (no-room (at-if1 .if1 .left) (at-if2 .if2 .left));
+    }
 
 pub share-spec : {M : Type 1} → statement M
 share-spec =

@@ -20,23 +20,24 @@ abbrev μ-loop : tie.MeasureT-loop
 -- this source's record lies within the cells, and the offset of its costs is not past it
 within :
     (c : tie.In-loop Inv-loop μ-loop) →
-    (c .before .loop .start + (c .before .before .before .args .n + 1) ≤ length (now (c .before .before .before .args .cells))) × (c .before .loop .at ≤ c .before .loop .start)
+    let entry = c .before .before .before in
+    (c .before .loop .start + (entry .args .n + 1) ≤ length (now (entry .args .cells))) × (c .before .loop .at ≤ c .before .loop .start)
 within c = (source-within _ _ _ _ _ _ _ _ _ _ (c .before .before .before .pre .0) (c .before .loop .inv) (c .loop-test .taken), c .before .loop .inv .behind)
 
 loop-holds : tie.Need-loop-holds Inv-loop μ-loop
 loop-holds c = sharing-start _ _ _ _ _
 
 copy-signed-requires : tie.Need-copy-signed-requires Inv-loop μ-loop
-copy-signed-requires c κs = (omega (arith, within ((c .before))), omega (arith, within ((c .before))))
+copy-signed-requires c κs = (omega (arith, within (c .before)), omega (arith, within (c .before)))
 
 add-magnitude : tie.Need-add-magnitude Inv-loop μ-loop
-add-magnitude c = omega (arith, within ((c .before .before .before .before)))
+add-magnitude c = omega (arith, within (c .before .before .before .before))
 
 mul-magnitude : tie.Need-mul-magnitude Inv-loop μ-loop
-mul-magnitude c = omega (arith, within ((c .before .before .before .before)))
+mul-magnitude c = omega (arith, within (c .before .before .before .before))
 
 shared-slice-copy-out-magnitude : tie.Need-shared-slice-copy-out-magnitude Inv-loop μ-loop
-shared-slice-copy-out-magnitude c = omega (arith, within ((c .before .before .before .before)))
+shared-slice-copy-out-magnitude c = omega (arith, within (c .before .before .before .before))
 
 magnitude-requires : tie.Need-magnitude-requires Inv-loop μ-loop
 magnitude-requires c κs = search needs
@@ -45,13 +46,13 @@ put-requires : tie.Need-put-requires Inv-loop μ-loop
 put-requires c κs = search needs
 
 add-start : tie.Need-add-start Inv-loop μ-loop
-add-start c = omega (arith, within ((c .before .before .before .before .before .before .before .before .before)))
+add-start c = omega (arith, within (c .before .before .before .before .before .before .before .before .before))
 
 add-start-2 : tie.Need-add-start-2 Inv-loop μ-loop
-add-start-2 c = omega (arith, within ((c .before .before .before .before .before .before .before .before .before)))
+add-start-2 c = omega (arith, within (c .before .before .before .before .before .before .before .before .before))
 
 add-at : tie.Need-add-at Inv-loop μ-loop
-add-at c = omega (arith, within ((c .before .before .before .before .before .before .before .before .before)))
+add-at c = omega (arith, within (c .before .before .before .before .before .before .before .before .before))
 
 add-i : tie.Need-add-i Inv-loop μ-loop
 add-i c = search needs
@@ -60,7 +61,17 @@ loop-less : tie.Need-loop-less Inv-loop μ-loop
 loop-less c = search needs
 
 loop-again : tie.Need-loop-again Inv-loop μ-loop
-loop-again c = let a = c .before .before .before .before .before .before .before .before .before .before .before .before .args in sharing-next _ _ _ _ _ _ _ _ _ _ (c .before .before .before .before .before .before .before .before .before .before .before .before .pre .0) (c .before .before .before .before .before .before .before .before .before .before .loop .inv) _ _ (c .before .before .before .magnitude .result) (c .before .before .before .before .before .before .before .before .before .loop-test .taken) (c .before .before .before .before .before .before .before .copy-signed .ensures) (c .before .before .put .ensures) (c .before .before .before .magnitude .ensures ∙ ap natAbs (read-back (getD (now (a .cells)) (c .before .before .before .before .before .before .before .before .before .before .loop .start + a .n) (pos 0)) (c .before .before .before .before .magnitude-arg .given)))
+loop-again c =
+    let at-magnitude = c .before .before .before in
+    let at-magnitude-arg = at-magnitude .before in
+    let at-copy-signed = at-magnitude-arg .before .before .before in
+    let at-loop-test = at-copy-signed .before .before in
+    let at-loop = at-loop-test .before in
+    let entry = at-loop .before .before in
+    let a = entry .args in
+    sharing-next _ _ _ _ _ _ _ _ _ _ (entry .pre .0) (at-loop .loop .inv) _ _ (at-magnitude .magnitude .result) (at-loop-test .loop-test .taken)
+    (at-copy-signed .copy-signed .ensures) (c .before .before .put .ensures)
+    (at-magnitude .magnitude .ensures ∙ ap natAbs (read-back (getD (now (a .cells)) (at-loop .loop .start + a .n) (pos 0)) (at-magnitude-arg .magnitude-arg .given)))
 
 same-length : tie.Need-same-length Inv-loop μ-loop
 same-length c = c .before .loop .inv .costs-same

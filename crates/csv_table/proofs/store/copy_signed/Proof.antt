@@ -42,13 +42,22 @@ loop-less : tie.Need-loop-less Inv-loop μ-loop
 loop-less c = search needs
 
 loop-again : tie.Need-loop-again Inv-loop μ-loop
-loop-again c = let a = c .before .before .before .before .before .before .args in let h = c .before .before .before .before .loop-test .taken in storing-next _ _ _ _ (a .at) _ _ (pos 0) (omega (arith, part-length (now (a .values)) (a .start) (a .count) (c .before .before .before .before .before .before .pre .0))) (read-back (getD (now (a .values)) (a .start + c .before .before .before .before .before .loop .j) (pos 0)) (c .before .before .put-signed-arg2 .given) ∙ sym (part-at (now (a .values)) (a .start) (a .count) _ (pos 0) h)) (c .before .put-signed .ensures) (c .before .before .before .before .before .loop .inv)
+loop-again c =
+    let at-loop-test = c .before .before .before .before in
+    let at-loop = at-loop-test .before in
+    let entry = at-loop .before in
+    let a = entry .args in
+    let h = at-loop-test .loop-test .taken in
+    storing-next _ _ _ _ (a .at) _ _ (pos 0) (omega (arith, part-length (now (a .values)) (a .start) (a .count) (entry .pre .0)))
+    (read-back (getD (now (a .values)) (a .start + at-loop .loop .j) (pos 0)) (c .before .before .put-signed-arg2 .given) ∙ sym (part-at (now (a .values)) (a .start) (a .count) _ (pos 0) h))
+    (c .before .put-signed .ensures) (at-loop .loop .inv)
 
 same-length : tie.Need-same-length Inv-loop μ-loop
 same-length c = c .before .loop .inv .same
 
 returns : tie.Need-returns Inv-loop μ-loop
-returns c = let a = c .before .before .args in storing-end _ _ _ _ _ (omega (arith, part-length (now (a .values)) (a .start) (a .count) (c .before .before .pre .0), c .loop-test .left)) (c .before .loop .inv)
+returns c =
+    let a = c .before .before .args in storing-end _ _ _ _ _ (omega (arith, part-length (now (a .values)) (a .start) (a .count) (c .before .before .pre .0), c .loop-test .left)) (c .before .loop .inv)
 
 pub copy-signed-spec : {M : Type 1} → statement M
 copy-signed-spec =

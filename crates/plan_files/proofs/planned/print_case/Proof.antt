@@ -64,13 +64,23 @@ same-length : tie.Need-same-length
 same-length c = search needs
 
 returns : tie.Need-returns
-returns c = by-refusal (c .before .before .before .before .before .before .before .before .before .before .plan2 .ensures) (lanes ((c .before .before .before .before .before .before .before .before .before .before .before .before .before .before))) (splits ((c .before .before .before .before .before .before .before .before .before .before .before .before .before .before))) (freights ((c .before .before .before .before .before .before .before .before .before .before .before .before .before .before))) (ap outcome (c .before .before .before .before .before .answer .given .1)) (c .before .before .print-refusal .ensures)
+returns c =
+    let at-answer = c .before .before .before .before .before in
+    let at-plan2 = at-answer .before .before .before .before .before in
+    let at-freight-cells = at-plan2 .before .before .before .before in
+    by-refusal (at-plan2 .plan2 .ensures) (lanes at-freight-cells) (splits at-freight-cells) (freights at-freight-cells)
+    (ap outcome (at-answer .answer .given .1)) (c .before .before .print-refusal .ensures)
 
 same-length-2 : tie.Need-same-length-2
 same-length-2 c = search needs
 
 returns-2 : tie.Need-returns-2
-returns-2 c = by-plan (c .before .before .before .before .before .before .before .before .before .before .before .before .plan2 .ensures) (lanes ((c .before .before .before .before .before .before .before .before .before .before .before .before .before .before .before .before))) (splits ((c .before .before .before .before .before .before .before .before .before .before .before .before .before .before .before .before))) (freights ((c .before .before .before .before .before .before .before .before .before .before .before .before .before .before .before .before))) (ap outcome (c .before .before .before .before .before .before .before .answer2 .given .1)) (c .before .before .print-plan .ensures)
+returns-2 c =
+    let at-answer2 = c .before .before .before .before .before .before .before in
+    let at-plan2 = at-answer2 .before .before .before .before .before in
+    let at-freight-cells = at-plan2 .before .before .before .before in
+    by-plan (at-plan2 .plan2 .ensures) (lanes at-freight-cells) (splits at-freight-cells) (freights at-freight-cells)
+    (ap outcome (at-answer2 .answer2 .given .1)) (c .before .before .print-plan .ensures)
 
 pub print-case-spec : {M : Type 1} → statement M
 print-case-spec =

@@ -21,91 +21,640 @@ table-at-requires : tie.Need-table-at-requires
 table-at-requires c κs = search needs
 
 entries-requires : tie.Need-entries-requires
-entries-requires c κs = omega (arith, front-room _ _ _ (c .before .before .before .before .before .before .before .pre), front-lanes _ _ _ (c .before .before .before .before .before .before .before .pre), c .before .before .before .before .before .before .before .pre .few, c .before .before .before .before .before .before .before .pre .many, few-entries (now (c .before .before .before .before .before .before .before .args .store)))
+entries-requires c κs =
+    let entry = c .before .before .before .before .before .before .before in
+    omega (arith, front-room _ _ _ (entry .pre), front-lanes _ _ _ (entry .pre), entry .pre .few, entry .pre .many, few-entries (now (entry .args .store)))
 
 add-e : tie.Need-add-e
-add-e c = omega (arith, front-room _ _ _ (c .before .before .before .before .before .before .before .before .pre), front-lanes _ _ _ (c .before .before .before .before .before .before .before .before .pre), c .before .before .before .before .before .before .before .before .pre .few, c .before .before .before .before .before .before .before .before .pre .many, few-entries (now (c .before .before .before .before .before .before .before .before .args .store)), c .before .before .before .before .demands-at .ensures, c .before .before .before .costs-at .ensures, c .before .before .ceilings-at .ensures, c .before .table-at .ensures, c .entries .ensures)
+add-e c =
+    let at-costs-at = c .before .before .before in
+    let at-demands-at = at-costs-at .before in
+    let entry = at-demands-at .before .before .before .before in
+    omega (
+      arith,
+      front-room _ _ _ (entry .pre),
+      front-lanes _ _ _ (entry .pre),
+      entry .pre .few,
+      entry .pre .many,
+      few-entries (now (entry .args .store)),
+      at-demands-at .demands-at .ensures,
+      at-costs-at .costs-at .ensures,
+      c .before .before .ceilings-at .ensures,
+      c .before .table-at .ensures,
+      c .entries .ensures,
+    )
 
 mul-lanes : tie.Need-mul-lanes
-mul-lanes c = omega (arith, front-room _ _ _ (c .before .before .before .before .before .before .before .before .pre), front-lanes _ _ _ (c .before .before .before .before .before .before .before .before .pre), c .before .before .before .before .before .before .before .before .pre .few, c .before .before .before .before .before .before .before .before .pre .many, few-entries (now (c .before .before .before .before .before .before .before .before .args .store)), c .before .before .before .before .demands-at .ensures, c .before .before .before .costs-at .ensures, c .before .before .ceilings-at .ensures, c .before .table-at .ensures, c .entries .ensures)
+mul-lanes c =
+    let at-costs-at = c .before .before .before in
+    let at-demands-at = at-costs-at .before in
+    let entry = at-demands-at .before .before .before .before in
+    omega (
+      arith,
+      front-room _ _ _ (entry .pre),
+      front-lanes _ _ _ (entry .pre),
+      entry .pre .few,
+      entry .pre .many,
+      few-entries (now (entry .args .store)),
+      at-demands-at .demands-at .ensures,
+      at-costs-at .costs-at .ensures,
+      c .before .before .ceilings-at .ensures,
+      c .before .table-at .ensures,
+      c .entries .ensures,
+    )
 
 shared-slice-read-run1 : tie.Need-shared-slice-read-run1
-shared-slice-read-run1 c = omega (arith, front-room _ _ _ (c .before .before .before .before .before .before .before .before .before .pre), front-lanes _ _ _ (c .before .before .before .before .before .before .before .before .before .pre), c .before .before .before .before .before .before .before .before .before .pre .few, c .before .before .before .before .before .before .before .before .before .pre .many, few-entries (now (c .before .before .before .before .before .before .before .before .before .args .store)), c .before .before .before .before .before .demands-at .ensures, c .before .before .before .before .costs-at .ensures, c .before .before .before .ceilings-at .ensures, c .before .before .table-at .ensures, c .before .entries .ensures)
+shared-slice-read-run1 c =
+    let at-ceilings-at = c .before .before .before in
+    let at-costs-at = at-ceilings-at .before in
+    let at-demands-at = at-costs-at .before in
+    let entry = at-demands-at .before .before .before .before in
+    omega (
+      arith,
+      front-room _ _ _ (entry .pre),
+      front-lanes _ _ _ (entry .pre),
+      entry .pre .few,
+      entry .pre .many,
+      few-entries (now (entry .args .store)),
+      at-demands-at .demands-at .ensures,
+      at-costs-at .costs-at .ensures,
+      at-ceilings-at .ceilings-at .ensures,
+      c .before .before .table-at .ensures,
+      c .before .entries .ensures,
+    )
 
 shared-slice-read-run2 : tie.Need-shared-slice-read-run2
-shared-slice-read-run2 c = omega (arith, front-room _ _ _ (c .before .before .before .before .before .before .before .before .before .before .pre), front-lanes _ _ _ (c .before .before .before .before .before .before .before .before .before .before .pre), c .before .before .before .before .before .before .before .before .before .before .pre .few, c .before .before .before .before .before .before .before .before .before .before .pre .many, few-entries (now (c .before .before .before .before .before .before .before .before .before .before .args .store)), c .before .before .before .before .before .before .demands-at .ensures, c .before .before .before .before .before .costs-at .ensures, c .before .before .before .before .ceilings-at .ensures, c .before .before .before .table-at .ensures, c .before .before .entries .ensures)
+shared-slice-read-run2 c =
+    let at-table-at = c .before .before .before in
+    let at-ceilings-at = at-table-at .before in
+    let at-costs-at = at-ceilings-at .before in
+    let at-demands-at = at-costs-at .before in
+    let entry = at-demands-at .before .before .before .before in
+    omega (
+      arith,
+      front-room _ _ _ (entry .pre),
+      front-lanes _ _ _ (entry .pre),
+      entry .pre .few,
+      entry .pre .many,
+      few-entries (now (entry .args .store)),
+      at-demands-at .demands-at .ensures,
+      at-costs-at .costs-at .ensures,
+      at-ceilings-at .ceilings-at .ensures,
+      at-table-at .table-at .ensures,
+      c .before .before .entries .ensures,
+    )
 
 mul-costs-of : tie.Need-mul-costs-of
-mul-costs-of c = omega (arith, front-room _ _ _ (c .before .before .before .before .before .before .before .before .before .before .pre), front-lanes _ _ _ (c .before .before .before .before .before .before .before .before .before .before .pre), c .before .before .before .before .before .before .before .before .before .before .pre .few, c .before .before .before .before .before .before .before .before .before .before .pre .many, few-entries (now (c .before .before .before .before .before .before .before .before .before .before .args .store)), c .before .before .before .before .before .before .demands-at .ensures, c .before .before .before .before .before .costs-at .ensures, c .before .before .before .before .ceilings-at .ensures, c .before .before .before .table-at .ensures, c .before .before .entries .ensures)
+mul-costs-of c =
+    let at-table-at = c .before .before .before in
+    let at-ceilings-at = at-table-at .before in
+    let at-costs-at = at-ceilings-at .before in
+    let at-demands-at = at-costs-at .before in
+    let entry = at-demands-at .before .before .before .before in
+    omega (
+      arith,
+      front-room _ _ _ (entry .pre),
+      front-lanes _ _ _ (entry .pre),
+      entry .pre .few,
+      entry .pre .many,
+      few-entries (now (entry .args .store)),
+      at-demands-at .demands-at .ensures,
+      at-costs-at .costs-at .ensures,
+      at-ceilings-at .ceilings-at .ensures,
+      at-table-at .table-at .ensures,
+      c .before .before .entries .ensures,
+    )
 
 sub-costs-of : tie.Need-sub-costs-of
-sub-costs-of c = omega (arith, front-room _ _ _ (c .before .before .before .before .before .before .before .before .before .before .pre), front-lanes _ _ _ (c .before .before .before .before .before .before .before .before .before .before .pre), c .before .before .before .before .before .before .before .before .before .before .pre .few, c .before .before .before .before .before .before .before .before .before .before .pre .many, few-entries (now (c .before .before .before .before .before .before .before .before .before .before .args .store)), c .before .before .before .before .before .before .demands-at .ensures, c .before .before .before .before .before .costs-at .ensures, c .before .before .before .before .ceilings-at .ensures, c .before .before .before .table-at .ensures, c .before .before .entries .ensures)
+sub-costs-of c =
+    let at-table-at = c .before .before .before in
+    let at-ceilings-at = at-table-at .before in
+    let at-costs-at = at-ceilings-at .before in
+    let at-demands-at = at-costs-at .before in
+    let entry = at-demands-at .before .before .before .before in
+    omega (
+      arith,
+      front-room _ _ _ (entry .pre),
+      front-lanes _ _ _ (entry .pre),
+      entry .pre .few,
+      entry .pre .many,
+      few-entries (now (entry .args .store)),
+      at-demands-at .demands-at .ensures,
+      at-costs-at .costs-at .ensures,
+      at-ceilings-at .ceilings-at .ensures,
+      at-table-at .table-at .ensures,
+      c .before .before .entries .ensures,
+    )
 
 part-costs-of-start : tie.Need-part-costs-of-start
-part-costs-of-start c = omega (arith, front-room _ _ _ (c .before .before .before .before .before .before .before .before .before .before .pre), front-lanes _ _ _ (c .before .before .before .before .before .before .before .before .before .before .pre), c .before .before .before .before .before .before .before .before .before .before .pre .few, c .before .before .before .before .before .before .before .before .before .before .pre .many, few-entries (now (c .before .before .before .before .before .before .before .before .before .before .args .store)), c .before .before .before .before .before .before .demands-at .ensures, c .before .before .before .before .before .costs-at .ensures, c .before .before .before .before .ceilings-at .ensures, c .before .before .before .table-at .ensures, c .before .before .entries .ensures)
+part-costs-of-start c =
+    let at-table-at = c .before .before .before in
+    let at-ceilings-at = at-table-at .before in
+    let at-costs-at = at-ceilings-at .before in
+    let at-demands-at = at-costs-at .before in
+    let entry = at-demands-at .before .before .before .before in
+    omega (
+      arith,
+      front-room _ _ _ (entry .pre),
+      front-lanes _ _ _ (entry .pre),
+      entry .pre .few,
+      entry .pre .many,
+      few-entries (now (entry .args .store)),
+      at-demands-at .demands-at .ensures,
+      at-costs-at .costs-at .ensures,
+      at-ceilings-at .ceilings-at .ensures,
+      at-table-at .table-at .ensures,
+      c .before .before .entries .ensures,
+    )
 
 part-costs-of-end : tie.Need-part-costs-of-end
-part-costs-of-end c = omega (arith, front-room _ _ _ (c .before .before .before .before .before .before .before .before .before .before .pre), front-lanes _ _ _ (c .before .before .before .before .before .before .before .before .before .before .pre), c .before .before .before .before .before .before .before .before .before .before .pre .few, c .before .before .before .before .before .before .before .before .before .before .pre .many, few-entries (now (c .before .before .before .before .before .before .before .before .before .before .args .store)), c .before .before .before .before .before .before .demands-at .ensures, c .before .before .before .before .before .costs-at .ensures, c .before .before .before .before .ceilings-at .ensures, c .before .before .before .table-at .ensures, c .before .before .entries .ensures)
+part-costs-of-end c =
+    let at-table-at = c .before .before .before in
+    let at-ceilings-at = at-table-at .before in
+    let at-costs-at = at-ceilings-at .before in
+    let at-demands-at = at-costs-at .before in
+    let entry = at-demands-at .before .before .before .before in
+    omega (
+      arith,
+      front-room _ _ _ (entry .pre),
+      front-lanes _ _ _ (entry .pre),
+      entry .pre .few,
+      entry .pre .many,
+      few-entries (now (entry .args .store)),
+      at-demands-at .demands-at .ensures,
+      at-costs-at .costs-at .ensures,
+      at-ceilings-at .ceilings-at .ensures,
+      at-table-at .table-at .ensures,
+      c .before .before .entries .ensures,
+    )
 
 costs-of-requires : tie.Need-costs-of-requires
-costs-of-requires c κs = omega (arith, front-room _ _ _ (c .before .before .before .before .before .before .before .before .before .before .before .pre), front-lanes _ _ _ (c .before .before .before .before .before .before .before .before .before .before .before .pre), c .before .before .before .before .before .before .before .before .before .before .before .pre .few, c .before .before .before .before .before .before .before .before .before .before .before .pre .many, few-entries (now (c .before .before .before .before .before .before .before .before .before .before .before .args .store)), lanes-long (c .before .before .before .before .before .before .before .before .before .before .before .args .m) (c .before .before .before .before .before .before .before .before .before .before .before .args .n) (now (c .before .before .before .before .before .before .before .before .before .before .before .args .store)) (c .before .before .before .before .before .before .before .before .before .before .before .pre) _ _ _ _ _ (c .before .before .before .before .before .before .before .demands-at .ensures) (c .before .before .before .before .before .before .costs-at .ensures) (c .before .before .before .before .before .ceilings-at .ensures) (c .before .before .before .before .table-at .ensures) (c .before .before .before .entries .ensures))
+costs-of-requires c κs =
+    let at-entries = c .before .before .before in
+    let at-table-at = at-entries .before in
+    let at-ceilings-at = at-table-at .before in
+    let at-costs-at = at-ceilings-at .before in
+    let at-demands-at = at-costs-at .before in
+    let entry = at-demands-at .before .before .before .before in
+    omega (
+      arith,
+      front-room _ _ _ (entry .pre),
+      front-lanes _ _ _ (entry .pre),
+      entry .pre .few,
+      entry .pre .many,
+      few-entries (now (entry .args .store)),
+      lanes-long (entry .args .m) (entry .args .n) (now (entry .args .store)) (entry .pre) _ _ _ _ _ (at-demands-at .demands-at .ensures)
+          (at-costs-at .costs-at .ensures) (at-ceilings-at .ceilings-at .ensures) (at-table-at .table-at .ensures) (at-entries .entries .ensures),
+    )
 
 sub-plan : tie.Need-sub-plan
-sub-plan c = omega (arith, front-room _ _ _ (c .before .before .before .before .before .before .before .before .before .before .before .before .pre), front-lanes _ _ _ (c .before .before .before .before .before .before .before .before .before .before .before .before .pre), c .before .before .before .before .before .before .before .before .before .before .before .before .pre .few, c .before .before .before .before .before .before .before .before .before .before .before .before .pre .many, few-entries (now (c .before .before .before .before .before .before .before .before .before .before .before .before .args .store)), c .before .before .before .before .before .before .before .before .demands-at .ensures, c .before .before .before .before .before .before .before .costs-at .ensures, c .before .before .before .before .before .before .ceilings-at .ensures, c .before .before .before .before .before .table-at .ensures, c .before .before .before .before .entries .ensures, c .costs-of .ensures .0)
+sub-plan c =
+    let at-entries = c .before .before .before .before in
+    let at-table-at = at-entries .before in
+    let at-ceilings-at = at-table-at .before in
+    let at-costs-at = at-ceilings-at .before in
+    let at-demands-at = at-costs-at .before in
+    let entry = at-demands-at .before .before .before .before in
+    omega (
+      arith,
+      front-room _ _ _ (entry .pre),
+      front-lanes _ _ _ (entry .pre),
+      entry .pre .few,
+      entry .pre .many,
+      few-entries (now (entry .args .store)),
+      at-demands-at .demands-at .ensures,
+      at-costs-at .costs-at .ensures,
+      at-ceilings-at .ceilings-at .ensures,
+      at-table-at .table-at .ensures,
+      at-entries .entries .ensures,
+      c .costs-of .ensures .0,
+    )
 
 part-plan-start : tie.Need-part-plan-start
-part-plan-start c = omega (arith, front-room _ _ _ (c .before .before .before .before .before .before .before .before .before .before .before .before .before .pre), front-lanes _ _ _ (c .before .before .before .before .before .before .before .before .before .before .before .before .before .pre), c .before .before .before .before .before .before .before .before .before .before .before .before .before .pre .few, c .before .before .before .before .before .before .before .before .before .before .before .before .before .pre .many, few-entries (now (c .before .before .before .before .before .before .before .before .before .before .before .before .before .args .store)), c .before .before .before .before .before .before .before .before .before .demands-at .ensures, c .before .before .before .before .before .before .before .before .costs-at .ensures, c .before .before .before .before .before .before .before .ceilings-at .ensures, c .before .before .before .before .before .before .table-at .ensures, c .before .before .before .before .before .entries .ensures, c .before .costs-of .ensures .0)
+part-plan-start c =
+    let at-entries = c .before .before .before .before .before in
+    let at-table-at = at-entries .before in
+    let at-ceilings-at = at-table-at .before in
+    let at-costs-at = at-ceilings-at .before in
+    let at-demands-at = at-costs-at .before in
+    let entry = at-demands-at .before .before .before .before in
+    omega (
+      arith,
+      front-room _ _ _ (entry .pre),
+      front-lanes _ _ _ (entry .pre),
+      entry .pre .few,
+      entry .pre .many,
+      few-entries (now (entry .args .store)),
+      at-demands-at .demands-at .ensures,
+      at-costs-at .costs-at .ensures,
+      at-ceilings-at .ceilings-at .ensures,
+      at-table-at .table-at .ensures,
+      at-entries .entries .ensures,
+      c .before .costs-of .ensures .0,
+    )
 
 part-plan-end : tie.Need-part-plan-end
-part-plan-end c = omega (arith, front-room _ _ _ (c .before .before .before .before .before .before .before .before .before .before .before .before .before .pre), front-lanes _ _ _ (c .before .before .before .before .before .before .before .before .before .before .before .before .before .pre), c .before .before .before .before .before .before .before .before .before .before .before .before .before .pre .few, c .before .before .before .before .before .before .before .before .before .before .before .before .before .pre .many, few-entries (now (c .before .before .before .before .before .before .before .before .before .before .before .before .before .args .store)), c .before .before .before .before .before .before .before .before .before .demands-at .ensures, c .before .before .before .before .before .before .before .before .costs-at .ensures, c .before .before .before .before .before .before .before .ceilings-at .ensures, c .before .before .before .before .before .before .table-at .ensures, c .before .before .before .before .before .entries .ensures, c .before .costs-of .ensures .0)
+part-plan-end c =
+    let at-entries = c .before .before .before .before .before in
+    let at-table-at = at-entries .before in
+    let at-ceilings-at = at-table-at .before in
+    let at-costs-at = at-ceilings-at .before in
+    let at-demands-at = at-costs-at .before in
+    let entry = at-demands-at .before .before .before .before in
+    omega (
+      arith,
+      front-room _ _ _ (entry .pre),
+      front-lanes _ _ _ (entry .pre),
+      entry .pre .few,
+      entry .pre .many,
+      few-entries (now (entry .args .store)),
+      at-demands-at .demands-at .ensures,
+      at-costs-at .costs-at .ensures,
+      at-ceilings-at .ceilings-at .ensures,
+      at-table-at .table-at .ensures,
+      at-entries .entries .ensures,
+      c .before .costs-of .ensures .0,
+    )
 
 mul-plan : tie.Need-mul-plan
-mul-plan c = omega (arith, front-room _ _ _ (c .before .before .before .before .before .before .before .before .before .before .before .before .before .before .pre), front-lanes _ _ _ (c .before .before .before .before .before .before .before .before .before .before .before .before .before .before .pre), c .before .before .before .before .before .before .before .before .before .before .before .before .before .before .pre .few, c .before .before .before .before .before .before .before .before .before .before .before .before .before .before .pre .many, few-entries (now (c .before .before .before .before .before .before .before .before .before .before .before .before .before .before .args .store)), c .before .before .before .before .before .before .before .before .before .before .demands-at .ensures, c .before .before .before .before .before .before .before .before .before .costs-at .ensures, c .before .before .before .before .before .before .before .before .ceilings-at .ensures, c .before .before .before .before .before .before .before .table-at .ensures, c .before .before .before .before .before .before .entries .ensures, c .before .before .costs-of .ensures .0)
+mul-plan c =
+    let at-entries = c .before .before .before .before .before .before in
+    let at-table-at = at-entries .before in
+    let at-ceilings-at = at-table-at .before in
+    let at-costs-at = at-ceilings-at .before in
+    let at-demands-at = at-costs-at .before in
+    let entry = at-demands-at .before .before .before .before in
+    omega (
+      arith,
+      front-room _ _ _ (entry .pre),
+      front-lanes _ _ _ (entry .pre),
+      entry .pre .few,
+      entry .pre .many,
+      few-entries (now (entry .args .store)),
+      at-demands-at .demands-at .ensures,
+      at-costs-at .costs-at .ensures,
+      at-ceilings-at .ceilings-at .ensures,
+      at-table-at .table-at .ensures,
+      at-entries .entries .ensures,
+      c .before .before .costs-of .ensures .0,
+    )
 
 sub-plan-2 : tie.Need-sub-plan-2
-sub-plan-2 c = omega (arith, front-room _ _ _ (c .before .before .before .before .before .before .before .before .before .before .before .before .before .before .pre), front-lanes _ _ _ (c .before .before .before .before .before .before .before .before .before .before .before .before .before .before .pre), c .before .before .before .before .before .before .before .before .before .before .before .before .before .before .pre .few, c .before .before .before .before .before .before .before .before .before .before .before .before .before .before .pre .many, few-entries (now (c .before .before .before .before .before .before .before .before .before .before .before .before .before .before .args .store)), c .before .before .before .before .before .before .before .before .before .before .demands-at .ensures, c .before .before .before .before .before .before .before .before .before .costs-at .ensures, c .before .before .before .before .before .before .before .before .ceilings-at .ensures, c .before .before .before .before .before .before .before .table-at .ensures, c .before .before .before .before .before .before .entries .ensures, c .before .before .costs-of .ensures .0)
+sub-plan-2 c =
+    let at-entries = c .before .before .before .before .before .before in
+    let at-table-at = at-entries .before in
+    let at-ceilings-at = at-table-at .before in
+    let at-costs-at = at-ceilings-at .before in
+    let at-demands-at = at-costs-at .before in
+    let entry = at-demands-at .before .before .before .before in
+    omega (
+      arith,
+      front-room _ _ _ (entry .pre),
+      front-lanes _ _ _ (entry .pre),
+      entry .pre .few,
+      entry .pre .many,
+      few-entries (now (entry .args .store)),
+      at-demands-at .demands-at .ensures,
+      at-costs-at .costs-at .ensures,
+      at-ceilings-at .ceilings-at .ensures,
+      at-table-at .table-at .ensures,
+      at-entries .entries .ensures,
+      c .before .before .costs-of .ensures .0,
+    )
 
 part-plan-start-2 : tie.Need-part-plan-start-2
-part-plan-start-2 c = omega (arith, front-room _ _ _ (c .before .before .before .before .before .before .before .before .before .before .before .before .before .before .pre), front-lanes _ _ _ (c .before .before .before .before .before .before .before .before .before .before .before .before .before .before .pre), c .before .before .before .before .before .before .before .before .before .before .before .before .before .before .pre .few, c .before .before .before .before .before .before .before .before .before .before .before .before .before .before .pre .many, few-entries (now (c .before .before .before .before .before .before .before .before .before .before .before .before .before .before .args .store)), c .before .before .before .before .before .before .before .before .before .before .demands-at .ensures, c .before .before .before .before .before .before .before .before .before .costs-at .ensures, c .before .before .before .before .before .before .before .before .ceilings-at .ensures, c .before .before .before .before .before .before .before .table-at .ensures, c .before .before .before .before .before .before .entries .ensures, c .before .before .costs-of .ensures .0)
+part-plan-start-2 c =
+    let at-entries = c .before .before .before .before .before .before in
+    let at-table-at = at-entries .before in
+    let at-ceilings-at = at-table-at .before in
+    let at-costs-at = at-ceilings-at .before in
+    let at-demands-at = at-costs-at .before in
+    let entry = at-demands-at .before .before .before .before in
+    omega (
+      arith,
+      front-room _ _ _ (entry .pre),
+      front-lanes _ _ _ (entry .pre),
+      entry .pre .few,
+      entry .pre .many,
+      few-entries (now (entry .args .store)),
+      at-demands-at .demands-at .ensures,
+      at-costs-at .costs-at .ensures,
+      at-ceilings-at .ceilings-at .ensures,
+      at-table-at .table-at .ensures,
+      at-entries .entries .ensures,
+      c .before .before .costs-of .ensures .0,
+    )
 
 part-plan-end-2 : tie.Need-part-plan-end-2
-part-plan-end-2 c = omega (arith, front-room _ _ _ (c .before .before .before .before .before .before .before .before .before .before .before .before .before .before .pre), front-lanes _ _ _ (c .before .before .before .before .before .before .before .before .before .before .before .before .before .before .pre), c .before .before .before .before .before .before .before .before .before .before .before .before .before .before .pre .few, c .before .before .before .before .before .before .before .before .before .before .before .before .before .before .pre .many, few-entries (now (c .before .before .before .before .before .before .before .before .before .before .before .before .before .before .args .store)), c .before .before .before .before .before .before .before .before .before .before .demands-at .ensures, c .before .before .before .before .before .before .before .before .before .costs-at .ensures, c .before .before .before .before .before .before .before .before .ceilings-at .ensures, c .before .before .before .before .before .before .before .table-at .ensures, c .before .before .before .before .before .before .entries .ensures, c .before .before .costs-of .ensures .0)
+part-plan-end-2 c =
+    let at-entries = c .before .before .before .before .before .before in
+    let at-table-at = at-entries .before in
+    let at-ceilings-at = at-table-at .before in
+    let at-costs-at = at-ceilings-at .before in
+    let at-demands-at = at-costs-at .before in
+    let entry = at-demands-at .before .before .before .before in
+    omega (
+      arith,
+      front-room _ _ _ (entry .pre),
+      front-lanes _ _ _ (entry .pre),
+      entry .pre .few,
+      entry .pre .many,
+      few-entries (now (entry .args .store)),
+      at-demands-at .demands-at .ensures,
+      at-costs-at .costs-at .ensures,
+      at-ceilings-at .ceilings-at .ensures,
+      at-table-at .table-at .ensures,
+      at-entries .entries .ensures,
+      c .before .before .costs-of .ensures .0,
+    )
 
 mul-plan-2 : tie.Need-mul-plan-2
-mul-plan-2 c = omega (arith, front-room _ _ _ (c .before .before .before .before .before .before .before .before .before .before .before .before .before .before .before .pre), front-lanes _ _ _ (c .before .before .before .before .before .before .before .before .before .before .before .before .before .before .before .pre), c .before .before .before .before .before .before .before .before .before .before .before .before .before .before .before .pre .few, c .before .before .before .before .before .before .before .before .before .before .before .before .before .before .before .pre .many, few-entries (now (c .before .before .before .before .before .before .before .before .before .before .before .before .before .before .before .args .store)), c .before .before .before .before .before .before .before .before .before .before .before .demands-at .ensures, c .before .before .before .before .before .before .before .before .before .before .costs-at .ensures, c .before .before .before .before .before .before .before .before .before .ceilings-at .ensures, c .before .before .before .before .before .before .before .before .table-at .ensures, c .before .before .before .before .before .before .before .entries .ensures, c .before .before .before .costs-of .ensures .0)
+mul-plan-2 c =
+    let at-costs-of = c .before .before .before in
+    let at-entries = at-costs-of .before .before .before .before in
+    let at-table-at = at-entries .before in
+    let at-ceilings-at = at-table-at .before in
+    let at-costs-at = at-ceilings-at .before in
+    let at-demands-at = at-costs-at .before in
+    let entry = at-demands-at .before .before .before .before in
+    omega (
+      arith,
+      front-room _ _ _ (entry .pre),
+      front-lanes _ _ _ (entry .pre),
+      entry .pre .few,
+      entry .pre .many,
+      few-entries (now (entry .args .store)),
+      at-demands-at .demands-at .ensures,
+      at-costs-at .costs-at .ensures,
+      at-ceilings-at .ceilings-at .ensures,
+      at-table-at .table-at .ensures,
+      at-entries .entries .ensures,
+      at-costs-of .costs-of .ensures .0,
+    )
 
 sub-plan-3 : tie.Need-sub-plan-3
-sub-plan-3 c = omega (arith, front-room _ _ _ (c .before .before .before .before .before .before .before .before .before .before .before .before .before .before .before .pre), front-lanes _ _ _ (c .before .before .before .before .before .before .before .before .before .before .before .before .before .before .before .pre), c .before .before .before .before .before .before .before .before .before .before .before .before .before .before .before .pre .few, c .before .before .before .before .before .before .before .before .before .before .before .before .before .before .before .pre .many, few-entries (now (c .before .before .before .before .before .before .before .before .before .before .before .before .before .before .before .args .store)), c .before .before .before .before .before .before .before .before .before .before .before .demands-at .ensures, c .before .before .before .before .before .before .before .before .before .before .costs-at .ensures, c .before .before .before .before .before .before .before .before .before .ceilings-at .ensures, c .before .before .before .before .before .before .before .before .table-at .ensures, c .before .before .before .before .before .before .before .entries .ensures, c .before .before .before .costs-of .ensures .0)
+sub-plan-3 c =
+    let at-costs-of = c .before .before .before in
+    let at-entries = at-costs-of .before .before .before .before in
+    let at-table-at = at-entries .before in
+    let at-ceilings-at = at-table-at .before in
+    let at-costs-at = at-ceilings-at .before in
+    let at-demands-at = at-costs-at .before in
+    let entry = at-demands-at .before .before .before .before in
+    omega (
+      arith,
+      front-room _ _ _ (entry .pre),
+      front-lanes _ _ _ (entry .pre),
+      entry .pre .few,
+      entry .pre .many,
+      few-entries (now (entry .args .store)),
+      at-demands-at .demands-at .ensures,
+      at-costs-at .costs-at .ensures,
+      at-ceilings-at .ceilings-at .ensures,
+      at-table-at .table-at .ensures,
+      at-entries .entries .ensures,
+      at-costs-of .costs-of .ensures .0,
+    )
 
 part-plan-start-3 : tie.Need-part-plan-start-3
-part-plan-start-3 c = omega (arith, front-room _ _ _ (c .before .before .before .before .before .before .before .before .before .before .before .before .before .before .before .pre), front-lanes _ _ _ (c .before .before .before .before .before .before .before .before .before .before .before .before .before .before .before .pre), c .before .before .before .before .before .before .before .before .before .before .before .before .before .before .before .pre .few, c .before .before .before .before .before .before .before .before .before .before .before .before .before .before .before .pre .many, few-entries (now (c .before .before .before .before .before .before .before .before .before .before .before .before .before .before .before .args .store)), c .before .before .before .before .before .before .before .before .before .before .before .demands-at .ensures, c .before .before .before .before .before .before .before .before .before .before .costs-at .ensures, c .before .before .before .before .before .before .before .before .before .ceilings-at .ensures, c .before .before .before .before .before .before .before .before .table-at .ensures, c .before .before .before .before .before .before .before .entries .ensures, c .before .before .before .costs-of .ensures .0)
+part-plan-start-3 c =
+    let at-costs-of = c .before .before .before in
+    let at-entries = at-costs-of .before .before .before .before in
+    let at-table-at = at-entries .before in
+    let at-ceilings-at = at-table-at .before in
+    let at-costs-at = at-ceilings-at .before in
+    let at-demands-at = at-costs-at .before in
+    let entry = at-demands-at .before .before .before .before in
+    omega (
+      arith,
+      front-room _ _ _ (entry .pre),
+      front-lanes _ _ _ (entry .pre),
+      entry .pre .few,
+      entry .pre .many,
+      few-entries (now (entry .args .store)),
+      at-demands-at .demands-at .ensures,
+      at-costs-at .costs-at .ensures,
+      at-ceilings-at .ceilings-at .ensures,
+      at-table-at .table-at .ensures,
+      at-entries .entries .ensures,
+      at-costs-of .costs-of .ensures .0,
+    )
 
 part-plan-end-3 : tie.Need-part-plan-end-3
-part-plan-end-3 c = omega (arith, front-room _ _ _ (c .before .before .before .before .before .before .before .before .before .before .before .before .before .before .before .pre), front-lanes _ _ _ (c .before .before .before .before .before .before .before .before .before .before .before .before .before .before .before .pre), c .before .before .before .before .before .before .before .before .before .before .before .before .before .before .before .pre .few, c .before .before .before .before .before .before .before .before .before .before .before .before .before .before .before .pre .many, few-entries (now (c .before .before .before .before .before .before .before .before .before .before .before .before .before .before .before .args .store)), c .before .before .before .before .before .before .before .before .before .before .before .demands-at .ensures, c .before .before .before .before .before .before .before .before .before .before .costs-at .ensures, c .before .before .before .before .before .before .before .before .before .ceilings-at .ensures, c .before .before .before .before .before .before .before .before .table-at .ensures, c .before .before .before .before .before .before .before .entries .ensures, c .before .before .before .costs-of .ensures .0)
+part-plan-end-3 c =
+    let at-costs-of = c .before .before .before in
+    let at-entries = at-costs-of .before .before .before .before in
+    let at-table-at = at-entries .before in
+    let at-ceilings-at = at-table-at .before in
+    let at-costs-at = at-ceilings-at .before in
+    let at-demands-at = at-costs-at .before in
+    let entry = at-demands-at .before .before .before .before in
+    omega (
+      arith,
+      front-room _ _ _ (entry .pre),
+      front-lanes _ _ _ (entry .pre),
+      entry .pre .few,
+      entry .pre .many,
+      few-entries (now (entry .args .store)),
+      at-demands-at .demands-at .ensures,
+      at-costs-at .costs-at .ensures,
+      at-ceilings-at .ceilings-at .ensures,
+      at-table-at .table-at .ensures,
+      at-entries .entries .ensures,
+      at-costs-of .costs-of .ensures .0,
+    )
 
 mul-plan-3 : tie.Need-mul-plan-3
-mul-plan-3 c = omega (arith, front-room _ _ _ (c .before .before .before .before .before .before .before .before .before .before .before .before .before .before .before .before .pre), front-lanes _ _ _ (c .before .before .before .before .before .before .before .before .before .before .before .before .before .before .before .before .pre), c .before .before .before .before .before .before .before .before .before .before .before .before .before .before .before .before .pre .few, c .before .before .before .before .before .before .before .before .before .before .before .before .before .before .before .before .pre .many, few-entries (now (c .before .before .before .before .before .before .before .before .before .before .before .before .before .before .before .before .args .store)), c .before .before .before .before .before .before .before .before .before .before .before .before .demands-at .ensures, c .before .before .before .before .before .before .before .before .before .before .before .costs-at .ensures, c .before .before .before .before .before .before .before .before .before .before .ceilings-at .ensures, c .before .before .before .before .before .before .before .before .before .table-at .ensures, c .before .before .before .before .before .before .before .before .entries .ensures, c .before .before .before .before .costs-of .ensures .0)
+mul-plan-3 c =
+    let at-costs-of = c .before .before .before .before in
+    let at-entries = at-costs-of .before .before .before .before in
+    let at-table-at = at-entries .before in
+    let at-ceilings-at = at-table-at .before in
+    let at-costs-at = at-ceilings-at .before in
+    let at-demands-at = at-costs-at .before in
+    let entry = at-demands-at .before .before .before .before in
+    omega (
+      arith,
+      front-room _ _ _ (entry .pre),
+      front-lanes _ _ _ (entry .pre),
+      entry .pre .few,
+      entry .pre .many,
+      few-entries (now (entry .args .store)),
+      at-demands-at .demands-at .ensures,
+      at-costs-at .costs-at .ensures,
+      at-ceilings-at .ceilings-at .ensures,
+      at-table-at .table-at .ensures,
+      at-entries .entries .ensures,
+      at-costs-of .costs-of .ensures .0,
+    )
 
 sub-plan-4 : tie.Need-sub-plan-4
-sub-plan-4 c = omega (arith, front-room _ _ _ (c .before .before .before .before .before .before .before .before .before .before .before .before .before .before .before .before .pre), front-lanes _ _ _ (c .before .before .before .before .before .before .before .before .before .before .before .before .before .before .before .before .pre), c .before .before .before .before .before .before .before .before .before .before .before .before .before .before .before .before .pre .few, c .before .before .before .before .before .before .before .before .before .before .before .before .before .before .before .before .pre .many, few-entries (now (c .before .before .before .before .before .before .before .before .before .before .before .before .before .before .before .before .args .store)), c .before .before .before .before .before .before .before .before .before .before .before .before .demands-at .ensures, c .before .before .before .before .before .before .before .before .before .before .before .costs-at .ensures, c .before .before .before .before .before .before .before .before .before .before .ceilings-at .ensures, c .before .before .before .before .before .before .before .before .before .table-at .ensures, c .before .before .before .before .before .before .before .before .entries .ensures, c .before .before .before .before .costs-of .ensures .0)
+sub-plan-4 c =
+    let at-costs-of = c .before .before .before .before in
+    let at-entries = at-costs-of .before .before .before .before in
+    let at-table-at = at-entries .before in
+    let at-ceilings-at = at-table-at .before in
+    let at-costs-at = at-ceilings-at .before in
+    let at-demands-at = at-costs-at .before in
+    let entry = at-demands-at .before .before .before .before in
+    omega (
+      arith,
+      front-room _ _ _ (entry .pre),
+      front-lanes _ _ _ (entry .pre),
+      entry .pre .few,
+      entry .pre .many,
+      few-entries (now (entry .args .store)),
+      at-demands-at .demands-at .ensures,
+      at-costs-at .costs-at .ensures,
+      at-ceilings-at .ceilings-at .ensures,
+      at-table-at .table-at .ensures,
+      at-entries .entries .ensures,
+      at-costs-of .costs-of .ensures .0,
+    )
 
 part-plan-start-4 : tie.Need-part-plan-start-4
-part-plan-start-4 c = omega (arith, front-room _ _ _ (c .before .before .before .before .before .before .before .before .before .before .before .before .before .before .before .before .pre), front-lanes _ _ _ (c .before .before .before .before .before .before .before .before .before .before .before .before .before .before .before .before .pre), c .before .before .before .before .before .before .before .before .before .before .before .before .before .before .before .before .pre .few, c .before .before .before .before .before .before .before .before .before .before .before .before .before .before .before .before .pre .many, few-entries (now (c .before .before .before .before .before .before .before .before .before .before .before .before .before .before .before .before .args .store)), c .before .before .before .before .before .before .before .before .before .before .before .before .demands-at .ensures, c .before .before .before .before .before .before .before .before .before .before .before .costs-at .ensures, c .before .before .before .before .before .before .before .before .before .before .ceilings-at .ensures, c .before .before .before .before .before .before .before .before .before .table-at .ensures, c .before .before .before .before .before .before .before .before .entries .ensures, c .before .before .before .before .costs-of .ensures .0)
+part-plan-start-4 c =
+    let at-costs-of = c .before .before .before .before in
+    let at-entries = at-costs-of .before .before .before .before in
+    let at-table-at = at-entries .before in
+    let at-ceilings-at = at-table-at .before in
+    let at-costs-at = at-ceilings-at .before in
+    let at-demands-at = at-costs-at .before in
+    let entry = at-demands-at .before .before .before .before in
+    omega (
+      arith,
+      front-room _ _ _ (entry .pre),
+      front-lanes _ _ _ (entry .pre),
+      entry .pre .few,
+      entry .pre .many,
+      few-entries (now (entry .args .store)),
+      at-demands-at .demands-at .ensures,
+      at-costs-at .costs-at .ensures,
+      at-ceilings-at .ceilings-at .ensures,
+      at-table-at .table-at .ensures,
+      at-entries .entries .ensures,
+      at-costs-of .costs-of .ensures .0,
+    )
 
 part-plan-end-4 : tie.Need-part-plan-end-4
-part-plan-end-4 c = omega (arith, front-room _ _ _ (c .before .before .before .before .before .before .before .before .before .before .before .before .before .before .before .before .pre), front-lanes _ _ _ (c .before .before .before .before .before .before .before .before .before .before .before .before .before .before .before .before .pre), c .before .before .before .before .before .before .before .before .before .before .before .before .before .before .before .before .pre .few, c .before .before .before .before .before .before .before .before .before .before .before .before .before .before .before .before .pre .many, few-entries (now (c .before .before .before .before .before .before .before .before .before .before .before .before .before .before .before .before .args .store)), c .before .before .before .before .before .before .before .before .before .before .before .before .demands-at .ensures, c .before .before .before .before .before .before .before .before .before .before .before .costs-at .ensures, c .before .before .before .before .before .before .before .before .before .before .ceilings-at .ensures, c .before .before .before .before .before .before .before .before .before .table-at .ensures, c .before .before .before .before .before .before .before .before .entries .ensures, c .before .before .before .before .costs-of .ensures .0)
+part-plan-end-4 c =
+    let at-costs-of = c .before .before .before .before in
+    let at-entries = at-costs-of .before .before .before .before in
+    let at-table-at = at-entries .before in
+    let at-ceilings-at = at-table-at .before in
+    let at-costs-at = at-ceilings-at .before in
+    let at-demands-at = at-costs-at .before in
+    let entry = at-demands-at .before .before .before .before in
+    omega (
+      arith,
+      front-room _ _ _ (entry .pre),
+      front-lanes _ _ _ (entry .pre),
+      entry .pre .few,
+      entry .pre .many,
+      few-entries (now (entry .args .store)),
+      at-demands-at .demands-at .ensures,
+      at-costs-at .costs-at .ensures,
+      at-ceilings-at .ceilings-at .ensures,
+      at-table-at .table-at .ensures,
+      at-entries .entries .ensures,
+      at-costs-of .costs-of .ensures .0,
+    )
 
 mul-plan-4 : tie.Need-mul-plan-4
-mul-plan-4 c = omega (arith, front-room _ _ _ (c .before .before .before .before .before .before .before .before .before .before .before .before .before .before .before .before .before .pre), front-lanes _ _ _ (c .before .before .before .before .before .before .before .before .before .before .before .before .before .before .before .before .before .pre), c .before .before .before .before .before .before .before .before .before .before .before .before .before .before .before .before .before .pre .few, c .before .before .before .before .before .before .before .before .before .before .before .before .before .before .before .before .before .pre .many, few-entries (now (c .before .before .before .before .before .before .before .before .before .before .before .before .before .before .before .before .before .args .store)), c .before .before .before .before .before .before .before .before .before .before .before .before .before .demands-at .ensures, c .before .before .before .before .before .before .before .before .before .before .before .before .costs-at .ensures, c .before .before .before .before .before .before .before .before .before .before .before .ceilings-at .ensures, c .before .before .before .before .before .before .before .before .before .before .table-at .ensures, c .before .before .before .before .before .before .before .before .before .entries .ensures, c .before .before .before .before .before .costs-of .ensures .0)
+mul-plan-4 c =
+    let at-costs-of = c .before .before .before .before .before in
+    let at-entries = at-costs-of .before .before .before .before in
+    let at-table-at = at-entries .before in
+    let at-ceilings-at = at-table-at .before in
+    let at-costs-at = at-ceilings-at .before in
+    let at-demands-at = at-costs-at .before in
+    let entry = at-demands-at .before .before .before .before in
+    omega (
+      arith,
+      front-room _ _ _ (entry .pre),
+      front-lanes _ _ _ (entry .pre),
+      entry .pre .few,
+      entry .pre .many,
+      few-entries (now (entry .args .store)),
+      at-demands-at .demands-at .ensures,
+      at-costs-at .costs-at .ensures,
+      at-ceilings-at .ceilings-at .ensures,
+      at-table-at .table-at .ensures,
+      at-entries .entries .ensures,
+      at-costs-of .costs-of .ensures .0,
+    )
 
 sub-plan-5 : tie.Need-sub-plan-5
-sub-plan-5 c = omega (arith, front-room _ _ _ (c .before .before .before .before .before .before .before .before .before .before .before .before .before .before .before .before .before .pre), front-lanes _ _ _ (c .before .before .before .before .before .before .before .before .before .before .before .before .before .before .before .before .before .pre), c .before .before .before .before .before .before .before .before .before .before .before .before .before .before .before .before .before .pre .few, c .before .before .before .before .before .before .before .before .before .before .before .before .before .before .before .before .before .pre .many, few-entries (now (c .before .before .before .before .before .before .before .before .before .before .before .before .before .before .before .before .before .args .store)), c .before .before .before .before .before .before .before .before .before .before .before .before .before .demands-at .ensures, c .before .before .before .before .before .before .before .before .before .before .before .before .costs-at .ensures, c .before .before .before .before .before .before .before .before .before .before .before .ceilings-at .ensures, c .before .before .before .before .before .before .before .before .before .before .table-at .ensures, c .before .before .before .before .before .before .before .before .before .entries .ensures, c .before .before .before .before .before .costs-of .ensures .0)
+sub-plan-5 c =
+    let at-costs-of = c .before .before .before .before .before in
+    let at-entries = at-costs-of .before .before .before .before in
+    let at-table-at = at-entries .before in
+    let at-ceilings-at = at-table-at .before in
+    let at-costs-at = at-ceilings-at .before in
+    let at-demands-at = at-costs-at .before in
+    let entry = at-demands-at .before .before .before .before in
+    omega (
+      arith,
+      front-room _ _ _ (entry .pre),
+      front-lanes _ _ _ (entry .pre),
+      entry .pre .few,
+      entry .pre .many,
+      few-entries (now (entry .args .store)),
+      at-demands-at .demands-at .ensures,
+      at-costs-at .costs-at .ensures,
+      at-ceilings-at .ceilings-at .ensures,
+      at-table-at .table-at .ensures,
+      at-entries .entries .ensures,
+      at-costs-of .costs-of .ensures .0,
+    )
 
 part-plan-start-5 : tie.Need-part-plan-start-5
-part-plan-start-5 c = omega (arith, front-room _ _ _ (c .before .before .before .before .before .before .before .before .before .before .before .before .before .before .before .before .before .pre), front-lanes _ _ _ (c .before .before .before .before .before .before .before .before .before .before .before .before .before .before .before .before .before .pre), c .before .before .before .before .before .before .before .before .before .before .before .before .before .before .before .before .before .pre .few, c .before .before .before .before .before .before .before .before .before .before .before .before .before .before .before .before .before .pre .many, few-entries (now (c .before .before .before .before .before .before .before .before .before .before .before .before .before .before .before .before .before .args .store)), c .before .before .before .before .before .before .before .before .before .before .before .before .before .demands-at .ensures, c .before .before .before .before .before .before .before .before .before .before .before .before .costs-at .ensures, c .before .before .before .before .before .before .before .before .before .before .before .ceilings-at .ensures, c .before .before .before .before .before .before .before .before .before .before .table-at .ensures, c .before .before .before .before .before .before .before .before .before .entries .ensures, c .before .before .before .before .before .costs-of .ensures .0)
+part-plan-start-5 c =
+    let at-costs-of = c .before .before .before .before .before in
+    let at-entries = at-costs-of .before .before .before .before in
+    let at-table-at = at-entries .before in
+    let at-ceilings-at = at-table-at .before in
+    let at-costs-at = at-ceilings-at .before in
+    let at-demands-at = at-costs-at .before in
+    let entry = at-demands-at .before .before .before .before in
+    omega (
+      arith,
+      front-room _ _ _ (entry .pre),
+      front-lanes _ _ _ (entry .pre),
+      entry .pre .few,
+      entry .pre .many,
+      few-entries (now (entry .args .store)),
+      at-demands-at .demands-at .ensures,
+      at-costs-at .costs-at .ensures,
+      at-ceilings-at .ceilings-at .ensures,
+      at-table-at .table-at .ensures,
+      at-entries .entries .ensures,
+      at-costs-of .costs-of .ensures .0,
+    )
 
 part-plan-end-5 : tie.Need-part-plan-end-5
-part-plan-end-5 c = omega (arith, front-room _ _ _ (c .before .before .before .before .before .before .before .before .before .before .before .before .before .before .before .before .before .pre), front-lanes _ _ _ (c .before .before .before .before .before .before .before .before .before .before .before .before .before .before .before .before .before .pre), c .before .before .before .before .before .before .before .before .before .before .before .before .before .before .before .before .before .pre .few, c .before .before .before .before .before .before .before .before .before .before .before .before .before .before .before .before .before .pre .many, few-entries (now (c .before .before .before .before .before .before .before .before .before .before .before .before .before .before .before .before .before .args .store)), c .before .before .before .before .before .before .before .before .before .before .before .before .before .demands-at .ensures, c .before .before .before .before .before .before .before .before .before .before .before .before .costs-at .ensures, c .before .before .before .before .before .before .before .before .before .before .before .ceilings-at .ensures, c .before .before .before .before .before .before .before .before .before .before .table-at .ensures, c .before .before .before .before .before .before .before .before .before .entries .ensures, c .before .before .before .before .before .costs-of .ensures .0)
+part-plan-end-5 c =
+    let at-costs-of = c .before .before .before .before .before in
+    let at-entries = at-costs-of .before .before .before .before in
+    let at-table-at = at-entries .before in
+    let at-ceilings-at = at-table-at .before in
+    let at-costs-at = at-ceilings-at .before in
+    let at-demands-at = at-costs-at .before in
+    let entry = at-demands-at .before .before .before .before in
+    omega (
+      arith,
+      front-room _ _ _ (entry .pre),
+      front-lanes _ _ _ (entry .pre),
+      entry .pre .few,
+      entry .pre .many,
+      few-entries (now (entry .args .store)),
+      at-demands-at .demands-at .ensures,
+      at-costs-at .costs-at .ensures,
+      at-ceilings-at .ceilings-at .ensures,
+      at-table-at .table-at .ensures,
+      at-entries .entries .ensures,
+      at-costs-of .costs-of .ensures .0,
+    )
 
 plan-requires : tie.Need-plan-requires
 plan-requires c κs = search needs
@@ -120,7 +669,18 @@ same-length-3 : tie.Need-same-length-3
 same-length-3 c = search needs
 
 returns : tie.Need-returns
-returns c = planned-cells (c .before .before .before .before .before .before .before .before .before .before .before .before .before .before .before .before .before .before .before .before .before .before .before .before .before .before .before .args .m) (c .before .before .before .before .before .before .before .before .before .before .before .before .before .before .before .before .before .before .before .before .before .before .before .before .before .before .before .args .n) (now (c .before .before .before .before .before .before .before .before .before .before .before .before .before .before .before .before .before .before .before .before .before .before .before .before .before .before .before .args .store)) (c .before .before .before .before .before .before .before .before .before .before .before .before .before .before .before .before .before .before .before .before .before .before .before .before .before .before .before .pre) _ _ _ _ _ (c .before .before .before .before .before .before .before .before .before .before .before .before .before .before .before .before .before .before .before .before .before .before .before .demands-at .ensures) (c .before .before .before .before .before .before .before .before .before .before .before .before .before .before .before .before .before .before .before .before .before .before .costs-at .ensures) (c .before .before .before .before .before .before .before .before .before .before .before .before .before .before .before .before .before .before .before .before .before .ceilings-at .ensures) (c .before .before .before .before .before .before .before .before .before .before .before .before .before .before .before .before .before .before .before .before .table-at .ensures) (c .before .before .before .before .before .before .before .before .before .before .before .before .before .before .before .before .before .before .before .entries .ensures) _ _ _ _ _ _ _ _ refl (c .before .before .before .before .before .before .before .before .before .before .before .before .before .before .before .costs-of .ensures .1) (c .before .before .before .before .before .plan .ensures)
+returns c =
+    let at-plan = c .before .before .before .before .before in
+    let at-costs-of = at-plan .before .before .before .before .before .before .before .before .before .before in
+    let at-entries = at-costs-of .before .before .before .before in
+    let at-table-at = at-entries .before in
+    let at-ceilings-at = at-table-at .before in
+    let at-costs-at = at-ceilings-at .before in
+    let at-demands-at = at-costs-at .before in
+    let entry = at-demands-at .before .before .before .before in
+    planned-cells (entry .args .m) (entry .args .n) (now (entry .args .store)) (entry .pre) _ _ _ _ _ (at-demands-at .demands-at .ensures)
+    (at-costs-at .costs-at .ensures) (at-ceilings-at .ceilings-at .ensures) (at-table-at .table-at .ensures) (at-entries .entries .ensures) _ _ _ _ _ _ _
+    _ refl (at-costs-of .costs-of .ensures .1) (at-plan .plan .ensures)
 
 pub plan-open-spec : {M : Type 1} → statement M
 plan-open-spec =

@@ -44,7 +44,9 @@ mul-set : tie.Need-mul-set
 mul-set c = search needs
 
 shared-slice-read-set : tie.Need-shared-slice-read-set
-shared-slice-read-set c = let p = c .before .before .before .before .before .before in omega (arith, p .pre .room, large (p .args .m) (p .args .n), c .before .if2 .left)
+shared-slice-read-set c =
+    let p = c .before .before .before .before .before .before in
+    omega (arith, p .pre .room, large (p .args .m) (p .args .n), c .before .if2 .left)
 
 returns-3 : tie.Need-returns-3
 returns-3 c =
@@ -56,31 +58,37 @@ slot-width-requires c κs = search needs
 
 mul-at : tie.Need-mul-at
 mul-at c =
-    let p = c .before .before .before .before .before .before .before .before in
-    omega (arith, small (p .args .m) (p .args .n) (p .args .k) (c .slot-width .result) _ (p .pre) (c .before .before .before .if2 .left) (c .slot-width .ensures))
+    let at-if2 = c .before .before .before in
+    let p = at-if2 .before .before .before .before .before in
+    omega (arith, small (p .args .m) (p .args .n) (p .args .k) (c .slot-width .result) _ (p .pre) (at-if2 .if2 .left) (c .slot-width .ensures))
 
 mul-plan-open : tie.Need-mul-plan-open
 mul-plan-open c =
-    let p = c .before .before .before .before .before .before .before .before in
-    omega (arith, small (p .args .m) (p .args .n) (p .args .k) (c .slot-width .result) _ (p .pre) (c .before .before .before .if2 .left) (c .slot-width .ensures))
+    let at-if2 = c .before .before .before in
+    let p = at-if2 .before .before .before .before .before in
+    omega (arith, small (p .args .m) (p .args .n) (p .args .k) (c .slot-width .result) _ (p .pre) (at-if2 .if2 .left) (c .slot-width .ensures))
 
 sub-plan-open : tie.Need-sub-plan-open
 sub-plan-open c =
-    let p = c .before .before .before .before .before .before .before .before in
-    inside (p .args .m) (p .args .n) (p .args .k) (c .slot-width .result) _ (p .pre) (c .before .before .before .if2 .left) (c .slot-width .ensures)
+    let at-if2 = c .before .before .before in
+    let p = at-if2 .before .before .before .before .before in
+    inside (p .args .m) (p .args .n) (p .args .k) (c .slot-width .result) _ (p .pre) (at-if2 .if2 .left) (c .slot-width .ensures)
 
 part-plan-open-start : tie.Need-part-plan-open-start
 part-plan-open-start c =
-    let p = c .before .before .before .before .before .before .before .before in
-    inside (p .args .m) (p .args .n) (p .args .k) (c .slot-width .result) _ (p .pre) (c .before .before .before .if2 .left) (c .slot-width .ensures)
+    let at-if2 = c .before .before .before in
+    let p = at-if2 .before .before .before .before .before in
+    inside (p .args .m) (p .args .n) (p .args .k) (c .slot-width .result) _ (p .pre) (at-if2 .if2 .left) (c .slot-width .ensures)
 
 part-plan-open-end : tie.Need-part-plan-open-end
 part-plan-open-end c = search needs
 
 plan-open-requires : tie.Need-plan-open-requires
 plan-open-requires c κs =
-    let p = c .before .before .before .before .before .before .before .before .before .before .before .before in
-    fits (p .args .m) (p .args .n) (p .args .k) (c .before .before .before .before .slot-width .result) (now (p .args .store)) (p .pre) (c .before .before .before .before .before .before .before .if2 .left) (c .before .before .before .before .slot-width .ensures)
+    let at-slot-width = c .before .before .before .before in
+    let at-if2 = at-slot-width .before .before .before in
+    let p = at-if2 .before .before .before .before .before in
+    fits (p .args .m) (p .args .n) (p .args .k) (at-slot-width .slot-width .result) (now (p .args .store)) (p .pre) (at-if2 .if2 .left) (at-slot-width .slot-width .ensures)
 
 same-length : tie.Need-same-length
 same-length c = search needs
@@ -93,12 +101,17 @@ same-length-3 c = search needs
 
 returns-4 : tie.Need-returns-4
 returns-4 c =
-    let p = c .before .before .before .before .before .before .before .before .before .before .before .before .before .before .before .before .before .before in
-    let w = c .before .before .before .before .before .before .before .before .before .before .slot-width in
-    let i = within _ _ (c .before .before .before .before .before .before .before .before .before .before .before .before .before .before .if1 .left) (c .before .before .before .before .before .before .before .before .before .before .before .before .before .if2 .left) in
+    let at-plan-open = c .before .before .before .before .before in
+    let at-slot-width = at-plan-open .before .before .before .before .before in
+    let at-if3 = at-slot-width .before in
+    let at-if2 = at-if3 .before .before in
+    let at-if1 = at-if2 .before in
+    let p = at-if1 .before .before .before .before in
+    let w = at-slot-width .slot-width in
+    let i = within _ _ (at-if1 .if1 .left) (at-if2 .if2 .left) in
     mark-planned (p .args .m) (p .args .n) (p .args .k) (now (p .args .store)) _ _ _ (w .result) _ _ _ _ (w .ensures)
-    (after (p .args .k) (w .result) (now (p .args .store))) (back-none _ _ i (flag-set _ _ _ _ i (c .before .before .before .before .before .before .before .before .before .before .before .if3 .left)))
-    (flag-set _ _ _ _ i (c .before .before .before .before .before .before .before .before .before .before .before .if3 .left)) (c .before .before .before .before .before .plan-open .ensures)
+    (after (p .args .k) (w .result) (now (p .args .store))) (back-none _ _ i (flag-set _ _ _ _ i (at-if3 .if3 .left)))
+    (flag-set _ _ _ _ i (at-if3 .if3 .left)) (at-plan-open .plan-open .ensures)
 
 pub plan-set-spec : {M : Type 1} → statement M
 plan-set-spec =

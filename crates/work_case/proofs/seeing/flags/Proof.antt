@@ -56,7 +56,17 @@ flag-requires-8 : tie.Need-flag-requires-8
 flag-requires-8 c κs = search needs
 
 returns : tie.Need-returns
-returns c = λ m n. (λ i. c .before .before .before .before .before .before .before .before .before .before .before .before .before .before .flag .ensures i ∷ c .before .before .before .before .before .before .before .before .before .before .before .before .flag2 .ensures i ∷ c .before .before .before .before .before .before .before .before .before .before .flag3 .ensures i ∷ c .before .before .before .before .before .before .before .before .flag4 .ensures i ∷ c .before .before .before .before .before .before .flag5 .ensures i ∷ c .before .before .before .before .flag6 .ensures i ∷ c .before .before .flag7 .ensures i ∷ c .flag8 .ensures i ∷ []) ∙ flags-are m n (now (c .before .before .before .before .before .before .before .before .before .before .before .before .before .before .before .before .before .args .store))
+returns c =
+    let at-flag6 = c .before .before .before .before in
+    let at-flag5 = at-flag6 .before .before in
+    let at-flag4 = at-flag5 .before .before in
+    let at-flag3 = at-flag4 .before .before in
+    let at-flag2 = at-flag3 .before .before in
+    let at-flag = at-flag2 .before .before in
+    let entry = at-flag .before .before .before in
+    λ m n. (λ i. at-flag .flag .ensures i ∷ at-flag2 .flag2 .ensures i ∷ at-flag3 .flag3 .ensures i ∷ at-flag4 .flag4 .ensures i ∷
+    at-flag5 .flag5 .ensures i ∷ at-flag6 .flag6 .ensures i ∷ c .before .before .flag7 .ensures i ∷ c .flag8 .ensures i ∷ []) ∙
+    flags-are m n (now (entry .args .store))
 
 pub flags-spec : {M : Type 1} → statement M
 flags-spec =

@@ -37,7 +37,9 @@ part-put-cells-start : tie.Need-part-put-cells-start
 part-put-cells-start c = search needs
 
 part-put-cells-end : tie.Need-part-put-cells-end
-part-put-cells-end c = let p = c .before .before .before .before .before .before .before in omega (arith, room-0 (p .args .m) (p .args .n) (now (p .args .store)) (p .pre))
+part-put-cells-end c =
+    let p = c .before .before .before .before .before .before .before in
+    omega (arith, room-0 (p .args .m) (p .args .n) (now (p .args .store)) (p .pre))
 
 put-cells-requires : tie.Need-put-cells-requires
 put-cells-requires c κs = search needs
@@ -53,7 +55,9 @@ part-put-cells-start-2 c = search needs
 
 part-put-cells-end-2 : tie.Need-part-put-cells-end-2
 part-put-cells-end-2 c =
-    let p = c .before .before .before .before .before .before .before .before .before .before .before .before in omega (arith, room-0 (p .args .m) (p .args .n) (now (p .args .store)) (p .pre), c .before .before .before .before .before .before .before .table-at .ensures)
+    let at-table-at = c .before .before .before .before .before .before .before in
+    let p = at-table-at .before .before .before .before .before in
+    omega (arith, room-0 (p .args .m) (p .args .n) (now (p .args .store)) (p .pre), at-table-at .table-at .ensures)
 
 put-cells-requires-2 : tie.Need-put-cells-requires-2
 put-cells-requires-2 c κs = search needs
@@ -66,11 +70,16 @@ same-length-2 c = search needs
 
 returns-3 : tie.Need-returns-3
 returns-3 c =
-    let p = c .before .before .before .before .before .before .before .before .before .before .before .before .before .before .before .before .before in (
-      long-limits (p .args .m) (p .args .n) (now (p .args .store)) (p .pre) _ _ (c .before .before .before .before .before .before .before .before .before .before .before .if1 .left) (c .before .before .before .before .before .before .before .before .before .before .if2 .left),
+    let at-put-cells = c .before .before .before .before .before .before .before in
+    let at-if2 = at-put-cells .before .before .before in
+    let at-if1 = at-if2 .before in
+    let at-table-at = at-if1 .before in
+    let at-ceilings-at = at-table-at .before in
+    let p = at-ceilings-at .before .before .before .before in (
+      long-limits (p .args .m) (p .args .n) (now (p .args .store)) (p .pre) _ _ (at-if1 .if1 .left) (at-if2 .if2 .left),
       (
-        runs-shown (p .args .m) (p .args .n) (now (p .args .store)) (p .pre) _ _ (c .before .before .before .before .before .before .before .put-cells .ensures),
-        ceilings-shown (p .args .m) (p .args .n) (now (p .args .store)) (p .pre) _ _ (c .before .before .before .before .before .before .before .before .before .before .before .before .before .ceilings-at .ensures) (c .before .before .before .before .before .before .before .before .before .before .before .before .table-at .ensures) _ _
+        runs-shown (p .args .m) (p .args .n) (now (p .args .store)) (p .pre) _ _ (at-put-cells .put-cells .ensures),
+        ceilings-shown (p .args .m) (p .args .n) (now (p .args .store)) (p .pre) _ _ (at-ceilings-at .ceilings-at .ensures) (at-table-at .table-at .ensures) _ _
             (c .before .before .put-cells2 .ensures),
       ),
     )

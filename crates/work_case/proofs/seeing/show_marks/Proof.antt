@@ -12,7 +12,9 @@ returns : tie.Need-returns
 returns c = (short-marks _ (c .if1 .taken), refl)
 
 flags-requires : tie.Need-flags-requires
-flags-requires c κs = let p = c .before .before .before in omega (arith, p .pre .room, large (p .args .m) (p .args .n))
+flags-requires c κs =
+    let p = c .before .before .before in
+    omega (arith, p .pre .room, large (p .args .m) (p .args .n))
 
 slice-aggregate-put-cells : tie.Need-slice-aggregate-put-cells
 slice-aggregate-put-cells c = search needs
@@ -25,8 +27,10 @@ same-length c = search needs
 
 returns-2 : tie.Need-returns-2
 returns-2 c =
-    let p = c .before .before .before .before .before .before .before .before .before in
-    (long-marks _ (c .before .before .before .before .before .before .if1 .left), flags-shown (p .args .m) (p .args .n) (now (p .args .store)) _ _ _ (c .before .before .before .before .before .flags .ensures (p .args .m) (p .args .n)) (c .before .before .put-cells .ensures))
+    let at-flags = c .before .before .before .before .before in
+    let at-if1 = at-flags .before in
+    let p = at-if1 .before .before .before in
+    (long-marks _ (at-if1 .if1 .left), flags-shown (p .args .m) (p .args .n) (now (p .args .store)) _ _ _ (at-flags .flags .ensures (p .args .m) (p .args .n)) (c .before .before .put-cells .ensures))
 
 pub show-marks-spec : {M : Type 1} → statement M
 show-marks-spec = tie.close (tie.spec returns flags-requires slice-aggregate-put-cells put-cells-requires same-length returns-2)

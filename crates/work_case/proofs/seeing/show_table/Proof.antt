@@ -17,31 +17,117 @@ table-at-requires : tie.Need-table-at-requires
 table-at-requires c κs = search needs
 
 add-e : tie.Need-add-e
-add-e c = omega (arith, room-0 _ _ _ (c .before .before .before .before .pre), lanes-few _ _ _ (c .before .before .before .before .pre), c .before .before .before .before .pre .few, c .before .before .before .before .pre .many, few-entries (now (c .before .before .before .before .args .store)), c .table-at .ensures, c .before .entries .ensures)
+add-e c =
+    let entry = c .before .before .before .before in
+    omega (arith, room-0 _ _ _ (entry .pre), lanes-few _ _ _ (entry .pre), entry .pre .few, entry .pre .many, few-entries (now (entry .args .store)), c .table-at .ensures, c .before .entries .ensures)
 
 returns : tie.Need-returns
-returns c = (short-table (c .before .before .before .before .before .args .m) (c .before .before .before .before .before .args .n) (now (c .before .before .before .before .before .args .store)) (c .before .before .before .before .before .pre) _ _ (c .before .before .entries .ensures) (c .before .table-at .ensures) _ (c .if1 .taken), refl)
+returns c =
+    let entry = c .before .before .before .before .before in
+    (short-table (entry .args .m) (entry .args .n) (now (entry .args .store)) (entry .pre) _ _ (c .before .before .entries .ensures) (c .before .table-at .ensures) _ (c .if1 .taken), refl)
 
 mul-put-cells : tie.Need-mul-put-cells
-mul-put-cells c = omega (arith, room-0 _ _ _ (c .before .before .before .before .before .pre), lanes-few _ _ _ (c .before .before .before .before .before .pre), c .before .before .before .before .before .pre .few, c .before .before .before .before .before .pre .many, few-entries (now (c .before .before .before .before .before .args .store)), c .before .table-at .ensures, c .before .before .entries .ensures, c .if1 .left)
+mul-put-cells c =
+    let entry = c .before .before .before .before .before in
+    omega (
+      arith,
+      room-0 _ _ _ (entry .pre),
+      lanes-few _ _ _ (entry .pre),
+      entry .pre .few,
+      entry .pre .many,
+      few-entries (now (entry .args .store)),
+      c .before .table-at .ensures,
+      c .before .before .entries .ensures,
+      c .if1 .left,
+    )
 
 sub-put-cells : tie.Need-sub-put-cells
-sub-put-cells c = omega (arith, room-0 _ _ _ (c .before .before .before .before .before .pre), lanes-few _ _ _ (c .before .before .before .before .before .pre), c .before .before .before .before .before .pre .few, c .before .before .before .before .before .pre .many, few-entries (now (c .before .before .before .before .before .args .store)), c .before .table-at .ensures, c .before .before .entries .ensures, c .if1 .left)
+sub-put-cells c =
+    let entry = c .before .before .before .before .before in
+    omega (
+      arith,
+      room-0 _ _ _ (entry .pre),
+      lanes-few _ _ _ (entry .pre),
+      entry .pre .few,
+      entry .pre .many,
+      few-entries (now (entry .args .store)),
+      c .before .table-at .ensures,
+      c .before .before .entries .ensures,
+      c .if1 .left,
+    )
 
 part-put-cells-start : tie.Need-part-put-cells-start
-part-put-cells-start c = omega (arith, room-0 _ _ _ (c .before .before .before .before .before .pre), lanes-few _ _ _ (c .before .before .before .before .before .pre), c .before .before .before .before .before .pre .few, c .before .before .before .before .before .pre .many, few-entries (now (c .before .before .before .before .before .args .store)), c .before .table-at .ensures, c .before .before .entries .ensures, c .if1 .left)
+part-put-cells-start c =
+    let entry = c .before .before .before .before .before in
+    omega (
+      arith,
+      room-0 _ _ _ (entry .pre),
+      lanes-few _ _ _ (entry .pre),
+      entry .pre .few,
+      entry .pre .many,
+      few-entries (now (entry .args .store)),
+      c .before .table-at .ensures,
+      c .before .before .entries .ensures,
+      c .if1 .left,
+    )
 
 part-put-cells-end : tie.Need-part-put-cells-end
-part-put-cells-end c = omega (arith, room-0 _ _ _ (c .before .before .before .before .before .pre), lanes-few _ _ _ (c .before .before .before .before .before .pre), c .before .before .before .before .before .pre .few, c .before .before .before .before .before .pre .many, few-entries (now (c .before .before .before .before .before .args .store)), c .before .table-at .ensures, c .before .before .entries .ensures, c .if1 .left)
+part-put-cells-end c =
+    let entry = c .before .before .before .before .before in
+    omega (
+      arith,
+      room-0 _ _ _ (entry .pre),
+      lanes-few _ _ _ (entry .pre),
+      entry .pre .few,
+      entry .pre .many,
+      few-entries (now (entry .args .store)),
+      c .before .table-at .ensures,
+      c .before .before .entries .ensures,
+      c .if1 .left,
+    )
 
 put-cells-requires : tie.Need-put-cells-requires
-put-cells-requires c κs = omega (arith, room-0 _ _ _ (c .before .before .before .before .before .before .before .pre), lanes-few _ _ _ (c .before .before .before .before .before .before .before .pre), c .before .before .before .before .before .before .before .pre .few, c .before .before .before .before .before .before .before .pre .many, few-entries (now (c .before .before .before .before .before .before .before .args .store)), c .before .before .if1 .left, c .before .before .before .before .entries .ensures, c .before .before .before .table-at .ensures, part-length (c .before .before .before .table-at .result + c .before .before .before .before .entries .result - c .before .before .before .table-at .result) (c .before .before .before .table-at .result) (now (c .before .before .before .before .before .before .before .args .store)) (omega (arith, room-0 _ _ _ (c .before .before .before .before .before .before .before .pre), lanes-few _ _ _ (c .before .before .before .before .before .before .before .pre), c .before .before .before .before .before .before .before .pre .few, c .before .before .before .before .before .before .before .pre .many, few-entries (now (c .before .before .before .before .before .before .before .args .store)), c .before .before .before .before .entries .ensures, c .before .before .before .table-at .ensures)))
+put-cells-requires c κs =
+    let at-table-at = c .before .before .before in
+    let at-entries = at-table-at .before in
+    let entry = at-entries .before .before .before in
+    omega (
+      arith,
+      room-0 _ _ _ (entry .pre),
+      lanes-few _ _ _ (entry .pre),
+      entry .pre .few,
+      entry .pre .many,
+      few-entries (now (entry .args .store)),
+      c .before .before .if1 .left,
+      at-entries .entries .ensures,
+      at-table-at .table-at .ensures,
+      part-length (at-table-at .table-at .result + at-entries .entries .result - at-table-at .table-at .result) (at-table-at .table-at .result)
+          (now (entry .args .store))
+          (omega (
+            arith,
+            room-0 _ _ _ (entry .pre),
+            lanes-few _ _ _ (entry .pre),
+            entry .pre .few,
+            entry .pre .many,
+            few-entries (now (entry .args .store)),
+            at-entries .entries .ensures,
+            at-table-at .table-at .ensures,
+          )),
+    )
 
 same-length : tie.Need-same-length
 same-length c = search needs
 
 returns-2 : tie.Need-returns-2
-returns-2 c = (long-table (c .before .before .before .before .before .before .before .before .before .before .args .m) (c .before .before .before .before .before .before .before .before .before .before .args .n) (now (c .before .before .before .before .before .before .before .before .before .before .args .store)) (c .before .before .before .before .before .before .before .before .before .before .pre) _ _ (c .before .before .before .before .before .before .before .entries .ensures) (c .before .before .before .before .before .before .table-at .ensures) _ (c .before .before .before .before .before .if1 .left), table-shown (c .before .before .before .before .before .before .before .before .before .before .args .m) (c .before .before .before .before .before .before .before .before .before .before .args .n) (now (c .before .before .before .before .before .before .before .before .before .before .args .store)) (c .before .before .before .before .before .before .before .before .before .before .pre) _ _ (c .before .before .before .before .before .before .before .entries .ensures) (c .before .before .before .before .before .before .table-at .ensures) _ _ (c .before .before .put-cells .ensures))
+returns-2 c =
+    let at-if1 = c .before .before .before .before .before in
+    let at-table-at = at-if1 .before in
+    let at-entries = at-table-at .before in
+    let entry = at-entries .before .before .before in (
+      long-table (entry .args .m) (entry .args .n) (now (entry .args .store)) (entry .pre) _ _ (at-entries .entries .ensures) (at-table-at .table-at .ensures) _ (at-if1 .if1 .left),
+      table-shown (entry .args .m) (entry .args .n) (now (entry .args .store)) (entry .pre) _ _ (at-entries .entries .ensures)
+          (at-table-at .table-at .ensures) _ _ (c .before .before .put-cells .ensures),
+    )
 
 pub show-table-spec : {M : Type 1} → statement M
 show-table-spec =

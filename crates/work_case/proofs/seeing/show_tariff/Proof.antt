@@ -20,61 +20,354 @@ ceilings-at-requires : tie.Need-ceilings-at-requires
 ceilings-at-requires c κs = search needs
 
 mul-if1 : tie.Need-mul-if1
-mul-if1 c = omega (arith, room-0 _ _ _ (c .before .before .before .before .before .before .pre), lanes-few _ _ _ (c .before .before .before .before .before .before .pre), c .before .before .before .before .before .before .pre .few, c .before .before .before .before .before .before .pre .many, c .before .before .demands-at .ensures, c .before .costs-at .ensures, c .ceilings-at .ensures)
+mul-if1 c =
+    let entry = c .before .before .before .before .before .before in
+    omega (
+      arith,
+      room-0 _ _ _ (entry .pre),
+      lanes-few _ _ _ (entry .pre),
+      entry .pre .few,
+      entry .pre .many,
+      c .before .before .demands-at .ensures,
+      c .before .costs-at .ensures,
+      c .ceilings-at .ensures,
+    )
 
 returns : tie.Need-returns
-returns c = (short-costs (c .before .before .before .before .before .before .before .args .m) (c .before .before .before .before .before .before .before .args .n) (now (c .before .before .before .before .before .before .before .args .store)) (c .before .before .before .before .before .before .before .pre) _ _ _ (c .if1 .taken), (refl, (refl, refl)))
+returns c =
+    let entry = c .before .before .before .before .before .before .before in
+    (short-costs (entry .args .m) (entry .args .n) (now (entry .args .store)) (entry .pre) _ _ _ (c .if1 .taken), (refl, (refl, refl)))
 
 returns-2 : tie.Need-returns-2
-returns-2 c = (short-supplies (c .before .before .before .before .before .before .before .before .args .m) (c .before .before .before .before .before .before .before .before .args .n) (now (c .before .before .before .before .before .before .before .before .args .store)) (c .before .before .before .before .before .before .before .before .pre) _ _ _ (c .if2 .taken), (refl, (refl, refl)))
+returns-2 c =
+    let entry = c .before .before .before .before .before .before .before .before in
+    (short-supplies (entry .args .m) (entry .args .n) (now (entry .args .store)) (entry .pre) _ _ _ (c .if2 .taken), (refl, (refl, refl)))
 
 returns-3 : tie.Need-returns-3
-returns-3 c = (short-demands (c .before .before .before .before .before .before .before .before .before .args .m) (c .before .before .before .before .before .before .before .before .before .args .n) (now (c .before .before .before .before .before .before .before .before .before .args .store)) (c .before .before .before .before .before .before .before .before .before .pre) _ _ _ (c .if3 .taken), (refl, (refl, refl)))
+returns-3 c =
+    let entry = c .before .before .before .before .before .before .before .before .before in
+    (short-demands (entry .args .m) (entry .args .n) (now (entry .args .store)) (entry .pre) _ _ _ (c .if3 .taken), (refl, (refl, refl)))
 
 mul-lower-cells : tie.Need-mul-lower-cells
-mul-lower-cells c = omega (arith, room-0 _ _ _ (c .before .before .before .before .before .before .before .before .before .pre), lanes-few _ _ _ (c .before .before .before .before .before .before .before .before .before .pre), c .before .before .before .before .before .before .before .before .before .pre .few, c .before .before .before .before .before .before .before .before .before .pre .many, c .before .before .before .before .before .demands-at .ensures, c .before .before .before .before .costs-at .ensures, c .before .before .before .ceilings-at .ensures, c .before .before .if1 .left, c .before .if2 .left, c .if3 .left)
+mul-lower-cells c =
+    let at-ceilings-at = c .before .before .before in
+    let at-costs-at = at-ceilings-at .before in
+    let at-demands-at = at-costs-at .before in
+    let entry = at-demands-at .before .before .before .before in
+    omega (
+      arith,
+      room-0 _ _ _ (entry .pre),
+      lanes-few _ _ _ (entry .pre),
+      entry .pre .few,
+      entry .pre .many,
+      at-demands-at .demands-at .ensures,
+      at-costs-at .costs-at .ensures,
+      at-ceilings-at .ceilings-at .ensures,
+      c .before .before .if1 .left,
+      c .before .if2 .left,
+      c .if3 .left,
+    )
 
 sub-lower-cells : tie.Need-sub-lower-cells
-sub-lower-cells c = omega (arith, room-0 _ _ _ (c .before .before .before .before .before .before .before .before .before .pre), lanes-few _ _ _ (c .before .before .before .before .before .before .before .before .before .pre), c .before .before .before .before .before .before .before .before .before .pre .few, c .before .before .before .before .before .before .before .before .before .pre .many, c .before .before .before .before .before .demands-at .ensures, c .before .before .before .before .costs-at .ensures, c .before .before .before .ceilings-at .ensures, c .before .before .if1 .left, c .before .if2 .left, c .if3 .left)
+sub-lower-cells c =
+    let at-ceilings-at = c .before .before .before in
+    let at-costs-at = at-ceilings-at .before in
+    let at-demands-at = at-costs-at .before in
+    let entry = at-demands-at .before .before .before .before in
+    omega (
+      arith,
+      room-0 _ _ _ (entry .pre),
+      lanes-few _ _ _ (entry .pre),
+      entry .pre .few,
+      entry .pre .many,
+      at-demands-at .demands-at .ensures,
+      at-costs-at .costs-at .ensures,
+      at-ceilings-at .ceilings-at .ensures,
+      c .before .before .if1 .left,
+      c .before .if2 .left,
+      c .if3 .left,
+    )
 
 part-lower-cells-start : tie.Need-part-lower-cells-start
-part-lower-cells-start c = omega (arith, room-0 _ _ _ (c .before .before .before .before .before .before .before .before .before .pre), lanes-few _ _ _ (c .before .before .before .before .before .before .before .before .before .pre), c .before .before .before .before .before .before .before .before .before .pre .few, c .before .before .before .before .before .before .before .before .before .pre .many, c .before .before .before .before .before .demands-at .ensures, c .before .before .before .before .costs-at .ensures, c .before .before .before .ceilings-at .ensures, c .before .before .if1 .left, c .before .if2 .left, c .if3 .left)
+part-lower-cells-start c =
+    let at-ceilings-at = c .before .before .before in
+    let at-costs-at = at-ceilings-at .before in
+    let at-demands-at = at-costs-at .before in
+    let entry = at-demands-at .before .before .before .before in
+    omega (
+      arith,
+      room-0 _ _ _ (entry .pre),
+      lanes-few _ _ _ (entry .pre),
+      entry .pre .few,
+      entry .pre .many,
+      at-demands-at .demands-at .ensures,
+      at-costs-at .costs-at .ensures,
+      at-ceilings-at .ceilings-at .ensures,
+      c .before .before .if1 .left,
+      c .before .if2 .left,
+      c .if3 .left,
+    )
 
 part-lower-cells-end : tie.Need-part-lower-cells-end
-part-lower-cells-end c = omega (arith, room-0 _ _ _ (c .before .before .before .before .before .before .before .before .before .pre), lanes-few _ _ _ (c .before .before .before .before .before .before .before .before .before .pre), c .before .before .before .before .before .before .before .before .before .pre .few, c .before .before .before .before .before .before .before .before .before .pre .many, c .before .before .before .before .before .demands-at .ensures, c .before .before .before .before .costs-at .ensures, c .before .before .before .ceilings-at .ensures, c .before .before .if1 .left, c .before .if2 .left, c .if3 .left)
+part-lower-cells-end c =
+    let at-ceilings-at = c .before .before .before in
+    let at-costs-at = at-ceilings-at .before in
+    let at-demands-at = at-costs-at .before in
+    let entry = at-demands-at .before .before .before .before in
+    omega (
+      arith,
+      room-0 _ _ _ (entry .pre),
+      lanes-few _ _ _ (entry .pre),
+      entry .pre .few,
+      entry .pre .many,
+      at-demands-at .demands-at .ensures,
+      at-costs-at .costs-at .ensures,
+      at-ceilings-at .ceilings-at .ensures,
+      c .before .before .if1 .left,
+      c .before .if2 .left,
+      c .if3 .left,
+    )
 
 lower-cells-requires : tie.Need-lower-cells-requires
-lower-cells-requires c κs = omega (arith, room-0 _ _ _ (c .before .before .before .before .before .before .before .before .before .before .before .pre), lanes-few _ _ _ (c .before .before .before .before .before .before .before .before .before .before .before .pre), c .before .before .before .before .before .before .before .before .before .before .before .pre .few, c .before .before .before .before .before .before .before .before .before .before .before .pre .many, c .before .before .before .before .if1 .left, c .before .before .before .before .before .before .before .demands-at .ensures, c .before .before .before .before .before .before .costs-at .ensures, c .before .before .before .before .before .ceilings-at .ensures, part-length (c .before .before .before .before .before .ceilings-at .result - c .before .before .before .before .before .before .costs-at .result) (c .before .before .before .before .before .before .costs-at .result) (now (c .before .before .before .before .before .before .before .before .before .before .before .args .store)) (omega (arith, room-0 _ _ _ (c .before .before .before .before .before .before .before .before .before .before .before .pre), lanes-few _ _ _ (c .before .before .before .before .before .before .before .before .before .before .before .pre), c .before .before .before .before .before .before .before .before .before .before .before .pre .few, c .before .before .before .before .before .before .before .before .before .before .before .pre .many, c .before .before .before .before .before .before .costs-at .ensures, c .before .before .before .before .before .ceilings-at .ensures)))
+lower-cells-requires c κs =
+    let at-if1 = c .before .before .before .before in
+    let at-ceilings-at = at-if1 .before in
+    let at-costs-at = at-ceilings-at .before in
+    let at-demands-at = at-costs-at .before in
+    let entry = at-demands-at .before .before .before .before in
+    omega (
+      arith,
+      room-0 _ _ _ (entry .pre),
+      lanes-few _ _ _ (entry .pre),
+      entry .pre .few,
+      entry .pre .many,
+      at-if1 .if1 .left,
+      at-demands-at .demands-at .ensures,
+      at-costs-at .costs-at .ensures,
+      at-ceilings-at .ceilings-at .ensures,
+      part-length (at-ceilings-at .ceilings-at .result - at-costs-at .costs-at .result) (at-costs-at .costs-at .result) (now (entry .args .store))
+          (omega (arith, room-0 _ _ _ (entry .pre), lanes-few _ _ _ (entry .pre), entry .pre .few, entry .pre .many, at-costs-at .costs-at .ensures, at-ceilings-at .ceilings-at .ensures)),
+    )
 
 mul-put-cells : tie.Need-mul-put-cells
-mul-put-cells c = omega (arith, room-0 _ _ _ (c .before .before .before .before .before .before .before .before .before .before .before .before .before .pre), lanes-few _ _ _ (c .before .before .before .before .before .before .before .before .before .before .before .before .before .pre), c .before .before .before .before .before .before .before .before .before .before .before .before .before .pre .few, c .before .before .before .before .before .before .before .before .before .before .before .before .before .pre .many, c .before .before .before .before .before .before .before .before .before .demands-at .ensures, c .before .before .before .before .before .before .before .before .costs-at .ensures, c .before .before .before .before .before .before .before .ceilings-at .ensures, c .before .before .before .before .before .before .if1 .left, c .before .before .before .before .before .if2 .left, c .before .before .before .before .if3 .left)
+mul-put-cells c =
+    let at-if3 = c .before .before .before .before in
+    let at-if2 = at-if3 .before in
+    let at-if1 = at-if2 .before in
+    let at-ceilings-at = at-if1 .before in
+    let at-costs-at = at-ceilings-at .before in
+    let at-demands-at = at-costs-at .before in
+    let entry = at-demands-at .before .before .before .before in
+    omega (
+      arith,
+      room-0 _ _ _ (entry .pre),
+      lanes-few _ _ _ (entry .pre),
+      entry .pre .few,
+      entry .pre .many,
+      at-demands-at .demands-at .ensures,
+      at-costs-at .costs-at .ensures,
+      at-ceilings-at .ceilings-at .ensures,
+      at-if1 .if1 .left,
+      at-if2 .if2 .left,
+      at-if3 .if3 .left,
+    )
 
 sub-put-cells : tie.Need-sub-put-cells
-sub-put-cells c = omega (arith, room-0 _ _ _ (c .before .before .before .before .before .before .before .before .before .before .before .before .before .pre), lanes-few _ _ _ (c .before .before .before .before .before .before .before .before .before .before .before .before .before .pre), c .before .before .before .before .before .before .before .before .before .before .before .before .before .pre .few, c .before .before .before .before .before .before .before .before .before .before .before .before .before .pre .many, c .before .before .before .before .before .before .before .before .before .demands-at .ensures, c .before .before .before .before .before .before .before .before .costs-at .ensures, c .before .before .before .before .before .before .before .ceilings-at .ensures, c .before .before .before .before .before .before .if1 .left, c .before .before .before .before .before .if2 .left, c .before .before .before .before .if3 .left)
+sub-put-cells c =
+    let at-if3 = c .before .before .before .before in
+    let at-if2 = at-if3 .before in
+    let at-if1 = at-if2 .before in
+    let at-ceilings-at = at-if1 .before in
+    let at-costs-at = at-ceilings-at .before in
+    let at-demands-at = at-costs-at .before in
+    let entry = at-demands-at .before .before .before .before in
+    omega (
+      arith,
+      room-0 _ _ _ (entry .pre),
+      lanes-few _ _ _ (entry .pre),
+      entry .pre .few,
+      entry .pre .many,
+      at-demands-at .demands-at .ensures,
+      at-costs-at .costs-at .ensures,
+      at-ceilings-at .ceilings-at .ensures,
+      at-if1 .if1 .left,
+      at-if2 .if2 .left,
+      at-if3 .if3 .left,
+    )
 
 part-put-cells-start : tie.Need-part-put-cells-start
-part-put-cells-start c = omega (arith, room-0 _ _ _ (c .before .before .before .before .before .before .before .before .before .before .before .before .before .pre), lanes-few _ _ _ (c .before .before .before .before .before .before .before .before .before .before .before .before .before .pre), c .before .before .before .before .before .before .before .before .before .before .before .before .before .pre .few, c .before .before .before .before .before .before .before .before .before .before .before .before .before .pre .many, c .before .before .before .before .before .before .before .before .before .demands-at .ensures, c .before .before .before .before .before .before .before .before .costs-at .ensures, c .before .before .before .before .before .before .before .ceilings-at .ensures, c .before .before .before .before .before .before .if1 .left, c .before .before .before .before .before .if2 .left, c .before .before .before .before .if3 .left)
+part-put-cells-start c =
+    let at-if3 = c .before .before .before .before in
+    let at-if2 = at-if3 .before in
+    let at-if1 = at-if2 .before in
+    let at-ceilings-at = at-if1 .before in
+    let at-costs-at = at-ceilings-at .before in
+    let at-demands-at = at-costs-at .before in
+    let entry = at-demands-at .before .before .before .before in
+    omega (
+      arith,
+      room-0 _ _ _ (entry .pre),
+      lanes-few _ _ _ (entry .pre),
+      entry .pre .few,
+      entry .pre .many,
+      at-demands-at .demands-at .ensures,
+      at-costs-at .costs-at .ensures,
+      at-ceilings-at .ceilings-at .ensures,
+      at-if1 .if1 .left,
+      at-if2 .if2 .left,
+      at-if3 .if3 .left,
+    )
 
 part-put-cells-end : tie.Need-part-put-cells-end
-part-put-cells-end c = omega (arith, room-0 _ _ _ (c .before .before .before .before .before .before .before .before .before .before .before .before .before .pre), lanes-few _ _ _ (c .before .before .before .before .before .before .before .before .before .before .before .before .before .pre), c .before .before .before .before .before .before .before .before .before .before .before .before .before .pre .few, c .before .before .before .before .before .before .before .before .before .before .before .before .before .pre .many, c .before .before .before .before .before .before .before .before .before .demands-at .ensures, c .before .before .before .before .before .before .before .before .costs-at .ensures, c .before .before .before .before .before .before .before .ceilings-at .ensures, c .before .before .before .before .before .before .if1 .left, c .before .before .before .before .before .if2 .left, c .before .before .before .before .if3 .left)
+part-put-cells-end c =
+    let at-if3 = c .before .before .before .before in
+    let at-if2 = at-if3 .before in
+    let at-if1 = at-if2 .before in
+    let at-ceilings-at = at-if1 .before in
+    let at-costs-at = at-ceilings-at .before in
+    let at-demands-at = at-costs-at .before in
+    let entry = at-demands-at .before .before .before .before in
+    omega (
+      arith,
+      room-0 _ _ _ (entry .pre),
+      lanes-few _ _ _ (entry .pre),
+      entry .pre .few,
+      entry .pre .many,
+      at-demands-at .demands-at .ensures,
+      at-costs-at .costs-at .ensures,
+      at-ceilings-at .ceilings-at .ensures,
+      at-if1 .if1 .left,
+      at-if2 .if2 .left,
+      at-if3 .if3 .left,
+    )
 
 put-cells-requires : tie.Need-put-cells-requires
-put-cells-requires c κs = omega (arith, room-0 _ _ _ (c .before .before .before .before .before .before .before .before .before .before .before .before .before .before .before .pre), lanes-few _ _ _ (c .before .before .before .before .before .before .before .before .before .before .before .before .before .before .before .pre), c .before .before .before .before .before .before .before .before .before .before .before .before .before .before .before .pre .few, c .before .before .before .before .before .before .before .before .before .before .before .before .before .before .before .pre .many, c .before .before .before .before .before .before .before .if2 .left, c .before .before .before .before .before .before .before .before .before .before .before .demands-at .ensures, part-length (c .before .before .before .before .before .before .before .before .before .before .before .demands-at .result - 12) 12 (now (c .before .before .before .before .before .before .before .before .before .before .before .before .before .before .before .args .store)) (omega (arith, room-0 _ _ _ (c .before .before .before .before .before .before .before .before .before .before .before .before .before .before .before .pre), lanes-few _ _ _ (c .before .before .before .before .before .before .before .before .before .before .before .before .before .before .before .pre), c .before .before .before .before .before .before .before .before .before .before .before .before .before .before .before .pre .few, c .before .before .before .before .before .before .before .before .before .before .before .before .before .before .before .pre .many, c .before .before .before .before .before .before .before .before .before .before .before .demands-at .ensures)))
+put-cells-requires c κs =
+    let at-if2 = c .before .before .before .before .before .before .before in
+    let at-demands-at = at-if2 .before .before .before .before in
+    let entry = at-demands-at .before .before .before .before in
+    omega (
+      arith,
+      room-0 _ _ _ (entry .pre),
+      lanes-few _ _ _ (entry .pre),
+      entry .pre .few,
+      entry .pre .many,
+      at-if2 .if2 .left,
+      at-demands-at .demands-at .ensures,
+      part-length (at-demands-at .demands-at .result - 12) 12 (now (entry .args .store))
+          (omega (arith, room-0 _ _ _ (entry .pre), lanes-few _ _ _ (entry .pre), entry .pre .few, entry .pre .many, at-demands-at .demands-at .ensures)),
+    )
 
 mul-put-cells-2 : tie.Need-mul-put-cells-2
-mul-put-cells-2 c = omega (arith, room-0 _ _ _ (c .before .before .before .before .before .before .before .before .before .before .before .before .before .before .before .before .before .before .pre), lanes-few _ _ _ (c .before .before .before .before .before .before .before .before .before .before .before .before .before .before .before .before .before .before .pre), c .before .before .before .before .before .before .before .before .before .before .before .before .before .before .before .before .before .before .pre .few, c .before .before .before .before .before .before .before .before .before .before .before .before .before .before .before .before .before .before .pre .many, c .before .before .before .before .before .before .before .before .before .before .before .before .before .before .demands-at .ensures, c .before .before .before .before .before .before .before .before .before .before .before .before .before .costs-at .ensures, c .before .before .before .before .before .before .before .before .before .before .before .before .ceilings-at .ensures, c .before .before .before .before .before .before .before .before .before .before .before .if1 .left, c .before .before .before .before .before .before .before .before .before .before .if2 .left, c .before .before .before .before .before .before .before .before .before .if3 .left)
+mul-put-cells-2 c =
+    let at-if3 = c .before .before .before .before .before .before .before .before .before in
+    let at-if2 = at-if3 .before in
+    let at-if1 = at-if2 .before in
+    let at-ceilings-at = at-if1 .before in
+    let at-costs-at = at-ceilings-at .before in
+    let at-demands-at = at-costs-at .before in
+    let entry = at-demands-at .before .before .before .before in
+    omega (
+      arith,
+      room-0 _ _ _ (entry .pre),
+      lanes-few _ _ _ (entry .pre),
+      entry .pre .few,
+      entry .pre .many,
+      at-demands-at .demands-at .ensures,
+      at-costs-at .costs-at .ensures,
+      at-ceilings-at .ceilings-at .ensures,
+      at-if1 .if1 .left,
+      at-if2 .if2 .left,
+      at-if3 .if3 .left,
+    )
 
 sub-put-cells-2 : tie.Need-sub-put-cells-2
-sub-put-cells-2 c = omega (arith, room-0 _ _ _ (c .before .before .before .before .before .before .before .before .before .before .before .before .before .before .before .before .before .before .pre), lanes-few _ _ _ (c .before .before .before .before .before .before .before .before .before .before .before .before .before .before .before .before .before .before .pre), c .before .before .before .before .before .before .before .before .before .before .before .before .before .before .before .before .before .before .pre .few, c .before .before .before .before .before .before .before .before .before .before .before .before .before .before .before .before .before .before .pre .many, c .before .before .before .before .before .before .before .before .before .before .before .before .before .before .demands-at .ensures, c .before .before .before .before .before .before .before .before .before .before .before .before .before .costs-at .ensures, c .before .before .before .before .before .before .before .before .before .before .before .before .ceilings-at .ensures, c .before .before .before .before .before .before .before .before .before .before .before .if1 .left, c .before .before .before .before .before .before .before .before .before .before .if2 .left, c .before .before .before .before .before .before .before .before .before .if3 .left)
+sub-put-cells-2 c =
+    let at-if3 = c .before .before .before .before .before .before .before .before .before in
+    let at-if2 = at-if3 .before in
+    let at-if1 = at-if2 .before in
+    let at-ceilings-at = at-if1 .before in
+    let at-costs-at = at-ceilings-at .before in
+    let at-demands-at = at-costs-at .before in
+    let entry = at-demands-at .before .before .before .before in
+    omega (
+      arith,
+      room-0 _ _ _ (entry .pre),
+      lanes-few _ _ _ (entry .pre),
+      entry .pre .few,
+      entry .pre .many,
+      at-demands-at .demands-at .ensures,
+      at-costs-at .costs-at .ensures,
+      at-ceilings-at .ceilings-at .ensures,
+      at-if1 .if1 .left,
+      at-if2 .if2 .left,
+      at-if3 .if3 .left,
+    )
 
 part-put-cells-start-2 : tie.Need-part-put-cells-start-2
-part-put-cells-start-2 c = omega (arith, room-0 _ _ _ (c .before .before .before .before .before .before .before .before .before .before .before .before .before .before .before .before .before .before .pre), lanes-few _ _ _ (c .before .before .before .before .before .before .before .before .before .before .before .before .before .before .before .before .before .before .pre), c .before .before .before .before .before .before .before .before .before .before .before .before .before .before .before .before .before .before .pre .few, c .before .before .before .before .before .before .before .before .before .before .before .before .before .before .before .before .before .before .pre .many, c .before .before .before .before .before .before .before .before .before .before .before .before .before .before .demands-at .ensures, c .before .before .before .before .before .before .before .before .before .before .before .before .before .costs-at .ensures, c .before .before .before .before .before .before .before .before .before .before .before .before .ceilings-at .ensures, c .before .before .before .before .before .before .before .before .before .before .before .if1 .left, c .before .before .before .before .before .before .before .before .before .before .if2 .left, c .before .before .before .before .before .before .before .before .before .if3 .left)
+part-put-cells-start-2 c =
+    let at-if3 = c .before .before .before .before .before .before .before .before .before in
+    let at-if2 = at-if3 .before in
+    let at-if1 = at-if2 .before in
+    let at-ceilings-at = at-if1 .before in
+    let at-costs-at = at-ceilings-at .before in
+    let at-demands-at = at-costs-at .before in
+    let entry = at-demands-at .before .before .before .before in
+    omega (
+      arith,
+      room-0 _ _ _ (entry .pre),
+      lanes-few _ _ _ (entry .pre),
+      entry .pre .few,
+      entry .pre .many,
+      at-demands-at .demands-at .ensures,
+      at-costs-at .costs-at .ensures,
+      at-ceilings-at .ceilings-at .ensures,
+      at-if1 .if1 .left,
+      at-if2 .if2 .left,
+      at-if3 .if3 .left,
+    )
 
 part-put-cells-end-2 : tie.Need-part-put-cells-end-2
-part-put-cells-end-2 c = omega (arith, room-0 _ _ _ (c .before .before .before .before .before .before .before .before .before .before .before .before .before .before .before .before .before .before .pre), lanes-few _ _ _ (c .before .before .before .before .before .before .before .before .before .before .before .before .before .before .before .before .before .before .pre), c .before .before .before .before .before .before .before .before .before .before .before .before .before .before .before .before .before .before .pre .few, c .before .before .before .before .before .before .before .before .before .before .before .before .before .before .before .before .before .before .pre .many, c .before .before .before .before .before .before .before .before .before .before .before .before .before .before .demands-at .ensures, c .before .before .before .before .before .before .before .before .before .before .before .before .before .costs-at .ensures, c .before .before .before .before .before .before .before .before .before .before .before .before .ceilings-at .ensures, c .before .before .before .before .before .before .before .before .before .before .before .if1 .left, c .before .before .before .before .before .before .before .before .before .before .if2 .left, c .before .before .before .before .before .before .before .before .before .if3 .left)
+part-put-cells-end-2 c =
+    let at-if3 = c .before .before .before .before .before .before .before .before .before in
+    let at-if2 = at-if3 .before in
+    let at-if1 = at-if2 .before in
+    let at-ceilings-at = at-if1 .before in
+    let at-costs-at = at-ceilings-at .before in
+    let at-demands-at = at-costs-at .before in
+    let entry = at-demands-at .before .before .before .before in
+    omega (
+      arith,
+      room-0 _ _ _ (entry .pre),
+      lanes-few _ _ _ (entry .pre),
+      entry .pre .few,
+      entry .pre .many,
+      at-demands-at .demands-at .ensures,
+      at-costs-at .costs-at .ensures,
+      at-ceilings-at .ceilings-at .ensures,
+      at-if1 .if1 .left,
+      at-if2 .if2 .left,
+      at-if3 .if3 .left,
+    )
 
 put-cells-requires-2 : tie.Need-put-cells-requires-2
-put-cells-requires-2 c κs = omega (arith, room-0 _ _ _ (c .before .before .before .before .before .before .before .before .before .before .before .before .before .before .before .before .before .before .before .before .pre), lanes-few _ _ _ (c .before .before .before .before .before .before .before .before .before .before .before .before .before .before .before .before .before .before .before .before .pre), c .before .before .before .before .before .before .before .before .before .before .before .before .before .before .before .before .before .before .before .before .pre .few, c .before .before .before .before .before .before .before .before .before .before .before .before .before .before .before .before .before .before .before .before .pre .many, c .before .before .before .before .before .before .before .before .before .before .before .if3 .left, c .before .before .before .before .before .before .before .before .before .before .before .before .before .before .before .before .demands-at .ensures, c .before .before .before .before .before .before .before .before .before .before .before .before .before .before .before .costs-at .ensures, part-length (c .before .before .before .before .before .before .before .before .before .before .before .before .before .before .before .costs-at .result - c .before .before .before .before .before .before .before .before .before .before .before .before .before .before .before .before .demands-at .result) (c .before .before .before .before .before .before .before .before .before .before .before .before .before .before .before .before .demands-at .result) (now (c .before .before .before .before .before .before .before .before .before .before .before .before .before .before .before .before .before .before .before .before .args .store)) (omega (arith, room-0 _ _ _ (c .before .before .before .before .before .before .before .before .before .before .before .before .before .before .before .before .before .before .before .before .pre), lanes-few _ _ _ (c .before .before .before .before .before .before .before .before .before .before .before .before .before .before .before .before .before .before .before .before .pre), c .before .before .before .before .before .before .before .before .before .before .before .before .before .before .before .before .before .before .before .before .pre .few, c .before .before .before .before .before .before .before .before .before .before .before .before .before .before .before .before .before .before .before .before .pre .many, c .before .before .before .before .before .before .before .before .before .before .before .before .before .before .before .before .demands-at .ensures, c .before .before .before .before .before .before .before .before .before .before .before .before .before .before .before .costs-at .ensures)))
+put-cells-requires-2 c κs =
+    let at-if3 = c .before .before .before .before .before .before .before .before .before .before .before in
+    let at-costs-at = at-if3 .before .before .before .before in
+    let at-demands-at = at-costs-at .before in
+    let entry = at-demands-at .before .before .before .before in
+    omega (
+      arith,
+      room-0 _ _ _ (entry .pre),
+      lanes-few _ _ _ (entry .pre),
+      entry .pre .few,
+      entry .pre .many,
+      at-if3 .if3 .left,
+      at-demands-at .demands-at .ensures,
+      at-costs-at .costs-at .ensures,
+      part-length (at-costs-at .costs-at .result - at-demands-at .demands-at .result) (at-demands-at .demands-at .result) (now (entry .args .store))
+          (omega (arith, room-0 _ _ _ (entry .pre), lanes-few _ _ _ (entry .pre), entry .pre .few, entry .pre .many, at-demands-at .demands-at .ensures, at-costs-at .costs-at .ensures)),
+    )
 
 same-length : tie.Need-same-length
 same-length c = search needs
@@ -86,7 +379,28 @@ same-length-3 : tie.Need-same-length-3
 same-length-3 c = search needs
 
 returns-4 : tie.Need-returns-4
-returns-4 c = (long-enough (c .before .before .before .before .before .before .before .before .before .before .before .before .before .before .before .before .before .before .before .before .before .before .before .args .m) (c .before .before .before .before .before .before .before .before .before .before .before .before .before .before .before .before .before .before .before .before .before .before .before .args .n) (now (c .before .before .before .before .before .before .before .before .before .before .before .before .before .before .before .before .before .before .before .before .before .before .before .args .store)) (c .before .before .before .before .before .before .before .before .before .before .before .before .before .before .before .before .before .before .before .before .before .before .before .pre) _ _ _ (c .before .before .before .before .before .before .before .before .before .before .before .before .before .before .before .before .if1 .left) (c .before .before .before .before .before .before .before .before .before .before .before .before .before .before .before .if2 .left) (c .before .before .before .before .before .before .before .before .before .before .before .before .before .before .if3 .left), (costs-shown (c .before .before .before .before .before .before .before .before .before .before .before .before .before .before .before .before .before .before .before .before .before .before .before .args .m) (c .before .before .before .before .before .before .before .before .before .before .before .before .before .before .before .before .before .before .before .before .before .before .before .args .n) (now (c .before .before .before .before .before .before .before .before .before .before .before .before .before .before .before .before .before .before .before .before .before .before .before .args .store)) (c .before .before .before .before .before .before .before .before .before .before .before .before .before .before .before .before .before .before .before .before .before .before .before .pre) _ _ _ (c .before .before .before .before .before .before .before .before .before .before .before .before .before .before .before .before .before .before .before .demands-at .ensures) (c .before .before .before .before .before .before .before .before .before .before .before .before .before .before .before .before .before .before .costs-at .ensures) (c .before .before .before .before .before .before .before .before .before .before .before .before .before .before .before .before .before .ceilings-at .ensures) _ _ (c .before .before .before .before .before .before .before .before .before .before .before .lower-cells .ensures), (supplies-shown (c .before .before .before .before .before .before .before .before .before .before .before .before .before .before .before .before .before .before .before .before .before .before .before .args .m) (c .before .before .before .before .before .before .before .before .before .before .before .before .before .before .before .before .before .before .before .before .before .before .before .args .n) (now (c .before .before .before .before .before .before .before .before .before .before .before .before .before .before .before .before .before .before .before .before .before .before .before .args .store)) (c .before .before .before .before .before .before .before .before .before .before .before .before .before .before .before .before .before .before .before .before .before .before .before .pre) _ _ _ (c .before .before .before .before .before .before .before .before .before .before .before .before .before .before .before .before .before .before .before .demands-at .ensures) (c .before .before .before .before .before .before .before .before .before .before .before .before .before .before .before .before .before .before .costs-at .ensures) (c .before .before .before .before .before .before .before .before .before .before .before .before .before .before .before .before .before .ceilings-at .ensures) _ _ (c .before .before .before .before .before .before .before .put-cells .ensures), demands-shown (c .before .before .before .before .before .before .before .before .before .before .before .before .before .before .before .before .before .before .before .before .before .before .before .args .m) (c .before .before .before .before .before .before .before .before .before .before .before .before .before .before .before .before .before .before .before .before .before .before .before .args .n) (now (c .before .before .before .before .before .before .before .before .before .before .before .before .before .before .before .before .before .before .before .before .before .before .before .args .store)) (c .before .before .before .before .before .before .before .before .before .before .before .before .before .before .before .before .before .before .before .before .before .before .before .pre) _ _ _ (c .before .before .before .before .before .before .before .before .before .before .before .before .before .before .before .before .before .before .before .demands-at .ensures) (c .before .before .before .before .before .before .before .before .before .before .before .before .before .before .before .before .before .before .costs-at .ensures) (c .before .before .before .before .before .before .before .before .before .before .before .before .before .before .before .before .before .ceilings-at .ensures) _ _ (c .before .before .put-cells2 .ensures))))
+returns-4 c =
+    let at-put-cells = c .before .before .before .before .before .before .before in
+    let at-lower-cells = at-put-cells .before .before .before .before in
+    let at-if3 = at-lower-cells .before .before .before in
+    let at-if2 = at-if3 .before in
+    let at-if1 = at-if2 .before in
+    let at-ceilings-at = at-if1 .before in
+    let at-costs-at = at-ceilings-at .before in
+    let at-demands-at = at-costs-at .before in
+    let entry = at-demands-at .before .before .before .before in (
+      long-enough (entry .args .m) (entry .args .n) (now (entry .args .store)) (entry .pre) _ _ _ (at-if1 .if1 .left) (at-if2 .if2 .left) (at-if3 .if3 .left),
+      (
+        costs-shown (entry .args .m) (entry .args .n) (now (entry .args .store)) (entry .pre) _ _ _ (at-demands-at .demands-at .ensures)
+            (at-costs-at .costs-at .ensures) (at-ceilings-at .ceilings-at .ensures) _ _ (at-lower-cells .lower-cells .ensures),
+        (
+          supplies-shown (entry .args .m) (entry .args .n) (now (entry .args .store)) (entry .pre) _ _ _ (at-demands-at .demands-at .ensures)
+              (at-costs-at .costs-at .ensures) (at-ceilings-at .ceilings-at .ensures) _ _ (at-put-cells .put-cells .ensures),
+          demands-shown (entry .args .m) (entry .args .n) (now (entry .args .store)) (entry .pre) _ _ _ (at-demands-at .demands-at .ensures)
+              (at-costs-at .costs-at .ensures) (at-ceilings-at .ceilings-at .ensures) _ _ (c .before .before .put-cells2 .ensures),
+        ),
+      ),
+    )
 
 pub show-tariff-spec : {M : Type 1} → statement M
 show-tariff-spec =
