@@ -12,7 +12,8 @@ use Rattle.transport.specs.Listing.{upFrom, select, compositions, rowLists, ser
 use Rattle.transport.specs.Curve.{amountsAt, hasPlan, splitsIn}
 use Rattle.problem.specs.Case.{Case, allDemand, depotStock, made, lowestSplit, highestSplit, splits, hasSplit, leastSplit, greatestSplit, steps}
 use Rattle.problem.specs.Plans.{leastFreightAt, totalAt, bestSplit, stops, stopFreights}
-use Rattle.problem.specs.Outcome.{refuseIf, refuseAt, firstFrom, firstOver, _orElse_, formRefusal, refusalOf, planOf, test1, test2, test3, test4, test23, test5, test26, test6, test7, test8, test27, test9, test11}
+use Rattle.problem.specs.Outcome.{refuseIf, refuseAt, firstFrom, firstOver, _orElse_, formRefusal, refusalOf, planOf, test1, test2, test3, test4}
+use Rattle.problem.specs.Outcome.{test23, test5, test26, test6, test7, test8, test27, test9, test11}
 use Rattle.problem.specs.Outcome as planner
 use Rattle.bounds_problem.specs.Tables.{totalWith, leastOver, leastTotal, allFrom, canBe, mark, marks}
 use Rattle.bounds_problem.specs.Answers.{Outcome, known, refused, lowCase, badEntry, place28, laterOf, outcomeOf}
@@ -54,7 +55,11 @@ pub answers : answered ≡ record { known-or-refused = known 1 3 (pos 33) (pos 3
     ∷ record { known-or-refused = known 2 2 (pos 33) (pos 35); marked = 1 ∷ 1 ∷ [] }
     ∷ record { known-or-refused = known 1 3 (negsuc 10) (negsuc 9); marked = 0 ∷ 1 ∷ 1 ∷ [] }
     ∷ []
-unfolding answered told A lane flatMap eqZ minℤ sumℤ leastℤ freightℤ leastFreightℤ leastAtℤ bendsℤ isStopℤ stopsOfℤ bestFromℤ outside sum row col upFrom select compositions rowLists served listing every fits listingIn some least greatest amountsAt hasPlan splitsIn allDemand depotStock made lowestSplit highestSplit splits hasSplit leastSplit greatestSplit steps leastFreightAt totalAt bestSplit stops stopFreights refuseIf refuseAt firstFrom firstOver _orElse_ formRefusal refusalOf planOf planner.outcomeOf test1 test2 test3 test4 test23 test5 test26 test6 test7 test8 test27 test9 test11 totalWith leastOver leastTotal allFrom canBe mark marks badEntry place28 laterOf outcomeOf
+unfolding answered told A lane flatMap eqZ minℤ sumℤ leastℤ freightℤ leastFreightℤ leastAtℤ bendsℤ isStopℤ stopsOfℤ bestFromℤ outside sum row col
+    upFrom select compositions rowLists served listing every fits listingIn some least greatest amountsAt hasPlan splitsIn allDemand depotStock made
+    lowestSplit highestSplit splits hasSplit leastSplit greatestSplit steps leastFreightAt totalAt bestSplit stops stopFreights refuseIf refuseAt
+    firstFrom firstOver _orElse_ formRefusal refusalOf planOf planner.outcomeOf test1 test2 test3 test4 test23 test5 test26 test6 test7 test8 test27
+    test9 test11 totalWith leastOver leastTotal allFrom canBe mark marks badEntry place28 laterOf outcomeOf
 answers = refl
 
 pub refused-ones : List Outcome
@@ -71,5 +76,9 @@ refused-ones =
 -- a high table of three entries; an entry below its low; one too high, before the answers' length; the low table's refusals 9 and 6 first, and 26;
 -- answers too short
 pub refusals : refused-ones ≡ refused 28 0 ∷ refused 28 2 ∷ refused 28 3 ∷ refused 9 2 ∷ refused 6 0 ∷ refused 26 1 ∷ refused 11 0 ∷ []
-unfolding refused-ones A lane flatMap eqZ minℤ sumℤ leastℤ freightℤ leastFreightℤ leastAtℤ bendsℤ isStopℤ stopsOfℤ bestFromℤ outside sum row col upFrom select compositions rowLists served listing every fits listingIn some least greatest amountsAt hasPlan splitsIn allDemand depotStock made lowestSplit highestSplit splits hasSplit leastSplit greatestSplit steps leastFreightAt totalAt bestSplit stops stopFreights refuseIf refuseAt firstFrom firstOver _orElse_ formRefusal refusalOf planOf planner.outcomeOf test1 test2 test3 test4 test23 test5 test26 test6 test7 test8 test27 test9 test11 totalWith leastOver leastTotal allFrom canBe mark marks badEntry place28 laterOf outcomeOf
+unfolding refused-ones A lane flatMap eqZ minℤ sumℤ leastℤ freightℤ leastFreightℤ leastAtℤ bendsℤ isStopℤ stopsOfℤ bestFromℤ outside sum row col
+    upFrom select compositions rowLists served listing every fits listingIn some least greatest amountsAt hasPlan splitsIn allDemand depotStock made
+    lowestSplit highestSplit splits hasSplit leastSplit greatestSplit steps leastFreightAt totalAt bestSplit stops stopFreights refuseIf refuseAt
+    firstFrom firstOver _orElse_ formRefusal refusalOf planOf planner.outcomeOf test1 test2 test3 test4 test23 test5 test26 test6 test7 test8 test27
+    test9 test11 totalWith leastOver leastTotal allFrom canBe mark marks badEntry place28 laterOf outcomeOf
 refusals = refl

@@ -6,10 +6,11 @@ ghost use lib.Dec.{leb};
 ghost use lib.IntN.{subℕ};
 ghost use lib.ListN.{length};
 ghost use Rattle.transport.specs.Curve.{written};
-ghost use Rattle.bounds_problem.specs.inner.Heights.{height, Moderate, pointAt, Stretch, StretchDrawn, Drawing, CurveDrawn, Summed, leastSum, marksBy, found, firstBad};
+ghost use Rattle.bounds_problem.specs.inner.Heights.{height, Moderate, pointAt, Stretch, StretchDrawn, Drawing, CurveDrawn, Summed};
+ghost use Rattle.bounds_problem.specs.inner.Heights.{leastSum, marksBy, found, firstBad};
 
 // How far a freight stands above -128,000,000,000.
-pub fn height_of(freight: i64) -> u64
+fn height_of(freight: i64) -> u64
     requires { ⌜ Moderate freight ⌝ }
     ensures { λ r. ⌜ r ≡ height freight ⌝ }
 {
@@ -33,7 +34,7 @@ pub fn between(p: u64, q: u64, a: u64, b: u64, y: u64) -> u64
 }
 
 // Draws the line from a at p to b at q, after p; the cell of split lo is the first.
-pub fn draw_stretch(lo: u64, p: u64, q: u64, a: u64, b: u64, to: &mut [u64])
+fn draw_stretch(lo: u64, p: u64, q: u64, a: u64, b: u64, to: &mut [u64])
     requires { ⌜ Stretch lo p q a b (length (now to)) ⌝ }
     ensures { λ _. ⌜ StretchDrawn lo p q a b (now (to .entry)) (now (to .exit)) ⌝ }
 {

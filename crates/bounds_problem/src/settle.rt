@@ -14,7 +14,9 @@ use crate::curve::signed;
 // The answers from the curve and the two tables' parts at the splits.
 pub fn settle(lo: u64, curve: &[u64], lows: &[u64], highs: &[u64], answers: &mut [u64]) -> Answer
     requires { ⌜ Summed (now curve) (now lows) × Summed (now curve) (now highs) × (length (now lows) ≤ length (now answers)) ⌝ }
-    ensures { λ r. ⌜ (outcome r ≡ settledOf lo (now (curve .entry)) (now (lows .entry)) (now (highs .entry))) × (now (answers .exit) ≡ written (marksBy (now (curve .entry)) (now (lows .entry)) (leastSum (now (curve .entry)) (now (highs .entry)))) (now (answers .entry))) ⌝ }
+    ensures { λ r. ⌜ (outcome r ≡ settledOf lo (now (curve .entry)) (now (lows .entry)) (now (highs .entry))) ×
+        (now (answers .exit) ≡
+        written (marksBy (now (curve .entry)) (now (lows .entry)) (leastSum (now (curve .entry)) (now (highs .entry)))) (now (answers .entry))) ⌝ }
 {
     let least = least_sum(curve, lows);
     let most = least_sum(curve, highs);

@@ -19,7 +19,8 @@ pub fn judge(
     answers: &mut [u64],
 ) -> Answer
     requires { ⌜ SomeListed (now low) (now splits) (now freights) count ⌝ }
-    ensures { λ r. ⌜ ((c : Case) → Listed (tabled c (now (low .entry))) (now (splits .entry)) (now (freights .entry)) count → Answered (tabled c (now (low .entry))) (now (high .entry)) (outcome r) (now (answers .entry)) (now (answers .exit))) ⌝ }
+    ensures { λ r. ⌜ ((c : Case) → Listed (tabled c (now (low .entry))) (now (splits .entry)) (now (freights .entry)) count →
+        Answered (tabled c (now (low .entry))) (now (high .entry)) (outcome r) (now (answers .entry)) (now (answers .exit))) ⌝ }
 {
     let lo = splits[0];
     let hi = splits[count - 1];

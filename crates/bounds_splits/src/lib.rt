@@ -19,7 +19,9 @@ pub fn possible_splits(
     high: &[u64],
     answers: &mut [u64],
 ) -> Answer
-    ensures { λ r. ⌜ Answered (lowCase m n run1 run2 (now (costs .entry)) (now (supplies .entry)) (now (demands .entry)) (now (ceilings .entry)) (now (low .entry))) (now (high .entry)) (outcome r) (now (answers .entry)) (now (answers .exit)) ⌝ }
+    ensures { λ r. ⌜ Answered
+        (lowCase m n run1 run2 (now (costs .entry)) (now (supplies .entry)) (now (demands .entry)) (now (ceilings .entry)) (now (low .entry)))
+        (now (high .entry)) (outcome r) (now (answers .entry)) (now (answers .exit)) ⌝ }
 {
     let mut plan = [0u64; 2048];
     let mut splits = [0u64; 4001];

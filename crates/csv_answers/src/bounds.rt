@@ -23,7 +23,8 @@ fn put_totals(out: &mut [u8], at: usize, a: i64, b: i64) -> usize
 // Writes a record for each mark: its split, from the first on, and the mark.
 fn put_marks(out: &mut [u8], at: usize, first: u64, marks: &[u64]) -> usize
     requires { ⌜ (at < 2 ^ 40) × MarksFit first (now marks) ⌝ }
-    ensures { λ r. ⌜ Written (now (out .entry)) (now (out .exit)) at r (marksText first (now (marks .entry)) (length (now (marks .entry)))) (43 * length (now (marks .entry))) ⌝ }
+    ensures { λ r. ⌜ Written (now (out .entry)) (now (out .exit)) at r (marksText first (now (marks .entry)) (length (now (marks .entry))))
+        (43 * length (now (marks .entry))) ⌝ }
 {
     let mut next = at;
     for j in 0..marks.len() {
@@ -41,7 +42,8 @@ fn put_fitting_marks(
     marks: &[u64],
 ) -> usize
     requires { ⌜ MarksFit first (now marks) ⌝ }
-    ensures { λ r. ⌜ Written (now (out .entry)) (now (out .exit)) 0 r (boundsText smallest largest first (now (marks .entry))) (243 + 43 * length (now (marks .entry))) ⌝ }
+    ensures { λ r. ⌜ Written (now (out .entry)) (now (out .exit)) 0 r (boundsText smallest largest first (now (marks .entry)))
+        (243 + 43 * length (now (marks .entry))) ⌝ }
 {
     let totals = b"smallest,largest\r\n";
     let second = put_bytes(out, 0, totals);
@@ -54,7 +56,8 @@ fn put_fitting_marks(
 // Writes the two totals and the marks of the splits, from the first on. Gives the length of the text; 0, and nothing is written, where the
 // first split is above 4,000 or there are more than 4,001 marks.
 pub fn put_bounds(out: &mut [u8], smallest: i64, largest: i64, first: u64, marks: &[u64]) -> usize
-    ensures { λ r. ⌜ PlanWritten (MarksFit first (now (marks .entry))) (now (out .entry)) (now (out .exit)) r (boundsText smallest largest first (now (marks .entry))) (243 + 43 * length (now (marks .entry))) ⌝ }
+    ensures { λ r. ⌜ PlanWritten (MarksFit first (now (marks .entry))) (now (out .entry)) (now (out .exit)) r
+        (boundsText smallest largest first (now (marks .entry))) (243 + 43 * length (now (marks .entry))) ⌝ }
 {
     if 4_000 < first {
         return 0;

@@ -38,7 +38,9 @@ fn put_arcs(
     costs: &[i64],
 ) -> usize
     requires { ⌜ (at < 2 ^ 40) × FlowFits charge (now starts) (now ends) (now amounts) (now costs) ⌝ }
-    ensures { λ r. ⌜ Written (now (out .entry)) (now (out .exit)) at r (arcsText named charge (now (starts .entry)) (now (ends .entry)) (now (amounts .entry)) (now (costs .entry)) (length (now (starts .entry)))) (85 * length (now (starts .entry))) ⌝ }
+    ensures { λ r. ⌜ Written (now (out .entry)) (now (out .exit)) at r
+        (arcsText named charge (now (starts .entry)) (now (ends .entry)) (now (amounts .entry)) (now (costs .entry)) (length (now (starts .entry))))
+        (85 * length (now (starts .entry))) ⌝ }
 {
     let mut next = at;
     for k in 0..starts.len() {
@@ -90,7 +92,9 @@ fn put_fitting_flow(
     costs: &[i64],
 ) -> usize
     requires { ⌜ FlowFits charge (now starts) (now ends) (now amounts) (now costs) ⌝ }
-    ensures { λ r. ⌜ Written (now (out .entry)) (now (out .exit)) 0 r (flowText total named charge (now (starts .entry)) (now (ends .entry)) (now (amounts .entry)) (now (costs .entry))) (222 + 85 * length (now (starts .entry))) ⌝ }
+    ensures { λ r. ⌜ Written (now (out .entry)) (now (out .exit)) 0 r
+        (flowText total named charge (now (starts .entry)) (now (ends .entry)) (now (amounts .entry)) (now (costs .entry)))
+        (222 + 85 * length (now (starts .entry))) ⌝ }
 {
     let first = b"total\r\n";
     let second = put_bytes(out, 0, first);
@@ -113,7 +117,10 @@ pub fn put_flow(
     amounts: &[u64],
     costs: &[i64],
 ) -> usize
-    ensures { λ r. ⌜ PlanWritten (FlowFits charge (now (starts .entry)) (now (ends .entry)) (now (amounts .entry)) (now (costs .entry))) (now (out .entry)) (now (out .exit)) r (flowText total named charge (now (starts .entry)) (now (ends .entry)) (now (amounts .entry)) (now (costs .entry))) (222 + 85 * length (now (starts .entry))) ⌝ }
+    ensures { λ r. ⌜ PlanWritten (FlowFits charge (now (starts .entry)) (now (ends .entry)) (now (amounts .entry)) (now (costs .entry)))
+        (now (out .entry)) (now (out .exit)) r
+        (flowText total named charge (now (starts .entry)) (now (ends .entry)) (now (amounts .entry)) (now (costs .entry)))
+        (222 + 85 * length (now (starts .entry))) ⌝ }
 {
     if flow_fits(charge, starts, ends, amounts, costs) {
         return put_fitting_flow(out, total, named, charge, starts, ends, amounts, costs);

@@ -9,13 +9,17 @@ use lib.IntN.{ℤ, pos}
 use lib.ListN.{length, getD}
 use Rattle.csv_form.specs.declared.Kind.{Kind}
 use Rattle.csv_form.specs.declared.Kind.the-variants.{Tariff, Production}
-use Rattle.csv_form.specs.Form.{Mark, digit, minus, quote, comma, cr, lf, other, mark, State, field, fieldOrEmpty, recordOrEnd, opened, bare, quoted, zeroBare, zeroQuoted, closed, minusBare, minusQuoted, bareCost, quotedCost, closedCost, lineEnd, lastLineEnd, done, step, leading, more, afterComma, afterLine, inTariff, placeOf, mayEnd, isProduction}
+use Rattle.csv_form.specs.Form.{Mark, digit, minus, quote, comma, cr, lf, other, mark, State, field, fieldOrEmpty, recordOrEnd, opened, bare, quoted}
+use Rattle.csv_form.specs.Form.{zeroBare, zeroQuoted, closed, minusBare, minusQuoted, bareCost, quotedCost, closedCost, lineEnd, lastLineEnd, done}
+use Rattle.csv_form.specs.Form.{step, leading, more, afterComma, afterLine, inTariff, placeOf, mayEnd, isProduction}
 use Rattle.csv_form.specs.Records.{Reading, reading, run, absorb, recordsAtEnd, rowWith, rowsWith, isFirst, isSource, Form, whole, broken, formOf}
 use Rattle.csv_form.specs.Records as machine
 use Rattle.csv_form.specs.inner.Reader.{within, closedAs}
 use Rattle.csv_form.proofs.ByteMarks.{mark-digit}
 use Rattle.csv_grammar.specs.Grammar as grammar
-use Rattle.csv_grammar.specs.Grammar.{Each, Digit, IsNumber, valueAfter, Field, IsField, IsPlain, signed, numberIn, digitText, signText, inQuotes, fieldText, recordText, Row, IsTariff, IsProduction, HasForm, linesBefore, fieldsOf, rowText, numbersIn, SourceRow, PlainRow, IsSource}
+use Rattle.csv_grammar.specs.Grammar.{Each, Digit, IsNumber, valueAfter, Field, IsField, IsPlain, signed, numberIn, digitText, signText}
+use Rattle.csv_grammar.specs.Grammar.{inQuotes, fieldText, recordText, Row, IsTariff, IsProduction, HasForm, linesBefore, fieldsOf, rowText}
+use Rattle.csv_grammar.specs.Grammar.{numbersIn, SourceRow, PlainRow, IsSource}
 
 -- from a reading on, whatever the offset, these bytes end a file of the form with these records
 pub record Ends (kind : Kind) (r : Reading) (l : List ℕ) (records : List (List ℤ)) : Type 0 where
@@ -123,8 +127,14 @@ module _ {kind : Kind} {records : List (List ℤ)} where
   bare-as-closed true b v k row rows (x ∷ l) w = record { at = λ at. on (mark x) at (w .at at) }
     where
       on : (m : Mark) (at : ℕ) →
-          (let f : Form = elim (step kind (b || isFirst rows) closedCost m) [ none ↦ broken (placeOf closedCost m at) | some t ↦ run kind (suc at) (absorb m t (reading closedCost v true b row rows)) l ] in f) ≡ whole records →
-          (let f : Form = elim (step kind (b || isFirst rows) (bareCost k) m) [ none ↦ broken (placeOf (bareCost k) m at) | some t ↦ run kind (suc at) (absorb m t (reading (bareCost k) v true b row rows)) l ] in f) ≡ whole records
+          (let f : Form = elim (step kind (b || isFirst rows) closedCost m)
+          [ none ↦ broken (placeOf closedCost m at) | some t ↦ run kind (suc at) (absorb m t (reading closedCost v true b row rows)) l ] in
+          f) ≡
+          whole records →
+          (let f : Form = elim (step kind (b || isFirst rows) (bareCost k) m)
+          [ none ↦ broken (placeOf (bareCost k) m at) | some t ↦ run kind (suc at) (absorb m t (reading (bareCost k) v true b row rows)) l ] in
+          f) ≡
+          whole records
       on (digit d) at h = absurd (let z : _≡_ {A = ℕ} 0 1 = cc in omega arith)
       on minus at h = h
       on quote at h = h
@@ -135,8 +145,11 @@ module _ {kind : Kind} {records : List (List ℤ)} where
   bare-as-closed false b v k row rows (x ∷ l) w = record { at = λ at. on (mark x) at (w .at at) }
     where
       on : (m : Mark) (at : ℕ) →
-          (let f : Form = elim (step kind (b || isFirst rows) closed m) [ none ↦ broken (placeOf closed m at) | some t ↦ run kind (suc at) (absorb m t (reading closed v false b row rows)) l ] in f) ≡ whole records →
-          (let f : Form = elim (step kind (b || isFirst rows) (bare k) m) [ none ↦ broken (placeOf (bare k) m at) | some t ↦ run kind (suc at) (absorb m t (reading (bare k) v false b row rows)) l ] in f) ≡ whole records
+          (let f : Form = elim (step kind (b || isFirst rows) closed m) [ none ↦ broken (placeOf closed m at) | some t ↦ run kind (suc at) (absorb m t (reading closed v false b row rows)) l ] in f) ≡
+          whole records →
+          (let f : Form = elim (step kind (b || isFirst rows) (bare k) m) [ none ↦ broken (placeOf (bare k) m at) | some t ↦ run kind (suc at) (absorb m t (reading (bare k) v false b row rows)) l ] in
+          f) ≡
+          whole records
       on (digit d) at h = absurd (let z : _≡_ {A = ℕ} 0 1 = cc in omega arith)
       on minus at h = h
       on quote at h = h
@@ -152,8 +165,11 @@ module _ {kind : Kind} {records : List (List ℤ)} where
   zero-as-closed b v row rows (x ∷ l) w = record { at = λ at. on (mark x) at (w .at at) }
     where
       on : (m : Mark) (at : ℕ) →
-          (let f : Form = elim (step kind (b || isFirst rows) closed m) [ none ↦ broken (placeOf closed m at) | some t ↦ run kind (suc at) (absorb m t (reading closed v false b row rows)) l ] in f) ≡ whole records →
-          (let f : Form = elim (step kind (b || isFirst rows) zeroBare m) [ none ↦ broken (placeOf zeroBare m at) | some t ↦ run kind (suc at) (absorb m t (reading zeroBare v false b row rows)) l ] in f) ≡ whole records
+          (let f : Form = elim (step kind (b || isFirst rows) closed m) [ none ↦ broken (placeOf closed m at) | some t ↦ run kind (suc at) (absorb m t (reading closed v false b row rows)) l ] in f) ≡
+          whole records →
+          (let f : Form = elim (step kind (b || isFirst rows) zeroBare m) [ none ↦ broken (placeOf zeroBare m at) | some t ↦ run kind (suc at) (absorb m t (reading zeroBare v false b row rows)) l ] in
+          f) ≡
+          whole records
       on (digit d) at h = absurd (let z : _≡_ {A = ℕ} 0 1 = cc in omega arith)
       on minus at h = h
       on quote at h = h
@@ -234,8 +250,12 @@ module _ {kind : Kind} {records : List (List ℤ)} where
   empty-as-field b row rows (x ∷ l) w = record { at = λ at. on (mark x) at (w .at at) }
     where
       on : (m : Mark) (at : ℕ) →
-          (let f : Form = elim (step kind (b || isFirst rows) field m) [ none ↦ broken (placeOf field m at) | some t ↦ run kind (suc at) (absorb m t (reading field 0 false b row rows)) l ] in f) ≡ whole records →
-          (let f : Form = elim (step kind (b || isFirst rows) fieldOrEmpty m) [ none ↦ broken (placeOf fieldOrEmpty m at) | some t ↦ run kind (suc at) (absorb m t (reading fieldOrEmpty 0 false b row rows)) l ] in f) ≡ whole records
+          (let f : Form = elim (step kind (b || isFirst rows) field m) [ none ↦ broken (placeOf field m at) | some t ↦ run kind (suc at) (absorb m t (reading field 0 false b row rows)) l ] in f) ≡
+          whole records →
+          (let f : Form = elim (step kind (b || isFirst rows) fieldOrEmpty m)
+          [ none ↦ broken (placeOf fieldOrEmpty m at) | some t ↦ run kind (suc at) (absorb m t (reading fieldOrEmpty 0 false b row rows)) l ] in
+          f) ≡
+          whole records
       on (digit d) at h = h
       on minus at h = h
       on quote at h = h
@@ -250,7 +270,9 @@ module _ {kind : Kind} {records : List (List ℤ)} where
   comma-ends true b v row rows l w = by-byte (reading closedCost v true b row rows) 44 comma field comma-mark refl w
   comma-ends false b v row rows l w = by-byte (reading closed v false b row rows) 44 comma (afterComma kind (b || isFirst rows)) comma-mark refl (on kind (b || isFirst rows) w)
     where
-      on : (k : Kind) (source : Bool) → Ends kind (reading field 0 false b (rowWith (pos v) row) rows) l records → Ends kind (reading (afterComma k source) 0 false b (rowWith (pos v) row) rows) l records
+      on :
+          (k : Kind) (source : Bool) → Ends kind (reading field 0 false b (rowWith (pos v) row) rows) l records →
+          Ends kind (reading (afterComma k source) 0 false b (rowWith (pos v) row) rows) l records
       on Production source w = w
       on Tariff true w = w
       on Tariff false w = empty-as-field b (rowWith (pos v) row) rows l w
@@ -262,8 +284,12 @@ module _ {kind : Kind} {records : List (List ℤ)} where
   record-as-field rows (x ∷ l) p w = record { at = λ at. on kind p (mark x) at (w .at at) }
     where
       on : (k : Kind) → k ≡ Production → (m : Mark) (at : ℕ) →
-          (let f : Form = elim (step k (false || isFirst rows) field m) [ none ↦ broken (placeOf field m at) | some t ↦ run kind (suc at) (absorb m t (reading field 0 false false [] rows)) l ] in f) ≡ whole records →
-          (let f : Form = elim (step k (false || isFirst rows) recordOrEnd m) [ none ↦ broken (placeOf recordOrEnd m at) | some t ↦ run kind (suc at) (absorb m t (reading recordOrEnd 0 false false [] rows)) l ] in f) ≡ whole records
+          (let f : Form = elim (step k (false || isFirst rows) field m) [ none ↦ broken (placeOf field m at) | some t ↦ run kind (suc at) (absorb m t (reading field 0 false false [] rows)) l ] in f) ≡
+          whole records →
+          (let f : Form = elim (step k (false || isFirst rows) recordOrEnd m)
+          [ none ↦ broken (placeOf recordOrEnd m at) | some t ↦ run kind (suc at) (absorb m t (reading recordOrEnd 0 false false [] rows)) l ] in
+          f) ≡
+          whole records
       on k p (digit d) at h = h
       on Production p minus at h = h
       on Tariff p minus at h = absurd (let z : _≡_ {A = ℕ} 0 1 = cc in omega arith)

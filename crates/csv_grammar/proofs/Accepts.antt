@@ -19,7 +19,8 @@ use Rattle.csv_form.specs.Records as machine
 use Rattle.csv_form.specs.inner.Reader.{fieldAt, afterAt, onField, onAfter, fieldEnds, afterEnds, FieldRead, AfterRead, atField, Known}
 use Rattle.csv_form.proofs.FieldAnswers.{means-field}
 use Rattle.csv_form.proofs.AfterAnswers.{means-after}
-use Rattle.csv_grammar.specs.Grammar.{Each, Field, IsField, IsPlain, signed, numberIn, valueAfter, fieldText, recordText, Row, fieldsOf, rowText, numbersIn, SourceRow, PlainRow, IsSource, lineEnd, linesBefore, IsTariff, IsProduction, HasForm}
+use Rattle.csv_grammar.specs.Grammar.{Each, Field, IsField, IsPlain, signed, numberIn, valueAfter, fieldText, recordText, Row, fieldsOf, rowText}
+use Rattle.csv_grammar.specs.Grammar.{numbersIn, SourceRow, PlainRow, IsSource, lineEnd, linesBefore, IsTariff, IsProduction, HasForm}
 use Rattle.csv_grammar.proofs.Accepted.{Fields, RowOf, same-signed, accepted}
 use Rattle.csv_grammar.proofs.FieldTexts.{FieldText, field-text, AfterText, after-text}
 
@@ -74,7 +75,8 @@ module _ (kind : Kind) (s : List ℕ) (records : List (List ℤ)) where
         let w = plain-before kind m b rows (t .tariff) may in
         last-now (t .it) (g ∷ gs) ended (plain-field (w .0), plain) (w .1)
         (t .text ∙ ap (λ (l : List ℕ). fieldText (t .it) ++ l) (e ∙ ap (λ (l : List ℕ). 44 ∷ l) text) ∙ sym (append-assoc (fieldText (t .it)) (44 ∷ recordText g gs) (lastText kind ended)))
-        (numbers ∙ ap (λ (x : List ℤ). rows ++ (lastNumbers kind x ∷ [])) (append-assoc row (machine.signed m v ∷ []) (map numberIn (g ∷ gs)) ∙ ap (λ (z : ℤ). row ++ (z ∷ map numberIn (g ∷ gs))) same-number))
+        (numbers ∙
+        ap (λ (x : List ℤ). rows ++ (lastNumbers kind x ∷ [])) (append-assoc row (machine.signed m v ∷ []) (map numberIn (g ∷ gs)) ∙ ap (λ (z : ℤ). row ++ (z ∷ map numberIn (g ∷ gs))) same-number))
     with-field start e (more-now g gs before last ended fields rows-ok plain text numbers) =
         let tail : List ℕ = 13 ∷ 10 ∷ linesBefore before (rowText last ++ lastText kind ended) in
         more-now (t .it) (g ∷ gs) before last ended (t .is-field, λ z. t .tariff (sym (t .negative) ∙ z), fields) rows-ok plain
@@ -84,7 +86,8 @@ module _ (kind : Kind) (s : List ℕ) (records : List (List ℤ)) where
         (append-assoc row (machine.signed m v ∷ []) (map numberIn (g ∷ gs)) ∙ ap (λ (z : ℤ). row ++ (z ∷ map numberIn (g ∷ gs))) same-number))
 
     -- a further record
-    with-record : (start : ℕ) → m ≡ false → drop next s ≡ 13 ∷ 10 ∷ drop start s → Rest kind false [] (rowsWith (machine.signed m v) row rows) (drop start s) records → Rest kind b row rows (drop at s) records
+    with-record :
+        (start : ℕ) → m ≡ false → drop next s ≡ 13 ∷ 10 ∷ drop start s → Rest kind false [] (rowsWith (machine.signed m v) row rows) (drop start s) records → Rest kind b row rows (drop at s) records
     unfolding recordText linesBefore
     with-record start p e (last-now g gs ended plain may text numbers) =
         more-now (t .it) [] [] (rowOf g gs) ended (plain-field p) tt plain

@@ -17,9 +17,11 @@ use Rattle.csv_form.specs.declared.field.Field.the-variants as answers
 use Rattle.csv_form.specs.declared.after.After.{After}
 use Rattle.csv_form.specs.declared.after.After.the-variants as afters
 use Rattle.csv_form.specs.Form.{digit, mark}
-use Rattle.csv_form.specs.inner.Reader.{digitOr10, isMinus, pickField, numberFrom, numberAt, digitsTo, digitsFrom, valued, numberOf, signedAt, closeQuote, fieldAt, atLast, costAt, lastAt, demandAt, commaAt, lineAt, recordAt, plainAt, afterAt}
+use Rattle.csv_form.specs.inner.Reader.{digitOr10, isMinus, pickField, numberFrom, numberAt, digitsTo, digitsFrom, valued, numberOf, signedAt}
+use Rattle.csv_form.specs.inner.Reader.{closeQuote, fieldAt, atLast, costAt, lastAt, demandAt, commaAt, lineAt, recordAt, plainAt, afterAt}
 use Rattle.csv_form.proofs.ByteMarks.{mark-digit, below-ten, above-ten, inside, past, minus-byte}
-use Rattle.csv_form.proofs.AfterAnswers.{present, cost-yes, cost-no, last-no, last-more, last-end, demand-past, demand-return, demand-other, line-more, line-end, record-no, record-yes, plain-past, plain-comma, plain-return, plain-none}
+use Rattle.csv_form.proofs.AfterAnswers.{present, cost-yes, cost-no, last-no, last-more, last-end, demand-past, demand-return, demand-other, line-more}
+use Rattle.csv_form.proofs.AfterAnswers.{line-end, record-no, record-yes, plain-past, plain-comma, plain-return, plain-none}
 use Rattle.csv_grammar.specs.Grammar.{Each, Digit, IsNumber, valueAfter, Field, IsField, digitText, signText, inQuotes, fieldText, lineEnd}
 
 -- ---- bytes

@@ -26,7 +26,8 @@ use Rattle.flow_problem.specs.inner.Reduce.{node, source, stock, laneCos
 use Rattle.flow_problem.specs.inner.Sound.{Sound}
 use Rattle.flow_problem.proofs.SumsByNode.{cond-same, cond-other, at-same, at-other, sum-two-at, sumℤ-ext, sumℤ-swap, sumℤ-one}
 use Rattle.flow_problem.proofs.PlanAsFlow.{Carries, sends, kept-last}
-use Rattle.flow_problem.proofs.NodesAndSources.{cells-length, cells-at, rows-length, rows-at, node-source, source-node, node-below, source-below, node-0, node-1, source-w, source-v, source-depot, depot-w, depot-v}
+use Rattle.flow_problem.proofs.NodesAndSources.{cells-length, cells-at, rows-length, rows-at, node-source, source-node, node-below}
+use Rattle.flow_problem.proofs.NodesAndSources.{source-below, node-0, node-1, source-w, source-v, source-depot, depot-w, depot-v}
 use Rattle.flow_problem.proofs.FlowListing.{named-flow}
 use Rattle.flow_problem.proofs.Conservation.{graph, stock-sum, KeptAt, kept-of, conserved-of}
 

@@ -92,6 +92,7 @@ module _ (g : Network) (k : ℕ) (table : List ℕ) (ok : Proper g) (so : Sound 
         cells-all (λ v. v ≤ 1000000000) 0 (suc (stock g (end g k))) (entryAt g k table)
         (λ y l. chosen (λ v. v ≤ 1000000000) (ltb (y + ceiling g k) (stock g (end g k))) 0 _ (omega arith) (small-entry (y + ceiling g k - stock g (end g k)))) y l
     | no l ↦
-        let q : entry (caseOf g k table) y ≡ 0 = List·getD-eq-default (cells (suc (stock g (end g k))) (entryAt g k table)) 0 (omega (arith, cells-length (suc (stock g (end g k))) (entryAt g k table))) in
+        let q : entry (caseOf g k table) y ≡
+        0 = List·getD-eq-default (cells (suc (stock g (end g k))) (entryAt g k table)) 0 (omega (arith, cells-length (suc (stock g (end g k))) (entryAt g k table))) in
         omega (arith, q)
   ]

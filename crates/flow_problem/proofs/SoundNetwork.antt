@@ -181,7 +181,8 @@ module _ (g : Network) (ok : Proper g) where
       ap (λ (z : ℤ). ltZ z (pos 0))
       (ap₂ (λ (a b : ℤ). a +ℤ b) (sym (f .conserved i l)) (pos-sub most)
       ∙ sub-add out inn most 0
-      ∙ sub-pos (out + most) (inn + 0) (out + (most - inn)) (omega (arith, sum-mono (arcCount g) (λ k. at (end g k) i (listed x k)) (λ k. at (end g k) i (ceiling g k)) (λ k h. part (end g k) i (listed x k) (ceiling g k) (f .within k h)))))
+      ∙ sub-pos (out + most) (inn + 0) (out + (most - inn))
+      (omega (arith, sum-mono (arcCount g) (λ k. at (end g k) i (listed x k)) (λ k. at (end g k) i (ceiling g k)) (λ k h. part (end g k) i (listed x k) (ceiling g k) (f .within k h)))))
       ∙ le-ltb (out + (most - inn)) 0 (omega arith)
     where
       part : (a b v w : ℕ) → v ≤ w → at a b v ≤ at a b w

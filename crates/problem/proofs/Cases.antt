@@ -106,7 +106,12 @@ paper =
     ∷ []
 
 pub P1-to-P10 : allRight paper ≡ true
-unfolding paper capped run lend slices A runs caps accept refuse flatMap sum row col upFrom select compositions rowLists served listing every fits listingIn some least greatest hasPlan splitsIn amountsAt allDemand depotStock made lowestSplit highestSplit splits hasSplit leastSplit greatestSplit steps leastFreightAt totalAt bestSplit stops stopFreights refuseIf refuseAt firstFrom firstOver _orElse_ formRefusal refusalOf planOf outcomeOf test1 test2 test3 test4 test23 test5 test26 test6 test7 test8 test27 test9 test11 outside eqZ minℤ sumℤ leastℤ freightℤ leastFreightℤ canonicalℤ leastAtℤ bendsℤ isStopℤ stopsOfℤ bestFromℤ first planFor planGiven whereAccepted sameList sameIntegers sameOutcome right allRight
+unfolding paper capped run lend slices A runs caps accept refuse flatMap sum row col upFrom select compositions rowLists served listing every fits
+    listingIn some least greatest hasPlan splitsIn amountsAt allDemand depotStock made lowestSplit highestSplit splits hasSplit leastSplit
+    greatestSplit steps leastFreightAt totalAt bestSplit stops stopFreights refuseIf refuseAt firstFrom firstOver _orElse_ formRefusal refusalOf
+    planOf outcomeOf test1 test2 test3 test4 test23 test5 test26 test6 test7 test8 test27 test9 test11 outside eqZ minℤ sumℤ leastℤ freightℤ
+    leastFreightℤ canonicalℤ leastAtℤ bendsℤ isStopℤ stopsOfℤ bestFromℤ first planFor planGiven whereAccepted sameList sameIntegers sameOutcome right
+    allRight
 P1-to-P10 = refl
 
 pub paper-right : (e : Example) → List·Memᴰ e paper → Right e
@@ -213,19 +218,27 @@ held =
     -- all splits straight
     ∷ accept (lend 2 1 (pos 2 ∷ pos 5 ∷ []) (3 ∷ 3 ∷ []) (4 ∷ []) (99 ∷ 20 ∷ 24 ∷ 20 ∷ []) 2 8 8) (planned 3 (pos 31) (pos 11) 2) (3 ∷ 1 ∷ []) (1 ∷ 3 ∷ []) (pos 17 ∷ pos 11 ∷ [])
     -- two stretches of one slope, one to each terminal: the split between is no stop
-    ∷ accept (lend 2 2 (pos 1 ∷ pos 1 ∷ pos 2 ∷ pos 2 ∷ []) (4 ∷ 4 ∷ []) (2 ∷ 2 ∷ []) (7 ∷ 7 ∷ 7 ∷ 7 ∷ 7 ∷ []) 4 8 8) (planned 4 (pos 11) (pos 4) 2) (2 ∷ 2 ∷ 0 ∷ 0 ∷ []) (0 ∷ 4 ∷ []) (pos 8 ∷ pos 4 ∷ [])
+    ∷ accept (lend 2 2 (pos 1 ∷ pos 1 ∷ pos 2 ∷ pos 2 ∷ []) (4 ∷ 4 ∷ []) (2 ∷ 2 ∷ []) (7 ∷ 7 ∷ 7 ∷ 7 ∷ 7 ∷ []) 4 8 8) (planned 4 (pos 11) (pos 4) 2)
+    (2 ∷ 2 ∷ 0 ∷ 0 ∷ []) (0 ∷ 4 ∷ []) (pos 8 ∷ pos 4 ∷ [])
     -- a straight split before a bend
-    ∷ accept (lend 2 2 (pos 1 ∷ pos 4 ∷ pos 3 ∷ pos 3 ∷ []) (4 ∷ 4 ∷ []) (3 ∷ 2 ∷ []) (50 ∷ 10 ∷ 10 ∷ 10 ∷ 10 ∷ []) 4 8 8) (planned 3 (pos 19) (pos 9) 3) (3 ∷ 0 ∷ 0 ∷ 2 ∷ []) (1 ∷ 3 ∷ 4 ∷ []) (pos 13 ∷ pos 9 ∷ pos 10 ∷ [])
+    ∷ accept (lend 2 2 (pos 1 ∷ pos 4 ∷ pos 3 ∷ pos 3 ∷ []) (4 ∷ 4 ∷ []) (3 ∷ 2 ∷ []) (50 ∷ 10 ∷ 10 ∷ 10 ∷ 10 ∷ []) 4 8 8)
+    (planned 3 (pos 19) (pos 9) 3) (3 ∷ 0 ∷ 0 ∷ 2 ∷ []) (1 ∷ 3 ∷ 4 ∷ []) (pos 13 ∷ pos 9 ∷ pos 10 ∷ [])
     -- two depots, split 0 first and last
-    ∷ accept (lend 4 2 (pos 9 ∷ pos 9 ∷ pos 4 ∷ pos 1 ∷ pos 2 ∷ pos 8 ∷ pos 7 ∷ pos 3 ∷ []) (0 ∷ 9 ∷ 2 ∷ 1 ∷ []) (3 ∷ 2 ∷ []) (5 ∷ []) 8 8 8) (planned 0 (pos 17) (pos 12) 1) (0 ∷ 0 ∷ 1 ∷ 1 ∷ 2 ∷ 0 ∷ 0 ∷ 1 ∷ []) (0 ∷ []) (pos 12 ∷ [])
+    ∷ accept (lend 4 2 (pos 9 ∷ pos 9 ∷ pos 4 ∷ pos 1 ∷ pos 2 ∷ pos 8 ∷ pos 7 ∷ pos 3 ∷ []) (0 ∷ 9 ∷ 2 ∷ 1 ∷ []) (3 ∷ 2 ∷ []) (5 ∷ []) 8 8 8)
+    (planned 0 (pos 17) (pos 12) 1) (0 ∷ 0 ∷ 1 ∷ 1 ∷ 2 ∷ 0 ∷ 0 ∷ 1 ∷ []) (0 ∷ []) (pos 12 ∷ [])
     -- two depots, splits from 0
-    ∷ accept (lend 4 2 (pos 1 ∷ pos 1 ∷ pos 4 ∷ pos 6 ∷ pos 2 ∷ pos 8 ∷ pos 7 ∷ pos 3 ∷ []) (2 ∷ 4 ∷ 2 ∷ 1 ∷ []) (3 ∷ 2 ∷ []) (9 ∷ 9 ∷ 9 ∷ []) 8 8 8) (planned 2 (pos 18) (pos 9) 3) (1 ∷ 1 ∷ 0 ∷ 0 ∷ 2 ∷ 0 ∷ 0 ∷ 1 ∷ []) (0 ∷ 1 ∷ 2 ∷ []) (pos 17 ∷ pos 12 ∷ pos 9 ∷ [])
+    ∷ accept (lend 4 2 (pos 1 ∷ pos 1 ∷ pos 4 ∷ pos 6 ∷ pos 2 ∷ pos 8 ∷ pos 7 ∷ pos 3 ∷ []) (2 ∷ 4 ∷ 2 ∷ 1 ∷ []) (3 ∷ 2 ∷ []) (9 ∷ 9 ∷ 9 ∷ []) 8 8 8)
+    (planned 2 (pos 18) (pos 9) 3) (1 ∷ 1 ∷ 0 ∷ 0 ∷ 2 ∷ 0 ∷ 0 ∷ 1 ∷ []) (0 ∷ 1 ∷ 2 ∷ []) (pos 17 ∷ pos 12 ∷ pos 9 ∷ [])
     -- case A with one unit cost on every lane: the first of the cheapest plans
-    ∷ accept (slices (pos 2 ∷ pos 2 ∷ pos 2 ∷ pos 2 ∷ pos 2 ∷ pos 2 ∷ []) (3 ∷ 3 ∷ 1 ∷ []) (3 ∷ 2 ∷ []) (99 ∷ 20 ∷ 24 ∷ 20 ∷ [])) (planned 1 (pos 30) (pos 10) 2) (0 ∷ 1 ∷ 2 ∷ 1 ∷ 1 ∷ 0 ∷ []) (1 ∷ 3 ∷ []) (pos 10 ∷ pos 10 ∷ [])
+    ∷ accept (slices (pos 2 ∷ pos 2 ∷ pos 2 ∷ pos 2 ∷ pos 2 ∷ pos 2 ∷ []) (3 ∷ 3 ∷ 1 ∷ []) (3 ∷ 2 ∷ []) (99 ∷ 20 ∷ 24 ∷ 20 ∷ []))
+    (planned 1 (pos 30) (pos 10) 2) (0 ∷ 1 ∷ 2 ∷ 1 ∷ 1 ∷ 0 ∷ []) (1 ∷ 3 ∷ []) (pos 10 ∷ pos 10 ∷ [])
     -- of three plans the last two are cheapest; the same with rebates; a ceiling shuts the first of the two off
-    ∷ accept (lend 2 3 (pos 1 ∷ pos 1 ∷ pos 5 ∷ pos 1 ∷ pos 1 ∷ pos 1 ∷ []) (1 ∷ 2 ∷ []) (1 ∷ 1 ∷ 1 ∷ []) (9 ∷ 9 ∷ []) 6 1 1) (planned 1 (pos 12) (pos 3) 1) (0 ∷ 1 ∷ 0 ∷ 1 ∷ 0 ∷ 1 ∷ []) (1 ∷ []) (pos 3 ∷ [])
-    ∷ accept (lend 2 3 (negsuc 2 ∷ negsuc 2 ∷ pos 1 ∷ negsuc 0 ∷ negsuc 0 ∷ negsuc 0 ∷ []) (1 ∷ 2 ∷ []) (1 ∷ 1 ∷ 1 ∷ []) (9 ∷ 9 ∷ []) 6 1 1) (planned 1 (pos 4) (negsuc 4) 1) (0 ∷ 1 ∷ 0 ∷ 1 ∷ 0 ∷ 1 ∷ []) (1 ∷ []) (negsuc 4 ∷ [])
-    ∷ accept (capped 2 3 0 0 (pos 1 ∷ pos 1 ∷ pos 5 ∷ pos 1 ∷ pos 1 ∷ pos 1 ∷ []) (1 ∷ 2 ∷ []) (1 ∷ 1 ∷ 1 ∷ []) (4000 ∷ 0 ∷ 4000 ∷ 4000 ∷ 4000 ∷ 4000 ∷ []) (9 ∷ 9 ∷ []) 6 1 1) (planned 1 (pos 12) (pos 3) 1) (1 ∷ 0 ∷ 0 ∷ 0 ∷ 1 ∷ 1 ∷ []) (1 ∷ []) (pos 3 ∷ [])
+    ∷ accept (lend 2 3 (pos 1 ∷ pos 1 ∷ pos 5 ∷ pos 1 ∷ pos 1 ∷ pos 1 ∷ []) (1 ∷ 2 ∷ []) (1 ∷ 1 ∷ 1 ∷ []) (9 ∷ 9 ∷ []) 6 1 1)
+    (planned 1 (pos 12) (pos 3) 1) (0 ∷ 1 ∷ 0 ∷ 1 ∷ 0 ∷ 1 ∷ []) (1 ∷ []) (pos 3 ∷ [])
+    ∷ accept (lend 2 3 (negsuc 2 ∷ negsuc 2 ∷ pos 1 ∷ negsuc 0 ∷ negsuc 0 ∷ negsuc 0 ∷ []) (1 ∷ 2 ∷ []) (1 ∷ 1 ∷ 1 ∷ []) (9 ∷ 9 ∷ []) 6 1 1)
+    (planned 1 (pos 4) (negsuc 4) 1) (0 ∷ 1 ∷ 0 ∷ 1 ∷ 0 ∷ 1 ∷ []) (1 ∷ []) (negsuc 4 ∷ [])
+    ∷ accept (capped 2 3 0 0 (pos 1 ∷ pos 1 ∷ pos 5 ∷ pos 1 ∷ pos 1 ∷ pos 1 ∷ []) (1 ∷ 2 ∷ []) (1 ∷ 1 ∷ 1 ∷ []) (4000 ∷ 0 ∷ 4000 ∷ 4000 ∷ 4000 ∷ 4000 ∷ []) (9 ∷ 9 ∷ []) 6 1 1)
+    (planned 1 (pos 12) (pos 3) 1) (1 ∷ 0 ∷ 0 ∷ 0 ∷ 1 ∷ 1 ∷ []) (1 ∷ []) (pos 3 ∷ [])
     -- the largest amounts, unit cost and entry
     ∷ accept (lend 2 1 (pos 7 ∷ pos 1000000 ∷ []) (0 ∷ 4000 ∷ []) (4000 ∷ []) (1000000000 ∷ []) 2 8 8) (planned 0 (pos 5000000000) (pos 4000000000) 1) (0 ∷ 4000 ∷ []) (0 ∷ []) (pos 4000000000 ∷ [])
     -- 32 sources
@@ -235,7 +248,12 @@ held =
     ∷ []
 
 pub held-pass : allRight held ≡ true
-unfolding held capped run lend slices A runs caps capsTable capsRun rooms sized accept refuse flatMap sum row col upFrom select compositions rowLists served listing every fits listingIn some least greatest hasPlan splitsIn amountsAt allDemand depotStock made lowestSplit highestSplit splits hasSplit leastSplit greatestSplit steps leastFreightAt totalAt bestSplit stops stopFreights refuseIf refuseAt firstFrom firstOver _orElse_ formRefusal refusalOf planOf outcomeOf test1 test2 test3 test4 test23 test5 test26 test6 test7 test8 test27 test9 test11 outside eqZ minℤ sumℤ leastℤ freightℤ leastFreightℤ canonicalℤ leastAtℤ bendsℤ isStopℤ stopsOfℤ bestFromℤ first planFor planGiven whereAccepted sameList sameIntegers sameOutcome right allRight
+unfolding held capped run lend slices A runs caps capsTable capsRun rooms sized accept refuse flatMap sum row col upFrom select compositions rowLists
+    served listing every fits listingIn some least greatest hasPlan splitsIn amountsAt allDemand depotStock made lowestSplit highestSplit splits
+    hasSplit leastSplit greatestSplit steps leastFreightAt totalAt bestSplit stops stopFreights refuseIf refuseAt firstFrom firstOver _orElse_
+    formRefusal refusalOf planOf outcomeOf test1 test2 test3 test4 test23 test5 test26 test6 test7 test8 test27 test9 test11 outside eqZ minℤ sumℤ
+    leastℤ freightℤ leastFreightℤ canonicalℤ leastAtℤ bendsℤ isStopℤ stopsOfℤ bestFromℤ first planFor planGiven whereAccepted sameList sameIntegers
+    sameOutcome right allRight
 held-pass = refl
 
 pub held-right : (e : Example) → List·Memᴰ e held → Right e

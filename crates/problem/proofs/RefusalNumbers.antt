@@ -6,7 +6,8 @@ use Prim.Native.Nat.{ℕ, _<_}
 use native.Mathlib.Omega.{arith}
 use lib.IntN.{ℤ}
 use Rattle.problem.specs.Case.{Case}
-use Rattle.problem.specs.Outcome.{Outcome, planned, refused, refuseIf, refuseAt, _orElse_, formRefusal, refusalOf, planOf, outcomeOf, test1, test2, test3, test4, test23, test5, test26, test6, test7, test8, test27, test9, test11}
+use Rattle.problem.specs.Outcome.{Outcome, planned, refused, refuseIf, refuseAt, _orElse_, formRefusal, refusalOf, planOf, outcomeOf, test1}
+use Rattle.problem.specs.Outcome.{test2, test3, test4, test23, test5, test26, test6, test7, test8, test27, test9, test11}
 use Rattle.problem.proofs.TestsPassed.{some≢none}
 
 -- the number of a refusal, 0 of a plan
@@ -73,13 +74,16 @@ Other n k = k ≡ n → ⊥
 pub never10 : (c : Case) (k p : ℕ) → refusalOf c ≡ some (refused k p) → k ≡ 10 → ⊥
 unfolding number
 never10 c k p e =
-    all-numbers c (Other 10) (λ e. omega arith) (λ e. omega arith) (λ e. omega arith) (λ e. omega arith) (λ e. omega arith) (λ e. omega arith) (λ e. omega arith) (λ e. omega arith) (λ e. omega arith) (λ e. omega arith) (λ e. omega arith) (λ e. omega arith) (λ e. omega arith) (refused k p) e
+    all-numbers c (Other 10) (λ e. omega arith) (λ e. omega arith) (λ e. omega arith) (λ e. omega arith) (λ e. omega arith) (λ e. omega arith)
+    (λ e. omega arith) (λ e. omega arith) (λ e. omega arith) (λ e. omega arith) (λ e. omega arith) (λ e. omega arith) (λ e. omega arith) (refused k p) e
 
 -- no test answers a plan
 never-planned : (c : Case) (s : ℕ) (t f : ℤ) (k : ℕ) → refusalOf c ≡ some (planned s t f k) → ⊥
 unfolding number
 never-planned c s t f k e =
-    all-numbers c (Other 0) (λ e. omega arith) (λ e. omega arith) (λ e. omega arith) (λ e. omega arith) (λ e. omega arith) (λ e. omega arith) (λ e. omega arith) (λ e. omega arith) (λ e. omega arith) (λ e. omega arith) (λ e. omega arith) (λ e. omega arith) (λ e. omega arith) (planned s t f k) e refl
+    all-numbers c (Other 0) (λ e. omega arith) (λ e. omega arith) (λ e. omega arith) (λ e. omega arith) (λ e. omega arith) (λ e. omega arith)
+    (λ e. omega arith) (λ e. omega arith) (λ e. omega arith) (λ e. omega arith) (λ e. omega arith) (λ e. omega arith) (λ e. omega arith)
+    (planned s t f k) e refl
 
 -- where the outcome is a plan, all tests pass
 pub planned-passes : (c : Case) (s : ℕ) (t f : ℤ) (k : ℕ) → outcomeOf c ≡ planned s t f k → refusalOf c ≡ none

@@ -60,13 +60,16 @@ module _ (s d : List ℕ) where
   unfolding firstAbove big
   of-supplies =
       first-moved big _ 1 0 (length s)
-      (λ t h. ap (λ (v : ℕ). ltb 4000 v) (ap (λ (k : ℕ). getD (s ++ d) k 0) (let z : 1 + t - 1 ≡ t = omega arith in z) ∙ List·getD-append s d 0 t h ∙ ap (λ (k : ℕ). getD s k 0) (let z : t ≡ 0 + t = omega arith in z)))
+      (λ t h. ap (λ (v : ℕ). ltb 4000 v)
+      (ap (λ (k : ℕ). getD (s ++ d) k 0) (let z : 1 + t - 1 ≡ t = omega arith in z) ∙ List·getD-append s d 0 t h ∙ ap (λ (k : ℕ). getD s k 0) (let z : t ≡ 0 + t = omega arith in z)))
 
   of-demands : firstFrom big (1 + length s) (length d) ≡ moved (1 + length s) 0 (firstAbove 4000 d)
   unfolding firstAbove big
   of-demands =
       first-moved big _ (1 + length s) 0 (length d)
-      (λ t h. ap (λ (v : ℕ). ltb 4000 v) (ap (λ (k : ℕ). getD (s ++ d) k 0) (let z : 1 + length s + t - 1 ≡ length s + t = omega arith in z) ∙ getD-append-add s d t 0 ∙ ap (λ (k : ℕ). getD d k 0) (let z : t ≡ 0 + t = omega arith in z)))
+      (λ t h. ap (λ (v : ℕ). ltb 4000 v)
+      (ap (λ (k : ℕ). getD (s ++ d) k 0) (let z : 1 + length s + t - 1 ≡ length s + t = omega arith in z) ∙ getD-append-add s d t 0 ∙
+      ap (λ (k : ℕ). getD d k 0) (let z : t ≡ 0 + t = omega arith in z)))
 
   pub amounts-supply : (k : ℕ) → firstAbove 4000 s ≡ some k → amountsRefusal s d ≡ some (refused 4 (k + 1))
   unfolding amountsRefusal big

@@ -13,7 +13,8 @@ use Rattle.problem.specs.Range.{outside}
 use lib.Seq.{getD-append-add}
 use borrow.Author.Tests.{eqb-true, ltb-false, le-ltb, not-false}
 use Rattle.problem.specs.Case.{Case, supply, demand, entry, allDemand, depotStock, made, hasSplit, leastSplit, steps}
-use Rattle.problem.specs.Outcome.{Outcome, refused, refuseIf, refuseAt, firstFrom, firstOver, _orElse_, formRefusal, refusalOf, test1, test2, test3, test4, test23, test5, test26, test6, test7, test8, test27, test9, test11}
+use Rattle.problem.specs.Outcome.{Outcome, refused, refuseIf, refuseAt, firstFrom, firstOver, _orElse_, formRefusal, refusalOf, test1, test2}
+use Rattle.problem.specs.Outcome.{test3, test4, test23, test5, test26, test6, test7, test8, test27, test9, test11}
 use Rattle.problem.proofs.FirstFailing.{none-passes}
 
 pub some≢none : (r : Outcome) → _≡_ {A = Option Outcome} (some r) none → ⊥

@@ -21,7 +21,8 @@ use Rattle.problem.specs.Integer.{eqZ, leastℤ}
 use Rattle.problem.specs.Freight.{ratesByRow, freightℤ, leastFreightℤ, leastAtℤ, canonicalℤ, stopsOfℤ, bestFromℤ}
 use Rattle.problem.specs.Case.{Case, supply, demand, ceiling, entry, allDemand, made, lowestSplit, highestSplit, splits, leastSplit, greatestSplit, steps}
 use Rattle.problem.specs.Plans.{columnSum, MeetsTP, leastFreightAt, planFor, totalAt, bestSplit, stops, stopFreights}
-use Rattle.problem.specs.Outcome.{Outcome, planned, refuseAt, firstFrom, _orElse_, formRefusal, refusalOf, planOf, outcomeOf, test1, test2, test3, test4, test23, test5, test26, test6, test7, test8, test27, test9, test11}
+use Rattle.problem.specs.Outcome.{Outcome, planned, refuseAt, firstFrom, _orElse_, formRefusal, refusalOf, planOf, outcomeOf, test1, test2}
+use Rattle.problem.specs.Outcome.{test3, test4, test23, test5, test26, test6, test7, test8, test27, test9, test11}
 use Rattle.problem.specs.inner.LentTests.{ceilingsRefusal}
 use Rattle.problem.proofs.FirstFailing.{above-none}
 use Rattle.problem.proofs.TestsPassed.{Formed, formed, Balanced, balanced, second-decides, under-first, split-passes, accepted}

@@ -64,7 +64,8 @@ fn offer(
     key: &mut [u32; 96],
 )
     requires { ⌜ w < 96 ⌝ }
-    ensures { λ _. ⌜ Offered take w t from f (now (dist .entry)) (now (dist .exit)) (now (prev .entry)) (now (prev .exit)) (now (key .entry)) (now (key .exit)) ⌝ }
+    ensures { λ _. ⌜ Offered take w t from f (now (dist .entry)) (now (dist .exit)) (now (prev .entry)) (now (prev .exit))
+        (now (key .entry)) (now (key .exit)) ⌝ }
 {
     dist[w] = pick(take, t, dist[w]);
     prev[w] = pick(take, from, prev[w]);
@@ -88,8 +89,12 @@ fn relax_row(
 )
     requires { ⌜ RowReady n (cells (now cost)) (cells (now cap)) (cells (now x)) (now pot) i base (now dist) (now prev) (now key) ⌝ }
     requires { ⌜ Tags (now full) (now want) ⌝ }
-    ensures { λ _. ⌜ ((m : ℕ) → i < m → m ≤ 32 → Relabelled (net m n (now (cost .entry)) (now (cap .entry)) (now (x .entry))) i base (now (dist .entry)) (now (prev .entry)) (now (dist .exit)) (now (prev .exit))) ⌝ }
-    ensures { λ _. ⌜ ((m : ℕ) → i < m → m ≤ 32 → Rekeyed (net m n (now (cost .entry)) (now (cap .entry)) (now (x .entry))) (now (want .entry)) i (now (pot .entry)) (now (dist .entry)) (now (dist .exit)) (now (key .entry)) (now (key .exit))) ⌝ }
+    ensures { λ _. ⌜ ((m : ℕ) → i < m → m ≤ 32 →
+        Relabelled (net m n (now (cost .entry)) (now (cap .entry)) (now (x .entry))) i base (now (dist .entry)) (now (prev .entry))
+        (now (dist .exit)) (now (prev .exit))) ⌝ }
+    ensures { λ _. ⌜ ((m : ℕ) → i < m → m ≤ 32 →
+        Rekeyed (net m n (now (cost .entry)) (now (cap .entry)) (now (x .entry))) (now (want .entry)) i (now (pot .entry))
+        (now (dist .entry)) (now (dist .exit)) (now (key .entry)) (now (key .exit))) ⌝ }
 {
     for j in 0..n {
         let k = i * 64 + j;
@@ -132,8 +137,10 @@ fn relax_column(
 ) -> usize
     requires { ⌜ ColumnReady (cells (now cost)) (cells (now x)) (now serves) (now pot) v base (now dist) (now prev) (now key) ⌝ }
     requires { ⌜ Bits (now full) ⌝ }
-    ensures { λ r. ⌜ ((m n : ℕ) (cap : List ℕ) → AtNode m n (now (x .entry)) (now (serves .entry)) v → Relabelled (net m n (now (cost .entry)) cap (now (x .entry))) v base (now (dist .entry)) (now (prev .entry)) (now (dist .exit)) (now (prev .exit))) ⌝ }
-    ensures { λ r. ⌜ ((N : Net) (want : List ℕ) → Rekeyed N want v (now (pot .entry)) (now (dist .entry)) (now (dist .exit)) (now (key .entry)) (now (key .exit))) ⌝ }
+    ensures { λ r. ⌜ ((m n : ℕ) (cap : List ℕ) → AtNode m n (now (x .entry)) (now (serves .entry)) v →
+        Relabelled (net m n (now (cost .entry)) cap (now (x .entry))) v base (now (dist .entry)) (now (prev .entry)) (now (dist .exit)) (now (prev .exit))) ⌝ }
+    ensures { λ r. ⌜ ((N : Net) (want : List ℕ) →
+        Rekeyed N want v (now (pot .entry)) (now (dist .entry)) (now (dist .exit)) (now (key .entry)) (now (key .exit))) ⌝ }
     ensures { λ r. ⌜ Next (now (key .exit)) level 32 r ⌝ }
 {
     let j = v - 32;
@@ -173,8 +180,12 @@ pub fn relax(
 ) -> usize
     requires { ⌜ RelaxReady n (cells (now cost)) (cells (now cap)) (cells (now x)) (now serves) (now pot) v base (now dist) (now prev) (now key) ⌝ }
     requires { ⌜ Tags (now full) (now want) ⌝ }
-    ensures { λ r. ⌜ ((m : ℕ) → AtNode m n (now (x .entry)) (now (serves .entry)) v → Relabelled (net m n (now (cost .entry)) (now (cap .entry)) (now (x .entry))) v base (now (dist .entry)) (now (prev .entry)) (now (dist .exit)) (now (prev .exit))) ⌝ }
-    ensures { λ r. ⌜ ((m : ℕ) → AtNode m n (now (x .entry)) (now (serves .entry)) v → Rekeyed (net m n (now (cost .entry)) (now (cap .entry)) (now (x .entry))) (now (want .entry)) v (now (pot .entry)) (now (dist .entry)) (now (dist .exit)) (now (key .entry)) (now (key .exit))) ⌝ }
+    ensures { λ r. ⌜ ((m : ℕ) → AtNode m n (now (x .entry)) (now (serves .entry)) v →
+        Relabelled (net m n (now (cost .entry)) (now (cap .entry)) (now (x .entry))) v base (now (dist .entry)) (now (prev .entry))
+        (now (dist .exit)) (now (prev .exit))) ⌝ }
+    ensures { λ r. ⌜ ((m : ℕ) → AtNode m n (now (x .entry)) (now (serves .entry)) v →
+        Rekeyed (net m n (now (cost .entry)) (now (cap .entry)) (now (x .entry))) (now (want .entry)) v (now (pot .entry))
+        (now (dist .entry)) (now (dist .exit)) (now (key .entry)) (now (key .exit))) ⌝ }
     ensures { λ r. ⌜ Next (now (key .exit)) level 32 r ⌝ }
 {
     if v < 32 {

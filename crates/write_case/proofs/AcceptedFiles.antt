@@ -48,7 +48,8 @@ module _ (t p tariff production tariff′ production′ : List ℕ) (answer : Te
       record {
         answered = by answer (w .refusal-told ∙ e) (w .lengths-told);
         tariff-bytes = w .tariff-cells ∙ ap (λ (x : Option Outcome). unlessRefused x (tariffText c) tariff) e ∙ front (tariffText c) tariff (omega (arith, tariff-short c tested));
-        production-bytes = w .production-cells ∙ ap (λ (x : Option Outcome). unlessRefused x (productionText c) production) e ∙ front (productionText c) production (omega (arith, production-short c tested));
+        production-bytes =
+            w .production-cells ∙ ap (λ (x : Option Outcome). unlessRefused x (productionText c) production) e ∙ front (productionText c) production (omega (arith, production-short c tested));
         reads = read-again t p passes;
       }
     where
@@ -72,5 +73,6 @@ module _ (t p tariff production tariff′ production′ : List ℕ) (answer : Te
       go (read-answers.Refused number place) k e = absurd (let z : _≡_ {A = ℕ} 0 1 = cc in omega arith)
       go {split} {total} {freight} {stops} (read-answers.Case m n entries) k e =
           let passes = accepted-passes (fileCase t p) (planned-passes (fileCase t p) split total freight stops e) in
-          let none′ : o ≡ none = ap (λ (x : CaseAnswer). fileRefusal x (writeRefusal (fileCase t p) (length tariff) (length production))) k ∙ read-written t p (length tariff) (length production) long long′ passes in
+          let none′ : o ≡ none = ap (λ (x : CaseAnswer). fileRefusal x (writeRefusal (fileCase t p) (length tariff) (length production))) k ∙
+          read-written t p (length tariff) (length production) long long′ passes in
           written none′ passes

@@ -14,7 +14,8 @@ use Rattle.problem.specs.Range.{outside}
 use Rattle.csv_print.specs.Text.{digitsOf, decimal, signedText, fieldText, recordText, each}
 use Rattle.csv_print.specs.Column.{columnText}
 use Rattle.problem.specs.Case.{Case, allDemand, depotStock, made, lowestSplit, highestSplit, splits, hasSplit, leastSplit, greatestSplit, steps}
-use Rattle.problem.specs.Outcome.{Outcome, refused, refuseIf, refuseAt, firstFrom, firstOver, _orElse_, formRefusal, test1, test2, test3, test4, test23, test5, test26, test6, test7, test8, test27, test9}
+use Rattle.problem.specs.Outcome.{Outcome, refused, refuseIf, refuseAt, firstFrom, firstOver, _orElse_, formRefusal, test1, test2, test3, test4}
+use Rattle.problem.specs.Outcome.{test23, test5, test26, test6, test7, test8, test27, test9}
 use Rattle.planner.specs.Judge.{freeCase, caseRefusal}
 use Rattle.write_case.specs.Writing.{test32, test33, entriesRefusal, writeRefusal}
 use Rattle.case_texts.specs.Texts.{costsText, listText, sourceText, sourcesText, demandsText, tariffOf, tariffText, productionText}
@@ -64,5 +65,9 @@ edges =
 -- before 32; 6 before 32
 pub edges-are :
     edges ≡ none ∷ some (refused 32 0) ∷ none ∷ some (refused 33 0) ∷ some (refused 33 0) ∷ some (refused 33 0) ∷ some (refused 32 0) ∷ some (refused 9 2) ∷ some (refused 6 0) ∷ []
-unfolding edges edge writeRefusal entriesRefusal test32 test33 caseRefusal flatMap eqZ minℤ sumℤ leastℤ freightℤ leastFreightℤ leastAtℤ bendsℤ isStopℤ stopsOfℤ bestFromℤ outside sum row col upFrom select compositions rowLists served listing every fits listingIn some′ least greatest amountsAt hasPlan splitsIn allDemand depotStock made lowestSplit highestSplit splits hasSplit leastSplit greatestSplit steps refuseIf refuseAt firstFrom firstOver _orElse_ formRefusal test1 test2 test3 test4 test23 test5 test26 test6 test7 test8 test27 test9 digitsOf decimal signedText fieldText recordText each costsText listText sourceText sourcesText demandsText tariffOf columnText
+unfolding edges edge writeRefusal entriesRefusal test32 test33 caseRefusal flatMap eqZ minℤ sumℤ leastℤ freightℤ leastFreightℤ leastAtℤ bendsℤ isStopℤ
+    stopsOfℤ bestFromℤ outside sum row col upFrom select compositions rowLists served listing every fits listingIn some′ least greatest amountsAt
+    hasPlan splitsIn allDemand depotStock made lowestSplit highestSplit splits hasSplit leastSplit greatestSplit steps refuseIf refuseAt firstFrom
+    firstOver _orElse_ formRefusal test1 test2 test3 test4 test23 test5 test26 test6 test7 test8 test27 test9 digitsOf decimal signedText fieldText
+    recordText each costsText listText sourceText sourcesText demandsText tariffOf columnText
 edges-are = refl

@@ -67,7 +67,8 @@ module _ (m n : ℕ) (costs : List ℤ) (supplies demands : List ℕ) where
 
   pub tariff-count : length (tariffRecords m n costs supplies demands) ≡ m + 1
   unfolding tariffRecords
-  tariff-count = omega (arith, length-append (tab m (λ i. sourceRecord costs supplies n i)) ((tab n (λ j. pos (getD demands j 0)) ++ (pos 0 ∷ [])) ∷ []), tab-length m (λ i. sourceRecord costs supplies n i))
+  tariff-count =
+      omega (arith, length-append (tab m (λ i. sourceRecord costs supplies n i)) ((tab n (λ j. pos (getD demands j 0)) ++ (pos 0 ∷ [])) ∷ []), tab-length m (λ i. sourceRecord costs supplies n i))
 
   pub tariff-wanted : wanted Tariff (tariffRecords m n costs supplies demands) ≡ n + 1
   tariff-wanted = wanted-even (n + 1) rs (omega (arith, tariff-count)) tariff-even
@@ -107,7 +108,8 @@ module _ (m n : ℕ) (costs : List ℤ) (supplies demands : List ℕ) where
   unfolding demandsIn tariffRecords
   demands-are e =
       rw (terminals-are, sources-are)
-      (ap (λ (r : List ℤ). map natAbs (take n r)) (getD-at (tab m (λ i. sourceRecord costs supplies n i)) (tab n (λ j. pos (getD demands j 0)) ++ (pos 0 ∷ [])) [] [] m (tab-length m (λ i. sourceRecord costs supplies n i)))
+      (ap (λ (r : List ℤ). map natAbs (take n r))
+      (getD-at (tab m (λ i. sourceRecord costs supplies n i)) (tab n (λ j. pos (getD demands j 0)) ++ (pos 0 ∷ [])) [] [] m (tab-length m (λ i. sourceRecord costs supplies n i)))
       ∙ ap (λ (r : List ℤ). map natAbs r) (take-at (tab n (λ j. pos (getD demands j 0))) (pos 0 ∷ []) n (tab-length n (λ j. pos (getD demands j 0))))
       ∙ tab-map natAbs n (λ j. pos (getD demands j 0)) ∙ tab-list demands 0 n e)
 

@@ -50,7 +50,9 @@ form-alike c c′ a = go (a .either)
 pub cut-written :
     (m n entries a b e : ℕ) (costs : List ℤ) (supplies demands table : List ℕ) {tariff production tariff′ production′ : List ℕ} {r : Texts} → a ≡ min m 32 → b ≡ min n 64 → e ≡ min entries 4002 →
     CaseWritten (freeCase m n (take (a * b) costs) (take a supplies) (take b demands) (take e table) 2048 4001 4001) tariff production tariff′ production′ r →
-    CaseWritten (freeCase m n (take (min m 32 * min n 64) costs) (take (min m 32) supplies) (take (min n 64) demands) (take (min entries 4002) table) 2048 4001 4001) tariff production tariff′ production′ r
+    CaseWritten
+    (freeCase m n (take (min m 32 * min n 64) costs) (take (min m 32) supplies) (take (min n 64) demands) (take (min entries 4002) table) 2048 4001 4001)
+    tariff production tariff′ production′ r
 cut-written m n entries a b e costs supplies demands table ea eb ee w = rw (sym ea, sym eb, sym ee) w
 
 module _ (t p : List ℕ) (costs : List ℤ) (supplies demands table : List ℕ) (costs′ : List ℤ) (supplies′ demands′ table′ : List ℕ) {answer : CaseAnswer}
@@ -98,7 +100,8 @@ module _ (t p : List ℕ) (costs : List ℤ) (supplies demands table : List ℕ)
             carry kept (fileCase t p) tariff production tariff′ production′ r (refused k 0) (by-size kept k e)
             (sym (form-alike _ _ alike) ∙ by-size (cutCase m n entries costs′ supplies′ demands′ table′) k e) w
 
-    pub case-rewritten : {tariff production tariff′ production′ : List ℕ} {r : Texts} → CaseWritten kept tariff production tariff′ production′ r → FilesRewritten t p tariff production tariff′ production′ r
+    pub case-rewritten :
+        {tariff production tariff′ production′ : List ℕ} {r : Texts} → CaseWritten kept tariff production tariff′ production′ r → FilesRewritten t p tariff production tariff′ production′ r
     case-rewritten {tariff} {production} {tariff′} {production′} {r} w =
         let a : caseAnswer t p ≡ answers.Case m n entries = sym (stored .answered) ∙ told in
         rw a (to-file tariff production tariff′ production′ r w)

@@ -79,7 +79,8 @@ module _ (c : Case) (e : entriesRefusal c ≡ none) where
   unfolding caseAnswer wanted
   both-stand =
       let t : tableOf Tariff (tariffText c) ≡ Whole (length (tariffRecords (c .m) (c .n) (c .costs) (c .supplies) (c .demands))) (c .n + 1)
-      = table-whole Tariff (tariffText c) _ (c .n + 1) tariff-short tariff-reads (tariff-wanted (c .m) (c .n) (c .costs) (c .supplies) (c .demands)) (tariff-even (c .m) (c .n) (c .costs) (c .supplies) (c .demands)) in
+      = table-whole Tariff (tariffText c) _ (c .n + 1) tariff-short tariff-reads (tariff-wanted (c .m) (c .n) (c .costs) (c .supplies) (c .demands))
+      (tariff-even (c .m) (c .n) (c .costs) (c .supplies) (c .demands)) in
       let p : tableOf Production (productionText c) ≡ Whole (length (productionRecords (c .table))) 1
       = table-whole Production (productionText c) _ 1 production-short production-reads refl (production-even (c .table)) in
       let a : c .m + 1 - 1 ≡ c .m = omega arith in

@@ -40,7 +40,9 @@ module _ (c : Case) (e : entriesRefusal c ≡ none) where
         costs-back = k .costs-stored ∙ ap (λ (l : List ℤ). sets costs 0 l) (costs-are (c .m) (c .n) (c .costs) (c .supplies) (c .demands) (f .costs-long));
         supplies-back = k .supplies-stored ∙ ap (λ (l : List ℕ). sets supplies 0 l) (supplies-are (c .m) (c .n) (c .costs) (c .supplies) (c .demands) (f .supplies-long));
         demands-back = k .demands-stored ∙ ap (λ (l : List ℕ). sets demands 0 l) (demands-are (c .m) (c .n) (c .costs) (c .supplies) (c .demands) (f .demands-long));
-        table-back = s .table-stored (productionRecords (c .table)) (c .m) (c .n) (length (c .table)) (production-reads c e) a ∙ ap (λ (l : List ℕ). sets table 0 l) (ap (λ (l : List ℕ). take 4002 l) (entries-are (c .table)) ∙ take-all 4002 (c .table) (omega (arith, table-room c e)));
+        table-back =
+            s .table-stored (productionRecords (c .table)) (c .m) (c .n) (length (c .table)) (production-reads c e) a ∙
+            ap (λ (l : List ℕ). sets table 0 l) (ap (λ (l : List ℕ). take 4002 l) (entries-are (c .table)) ∙ take-all 4002 (c .table) (omega (arith, table-room c e)));
       }
 
   -- planned from the two texts, the case has the outcome that it has as it is lent

@@ -25,7 +25,8 @@ fn test_case(
     demands: &[u64],
     table: &[u64],
 ) -> Judged
-    ensures { λ r. ⌜ ((p s f : ℕ) → judged r ≡ entriesRefusal (freeCase m n (now (costs .entry)) (now (supplies .entry)) (now (demands .entry)) (now (table .entry)) p s f)) ⌝ }
+    ensures { λ r. ⌜ ((p s f : ℕ) →
+        judged r ≡ entriesRefusal (freeCase m n (now (costs .entry)) (now (supplies .entry)) (now (demands .entry)) (now (table .entry)) p s f)) ⌝ }
 {
     if let Judged::Refused { number, place } = judge(m, n, costs, supplies, demands, table) {
         return Judged::Refused { number, place };
@@ -52,7 +53,9 @@ pub fn write_case(
     tariff: &mut [u8],
     production: &mut [u8],
 ) -> Texts
-    ensures { λ r. ⌜ ((p s f : ℕ) → CaseWritten (freeCase m n (now (costs .entry)) (now (supplies .entry)) (now (demands .entry)) (now (table .entry)) p s f) (now (tariff .entry)) (now (production .entry)) (now (tariff .exit)) (now (production .exit)) r) ⌝ }
+    ensures { λ r. ⌜ ((p s f : ℕ) →
+        CaseWritten (freeCase m n (now (costs .entry)) (now (supplies .entry)) (now (demands .entry)) (now (table .entry)) p s f)
+        (now (tariff .entry)) (now (production .entry)) (now (tariff .exit)) (now (production .exit)) r) ⌝ }
 {
     if let Judged::Refused { number, place } = test_case(m, n, costs, supplies, demands, table) {
         return Texts::Refused { number, place };

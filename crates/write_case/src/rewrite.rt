@@ -33,7 +33,10 @@ fn write_stored(
     production: &mut [u8],
 ) -> Texts
     requires { ⌜ Stored (now costs) (now supplies) (now demands) (now table) ⌝ }
-    ensures { λ r. ⌜ CaseWritten (freeCase m n (take (min m 32 * min n 64) (now (costs .entry))) (take (min m 32) (now (supplies .entry))) (take (min n 64) (now (demands .entry))) (take (min entries 4002) (now (table .entry))) 2048 4001 4001) (now (tariff .entry)) (now (production .entry)) (now (tariff .exit)) (now (production .exit)) r ⌝ }
+    ensures { λ r. ⌜ CaseWritten
+        (freeCase m n (take (min m 32 * min n 64) (now (costs .entry))) (take (min m 32) (now (supplies .entry)))
+        (take (min n 64) (now (demands .entry))) (take (min entries 4002) (now (table .entry))) 2048 4001 4001)
+        (now (tariff .entry)) (now (production .entry)) (now (tariff .exit)) (now (production .exit)) r ⌝ }
 {
     let a = smaller(m, 32);
     let b = smaller(n, 64);
@@ -58,7 +61,8 @@ pub fn rewrite_files(
     new_tariff: &mut [u8],
     new_production: &mut [u8],
 ) -> Texts
-    ensures { λ r. ⌜ FilesRewritten (now (tariff .entry)) (now (production .entry)) (now («new_tariff» .entry)) (now («new_production» .entry)) (now («new_tariff» .exit)) (now («new_production» .exit)) r ⌝ }
+    ensures { λ r. ⌜ FilesRewritten (now (tariff .entry)) (now (production .entry)) (now («new_tariff» .entry))
+        (now («new_production» .entry)) (now («new_tariff» .exit)) (now («new_production» .exit)) r ⌝ }
 {
     let mut costs = cost_cells();
     let mut supplies = [0u64; 32];

@@ -40,19 +40,28 @@ slice-aggregate-judge-2 : tie.Need-slice-aggregate-judge-2
 slice-aggregate-judge-2 c = search needs
 
 judge-requires : tie.Need-judge-requires
-judge-requires c κs = record { case = the (c .before .before .before .before .before .before .before .before .before .before .before .before .before .before .before .before .before .before .before); listed = listed (c .before .before .before .before .before .before .before .before .before .plan2 .ensures) _ _ _ _ (ap outcome (c .before .before .before .before .answer2 .given .1)) }
+judge-requires c κs =
+    let at-answer2 = c .before .before .before .before in
+    let at-plan2 = at-answer2 .before .before .before .before .before in
+    let entry = at-plan2 .before .before .before .before .before .before .before .before .before .before in
+    record { case = the entry; listed = listed (at-plan2 .plan2 .ensures) _ _ _ _ (ap outcome (at-answer2 .answer2 .given .1)) }
 
 returns : tie.Need-returns
 returns c =
-    let s = c .before .before .before .before .before .before .before .before .before .before .before .before .before .before .before .before in
+    let at-plan2 = c .before .before .before .before .before .before in
+    let s = at-plan2 .before .before .before .before .before .before .before .before .before .before in
     refuse (the s) (now (s .args .high)) (now (s .args .answers)) _ _
-    (handed-on (the s) (now (s .args .high)) (now (s .args .answers)) _ _ (sym (c .before .before .before .before .before .before .plan2 .ensures .answer) ∙ ap outcome (c .before .answer .given .1)))
+    (handed-on (the s) (now (s .args .high)) (now (s .args .answers)) _ _ (sym (at-plan2 .plan2 .ensures .answer) ∙ ap outcome (c .before .answer .given .1)))
 
 same-length : tie.Need-same-length
 same-length c = search needs
 
 returns-2 : tie.Need-returns-2
-returns-2 c = c .before .before .judge .ensures (the (c .before .before .before .before .before .before .before .before .before .before .before .before .before .before .before .before .before .before .before .before .before .before)) (listed (c .before .before .before .before .before .before .before .before .before .before .before .before .plan2 .ensures) _ _ _ _ (ap outcome (c .before .before .before .before .before .before .before .answer2 .given .1)))
+returns-2 c =
+    let at-answer2 = c .before .before .before .before .before .before .before in
+    let at-plan2 = at-answer2 .before .before .before .before .before in
+    let entry = at-plan2 .before .before .before .before .before .before .before .before .before .before in
+    c .before .before .judge .ensures (the entry) (listed (at-plan2 .plan2 .ensures) _ _ _ _ (ap outcome (at-answer2 .answer2 .given .1)))
 
 pub possible-splits-spec : {M : Type 1} → statement M
 possible-splits-spec =

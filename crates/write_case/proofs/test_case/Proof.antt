@@ -49,7 +49,11 @@ shared-slice-read-if1 : tie.Need-shared-slice-read-if1 Inv-loop μ-loop
 shared-slice-read-if1 c = search needs
 
 returns-2 : tie.Need-returns-2 Inv-loop μ-loop
-returns-2 c p s f = sym (entries-high (the (c .before .before .before .before .before .before .before .before .before .before) p s f) _ (passed (c .before .before .before .before) p s f) (c .before .before .loop-test .taken) (c .before .before .before .loop .inv .1) (c .if1 .taken))
+returns-2 c p s f =
+    let at-loop = c .before .before .before in
+    let at-enum-told = at-loop .before in
+    let back-10 = at-enum-told .before .before .before .before .before .before in
+    sym (entries-high (the back-10 p s f) _ (passed at-enum-told p s f) (c .before .before .loop-test .taken) (at-loop .loop .inv .1) (c .if1 .taken))
 
 add-y : tie.Need-add-y Inv-loop μ-loop
 add-y c = search needs
@@ -61,7 +65,9 @@ loop-again : tie.Need-loop-again Inv-loop μ-loop
 loop-again c = (omega (arith, c .before .before .loop-test .taken), below-more _ _ (c .before .before .before .loop .inv .1) (c .if1 .left))
 
 returns-3 : tie.Need-returns-3 Inv-loop μ-loop
-returns-3 c p s f = sym (entries-pass (the (c .before .before .before .before .before .before .before .before) p s f) (passed (c .before .before) p s f) (λ k h. c .before .loop .inv .1 k (omega (arith, h, c .loop-test .left))))
+returns-3 c p s f =
+    sym (entries-pass (the (c .before .before .before .before .before .before .before .before) p s f) (passed (c .before .before) p s f)
+    (λ k h. c .before .loop .inv .1 k (omega (arith, h, c .loop-test .left))))
 
 pub test-case-spec : {M : Type 1} → statement M
 test-case-spec =

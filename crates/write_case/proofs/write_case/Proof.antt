@@ -43,19 +43,36 @@ slice-aggregate-put-production : tie.Need-slice-aggregate-put-production
 slice-aggregate-put-production c = search needs
 
 put-production-requires : tie.Need-put-production-requires
-put-production-requires c κs = table-room (the (c .before .before .before .before .before .before .before .before .before .before .before .before) 0 0 0) (passed (c .before .before .before .before) 0 0 0)
+put-production-requires c κs =
+    let at-enum-told = c .before .before .before .before in
+    let entry = at-enum-told .before .before .before .before .before .before .before .before in
+    table-room (the entry 0 0 0) (passed at-enum-told 0 0 0)
 
 returns-2 : tie.Need-returns-2
-returns-2 c p s f = refused-written (the (c .before .before .before .before .before .before .before .before .before .before .before .before .before .before .before) p s f) _ _ 33 0 (write-tariff (the (c .before .before .before .before .before .before .before .before .before .before .before .before .before .before .before) p s f) _ _ (passed (c .before .before .before .before .before .before .before) p s f) (omega (arith, c .if1 .taken, c .before .before .before .before .before .put-tariff .ensures .ends)))
+returns-2 c p s f =
+    let at-put-tariff = c .before .before .before .before .before in
+    let at-enum-told = at-put-tariff .before .before in
+    let entry = at-enum-told .before .before .before .before .before .before .before .before in
+    refused-written (the entry p s f) _ _ 33 0 (write-tariff (the entry p s f) _ _ (passed at-enum-told p s f) (omega (arith, c .if1 .taken, at-put-tariff .put-tariff .ensures .ends)))
 
 returns-3 : tie.Need-returns-3
-returns-3 c p s f = refused-written (the (c .before .before .before .before .before .before .before .before .before .before .before .before .before .before .before .before) p s f) _ _ 33 0 (write-production (the (c .before .before .before .before .before .before .before .before .before .before .before .before .before .before .before .before) p s f) _ _ (passed (c .before .before .before .before .before .before .before .before) p s f) (omega (arith, c .if2 .taken, c .before .before .before .put-production .ensures .ends)))
+returns-3 c p s f =
+    let at-put-production = c .before .before .before in
+    let at-enum-told = at-put-production .before .before .before .before .before in
+    let entry = at-enum-told .before .before .before .before .before .before .before .before in
+    refused-written (the entry p s f) _ _ 33 0 (write-production (the entry p s f) _ _ (passed at-enum-told p s f) (omega (arith, c .if2 .taken, at-put-production .put-production .ensures .ends)))
 
 put-tariff-requires-2 : tie.Need-put-tariff-requires-2
-put-tariff-requires-2 c κs = tariff-room (the (c .before .before .before .before .before .before .before .before .before .before .before .before .before .before .before .before .before) 0 0 0) (passed (c .before .before .before .before .before .before .before .before .before) 0 0 0)
+put-tariff-requires-2 c κs =
+    let at-enum-told = c .before .before .before .before .before .before .before .before .before in
+    let entry = at-enum-told .before .before .before .before .before .before .before .before in
+    tariff-room (the entry 0 0 0) (passed at-enum-told 0 0 0)
 
 put-production-requires-2 : tie.Need-put-production-requires-2
-put-production-requires-2 c κs = table-room (the (c .before .before .before .before .before .before .before .before .before .before .before .before .before .before .before .before .before .before .before .before .before) 0 0 0) (passed (c .before .before .before .before .before .before .before .before .before .before .before .before .before) 0 0 0)
+put-production-requires-2 c κs =
+    let at-enum-told = c .before .before .before .before .before .before .before .before .before .before .before .before .before in
+    let entry = at-enum-told .before .before .before .before .before .before .before .before in
+    table-room (the entry 0 0 0) (passed at-enum-told 0 0 0)
 
 same-length : tie.Need-same-length
 same-length c = search needs
@@ -65,11 +82,18 @@ same-length-2 c = search needs
 
 returns-4 : tie.Need-returns-4
 returns-4 c p s f =
-    let t = c .before .before .before .before .before .before .before .before .before .before .before .before .before .before .put-tariff .ensures .ends in
-    let q = c .before .before .before .before .before .before .before .before .before .before .before .put-production .ensures .ends in
-    texts-written (the (c .before .before .before .before .before .before .before .before .before .before .before .before .before .before .before .before .before .before .before .before .before .before .before .before) p s f) _ _ _ _ _ _
-    (write-room (the (c .before .before .before .before .before .before .before .before .before .before .before .before .before .before .before .before .before .before .before .before .before .before .before .before) p s f) _ _ (passed (c .before .before .before .before .before .before .before .before .before .before .before .before .before .before .before .before) p s f) (omega (arith, t, c .before .before .before .before .before .before .before .before .before .if1 .left)) (omega (arith, q, c .before .before .before .before .before .before .before .before .if2 .left)))
-    (omega (arith, t)) (omega (arith, q)) (c .before .before .before .before .before .before .put-tariff2 .ensures .bytes) (c .before .before .put-production2 .ensures .bytes)
+    let at-put-tariff2 = c .before .before .before .before .before .before in
+    let at-if2 = at-put-tariff2 .before .before in
+    let at-if1 = at-if2 .before in
+    let at-put-production = at-if1 .before .before in
+    let at-put-tariff = at-put-production .before .before .before in
+    let at-enum-told = at-put-tariff .before .before in
+    let entry = at-enum-told .before .before .before .before .before .before .before .before in
+    let t = at-put-tariff .put-tariff .ensures .ends in
+    let q = at-put-production .put-production .ensures .ends in
+    texts-written (the entry p s f) _ _ _ _ _ _
+    (write-room (the entry p s f) _ _ (passed at-enum-told p s f) (omega (arith, t, at-if1 .if1 .left)) (omega (arith, q, at-if2 .if2 .left)))
+    (omega (arith, t)) (omega (arith, q)) (at-put-tariff2 .put-tariff2 .ensures .bytes) (c .before .before .put-production2 .ensures .bytes)
 
 pub write-case-spec : {M : Type 1} → statement M
 write-case-spec =

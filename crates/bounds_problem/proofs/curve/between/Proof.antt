@@ -19,7 +19,8 @@ mul-result-2 : tie.Need-mul-result-2
 mul-result-2 c = let p = c .pre in omega (arith, product-small (c .args .y - c .args .p) (c .args .b) (omega arith) (omega arith))
 
 add-result : tie.Need-add-result
-add-result c = let p = c .pre in omega (arith, product-small (c .args .q - c .args .y) (c .args .a) (omega arith) (omega arith), product-small (c .args .y - c .args .p) (c .args .b) (omega arith) (omega arith))
+add-result c =
+    let p = c .pre in omega (arith, product-small (c .args .q - c .args .y) (c .args .a) (omega arith) (omega arith), product-small (c .args .y - c .args .p) (c .args .b) (omega arith) (omega arith))
 
 sub-result-3 : tie.Need-sub-result-3
 sub-result-3 c = search needs

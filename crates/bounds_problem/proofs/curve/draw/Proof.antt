@@ -59,40 +59,52 @@ shared-slice-copy-out-height-of-2 : tie.Need-shared-slice-copy-out-height-of-2 I
 shared-slice-copy-out-height-of-2 c = omega (arith, c .before .before .before .before .before .before .before .before .pre .0 .in-freights, c .before .loop-test .taken)
 
 height-of-requires-2 : tie.Need-height-of-requires-2 Inv-loop μ-loop
-height-of-requires-2 c κs = let d = c .before .before .before .before .before .before .before .before .before .pre .0 in subst (λ (z : ℤ). Moderate z) (sym (read-back _ (c .height-of-arg2 .given))) (d .moderate _ (c .before .before .loop-test .taken))
+height-of-requires-2 c κs =
+    let d = c .before .before .before .before .before .before .before .before .before .pre .0 in
+    subst (λ (z : ℤ). Moderate z) (sym (read-back _ (c .height-of-arg2 .given))) (d .moderate _ (c .before .before .loop-test .taken))
 
 draw-stretch-requires : tie.Need-draw-stretch-requires Inv-loop μ-loop
 draw-stretch-requires c κs =
-    let s = c .before .before .before .before .before .before .before .before .before .before .before in
-    let i = c .before .before .before .before .before .loop .inv in
-    let k = c .before .before .before .before .before .loop .k in
-    stretch-at (s .pre .0) k (c .before .before .before .before .before .loop .last) (c .before .before .before .before .before .loop .level) (c .before .height-of2 .result) (i .0) (c .before .before .before .before .loop-test .taken) (i .2) (i .3)
-    (c .before .height-of2 .ensures ∙ ap height (read-back _ (c .before .before .height-of-arg2 .given))) (length (c .before .before .before .before .before .loop .to))
-    (omega (arith, i .4, length-set (now (s .args .to)) 0 (c .before .before .before .before .before .before .height-of .result), s .pre .1))
+    let at-loop-test = c .before .before .before .before in
+    let at-loop = at-loop-test .before in
+    let at-height-of = at-loop .before in
+    let s = at-height-of .before .before .before .before .before in
+    let i = at-loop .loop .inv in
+    let k = at-loop .loop .k in
+    stretch-at (s .pre .0) k (at-loop .loop .last) (at-loop .loop .level) (c .before .height-of2 .result) (i .0) (at-loop-test .loop-test .taken) (i .2) (i .3)
+    (c .before .height-of2 .ensures ∙ ap height (read-back _ (c .before .before .height-of-arg2 .given))) (length (at-loop .loop .to))
+    (omega (arith, i .4, length-set (now (s .args .to)) 0 (at-height-of .height-of .result), s .pre .1))
 
 add-k : tie.Need-add-k Inv-loop μ-loop
-add-k c = omega (arith, c .before .before .before .before .before .before .before .loop-test .taken, c .before .before .before .before .before .before .before .before .before .before .before .before .before .before .pre .0 .in-splits)
+add-k c =
+    let at-loop-test = c .before .before .before .before .before .before .before in
+    let entry = at-loop-test .before .before .before .before .before .before .before in
+    omega (arith, at-loop-test .loop-test .taken, entry .pre .0 .in-splits)
 
 loop-less : tie.Need-loop-less Inv-loop μ-loop
 loop-less c = omega (arith, c .before .before .before .before .before .before .before .loop-test .taken)
 
 loop-again : tie.Need-loop-again Inv-loop μ-loop
 loop-again c =
-    let s = c .before .before .before .before .before .before .before .before .before .before .before .before .before .before in
-    let i = c .before .before .before .before .before .before .before .before .loop .inv in
-    let k = c .before .before .before .before .before .before .before .before .loop .k in
-    let t = c .before .before .before .before .before .before .before .loop-test .taken in
+    let at-height-of2 = c .before .before .before .before in
+    let at-height-of-arg2 = at-height-of2 .before in
+    let at-loop-test = at-height-of-arg2 .before .before in
+    let at-loop = at-loop-test .before in
+    let s = at-loop .before .before .before .before .before .before in
+    let i = at-loop .loop .inv in
+    let k = at-loop .loop .k in
+    let t = at-loop-test .loop-test .taken in
     let q : k ≡ k + 1 - 1 = omega arith in
     let w = c .before .before .draw-stretch .ensures in
-    let e : c .before .before .before .before .height-of2 .result ≡ height (getD (now (s .args .freights)) k (pos 0)) =
-    c .before .before .before .before .height-of2 .ensures ∙ ap height (read-back _ (c .before .before .before .before .before .height-of-arg2 .given)) in
-    let st = stretch-at (s .pre .0) k (c .before .before .before .before .before .before .before .before .loop .last) (c .before .before .before .before .before .before .before .before .loop .level) (c .before .before .before .before .height-of2 .result) (i .0) t (i .2) (i .3) e 4001 (omega arith) in (
+    let e : at-height-of2 .height-of2 .result ≡ height (getD (now (s .args .freights)) k (pos 0)) =
+    at-height-of2 .height-of2 .ensures ∙ ap height (read-back _ (at-height-of-arg2 .height-of-arg2 .given)) in
+    let st = stretch-at (s .pre .0) k (at-loop .loop .last) (at-loop .loop .level) (at-height-of2 .height-of2 .result) (i .0) t (i .2) (i .3) e 4001 (omega arith) in (
       omega arith,
       omega arith,
       ap (λ (j : ℕ). getD (now (s .args .splits)) j 0) q,
       e ∙ ap (λ (j : ℕ). height (getD (now (s .args .freights)) j (pos 0))) q,
       w .long ∙ i .4,
-      λ d. drawn-on (d .curve) _ _ w (st .from) (line-at d k (c .before .before .before .before .before .before .before .before .loop .last) (c .before .before .before .before .before .before .before .before .loop .level) (c .before .before .before .before .height-of2 .result) (i .0) t (i .2) (i .3) e) (i .5 d),
+      λ d. drawn-on (d .curve) _ _ w (st .from) (line-at d k (at-loop .loop .last) (at-loop .loop .level) (at-height-of2 .height-of2 .result) (i .0) t (i .2) (i .3) e) (i .5 d),
       λ j h. w .kept j (λ a b. omega arith) ∙ i .6 j (omega (arith, st .rises)),
     )
 
@@ -101,16 +113,17 @@ same-length c = c .before .loop .inv .4 ∙ length-set (now (c .before .before .
 
 returns : tie.Need-returns Inv-loop μ-loop
 returns c =
-    let s = c .before .before .before .before .before .before .before in
+    let at-height-of = c .before .before in
+    let s = at-height-of .before .before .before .before .before in
     let i = c .before .loop .inv in
     let e : c .before .loop .k - 1 ≡ s .args .count - 1 = omega (arith, i .1, c .loop-test .left) in
     let l : c .before .loop .last ≡ getD (now (s .args .splits)) (s .args .count - 1) 0 = i .2 ∙ ap (λ (j : ℕ). getD (now (s .args .splits)) j 0) e in
     record {
-      long = i .4 ∙ length-set (now (s .args .to)) 0 (c .before .before .height-of .result);
+      long = i .4 ∙ length-set (now (s .args .to)) 0 (at-height-of .height-of .result);
       drawn = λ d z a h. i .5 d z a (omega arith);
       kept = λ j h.
           i .6 j (omega arith)
-          ∙ getD-set-other (now (s .args .to)) 0 j (c .before .before .height-of .result) 0 (λ z. omega (arith, s .pre .0 .lowest (s .args .count - 1) (omega (arith, s .pre .0 .some))));
+          ∙ getD-set-other (now (s .args .to)) 0 j (at-height-of .height-of .result) 0 (λ z. omega (arith, s .pre .0 .lowest (s .args .count - 1) (omega (arith, s .pre .0 .some))));
     }
 
 pub draw-spec : {M : Type 1} → statement M

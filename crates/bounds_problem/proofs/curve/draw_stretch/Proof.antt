@@ -35,14 +35,16 @@ loop-less c = omega (arith, c .before .loop-test .taken)
 
 loop-again : tie.Need-loop-again Inv-loop μ-loop
 loop-again c =
-    let p = c .before .before .before .before .pre in
-    let i = c .before .before .loop .inv in
-    let s = c .before .before .before .before .args in
+    let at-loop = c .before .before in
+    let entry = at-loop .before .before in
+    let p = entry .pre in
+    let i = at-loop .loop .inv in
+    let s = entry .args in
     let t = c .before .loop-test .taken in
-    let y = c .before .before .loop .y in (
+    let y = at-loop .loop .y in (
       omega arith,
       omega arith,
-      stretch-next y _ (c .before .before .loop .to) (c .between .result) (i .2) (p .from) (omega arith) (omega (arith, p .room)) (c .between .ensures),
+      stretch-next y _ (at-loop .loop .to) (c .between .result) (i .2) (p .from) (omega arith) (omega (arith, p .room)) (c .between .ensures),
     )
 
 same-length : tie.Need-same-length Inv-loop μ-loop

@@ -31,7 +31,15 @@ shared-slice-read-if1-2 : tie.Need-shared-slice-read-if1-2 Inv-loop μ-loop
 shared-slice-read-if1-2 c = omega arith
 
 returns : tie.Need-returns Inv-loop μ-loop
-returns c = let i = c .before .before .before .before .loop .inv in let t = c .before .before .before .loop-test .taken in let s = c .before .before .before .before .before .args in let k = c .before .before .before .before .loop .k in bad-some (now (s .low)) (now (s .high)) k t (i .1) (below-low (now (s .low)) (now (s .high)) k (c .if1 .taken))
+returns c =
+    let at-loop-test = c .before .before .before in
+    let at-loop = at-loop-test .before in
+    let entry = at-loop .before in
+    let i = at-loop .loop .inv in
+    let t = at-loop-test .loop-test .taken in
+    let s = entry .args in
+    let k = at-loop .loop .k in
+    bad-some (now (s .low)) (now (s .high)) k t (i .1) (below-low (now (s .low)) (now (s .high)) k (c .if1 .taken))
 
 mul-if2 : tie.Need-mul-if2 Inv-loop μ-loop
 mul-if2 c = omega arith
@@ -40,7 +48,15 @@ shared-slice-read-if2 : tie.Need-shared-slice-read-if2 Inv-loop μ-loop
 shared-slice-read-if2 c = omega arith
 
 returns-2 : tie.Need-returns-2 Inv-loop μ-loop
-returns-2 c = let i = c .before .before .before .before .before .before .loop .inv in let t = c .before .before .before .before .before .loop-test .taken in let s = c .before .before .before .before .before .before .before .args in let k = c .before .before .before .before .before .before .loop .k in bad-some (now (s .low)) (now (s .high)) k t (i .1) (above-most (now (s .low)) (now (s .high)) k (c .if2 .taken))
+returns-2 c =
+    let at-loop-test = c .before .before .before .before .before in
+    let at-loop = at-loop-test .before in
+    let entry = at-loop .before in
+    let i = at-loop .loop .inv in
+    let t = at-loop-test .loop-test .taken in
+    let s = entry .args in
+    let k = at-loop .loop .k in
+    bad-some (now (s .low)) (now (s .high)) k t (i .1) (above-most (now (s .low)) (now (s .high)) k (c .if2 .taken))
 
 add-k : tie.Need-add-k Inv-loop μ-loop
 add-k c = omega arith
@@ -50,10 +66,13 @@ loop-less c = omega arith
 
 loop-again : tie.Need-loop-again Inv-loop μ-loop
 loop-again c =
-    let i = c .before .before .before .before .before .before .loop .inv in
-    let t = c .before .before .before .before .before .loop-test .taken in
-    let s = c .before .before .before .before .before .before .before .args in
-    let k = c .before .before .before .before .before .before .loop .k in
+    let at-loop-test = c .before .before .before .before .before in
+    let at-loop = at-loop-test .before in
+    let entry = at-loop .before in
+    let i = at-loop .loop .inv in
+    let t = at-loop-test .loop-test .taken in
+    let s = entry .args in
+    let k = at-loop .loop .k in
     (omega arith, good-more (now (s .low)) (now (s .high)) k (i .1) (good (now (s .low)) (now (s .high)) k (c .before .before .if1 .left) (c .if2 .left)))
 
 returns-3 : tie.Need-returns-3 Inv-loop μ-loop

@@ -25,7 +25,9 @@ add-least : tie.Need-add-least Inv-loop μ-loop
 add-least c = let p = c .before .before .before .before .pre in omega (arith, p .heights 0 (p .some), p .entries 0 (p .some))
 
 loop-holds : tie.Need-loop-holds Inv-loop μ-loop
-loop-holds c = let s = c .before .before .before .before in (omega arith, s .pre .some, least-start (λ j. getD (now (s .args .curve)) j 0 + getD (now (s .args .table)) j 0))
+loop-holds c =
+    let s = c .before .before .before .before in
+    (omega arith, s .pre .some, least-start (λ j. getD (now (s .args .curve)) j 0 + getD (now (s .args .table)) j 0))
 
 mul-smaller : tie.Need-mul-smaller Inv-loop μ-loop
 mul-smaller c = omega arith
@@ -57,10 +59,12 @@ loop-less c = omega arith
 
 loop-again : tie.Need-loop-again Inv-loop μ-loop
 loop-again c =
-    let s = c .before .before .before .before .before .before .before .before .before in
-    let i = c .before .before .before .before .loop .inv in
-    let k = c .before .before .before .before .loop .k in
-    let h = c .before .before .before .loop-test .taken in
+    let at-loop-test = c .before .before .before in
+    let at-loop = at-loop-test .before in
+    let s = at-loop .before .before .before .before .before in
+    let i = at-loop .loop .inv in
+    let k = at-loop .loop .k in
+    let h = at-loop-test .loop-test .taken in
     let f : ℕ → ℕ = λ j. getD (now (s .args .curve)) j 0 + getD (now (s .args .table)) j 0 in
     (omega arith, omega arith, least-next f k (c .smaller .result) (i .0) (c .smaller .ensures ∙ ap (λ (v : ℕ). min v (f k)) (i .2)))
 

@@ -30,10 +30,12 @@ shared-slice-read-mark-of-2 c = omega arith
 
 add-mark-of : tie.Need-add-mark-of Inv-loop μ-loop
 add-mark-of c =
-    let p = c .before .before .before .before .before .before .before .pre .0 in
-    let k = c .before .before .before .loop .k in
+    let at-loop = c .before .before .before in
+    let entry = at-loop .before .before .before .before in
+    let p = entry .pre .0 in
+    let k = at-loop .loop .k in
     let h = c .before .before .loop-test .taken in
-    omega (arith, p .heights k (omega (arith, c .before .before .before .loop .inv .1)), p .entries k (omega (arith, c .before .before .before .loop .inv .1)))
+    omega (arith, p .heights k (omega (arith, at-loop .loop .inv .1)), p .entries k (omega (arith, at-loop .loop .inv .1)))
 
 mark-of-requires : tie.Need-mark-of-requires Inv-loop μ-loop
 mark-of-requires c κs = omega arith
@@ -42,7 +44,10 @@ mul-to : tie.Need-mul-to Inv-loop μ-loop
 mul-to c = omega arith
 
 slice-write-to : tie.Need-slice-write-to Inv-loop μ-loop
-slice-write-to c = omega (arith, mark-long (c .before .before .before .before .loop .inv .0), c .before .before .before .before .loop .inv .0 .in-cells, c .before .before .before .before .loop .inv .1, c .before .before .before .loop-test .taken)
+slice-write-to c =
+    let at-loop-test = c .before .before .before in
+    let at-loop = at-loop-test .before in
+    omega (arith, mark-long (at-loop .loop .inv .0), at-loop .loop .inv .0 .in-cells, at-loop .loop .inv .1, at-loop-test .loop-test .taken)
 
 add-k : tie.Need-add-k Inv-loop μ-loop
 add-k c = omega arith
@@ -51,7 +56,10 @@ loop-less : tie.Need-loop-less Inv-loop μ-loop
 loop-less c = omega arith
 
 loop-again : tie.Need-loop-again Inv-loop μ-loop
-loop-again c = (mark-next _ (c .before .before .before .before .loop .inv .0) (omega (arith, c .before .before .before .before .loop .inv .1, c .before .before .before .loop-test .taken)) (c .mark-of .ensures), c .before .before .before .before .loop .inv .1)
+loop-again c =
+    let at-loop-test = c .before .before .before in
+    let at-loop = at-loop-test .before in
+    (mark-next _ (at-loop .loop .inv .0) (omega (arith, at-loop .loop .inv .1, at-loop-test .loop-test .taken)) (c .mark-of .ensures), at-loop .loop .inv .1)
 
 same-length : tie.Need-same-length Inv-loop μ-loop
 same-length c = mark-long (c .before .loop .inv .0)

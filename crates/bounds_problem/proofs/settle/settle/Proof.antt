@@ -25,10 +25,16 @@ mark-all-requires : tie.Need-mark-all-requires
 mark-all-requires c κs = search needs
 
 signed-requires : tie.Need-signed-requires
-signed-requires c κs = omega (arith, c .before .before .before .before .before .least-sum .ensures, least-small (c .before .before .before .before .before .before .before .before .before .before .pre .0))
+signed-requires c κs =
+    let at-least-sum = c .before .before .before .before .before in
+    let entry = at-least-sum .before .before .before .before .before in
+    omega (arith, at-least-sum .least-sum .ensures, least-small (entry .pre .0))
 
 signed-requires-2 : tie.Need-signed-requires-2
-signed-requires-2 c κs = omega (arith, c .before .before .before .before .before .least-sum2 .ensures, least-small (c .before .before .before .before .before .before .before .before .before .before .before .pre .1))
+signed-requires-2 c κs =
+    let at-least-sum2 = c .before .before .before .before .before in
+    let entry = at-least-sum2 .before .before .before .before .before .before in
+    omega (arith, at-least-sum2 .least-sum2 .ensures, least-small (entry .pre .1))
 
 same-length : tie.Need-same-length
 same-length c = search needs
@@ -36,12 +42,17 @@ same-length c = search needs
 returns : tie.Need-returns
 unfolding settledOf
 returns c =
-    let s = c .before .before .before .before .before .before .before .before .before .before .before .before .args in
-    let low = c .before .before .before .before .before .before .before .least-sum .ensures in
-    let high = c .before .before .before .before .before .before .least-sum2 .ensures in (
-      ap₂ (λ (x y : ℤ). known (s .lo) (length (now (s .lows))) x y) (read-back (c .before .signed .result) (c .before .signed .ok) ∙ c .before .signed .ensures ∙ ap (λ (v : ℕ). subℕ v 128000000000) low)
+    let at-mark-all = c .before .before .before .before in
+    let at-least-sum2 = at-mark-all .before .before in
+    let at-least-sum = at-least-sum2 .before in
+    let entry = at-least-sum .before .before .before .before .before in
+    let s = entry .args in
+    let low = at-least-sum .least-sum .ensures in
+    let high = at-least-sum2 .least-sum2 .ensures in (
+      ap₂ (λ (x y : ℤ). known (s .lo) (length (now (s .lows))) x y)
+          (read-back (c .before .signed .result) (c .before .signed .ok) ∙ c .before .signed .ensures ∙ ap (λ (v : ℕ). subℕ v 128000000000) low)
           (read-back (c .signed2 .result) (c .signed2 .ok) ∙ c .signed2 .ensures ∙ ap (λ (v : ℕ). subℕ v 128000000000) high),
-      c .before .before .before .before .mark-all .ensures ∙ ap (λ (v : ℕ). written (marksBy (now (s .curve)) (now (s .lows)) v) (now (s .answers))) high,
+      at-mark-all .mark-all .ensures ∙ ap (λ (v : ℕ). written (marksBy (now (s .curve)) (now (s .lows)) v) (now (s .answers))) high,
     )
 
 pub settle-spec : {M : Type 1} → statement M

@@ -21,11 +21,13 @@ same-length c = search needs
 
 returns-3 : tie.Need-returns-3
 returns-3 c =
-    let s = c .before .before .before .before .before .before .before .before in
+    let at-if2 = c .before .before .before .before in
+    let at-if1 = at-if2 .before in
+    let s = at-if1 .before .before .before in
     record {
       text-written = λ f.
           rw (toZ-ofZ w64 (s .args .smallest) (s .fits .smallest), toZ-ofZ w64 (s .args .largest) (s .fits .largest)) at (c .before .before .put-fitting-marks .ensures);
-      nothing = λ d. absurd (d (record { start = c .before .before .before .before .before .if1 .left; few = c .before .before .before .before .if2 .left }));
+      nothing = λ d. absurd (d (record { start = at-if1 .if1 .left; few = at-if2 .if2 .left }));
     }
 
 pub put-bounds-spec : {M : Type 1} → statement M

@@ -25,10 +25,13 @@ same-length c = search needs
 returns : tie.Need-returns
 unfolding boundsText totalsHeader splitsHeader
 returns c =
-    let s = c .before .before .before .before .before .before .before .before .before .before .before .before .before .before .before .before .before .before .before .before .before .before in
-    then (then (then (c .before .before .before .before .before .before .before .before .before .before .before .before .before .before .before .before .put-bytes .ensures)
-    (rw (toZ-ofZ w64 (s .args .smallest) (s .fits .smallest), toZ-ofZ w64 (s .args .largest) (s .fits .largest)) at (c .before .before .before .before .before .before .before .before .before .before .before .before .put-totals .ensures)))
-    (c .before .before .before .before .before .before .put-bytes2 .ensures)) (c .before .before .put-marks .ensures)
+    let at-put-bytes2 = c .before .before .before .before .before .before in
+    let at-put-totals = at-put-bytes2 .before .before .before .before .before .before in
+    let at-put-bytes = at-put-totals .before .before .before .before in
+    let s = at-put-bytes .before .before .before .before .before .before in
+    then (then (then (at-put-bytes .put-bytes .ensures)
+    (rw (toZ-ofZ w64 (s .args .smallest) (s .fits .smallest), toZ-ofZ w64 (s .args .largest) (s .fits .largest)) at (at-put-totals .put-totals .ensures)))
+    (at-put-bytes2 .put-bytes2 .ensures)) (c .before .before .put-marks .ensures)
 
 pub put-fitting-marks-spec : {M : Type 1} → statement M
 put-fitting-marks-spec =

@@ -24,7 +24,9 @@ loop-holds : tie.Need-loop-holds Inv-loop μ-loop
 loop-holds c = (omega arith, refl, each-start _ 43 _ _)
 
 add-put-pair : tie.Need-add-put-pair Inv-loop μ-loop
-add-put-pair c = omega (arith, c .before .before .before .before .before .pre .1 .start, c .before .before .before .before .before .pre .1 .few, c .before .loop-test .taken, c .before .before .loop .inv .1)
+add-put-pair c =
+    let entry = c .before .before .before .before .before in
+    omega (arith, entry .pre .1 .start, entry .pre .1 .few, c .before .loop-test .taken, c .before .before .loop .inv .1)
 
 mul-put-pair : tie.Need-mul-put-pair Inv-loop μ-loop
 mul-put-pair c = omega (arith, c .before .before .before .before .before .pre .1 .few, c .before .loop-test .taken, c .before .before .loop .inv .1)
@@ -33,7 +35,10 @@ shared-slice-read-put-pair : tie.Need-shared-slice-read-put-pair Inv-loop μ-loo
 shared-slice-read-put-pair c = omega (arith, c .before .before .loop-test .taken, c .before .before .before .loop .inv .1)
 
 put-pair-requires : tie.Need-put-pair-requires Inv-loop μ-loop
-put-pair-requires c κs = omega (arith, c .before .before .before .before .before .before .pre .0, c .before .before .before .before .before .before .pre .1 .few, c .before .before .before .loop .inv .0, c .before .before .before .loop .inv .2 .ends, c .before .before .before .loop .inv .2 .short)
+put-pair-requires c κs =
+    let at-loop = c .before .before .before in
+    let entry = at-loop .before .before .before in
+    omega (arith, entry .pre .0, entry .pre .1 .few, at-loop .loop .inv .0, at-loop .loop .inv .2 .ends, at-loop .loop .inv .2 .short)
 
 add-j : tie.Need-add-j Inv-loop μ-loop
 add-j c = search needs
@@ -43,8 +48,10 @@ loop-less c = search needs
 
 loop-again : tie.Need-loop-again Inv-loop μ-loop
 loop-again c =
-    let l = c .before .before .before .before .before .before .loop in
-    (omega (arith, c .before .before .before .before .before .loop-test .taken, l .inv .1), l .inv .1, each-next _ 43 _ (l .inv .2) (c .before .before .put-pair .ensures))
+    let at-loop-test = c .before .before .before .before .before in
+    let at-loop = at-loop-test .before in
+    let l = at-loop .loop in
+    (omega (arith, at-loop-test .loop-test .taken, l .inv .1), l .inv .1, each-next _ 43 _ (l .inv .2) (c .before .before .put-pair .ensures))
 
 same-length : tie.Need-same-length Inv-loop μ-loop
 same-length c = written-length (c .before .loop .inv .2)

@@ -22,9 +22,11 @@ same-length c = search needs
 returns : tie.Need-returns
 unfolding recordText
 returns c =
-    let s = c .before .before .before .before .before .before .before .before .before .before .before .before .before in
-    then (rw (toZ-ofZ w64 (s .args .a) (s .fits .a)) at (c .before .before .before .before .before .before .before .before .before .before .put-signed-field .ensures))
-    (then (rw (toZ-ofZ w64 (s .args .b) (s .fits .b)) at (c .before .before .before .before .before .before .put-signed-field2 .ensures)) (c .before .before .put-byte .ensures))
+    let at-put-signed-field2 = c .before .before .before .before .before .before in
+    let at-put-signed-field = at-put-signed-field2 .before .before .before .before in
+    let s = at-put-signed-field .before .before .before in
+    then (rw (toZ-ofZ w64 (s .args .a) (s .fits .a)) at (at-put-signed-field .put-signed-field .ensures))
+    (then (rw (toZ-ofZ w64 (s .args .b) (s .fits .b)) at (at-put-signed-field2 .put-signed-field2 .ensures)) (c .before .before .put-byte .ensures))
 
 pub put-totals-spec : {M : Type 1} → statement M
 put-totals-spec =

@@ -61,26 +61,43 @@ shared-slice-copy-out-paid c = omega (arith, c .before .loop-test .taken, c .bef
 
 paid-requires : tie.Need-paid-requires Inv-loop μ-loop
 paid-requires c κs =
-    let s = c .before .before .before .before .before .before .before .before in
-    let l = c .before .before .before .loop in
+    let at-loop = c .before .before .before in
+    let s = at-loop .before .before .before .before .before in
+    let l = at-loop .loop in
     let h : l .k < length (now (s .args .starts)) = omega (arith, c .before .before .loop-test .taken, l .inv .1) in
     let e = stored (getD (now (s .args .costs)) (l .k) (pos 0)) (s .pre .1 .narrow-costs .below (l .k) h) in
     (omega (arith, s .pre .1 .charged), omega (arith, s .pre .1 .narrow-amounts .below (l .k) h), rw e (product _ _ _ _ (l .k) (s .pre .1) h))
 
 mul-put-lane : tie.Need-mul-put-lane Inv-loop μ-loop
-mul-put-lane c = omega (arith, c .before .before .before .before .loop-test .taken, c .before .before .before .before .before .loop .inv .1, c .before .before .before .before .before .before .before .before .before .before .pre .1 .few)
+mul-put-lane c =
+    let at-loop-test = c .before .before .before .before in
+    let at-loop = at-loop-test .before in
+    let entry = at-loop .before .before .before .before .before in
+    omega (arith, at-loop-test .loop-test .taken, at-loop .loop .inv .1, entry .pre .1 .few)
 
 shared-slice-read-put-lane : tie.Need-shared-slice-read-put-lane Inv-loop μ-loop
 shared-slice-read-put-lane c = omega (arith, c .before .before .before .before .before .loop-test .taken, c .before .before .before .before .before .before .loop .inv .1)
 
 mul-put-lane-2 : tie.Need-mul-put-lane-2 Inv-loop μ-loop
-mul-put-lane-2 c = omega (arith, c .before .before .before .before .before .loop-test .taken, c .before .before .before .before .before .before .loop .inv .1, c .before .before .before .before .before .before .before .before .before .before .before .pre .1 .few)
+mul-put-lane-2 c =
+    let at-loop-test = c .before .before .before .before .before in
+    let at-loop = at-loop-test .before in
+    let entry = at-loop .before .before .before .before .before in
+    omega (arith, at-loop-test .loop-test .taken, at-loop .loop .inv .1, entry .pre .1 .few)
 
 shared-slice-read-put-lane-2 : tie.Need-shared-slice-read-put-lane-2 Inv-loop μ-loop
-shared-slice-read-put-lane-2 c = omega (arith, c .before .before .before .before .before .before .loop-test .taken, c .before .before .before .before .before .before .before .loop .inv .1, c .before .before .before .before .before .before .before .before .before .before .before .before .pre .1 .in-ends)
+shared-slice-read-put-lane-2 c =
+    let at-loop-test = c .before .before .before .before .before .before in
+    let at-loop = at-loop-test .before in
+    let entry = at-loop .before .before .before .before .before in
+    omega (arith, at-loop-test .loop-test .taken, at-loop .loop .inv .1, entry .pre .1 .in-ends)
 
 put-lane-requires : tie.Need-put-lane-requires Inv-loop μ-loop
-put-lane-requires c κs = omega (arith, c .before .before .before .before .before .before .loop-test .taken, c .before .before .before .before .before .before .before .loop .inv .0, c .before .before .before .before .before .before .before .loop .inv .1, c .before .before .before .before .before .before .before .loop .inv .2 .ends, c .before .before .before .before .before .before .before .loop .inv .2 .short, c .before .before .before .before .before .before .before .before .before .before .before .before .pre .0, c .before .before .before .before .before .before .before .before .before .before .before .before .pre .1 .few)
+put-lane-requires c κs =
+    let at-loop-test = c .before .before .before .before .before .before in
+    let at-loop = at-loop-test .before in
+    let entry = at-loop .before .before .before .before .before in
+    omega (arith, at-loop-test .loop-test .taken, at-loop .loop .inv .0, at-loop .loop .inv .1, at-loop .loop .inv .2 .ends, at-loop .loop .inv .2 .short, entry .pre .0, entry .pre .1 .few)
 
 add-k : tie.Need-add-k Inv-loop μ-loop
 add-k c = search needs
@@ -91,14 +108,17 @@ loop-less c = search needs
 loop-again : tie.Need-loop-again Inv-loop μ-loop
 unfolding arcText
 loop-again c =
-    let s = c .before .before .before .before .before .before .before .before .before .before .before .before .before .before .before in
-    let l = c .before .before .before .before .before .before .before .before .before .before .loop in
-    let h : l .k < length (now (s .args .starts)) = omega (arith, c .before .before .before .before .before .before .before .before .before .loop-test .taken, l .inv .1) in
+    let at-paid = c .before .before .before .before .before .before in
+    let at-loop-test = at-paid .before .before .before in
+    let at-loop = at-loop-test .before in
+    let s = at-loop .before .before .before .before .before in
+    let l = at-loop .loop in
+    let h : l .k < length (now (s .args .starts)) = omega (arith, at-loop-test .loop-test .taken, l .inv .1) in
     let e = stored (getD (now (s .args .costs)) (l .k) (pos 0)) (s .pre .1 .narrow-costs .below (l .k) h) in
     let w = c .before .before .put-lane in
     let k = l .k in
     let amount = getD (now (s .args .amounts)) k 0 in
-    let v = c .before .before .before .before .before .before .paid in
+    let v = at-paid .paid in
     let q = read-back (v .result) (v .ok) ∙ v .ensures ∙ ap (λ (z : ℤ). paidOn k (s .args .named) (s .args .charge) amount z) e in (
       omega (arith, h),
       l .inv .1,

@@ -25,8 +25,12 @@ same-length c = search needs
 returns : tie.Need-returns
 unfolding flowText totalHeader arcsHeader
 returns c =
-    let s = c .before .before .before .before .before .before .before .before .before .before .before .before .before .before .before .before .before .before .before .before .before .before .before .before in
-    then (then (then (c .before .before .before .before .before .before .before .before .before .before .before .before .before .before .before .before .put-bytes .ensures) (rw (toZ-ofZ w64 (s .args .total) (s .fits .total)) at (c .before .before .before .before .before .before .before .before .before .before .before .before .put-total .ensures))) (c .before .before .before .before .before .before .put-bytes2 .ensures)) (c .before .before .put-arcs .ensures)
+    let at-put-bytes2 = c .before .before .before .before .before .before in
+    let at-put-total = at-put-bytes2 .before .before .before .before .before .before in
+    let at-put-bytes = at-put-total .before .before .before .before in
+    let s = at-put-bytes .before .before .before .before .before .before .before .before in
+    then (then (then (at-put-bytes .put-bytes .ensures) (rw (toZ-ofZ w64 (s .args .total) (s .fits .total)) at (at-put-total .put-total .ensures))) (at-put-bytes2 .put-bytes2 .ensures))
+    (c .before .before .put-arcs .ensures)
 
 pub put-fitting-flow-spec : {M : Type 1} → statement M
 put-fitting-flow-spec =

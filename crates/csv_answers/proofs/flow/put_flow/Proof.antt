@@ -17,10 +17,12 @@ same-length c = search needs
 
 returns : tie.Need-returns
 returns c =
-    let s = c .before .before .before .before .before .before .before .before .before .before in
+    let at-if1 = c .before .before .before .before in
+    let at-flow-fits = at-if1 .before in
+    let s = at-flow-fits .before .before .before .before .before in
     record {
       text-written = λ f. rw (toZ-ofZ w64 (s .args .total) (s .fits .total)) at (c .before .before .put-fitting-flow .ensures);
-      nothing = λ d. absurd (d (c .before .before .before .before .before .flow-fits .ensures .yes (c .before .before .before .before .if1 .taken)));
+      nothing = λ d. absurd (d (at-flow-fits .flow-fits .ensures .yes (at-if1 .if1 .taken)));
     }
 
 returns-2 : tie.Need-returns-2

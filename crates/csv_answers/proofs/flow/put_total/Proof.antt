@@ -19,8 +19,9 @@ same-length c = search needs
 returns : tie.Need-returns
 unfolding recordText
 returns c =
-    let s = c .before .before .before .before .before .before .before .before .before in
-    then (rw (toZ-ofZ w64 (s .args .total) (s .fits .total)) at (c .before .before .before .before .before .before .put-signed-field .ensures)) (c .before .before .put-byte .ensures)
+    let at-put-signed-field = c .before .before .before .before .before .before in
+    let s = at-put-signed-field .before .before .before in
+    then (rw (toZ-ofZ w64 (s .args .total) (s .fits .total)) at (at-put-signed-field .put-signed-field .ensures)) (c .before .before .put-byte .ensures)
 
 pub put-total-spec : {M : Type 1} → statement M
 put-total-spec =

@@ -31,30 +31,41 @@ sub-send c = omega (arith, c .before .loop-test .taken)
 
 send-requires : tie.Need-send-requires Inv-loop μ-loop
 send-requires c κs =
-    let q = c .before .before .before .before .before .loop .inv in
-    (reach-send (q .0) (c .before .before .before .before .loop-test .taken), (reach-wanted (q .0) (c .before .before .before .before .before .before .args .demand .now) (c .before .before .before .before .before .before .pre .1 .0), q .1))
+    let at-loop-test = c .before .before .before .before in
+    let at-loop = at-loop-test .before in
+    let entry = at-loop .before in
+    let q = at-loop .loop .inv in
+    (reach-send (q .0) (at-loop-test .loop-test .taken), (reach-wanted (q .0) (entry .args .demand .now) (entry .pre .1 .0), q .1))
 
 returns : tie.Need-returns Inv-loop μ-loop
 returns c =
-    let q = c .before .before .before .before .before .before .before .before .loop .inv .0 in reach-stuck q (c .before .before .before .before .before .before .before .loop-test .taken) (c .before .before .send .ensures .0 .none (c .if1 .taken))
+    let at-loop-test = c .before .before .before .before .before .before .before in
+    let at-loop = at-loop-test .before in
+    let q = at-loop .loop .inv .0 in reach-stuck q (at-loop-test .loop-test .taken) (c .before .before .send .ensures .0 .none (c .if1 .taken))
 
 add-gone : tie.Need-add-gone Inv-loop μ-loop
 add-gone c =
-    let s = c .before .before .before .send .ensures .0 in
-    let hg : c .before .before .before .send .result .goal < 96 = omega (arith, s .bound, c .before .if1 .left) in
-    omega (arith, s .found hg .most, c .before .before .before .before .before .before .before .before .loop-test .taken)
+    let at-send = c .before .before .before in
+    let at-loop-test = at-send .before .before .before .before .before in
+    let s = at-send .send .ensures .0 in
+    let hg : at-send .send .result .goal < 96 = omega (arith, s .bound, c .before .if1 .left) in
+    omega (arith, s .found hg .most, at-loop-test .loop-test .taken)
 
 loop-less : tie.Need-loop-less Inv-loop μ-loop
 loop-less c =
-    let s = c .before .before .before .send .ensures .0 in
-    let hg : c .before .before .before .send .result .goal < 96 = omega (arith, s .bound, c .before .if1 .left) in
-    omega (arith, s .found hg .some, s .found hg .most, c .before .before .before .before .before .before .before .before .loop-test .taken)
+    let at-send = c .before .before .before in
+    let at-loop-test = at-send .before .before .before .before .before in
+    let s = at-send .send .ensures .0 in
+    let hg : at-send .send .result .goal < 96 = omega (arith, s .bound, c .before .if1 .left) in
+    omega (arith, s .found hg .some, s .found hg .most, at-loop-test .loop-test .taken)
 
 loop-again : tie.Need-loop-again Inv-loop μ-loop
 loop-again c =
-    let s = c .before .before .before .send .ensures .0 in
-    let hg : c .before .before .before .send .result .goal < 96 = omega (arith, s .bound, c .before .if1 .left) in
-    (reach-next (c .before .before .before .before .before .before .before .before .before .loop .inv .0) hg (s .found hg), c .before .before .before .send .ensures .1)
+    let at-send = c .before .before .before in
+    let at-loop = at-send .before .before .before .before .before .before in
+    let s = at-send .send .ensures .0 in
+    let hg : at-send .send .result .goal < 96 = omega (arith, s .bound, c .before .if1 .left) in
+    (reach-next (at-loop .loop .inv .0) hg (s .found hg), at-send .send .ensures .1)
 
 returns-2 : tie.Need-returns-2 Inv-loop μ-loop
 returns-2 c = reach-end (c .before .loop .inv .0) (c .loop-test .left)

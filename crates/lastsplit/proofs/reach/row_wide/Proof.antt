@@ -52,11 +52,13 @@ loop-less c = search needs
 
 loop-again : tie.Need-loop-again Inv-loop μ-loop
 loop-again c =
-    let all = c .before .before .before .before .loop .all in
+    let at-loop-test = c .before .before .before in
+    let at-loop = at-loop-test .before in
+    let all = at-loop .loop .all in
     let own = c .wide-bit .result in (
-      omega (arith, c .before .before .before .loop-test .taken),
+      omega (arith, at-loop-test .loop-test .taken),
       omega arith,
-      below-more _ _ (λ l h w. c .before .before .before .before .loop .inv .2 l h (omega (arith, and-le-l all own)))
+      below-more _ _ (λ l h w. at-loop .loop .inv .2 l h (omega (arith, and-le-l all own)))
           (λ w. c .wide-bit .ensures (omega (arith, and-le-r all own))),
     )
 

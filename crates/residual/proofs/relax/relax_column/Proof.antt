@@ -75,9 +75,10 @@ skipped : (c : tie.In-loop Inv-loop μ-loop) (m n : ℕ) (cap : List ℕ)
     (c .before .before .before .args .base) 0 (trailingZeros 32 (c .before .loop .rest)) (c .before .before .before .args .dist .now)
     (c .before .before .before .args .prev .now) (c .before .loop .dist) (c .before .loop .prev)
 skipped c m n cap a =
-    let s = c .before .before .before .pre .0 in
+    let entry = c .before .before .before in
+    let s = entry .pre .0 in
     let i = c .before .loop .inv in
-    column-skip (c .before .before .before .args .cost .now) cap (c .before .before .before .args .v - 32) (a .covers) (a .sources)
+    column-skip (entry .args .cost .now) cap (entry .args .v - 32) (a .covers) (a .sources)
     (omega (arith, s .low)) (i .labels m n cap a) (passed c) (left-none 32 (i .left) (positive c) (i .word))
 
 -- where it serves the terminal, its new label has a key
@@ -169,8 +170,11 @@ element-copy-out-key-of-2 c = omega (arith, fits (c .before .before .before .bef
 
 key-of-requires : tie.Need-key-of-requires Inv-loop μ-loop
 key-of-requires c κs =
-    let s = c .before .before .before .before .before .before .before .before .before .before .before .pre in
-    (omega (arith, low (c .before .before .before .before .before .before)), omega (arith, s .0 .near), s .1 .bit _ (omega (arith, fits (c .before .before .before .before .before .before .before .before))))
+    let at-if1 = c .before .before .before .before .before .before in
+    let at-loop-test = at-if1 .before .before in
+    let entry = at-loop-test .before .before .before in
+    let s = entry .pre in
+    (omega (arith, low at-if1), omega (arith, s .0 .near), s .1 .bit _ (omega (arith, fits at-loop-test)))
 
 cast-offer : tie.Need-cast-offer Inv-loop μ-loop
 cast-offer c = omega (arith, c .before .before .before .before .before .before .before .before .before .before .before .before .pre .0 .high)
@@ -186,19 +190,24 @@ loop-less c = omega (arith, fewer (c .before .before .before .before .before .be
 
 loop-again : tie.Need-loop-again Inv-loop μ-loop
 loop-again c =
-    let i = c .before .before .before .before .before .before .before .before .before .before .before .before .before .before in
-    let inv = i .before .loop .inv in
-    let s = c .before .before .before .before .before .before .before .before .before .before .before .before .before .before .before .before .before .pre in
-    let v = c .before .before .before .before .before .before .before .before .before .before .before .before .before .before .before .before .before .args .v in
-    let taken = c .before .before .before .before .before .before .before .before .before .before .before .before .if1 .taken in
-    let l = low (c .before .before .before .before .before .before .before .before .before .before .before .before) in
+    let at-key-of = c .before .before .before .before .before in
+    let at-wins = at-key-of .before .before .before in
+    let at-if1 = at-wins .before .before .before .before in
+    let i = at-if1 .before .before in
+    let at-loop = i .before in
+    let entry = at-loop .before .before in
+    let inv = at-loop .loop .inv in
+    let s = entry .pre in
+    let v = entry .args .v in
+    let taken = at-if1 .if1 .taken in
+    let l = low at-if1 in
     let f = fits i in
-    let bit = s .1 .bit (trailingZeros 32 (i .before .loop .rest)) (omega arith) in
-    let wins = c .before .before .before .before .before .before .before .before .wins .ensures in
-    let key = c .before .before .before .before .before .key-of .ensures in
+    let bit = s .1 .bit (trailingZeros 32 (at-loop .loop .rest)) (omega arith) in
+    let wins = at-wins .wins .ensures in
+    let key = at-key-of .key-of .ensures in
     let offered = c .before .offer .ensures in
     record {
-      hi = trailingZeros 32 (i .before .loop .rest) + 1;
+      hi = trailingZeros 32 (at-loop .loop .rest) + 1;
       most = omega (arith, source i 32 (s .0 .word));
       labels = λ m n cap a.
           pass-open (skipped i m n cap a) (omega arith) (a .sources) (omega arith)
@@ -217,16 +226,18 @@ loop-less-2 c = omega (arith, fewer (c .before .before))
 loop-again-2 : tie.Need-loop-again-2 Inv-loop μ-loop
 loop-again-2 c =
     let i = c .before .before in
-    let inv = i .before .loop .inv in
-    let s = c .before .before .before .before .before .pre .0 in
+    let at-loop = i .before in
+    let entry = at-loop .before .before in
+    let inv = at-loop .loop .inv in
+    let s = entry .pre .0 in
     record {
-      hi = trailingZeros 32 (i .before .loop .rest) + 1;
+      hi = trailingZeros 32 (at-loop .loop .rest) + 1;
       most = omega (arith, source i 32 (s .word));
       labels = λ m n cap a.
           pass-skip (skipped i m n cap a) (omega arith)
           (λ w h o t k arc.
-          let z : w ≡ trailingZeros 32 (i .before .loop .rest) = omega arith in
-          shut-back (c .before .before .before .before .before .args .v - 32) (a .sources) (own i m n a) (omega (arith, s .low)) (c .if1 .left) t k (rw z at arc));
+          let z : w ≡ trailingZeros 32 (at-loop .loop .rest) = omega arith in
+          shut-back (entry .args .v - 32) (a .sources) (own i m n a) (omega (arith, s .low)) (c .if1 .left) t k (rw z at arc));
       long = inv .long;
       keys = inv .keys;
       named = next-kept (next-most (inv .named) (passed i));
@@ -236,11 +247,12 @@ loop-again-2 c =
 
 returns : tie.Need-returns Inv-loop μ-loop
 returns c =
+    let entry = c .before .before .before in
     let i = c .before .loop .inv in
-    let s = c .before .before .before .pre .0 in (
+    let s = entry .pre .0 in (
       λ m n cap a.
           pass-column
-          (column-skip (c .before .before .before .args .cost .now) cap (c .before .before .before .args .v - 32) (a .covers) (a .sources) (omega (arith, s .low)) (i .labels m n cap a) (i .most)
+          (column-skip (entry .args .cost .now) cap (entry .args .v - 32) (a .covers) (a .sources) (omega (arith, s .low)) (i .labels m n cap a) (i .most)
           (λ w h o. left-end (i .left) (omega (arith, c .loop-test .left)) w h)) (s .low) (a .sources) (a .sources),
       (i .keys, next-most (i .named) (i .most)),
     )

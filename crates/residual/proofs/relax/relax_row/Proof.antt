@@ -13,7 +13,8 @@ use Rattle.residual.proofs.relax.relax_row.Statement.{statement}
 use Rattle.residual.proofs.relax.relax_row.Tie as tie
 
 abbrev Inv-loop : tie.InvT-loop
-Inv-loop n i cost x cap base pot full want dist₀ prev₀ key₀ j₀ dist prev key j = (j ≤ n) × ((m : ℕ) → i < m → m ≤ 32 → Relabelling (net m n cost cap x) i base 32 (32 + j) dist₀ prev₀ dist prev × Rekeyed (net m n cost cap x) want i pot dist₀ dist key₀ key)
+Inv-loop n i cost x cap base pot full want dist₀ prev₀ key₀ j₀ dist prev key j =
+    (j ≤ n) × ((m : ℕ) → i < m → m ≤ 32 → Relabelling (net m n cost cap x) i base 32 (32 + j) dist₀ prev₀ dist prev × Rekeyed (net m n cost cap x) want i pot dist₀ dist key₀ key)
 
 abbrev μ-loop : tie.MeasureT-loop
 μ-loop n i cost x cap base pot full want dist₀ prev₀ key₀ j₀ dist prev key j = n - j
@@ -83,11 +84,17 @@ element-copy-out-row-key-3 c = search needs
 
 row-key-requires : tie.Need-row-key-requires Inv-loop μ-loop
 row-key-requires c κs =
-    let j = c .before .before .before .before .before .before .before .before .before .before .loop .j in
-    let s = c .before .before .before .before .before .before .before .before .before .before .before .pre .0 in
-    let old = c .before .before .before .before .before .before .before .before .before .before .loop .inv .1 32 (s .source) (omega arith) .0 .rest (32 + j) (omega arith) in
-    let z = pick-low (c .before .before .before .before .wins .ensures) (λ o. s .ahead j (c .before .before .before .before .before .before .before .before .before .loop-test .taken) o) (omega (arith, s .low (32 + j) (omega (arith, s .terminals)), old)) (omega (arith, s .most (32 + j) (omega (arith, s .terminals)), old)) (c .before .before .pick .ensures) in
-    (z .0, z .1, c .before .before .before .before .before .before .before .before .before .before .before .pre .1 .bits .bit (32 + j) (omega (arith, s .terminals)))
+    let at-wins = c .before .before .before .before in
+    let at-loop-test = at-wins .before .before .before .before .before in
+    let at-loop = at-loop-test .before in
+    let entry = at-loop .before in
+    let j = at-loop .loop .j in
+    let s = entry .pre .0 in
+    let old = at-loop .loop .inv .1 32 (s .source) (omega arith) .0 .rest (32 + j) (omega arith) in
+    let z = pick-low (at-wins .wins .ensures) (λ o. s .ahead j (at-loop-test .loop-test .taken) o)
+    (omega (arith, s .low (32 + j) (omega (arith, s .terminals)), old)) (omega (arith, s .most (32 + j) (omega (arith, s .terminals)), old))
+    (c .before .before .pick .ensures) in
+    (z .0, z .1, entry .pre .1 .bits .bit (32 + j) (omega (arith, s .terminals)))
 
 cast-offer : tie.Need-cast-offer Inv-loop μ-loop
 cast-offer c = omega (arith, c .before .before .before .before .before .before .before .before .before .before .before .before .pre .0 .source)
@@ -103,11 +110,17 @@ loop-less c = search needs
 
 loop-again : tie.Need-loop-again Inv-loop μ-loop
 loop-again c =
-    let j = c .before .before .before .before .before .before .before .before .before .before .before .before .before .before .before .loop .j in
-    let s = c .before .before .before .before .before .before .before .before .before .before .before .before .before .before .before .before .pre .0 in
-    let inv = c .before .before .before .before .before .before .before .before .before .before .before .before .before .before .before .loop .inv in
-    let l = c .before .before .before .before .before .before .before .before .before .before .before .before .before .before .loop-test .taken in
-    let w = c .before .before .before .before .before .before .before .before .before .wins .ensures in (
+    let at-row-key = c .before .before .before .before in
+    let at-pick = at-row-key .before .before .before in
+    let at-wins = at-pick .before .before in
+    let at-loop-test = at-wins .before .before .before .before .before in
+    let at-loop = at-loop-test .before in
+    let entry = at-loop .before in
+    let j = at-loop .loop .j in
+    let s = entry .pre .0 in
+    let inv = at-loop .loop .inv in
+    let l = at-loop-test .loop-test .taken in
+    let w = at-wins .wins .ensures in (
       omega arith,
       λ m hi hm. (
         pass-open (inv .1 m hi hm .0) (omega arith) hm (omega (arith, s .terminals))
@@ -115,7 +128,7 @@ loop-again c =
             (λ h t' k' a. row-left _ j w refl hm hi h a)
             (c .offer .ensures),
         rekey-open (inv .1 m hi hm .1) (inv .1 m hi hm .0 .long-dist) (omega (arith, s .terminals)) (λ h. w .taken h .0)
-            (row-made w (c .before .before .before .before .before .before .before .pick .ensures) (c .before .before .before .before .row-key .ensures) hi l refl) (c .offer .ensures),
+            (row-made w (at-pick .pick .ensures) (at-row-key .row-key .ensures) hi l refl) (c .offer .ensures),
       ),
     )
 

@@ -63,7 +63,12 @@ same-length-2 : tie.Need-same-length-2
 same-length-2 c = search needs
 
 returns-2 : tie.Need-returns-2
-returns-2 c = case-rewritten _ _ _ _ _ _ _ _ _ _ (c .before .before .before .before .before .before .before .before .before .before .before .before .before .before .before .before .before .before .read-case .ensures) (stored (c .before .before .before .before .before .before .before .before .before .before .before .before .before .before .before .before .before .before .before .before .before .before .before)) _ _ _ (c .before .before .before .before .before .before .before .before .before .before .before .before .answer2 .given .1) (c .before .before .before .before .write-stored .ensures)
+returns-2 c =
+    let at-write-stored = c .before .before .before .before in
+    let at-answer2 = at-write-stored .before .before .before .before .before .before .before .before in
+    let at-read-case = at-answer2 .before .before .before .before .before .before in
+    let at-entry-cells = at-read-case .before .before .before .before .before in
+    case-rewritten _ _ _ _ _ _ _ _ _ _ (at-read-case .read-case .ensures) (stored at-entry-cells) _ _ _ (at-answer2 .answer2 .given .1) (at-write-stored .write-stored .ensures)
 
 pub rewrite-files-spec : {M : Type 1} → statement M
 rewrite-files-spec =
