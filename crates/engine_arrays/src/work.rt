@@ -8,7 +8,7 @@ ghost use Rattle.problem.specs.Range.{outside, raisedOf, AllInside};
 ghost use Rattle.engine_arrays.specs.inner.Copy.{Narrow, Copied, RowsMoved, Supplied, Wanted};
 
 // Copies a slice whose numbers fit 32 bits into working cells from index `at` on.
-pub fn copy_into(source: &[u64], at: usize, to: &mut [u32])
+fn copy_into(source: &[u64], at: usize, to: &mut [u32])
     requires { ⌜ (at + length (now source) ≤ length (now to)) × Narrow (now source) ⌝ }
     ensures { λ _. ⌜ Copied (now (source .entry)) at (now (to .entry)) (now (to .exit)) ⌝ }
 {
@@ -20,7 +20,7 @@ pub fn copy_into(source: &[u64], at: usize, to: &mut [u32])
 }
 
 // Copies working cells into a slice from index `at` on.
-pub fn copy_out(cells: &[u32], at: usize, to: &mut [u64])
+fn copy_out(cells: &[u32], at: usize, to: &mut [u64])
     requires { ⌜ at + length (now cells) ≤ length (now to) ⌝ }
     ensures { λ _. ⌜ Copied (now (cells .entry)) at (now (to .entry)) (now (to .exit)) ⌝ }
 {
@@ -40,7 +40,7 @@ pub fn raised(cost: i64) -> u32
 }
 
 // Writes raised costs into working cells from index `at` on.
-pub fn raise_into(source: &[i64], at: usize, to: &mut [u32])
+fn raise_into(source: &[i64], at: usize, to: &mut [u32])
     requires { ⌜ (at + length (now source) ≤ length (now to)) × AllInside (now source) ⌝ }
     ensures { λ _. ⌜ Copied (map raisedOf (now (source .entry))) at (now (to .entry)) (now (to .exit)) ⌝ }
 {
@@ -67,7 +67,8 @@ pub fn raise_rows(m: usize, n: usize, costs: &[i64], to: &mut [u32; 2048])
 // Copies m rows of n amounts out of rows of 64; later cells are left as they are.
 pub fn gather_rows(m: usize, n: usize, cells: &[u32; 2048], to: &mut [u64])
     requires { ⌜ (m ≤ 32) × (n ≤ 64) × (m * n ≤ length (now to)) ⌝ }
-    ensures { λ _. ⌜ RowsMoved m n 64 n (now (cells .entry)) (now (to .exit)) × (length (now (to .exit)) ≡ length (now (to .entry))) × ((k : ℕ) → m * n ≤ k → getD (now (to .exit)) k 0 ≡ getD (now (to .entry)) k 0) ⌝ }
+    ensures { λ _. ⌜ RowsMoved m n 64 n (now (cells .entry)) (now (to .exit)) × (length (now (to .exit)) ≡ length (now (to .entry))) ×
+        ((k : ℕ) → m * n ≤ k → getD (now (to .exit)) k 0 ≡ getD (now (to .entry)) k 0) ⌝ }
 {
     let all = &cells[..];
     let mut at: usize = 0;

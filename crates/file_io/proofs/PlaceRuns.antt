@@ -67,7 +67,8 @@ module _ (l : List ℕ) (i : ℕ) where
       start-on here′ part′ h miss e f = ap (λ (x : List ℕ). startFrom wanted field i here part x) (ahead h) ∙ go (eqb here wanted) refl (eqb part field) refl
         where
           same : startFrom wanted field (i + 1) (recordAfter here (getD l i 0)) (fieldAfter part (getD l i 0)) (drop (i + 1) l) ≡ startFrom wanted field (i + 1) here′ part′ (drop (i + 1) l)
-          same = ap (λ (x : ℕ). startFrom wanted field (i + 1) x (fieldAfter part (getD l i 0)) (drop (i + 1) l)) (sym e) ∙ ap (λ (x : ℕ). startFrom wanted field (i + 1) here′ x (drop (i + 1) l)) (sym f)
+          same =
+              ap (λ (x : ℕ). startFrom wanted field (i + 1) x (fieldAfter part (getD l i 0)) (drop (i + 1) l)) (sym e) ∙ ap (λ (x : ℕ). startFrom wanted field (i + 1) here′ x (drop (i + 1) l)) (sym f)
 
           go : (a : Bool) → eqb here wanted ≡ a → (b : Bool) → eqb part field ≡ b →
               cond (a && b) i (startFrom wanted field (i + 1) (recordAfter here (getD l i 0)) (fieldAfter part (getD l i 0)) (drop (i + 1) l))

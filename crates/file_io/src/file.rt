@@ -25,13 +25,13 @@ pub fn first(s: &[u8], n: usize) -> &[u8]
 }
 
 // How many bytes of the room a file takes up to now, and whether that is all.
-pub struct Taken {
+struct Taken {
     pub at: usize,
     pub ends: bool,
 }
 
 // What a read at an offset of the room tells, by what it answered.
-pub fn after_read(got: isize, at: usize, room: &[u8]) -> Taken
+fn after_read(got: isize, at: usize, room: &[u8]) -> Taken
     ensures { λ r. ⌜ Told (ltZ got (pos 0)) (clamped got (length (now (room .entry)))) at (length (now (room .entry))) (r .at) (r .ends) ⌝ }
 {
     let size = room.len();

@@ -34,7 +34,8 @@ use Rattle.flow_network.specs.declared.Answer.the-variants as answers
 use Rattle.flow_network.specs.Answer.{outcome, countIn, countOf, arcsSaid}
 use Rattle.flow_files.specs.declared.Formed.{Formed}
 use Rattle.flow_files.specs.declared.Formed.the-variants as formeds
-use Rattle.flow_files.specs.Printing.{placeOf, room, networkOutcome, tableThen, tableOutcome, formThen, filesOutcome, flowBytes, FlowPrinted, RefusalPrinted, OutcomePrinted, NetworkPrinted, TablePrinted, FilesPrinted}
+use Rattle.flow_files.specs.Printing.{placeOf, room, networkOutcome, tableThen, tableOutcome, formThen, filesOutcome, flowBytes, FlowPrinted}
+use Rattle.flow_files.specs.Printing.{RefusalPrinted, OutcomePrinted, NetworkPrinted, TablePrinted, FilesPrinted}
 use Rattle.flow_files.specs.inner.ArcCells.{FormedIs, ArcsCut, cutText}
 use Rattle.problem.proofs.TestsPassed.{either-first, either-second}
 
@@ -85,7 +86,8 @@ module _ (place : ℕ) (table : List ℕ) (f : File) (total : ℤ) (count : ℕ)
   unfolding outOfLimits
   bad = either-first _ _ limits
 
-  name : (ltb place 1 ≡ false) × (ltb (arcCount (networkOf f)) place ≡ false) × (not (eqb (length table) (ceiling (networkOf f) (place - 1) + 1)) ≡ false) × (anyOf (λ e. ltb 1000000000 e) table ≡ false)
+  name :
+      (ltb place 1 ≡ false) × (ltb (arcCount (networkOf f)) place ≡ false) × (not (eqb (length table) (ceiling (networkOf f) (place - 1) + 1)) ≡ false) × (anyOf (λ e. ltb 1000000000 e) table ≡ false)
   unfolding outOfLimits badName
   name =
       four (ltb place 1) (ltb (arcCount (networkOf f)) place) (not (eqb (length table) (ceiling (networkOf f) (place - 1) + 1))) (anyOf (λ e. ltb 1000000000 e) table)
@@ -151,11 +153,14 @@ module _ (place : ℕ) (table : List ℕ) (f : File) (total : ℤ) (count : ℕ)
       not-false true e = refl
       not-false false e = absurd (true≢false e)
 
-  fits : FlowFits (listed table (listed (given .amounts) (place - 1))) (map (λ (a : Arc). a .start) (arcsOf f)) (map (λ (a : Arc). a .end) (arcsOf f)) (given .amounts) (map (λ (a : Arc). a .cost) (arcsOf f))
+  fits :
+      FlowFits (listed table (listed (given .amounts) (place - 1))) (map (λ (a : Arc). a .start) (arcsOf f)) (map (λ (a : Arc). a .end) (arcsOf f))
+      (given .amounts) (map (λ (a : Arc). a .cost) (arcsOf f))
   fits = record {
     few = omega (arith, few, starts-count);
     in-ends = omega (arith, starts-count, ends-count);
-    charged = omega (arith, ltb-false 1000000000 (listed table (listed (given .amounts) (place - 1))) (none-of (λ e. ltb 1000000000 e) table 0 (name .3) (listed (given .amounts) (place - 1)) entered));
+    charged =
+        omega (arith, ltb-false 1000000000 (listed table (listed (given .amounts) (place - 1))) (none-of (λ e. ltb 1000000000 e) table 0 (name .3) (listed (given .amounts) (place - 1)) entered));
     narrow-costs = record {
       there = omega (arith, starts-count, costs-count);
       below = λ k h.
@@ -195,7 +200,8 @@ count-known s {a} {total} {count} h e f form =
 
 -- what is answered of a network file is printed
 module _ (s : List ℕ) (place : ℕ) (table : List ℕ) (before after : Slices)
-    (flow-long : length (before .flow) ≡ 64) (starts-long : length (before .starts) ≡ 64) (ends-long : length (before .ends) ≡ 64) (ceilings-long : length (before .ceilings) ≡ 64) (costs-long : length (before .costs) ≡ 64) where
+    (flow-long : length (before .flow) ≡ 64) (starts-long : length (before .starts) ≡ 64) (ends-long : length (before .ends) ≡ 64)
+    (ceilings-long : length (before .ceilings) ≡ 64) (costs-long : length (before .costs) ≡ 64) where
   room-is : roomOf before ≡ room
   room-is = rw (flow-long, starts-long, ends-long, ceilings-long, costs-long) refl
 

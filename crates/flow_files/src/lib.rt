@@ -91,7 +91,9 @@ fn print_flow(
     costs: &[i64],
 ) -> Printed
     requires { ⌜ ArcsCut count place (now table) (now flow) (now starts) (now ends) (now costs) ⌝ }
-    ensures { λ r. ⌜ Told 0 0 0 0 (cutText total count place (now (table .entry)) (now (flow .entry)) (now (starts .entry)) (now (ends .entry)) (now (costs .entry))) (now (out .entry)) (now (out .exit)) r ⌝ }
+    ensures { λ r. ⌜ Told 0 0 0 0
+        (cutText total count place (now (table .entry)) (now (flow .entry)) (now (starts .entry)) (now (ends .entry)) (now (costs .entry)))
+        (now (out .entry)) (now (out .exit)) r ⌝ }
 {
     let named = place - 1;
     let at = flow[named] as usize;

@@ -9,7 +9,7 @@ use ratetable::rates;
 
 // Writes the rates of the outputs 0 to `most`, each a record of its own. Gives the length of the text, at most 24,006; 0, and nothing is
 // written, where `most` is above 4,000.
-pub fn put_rates(out: &mut [u8], most: u64) -> usize
+fn put_rates(out: &mut [u8], most: u64) -> usize
     ensures { λ r. ⌜ Written (now (out .entry)) (now (out .exit)) 0 r (ratesText most) 24006 ⌝ }
 {
     if 4_000 < most {

@@ -36,7 +36,9 @@ pub fn enter(
     table: &[u64],
     store: &mut [u64],
 ) -> Verdict
-    ensures { λ r. ⌜ Entered (draft m n run1 run2 (now (costs .entry)) (now (supplies .entry)) (now (demands .entry)) (now (ceilings .entry)) (now (table .entry))) (now (store .entry)) (now (store .exit)) (verdict r) ⌝ }
+    ensures { λ r. ⌜ Entered
+        (draft m n run1 run2 (now (costs .entry)) (now (supplies .entry)) (now (demands .entry)) (now (ceilings .entry)) (now (table .entry)))
+        (now (store .entry)) (now (store .exit)) (verdict r) ⌝ }
 {
     work_case::enter(
         m,
@@ -120,7 +122,9 @@ pub fn plan_case(
     splits: &mut [u64],
     freights: &mut [i64],
 ) -> Answer
-    ensures { λ r. ⌜ PlannedBy role (heldIn (now (store .entry))) (length (now (plan .entry))) (length (now (splits .entry))) (length (now (freights .entry))) (outcome r) (slices (now (plan .entry)) (now (splits .entry)) (now (freights .entry))) (slices (now (plan .exit)) (now (splits .exit)) (now (freights .exit))) ⌝ }
+    ensures { λ r. ⌜ PlannedBy role (heldIn (now (store .entry))) (length (now (plan .entry))) (length (now (splits .entry)))
+        (length (now (freights .entry))) (outcome r) (slices (now (plan .entry)) (now (splits .entry)) (now (freights .entry)))
+        (slices (now (plan .exit)) (now (splits .exit)) (now (freights .exit))) ⌝ }
 {
     if may(role, 6) {
         return work_case::plan_case(store, plan, splits, freights);
@@ -139,7 +143,8 @@ pub fn see_tariff(
     supplies: &mut [u64],
     demands: &mut [u64],
 ) -> Verdict
-    ensures { λ r. ⌜ TariffSeen role (heldIn (now (store .entry))) (now (costs .entry)) (now (supplies .entry)) (now (demands .entry)) (now (costs .exit)) (now (supplies .exit)) (now (demands .exit)) (verdict r) ⌝ }
+    ensures { λ r. ⌜ TariffSeen role (heldIn (now (store .entry))) (now (costs .entry)) (now (supplies .entry)) (now (demands .entry))
+        (now (costs .exit)) (now (supplies .exit)) (now (demands .exit)) (verdict r) ⌝ }
 {
     if may(role, 4) {
         return work_case::see_tariff(store, costs, supplies, demands);
@@ -176,7 +181,9 @@ pub fn plan_mark(
     splits: &mut [u64],
     freights: &mut [i64],
 ) -> Answer
-    ensures { λ r. ⌜ MarkPlannedBy role k (heldIn (now (store .entry))) (length (now (plan .entry))) (length (now (splits .entry))) (length (now (freights .entry))) (outcome r) (slices (now (plan .entry)) (now (splits .entry)) (now (freights .entry))) (slices (now (plan .exit)) (now (splits .exit)) (now (freights .exit))) ⌝ }
+    ensures { λ r. ⌜ MarkPlannedBy role k (heldIn (now (store .entry))) (length (now (plan .entry))) (length (now (splits .entry)))
+        (length (now (freights .entry))) (outcome r) (slices (now (plan .entry)) (now (splits .entry)) (now (freights .entry)))
+        (slices (now (plan .exit)) (now (splits .exit)) (now (freights .exit))) ⌝ }
 {
     if may_plan(role) {
         return work_case::plan_mark(k, store, plan, splits, freights);
@@ -189,7 +196,8 @@ pub fn plan_mark(
 
 // Shows the two least runs and the ceilings: the planner's alone, as planning is.
 pub fn see_limits(role: usize, store: &[u64], runs: &mut [u64], ceilings: &mut [u64]) -> Verdict
-    ensures { λ r. ⌜ LimitsSeen role (heldIn (now (store .entry))) (now (runs .entry)) (now (ceilings .entry)) (now (runs .exit)) (now (ceilings .exit)) (verdict r) ⌝ }
+    ensures { λ r. ⌜ LimitsSeen role (heldIn (now (store .entry))) (now (runs .entry)) (now (ceilings .entry)) (now (runs .exit))
+        (now (ceilings .exit)) (verdict r) ⌝ }
 {
     if may_plan(role) {
         return work_case::see_limits(store, runs, ceilings);

@@ -47,19 +47,32 @@ slice-aggregate-print-flow-4 : tie.Need-slice-aggregate-print-flow-4
 slice-aggregate-print-flow-4 c = search needs
 
 print-flow-requires : tie.Need-print-flow-requires
-print-flow-requires c κs = network-cut _ _ _ _ _ refl refl refl refl refl (c .before .before .before .before .before .before .before .before .before .before .before .before .before .cheapest-flow .ensures .0) _ (ap outcome (c .before .before .before .before .before .before .answer2 .given .1)) _ (count-known _ (c .before .before .before .before .before .before .before .before .before .before .before .before .before .cheapest-flow .ensures .1) (c .before .before .before .before .before .before .answer2 .given .1))
+print-flow-requires c κs =
+    let at-answer2 = c .before .before .before .before .before .before in
+    let at-cheapest-flow = at-answer2 .before .before .before .before .before .before .before in
+    network-cut _ _ _ _ _ refl refl refl refl refl (at-cheapest-flow .cheapest-flow .ensures .0) _ (ap outcome (at-answer2 .answer2 .given .1)) _
+    (count-known _ (at-cheapest-flow .cheapest-flow .ensures .1) (at-answer2 .answer2 .given .1))
 
 same-length : tie.Need-same-length
 same-length c = search needs
 
 returns : tie.Need-returns
-returns c = network-refused _ _ _ _ _ refl refl refl refl refl (c .before .before .before .before .before .before .before .before .before .before .before .before .cheapest-flow .ensures .0) (ap outcome (c .before .before .before .before .before .answer .given .1)) (c .before .before .print-refusal .ensures)
+returns c =
+    let at-answer = c .before .before .before .before .before in
+    let at-cheapest-flow = at-answer .before .before .before .before .before .before .before in
+    network-refused _ _ _ _ _ refl refl refl refl refl (at-cheapest-flow .cheapest-flow .ensures .0) (ap outcome (at-answer .answer .given .1)) (c .before .before .print-refusal .ensures)
 
 same-length-2 : tie.Need-same-length-2
 same-length-2 c = search needs
 
 returns-2 : tie.Need-returns-2
-returns-2 c = network-flow _ _ _ _ _ refl refl refl refl refl (c .before .before .before .before .before .before .before .before .before .before .before .before .before .before .before .before .cheapest-flow .ensures .0) _ (ap outcome (c .before .before .before .before .before .before .before .before .before .answer2 .given .1)) _ (count-known _ (c .before .before .before .before .before .before .before .before .before .before .before .before .before .before .before .before .cheapest-flow .ensures .1) (c .before .before .before .before .before .before .before .before .before .answer2 .given .1)) (rw (read-back (c .before .before .before .before .before .before .before .before .before .answer2 .given .0 .0) (c .before .before .before .before .before .before .before .before .known-told2 .given .0 .1)) at (c .before .before .print-flow .ensures))
+returns-2 c =
+    let at-known-told2 = c .before .before .before .before .before .before .before .before in
+    let at-answer2 = at-known-told2 .before in
+    let at-cheapest-flow = at-answer2 .before .before .before .before .before .before .before in
+    network-flow _ _ _ _ _ refl refl refl refl refl (at-cheapest-flow .cheapest-flow .ensures .0) _ (ap outcome (at-answer2 .answer2 .given .1)) _
+    (count-known _ (at-cheapest-flow .cheapest-flow .ensures .1) (at-answer2 .answer2 .given .1))
+    (rw (read-back (at-answer2 .answer2 .given .0 .0) (at-known-told2 .known-told2 .given .0 .1)) at (c .before .before .print-flow .ensures))
 
 pub print-network-spec : {M : Type 1} → statement M
 print-network-spec =

@@ -25,16 +25,22 @@ same-length c = search needs
 
 returns : tie.Need-returns
 returns c =
-    let s = c .before .before .before .before .before .before .before .before .before .before .args in
-    not-formed (now (s .network)) (c .before .before .before .before .before .before .before .check-form .ensures) (s .number) (s .place) (c .before .before .before .before .before .formed .given .1) (c .before .before .print-refusal .ensures)
+    let at-formed = c .before .before .before .before .before in
+    let at-check-form = at-formed .before .before in
+    let entry = at-check-form .before .before .before in
+    let s = entry .args in
+    not-formed (now (s .network)) (at-check-form .check-form .ensures) (s .number) (s .place) (at-formed .formed .given .1) (c .before .before .print-refusal .ensures)
 
 same-length-2 : tie.Need-same-length-2
 same-length-2 c = search needs
 
 returns-2 : tie.Need-returns-2
 returns-2 c =
-    let s = c .before .before .before .before .before .before .before .before .before .args in
-    well-formed (now (s .network)) (c .before .before .before .before .before .before .check-form .ensures) (s .number) (s .place) (c .before .before .before .before .enum-told .given .1) (c .before .before .print-refusal2 .ensures)
+    let at-enum-told = c .before .before .before .before in
+    let at-check-form = at-enum-told .before .before in
+    let entry = at-check-form .before .before .before in
+    let s = entry .args in
+    well-formed (now (s .network)) (at-check-form .check-form .ensures) (s .number) (s .place) (at-enum-told .enum-told .given .1) (c .before .before .print-refusal2 .ensures)
 
 pub print-refused-spec : {M : Type 1} → statement M
 print-refused-spec =

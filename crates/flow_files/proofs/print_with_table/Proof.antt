@@ -39,7 +39,11 @@ array-share-prefix-entries : tie.Need-array-share-prefix-entries
 array-share-prefix-entries c = search needs
 
 slice-aggregate-print-network : tie.Need-slice-aggregate-print-network
-slice-aggregate-print-network c = sym (length-take-le _ _ (entries-kept _ _ _ _ _ (room (c .before .before .before .before .before .before .before .before .before)) (c .before .before .before .before .before .before .before .read-entries .ensures) (c .before .before .before .before .answer2 .given .1) (c .before .before .smaller .ensures)))
+slice-aggregate-print-network c =
+    let at-answer2 = c .before .before .before .before in
+    let at-read-entries = at-answer2 .before .before .before in
+    let at-entry-cells = at-read-entries .before .before in
+    sym (length-take-le _ _ (entries-kept _ _ _ _ _ (room at-entry-cells) (at-read-entries .read-entries .ensures) (at-answer2 .answer2 .given .1) (c .before .before .smaller .ensures)))
 
 print-network-requires : tie.Need-print-network-requires
 print-network-requires c κs = search needs
@@ -48,13 +52,23 @@ same-length : tie.Need-same-length
 same-length c = search needs
 
 returns : tie.Need-returns
-returns c = table-refused _ _ _ (c .before .before .before .before .before .before .before .before .read-entries .ensures) (c .before .before .before .before .before .answer .given .1) (c .before .before .print-refused .ensures)
+returns c =
+    let at-answer = c .before .before .before .before .before in
+    let at-read-entries = at-answer .before .before .before in
+    table-refused _ _ _ (at-read-entries .read-entries .ensures) (at-answer .answer .given .1) (c .before .before .print-refused .ensures)
 
 same-length-2 : tie.Need-same-length-2
 same-length-2 c = search needs
 
 returns-2 : tie.Need-returns-2
-returns-2 c = table-read _ _ _ (c .before .before .before .before .before .before .before .before .before .before .before .read-entries .ensures) _ _ _ (room (c .before .before .before .before .before .before .before .before .before .before .before .before .before)) (c .before .before .before .before .before .before .before .before .answer2 .given .1) (c .before .before .before .before .before .before .smaller .ensures) (c .before .before .before .before .before .read-place .ensures) (c .before .before .print-network .ensures)
+returns-2 c =
+    let at-read-place = c .before .before .before .before .before in
+    let at-smaller = at-read-place .before in
+    let at-answer2 = at-smaller .before .before in
+    let at-read-entries = at-answer2 .before .before .before in
+    let at-entry-cells = at-read-entries .before .before in
+    table-read _ _ _ (at-read-entries .read-entries .ensures) _ _ _ (room at-entry-cells) (at-answer2 .answer2 .given .1)
+    (at-smaller .smaller .ensures) (at-read-place .read-place .ensures) (c .before .before .print-network .ensures)
 
 pub print-with-table-spec : {M : Type 1} → statement M
 print-with-table-spec =

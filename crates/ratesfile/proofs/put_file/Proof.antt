@@ -22,7 +22,10 @@ same-length : tie.Need-same-length
 same-length c = search needs
 
 returns : tie.Need-returns
-returns c = file-for _ (Number _) (sym (c .before .before .before .before .before .before .before .read-short .ensures) ∙ c .before .before .before .before .before .output .given .1) (c .before .before .put-rates .ensures)
+returns c =
+    let at-output = c .before .before .before .before .before in
+    let at-read-short = at-output .before .before in
+    file-for _ (Number _) (sym (at-read-short .read-short .ensures) ∙ at-output .output .given .1) (c .before .before .put-rates .ensures)
 
 returns-2 : tie.Need-returns-2
 returns-2 c = file-for _ Unclear (sym (c .before .before .read-short .ensures) ∙ c .enum-told .given .1) no-file

@@ -30,7 +30,9 @@ same-length c = search needs
 
 returns-2 : tie.Need-returns-2
 returns-2 c =
-    column-of-rates _ (c .before .before .before .before .before .before .if1 .left) (c .before .before .before .before .before .rates .ensures) (c .before .before .put-column .ensures)
+    let at-rates = c .before .before .before .before .before in
+    let at-if1 = at-rates .before in
+    column-of-rates _ (at-if1 .if1 .left) (at-rates .rates .ensures) (c .before .before .put-column .ensures)
 
 pub put-rates-spec : {M : Type 1} → statement M
 put-rates-spec =

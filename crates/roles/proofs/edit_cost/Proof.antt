@@ -21,11 +21,19 @@ same-length c = search needs
 
 returns : tie.Need-returns
 unfolding column first
-returns c = by-call _ _ _ _ _ (let-in _ (work (editCost (c .before .before .before .before .before .before .before .args .i) (c .before .before .before .before .before .before .before .args .j) (c .before .before .before .before .before .before .before .args .value))) _ (c .before .before .before .before .before .may .ensures) refl (c .before .before .before .before .if1 .taken)) (same-cost _ _ _ _ _ _ _ (toZ-ofZ w64 (c .before .before .before .before .before .before .before .args .value) (c .before .before .before .before .before .before .before .fits .value)) (c .before .before .edit-cost .ensures))
+returns c =
+    let at-if1 = c .before .before .before .before in
+    let at-may = at-if1 .before in
+    let entry = at-may .before .before in
+    by-call _ _ _ _ _
+    (let-in _ (work (editCost (entry .args .i) (entry .args .j) (entry .args .value))) _ (at-may .may .ensures) refl (at-if1 .if1 .taken))
+    (same-cost _ _ _ _ _ _ _ (toZ-ofZ w64 (entry .args .value) (entry .fits .value)) (c .before .before .edit-cost .ensures))
 
 returns-2 : tie.Need-returns-2
 unfolding column first
-returns-2 c = by-role _ _ _ (kept-out _ (work (editCost (c .before .before .before .args .i) (c .before .before .before .args .j) (c .before .before .before .args .value))) _ (c .before .may .ensures) (c .if1 .left))
+returns-2 c =
+    let entry = c .before .before .before in
+    by-role _ _ _ (kept-out _ (work (editCost (entry .args .i) (entry .args .j) (entry .args .value))) _ (c .before .may .ensures) (c .if1 .left))
 
 pub edit-cost-spec : {M : Type 1} → statement M
 edit-cost-spec =

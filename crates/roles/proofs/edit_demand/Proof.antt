@@ -18,7 +18,11 @@ same-length c = search needs
 
 returns : tie.Need-returns
 unfolding column first
-returns c = by-call _ _ _ _ _ (let-in _ (work (editDemand (c .before .before .before .before .before .before .before .args .j) (c .before .before .before .before .before .before .before .args .value))) _ (c .before .before .before .before .before .may .ensures) refl (c .before .before .before .before .if1 .taken)) (c .before .before .edit-demand .ensures)
+returns c =
+    let at-if1 = c .before .before .before .before in
+    let at-may = at-if1 .before in
+    let entry = at-may .before .before in
+    by-call _ _ _ _ _ (let-in _ (work (editDemand (entry .args .j) (entry .args .value))) _ (at-may .may .ensures) refl (at-if1 .if1 .taken)) (c .before .before .edit-demand .ensures)
 
 returns-2 : tie.Need-returns-2
 unfolding column first

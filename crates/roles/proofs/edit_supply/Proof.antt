@@ -17,7 +17,11 @@ same-length c = search needs
 
 returns : tie.Need-returns
 unfolding column first
-returns c = by-call _ _ _ _ _ (let-in-first _ (work (editSupply (c .before .before .before .before .before .before .before .args .i) (c .before .before .before .before .before .before .before .args .value))) _ (c .before .before .before .before .before .may-supply .ensures) (c .before .before .before .before .if1 .taken)) (c .before .before .edit-supply .ensures)
+returns c =
+    let at-if1 = c .before .before .before .before in
+    let at-may-supply = at-if1 .before in
+    let entry = at-may-supply .before .before in
+    by-call _ _ _ _ _ (let-in-first _ (work (editSupply (entry .args .i) (entry .args .value))) _ (at-may-supply .may-supply .ensures) (at-if1 .if1 .taken)) (c .before .before .edit-supply .ensures)
 
 returns-2 : tie.Need-returns-2
 unfolding column first

@@ -17,7 +17,10 @@ same-length c = search needs
 
 returns : tie.Need-returns
 unfolding column first
-returns c = marks-call _ _ _ _ _ (let-in _ plan _ (c .before .before .before .before .before .may-plan .ensures) refl (c .before .before .before .before .if1 .taken)) (c .before .before .marks-set .ensures)
+returns c =
+    let at-if1 = c .before .before .before .before in
+    let at-may-plan = at-if1 .before in
+    marks-call _ _ _ _ _ (let-in _ plan _ (at-may-plan .may-plan .ensures) refl (at-if1 .if1 .taken)) (c .before .before .marks-set .ensures)
 
 returns-2 : tie.Need-returns-2
 unfolding column first

@@ -23,7 +23,11 @@ same-length-3 c = search needs
 
 returns : tie.Need-returns
 unfolding column first
-returns c = plan-call _ _ _ _ _ _ _ _ (let-in _ plan _ (c .before .before .before .before .before .before .before .before .before .before .may .ensures) refl (c .before .before .before .before .before .before .before .before .before .if1 .taken)) (c .before .before .before .before .before .plan-case .ensures)
+returns c =
+    let at-plan-case = c .before .before .before .before .before in
+    let at-if1 = at-plan-case .before .before .before .before in
+    let at-may = at-if1 .before in
+    plan-call _ _ _ _ _ _ _ _ (let-in _ plan _ (at-may .may .ensures) refl (at-if1 .if1 .taken)) (at-plan-case .plan-case .ensures)
 
 returns-2 : tie.Need-returns-2
 unfolding column first

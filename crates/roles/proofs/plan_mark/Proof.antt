@@ -26,8 +26,12 @@ same-length-3 c = search needs
 returns : tie.Need-returns
 unfolding column first
 returns c =
-    let p = c .before .before .before .before .before .before .before .before .before .before .before .before .before .before .args in
-    mark-call _ (heldIn (now (p .store))) _ _ _ (p .k) _ _ _ (let-in _ plan _ (c .before .before .before .before .before .before .before .before .before .before .may-plan .ensures) refl (c .before .before .before .before .before .before .before .before .before .if1 .taken)) (c .before .before .before .before .before .plan-mark .ensures)
+    let at-plan-mark = c .before .before .before .before .before in
+    let at-if1 = at-plan-mark .before .before .before .before in
+    let at-may-plan = at-if1 .before in
+    let entry = at-may-plan .before .before .before .before in
+    let p = entry .args in
+    mark-call _ (heldIn (now (p .store))) _ _ _ (p .k) _ _ _ (let-in _ plan _ (at-may-plan .may-plan .ensures) refl (at-if1 .if1 .taken)) (at-plan-mark .plan-mark .ensures)
 
 returns-2 : tie.Need-returns-2
 unfolding column first

@@ -20,7 +20,11 @@ same-length-2 c = search needs
 
 returns : tie.Need-returns
 unfolding column first
-returns c = limits-call _ _ _ _ _ _ _ (let-in _ plan _ (c .before .before .before .before .before .before .before .before .may-plan .ensures) refl (c .before .before .before .before .before .before .before .if1 .taken)) (c .before .before .before .before .see-limits .ensures)
+returns c =
+    let at-see-limits = c .before .before .before .before in
+    let at-if1 = at-see-limits .before .before .before in
+    let at-may-plan = at-if1 .before in
+    limits-call _ _ _ _ _ _ _ (let-in _ plan _ (at-may-plan .may-plan .ensures) refl (at-if1 .if1 .taken)) (at-see-limits .see-limits .ensures)
 
 returns-2 : tie.Need-returns-2
 unfolding column first

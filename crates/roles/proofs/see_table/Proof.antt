@@ -17,7 +17,10 @@ same-length c = search needs
 
 returns : tie.Need-returns
 unfolding column first
-returns c = table-call _ _ _ _ _ (let-in _ seeTable _ (c .before .before .before .before .before .may .ensures) refl (c .before .before .before .before .if1 .taken)) (c .before .before .see-table .ensures)
+returns c =
+    let at-if1 = c .before .before .before .before in
+    let at-may = at-if1 .before in
+    table-call _ _ _ _ _ (let-in _ seeTable _ (at-may .may .ensures) refl (at-if1 .if1 .taken)) (c .before .before .see-table .ensures)
 
 returns-2 : tie.Need-returns-2
 unfolding column first

@@ -23,7 +23,11 @@ same-length-3 c = search needs
 
 returns : tie.Need-returns
 unfolding column first
-returns c = tariff-call _ _ _ _ _ _ _ _ _ (let-in _ seeTariff _ (c .before .before .before .before .before .before .before .before .before .before .may .ensures) refl (c .before .before .before .before .before .before .before .before .before .if1 .taken)) (c .before .before .before .before .before .see-tariff .ensures)
+returns c =
+    let at-see-tariff = c .before .before .before .before .before in
+    let at-if1 = at-see-tariff .before .before .before .before in
+    let at-may = at-if1 .before in
+    tariff-call _ _ _ _ _ _ _ _ _ (let-in _ seeTariff _ (at-may .may .ensures) refl (at-if1 .if1 .taken)) (at-see-tariff .see-tariff .ensures)
 
 returns-2 : tie.Need-returns-2
 unfolding column first

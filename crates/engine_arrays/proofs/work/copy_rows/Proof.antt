@@ -42,10 +42,12 @@ mul-copy-into-2 c = omega (arith, c .before .before .before .before .pre .0)
 
 copy-into-requires : tie.Need-copy-into-requires Inv-loop μ-loop
 copy-into-requires c κs =
+    let at-loop = c .before .before .before in
+    let entry = at-loop .before .before in
     let h = fits (c .before .before) in
-    let s = part-size (c .before .before .before .loop .start) (c .before .before .before .before .before .args .n) (now (c .before .before .before .before .before .args .ceilings)) h in (
-      omega (arith, s, c .before .before .before .loop .inv .0 .long, c .before .before .before .before .before .pre .0, c .before .before .before .before .before .pre .1, c .before .before .before .before .before .pre .3),
-      narrow-part (c .before .before .before .loop .start) (c .before .before .before .before .before .args .n) (now (c .before .before .before .before .before .args .ceilings)) h (c .before .before .before .before .before .pre .4),
+    let s = part-size (at-loop .loop .start) (entry .args .n) (now (entry .args .ceilings)) h in (
+      omega (arith, s, at-loop .loop .inv .0 .long, entry .pre .0, entry .pre .1, entry .pre .3),
+      narrow-part (at-loop .loop .start) (entry .args .n) (now (entry .args .ceilings)) h (entry .pre .4),
     )
 
 add-i : tie.Need-add-i Inv-loop μ-loop
@@ -55,11 +57,14 @@ loop-less : tie.Need-loop-less Inv-loop μ-loop
 loop-less c = omega arith
 
 loop-again : tie.Need-loop-again Inv-loop μ-loop
-loop-again c = (
-  move-next _ _ (c .before .before .before .before .loop .inv .0) (c .before .before .before .before .before .before .pre .1) (c .before .before .before .before .loop .inv .2) refl (fits (c .before .before .before)) (c .copy-into .ensures),
-  omega arith,
-  row-start _ _ _ (c .before .before .before .before .loop .inv .2),
-)
+loop-again c =
+    let at-loop-test = c .before .before .before in
+    let at-loop = at-loop-test .before in
+    let entry = at-loop .before .before in (
+      move-next _ _ (at-loop .loop .inv .0) (entry .pre .1) (at-loop .loop .inv .2) refl (fits at-loop-test) (c .copy-into .ensures),
+      omega arith,
+      row-start _ _ _ (at-loop .loop .inv .2),
+    )
 
 returns : tie.Need-returns Inv-loop μ-loop
 returns c = (move-end (c .before .loop .inv .0) (c .loop-test .left), c .before .loop .inv .0 .long ∙ c .before .before .before .pre .3)

@@ -17,11 +17,15 @@ abbrev μ-loop : tie.MeasureT-loop
 
 -- the row of this pass has room in the slice
 fits : (c : tie.In-loop Inv-loop μ-loop) → c .before .loop .at + c .before .before .before .before .args .n ≤ length (now (c .before .before .before .before .args .to))
-fits c = row-within (c .before .before .before .before .args .m) (c .before .loop .i) _ _ _ (c .loop-test .taken) (c .before .loop .inv .2) (c .before .before .before .before .pre .2)
+fits c =
+    let entry = c .before .before .before .before in
+    row-within (entry .args .m) (c .before .loop .i) _ _ _ (c .loop-test .taken) (c .before .loop .inv .2) (entry .pre .2)
 
 -- and lies within the working array
 inside : (c : tie.In-loop Inv-loop μ-loop) → c .before .loop .i * 64 + c .before .before .before .before .args .n ≤ length (now (c .before .before .before .before .args .cells))
-inside c = omega (arith, c .before .before .before .before .pre .0, c .before .before .before .before .pre .1, c .before .before .all .given)
+inside c =
+    let entry = c .before .before .before .before in
+    omega (arith, entry .pre .0, entry .pre .1, c .before .before .all .given)
 
 loop-holds : tie.Need-loop-holds Inv-loop μ-loop
 loop-holds c = (move-start _ _ _ _ _, omega arith, sym (zero-mul _))
@@ -42,12 +46,17 @@ part-copy-out-start : tie.Need-part-copy-out-start Inv-loop μ-loop
 part-copy-out-start c = omega arith
 
 part-copy-out-end : tie.Need-part-copy-out-end Inv-loop μ-loop
-part-copy-out-end c = omega (arith, c .before .before .before .before .pre .0, c .before .before .before .before .pre .1, c .before .before .all .given)
+part-copy-out-end c =
+    let entry = c .before .before .before .before in
+    omega (arith, entry .pre .0, entry .pre .1, c .before .before .all .given)
 
 copy-out-requires : tie.Need-copy-out-requires Inv-loop μ-loop
 copy-out-requires c κs =
-    let s = part-size (c .before .before .before .loop .i * 64) (c .before .before .before .before .before .before .args .n) (now (c .before .before .before .before .before .before .args .cells)) (inside (c .before .before)) in
-    omega (arith, s, fits (c .before .before), c .before .before .before .loop .inv .0 .long)
+    let at-loop-test = c .before .before in
+    let at-loop = at-loop-test .before in
+    let entry = at-loop .before .before .before in
+    let s = part-size (at-loop .loop .i * 64) (entry .args .n) (now (entry .args .cells)) (inside at-loop-test) in
+    omega (arith, s, fits at-loop-test, at-loop .loop .inv .0 .long)
 
 add-at : tie.Need-add-at Inv-loop μ-loop
 add-at c = omega (arith, fits (c .before .before .before .before .before))
@@ -59,11 +68,13 @@ loop-less : tie.Need-loop-less Inv-loop μ-loop
 loop-less c = omega arith
 
 loop-again : tie.Need-loop-again Inv-loop μ-loop
-loop-again c = (
-  move-next _ _ (c .before .before .before .before .before .before .loop .inv .0) (omega arith) refl (c .before .before .before .before .before .before .loop .inv .2) (inside (c .before .before .before .before .before)) (c .before .before .copy-out .ensures),
-  omega arith,
-  row-start _ _ _ (c .before .before .before .before .before .before .loop .inv .2),
-)
+loop-again c =
+    let at-loop-test = c .before .before .before .before .before in
+    let at-loop = at-loop-test .before in (
+      move-next _ _ (at-loop .loop .inv .0) (omega arith) refl (at-loop .loop .inv .2) (inside at-loop-test) (c .before .before .copy-out .ensures),
+      omega arith,
+      row-start _ _ _ (at-loop .loop .inv .2),
+    )
 
 same-length : tie.Need-same-length Inv-loop μ-loop
 same-length c = c .before .loop .inv .0 .long

@@ -47,11 +47,13 @@ loop-less c = omega arith
 
 loop-again : tie.Need-loop-again Inv-loop μ-loop
 loop-again c =
-    let a = c .before .before .before .before .before .args in
-    let k = c .before .before .before .loop .k in
+    let at-loop = c .before .before .before in
+    let entry = at-loop .before .before in
+    let a = entry .args in
+    let k = at-loop .loop .k in
     let e : c .raised .result ≡ getD (map raisedOf (now (a .source))) k 0 =
     c .raised .ensures ∙ ap raisedOf (read-back _ (c .before .raised-arg .given)) ∙ sym (map-at raisedOf (now (a .source)) k (c .before .before .loop-test .taken)) in (
-      rw e (copy-next (c .before .before .before .loop .inv .0) (omega (arith, length-map (now (a .source)) raisedOf)) (omega arith)),
+      rw e (copy-next (at-loop .loop .inv .0) (omega (arith, length-map (now (a .source)) raisedOf)) (omega arith)),
       omega arith,
     )
 

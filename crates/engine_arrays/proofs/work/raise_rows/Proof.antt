@@ -45,10 +45,12 @@ mul-raise-into-2 c = omega (arith, c .before .before .before .pre .0)
 
 raise-into-requires : tie.Need-raise-into-requires Inv-loop μ-loop
 raise-into-requires c κs =
+    let at-loop = c .before .before .before in
+    let entry = at-loop .before in
     let h = fits (c .before .before) in
-    let s = part-long (c .before .before .before .loop .start) (c .before .before .before .before .args .n) (now (c .before .before .before .before .args .costs)) h in (
-      omega (arith, s, c .before .before .before .loop .inv .0 .long, c .before .before .before .before .pre .0, c .before .before .before .before .pre .1, c .before .before .before .before .pre .3),
-      inside-part (c .before .before .before .loop .start) (c .before .before .before .before .args .n) (now (c .before .before .before .before .args .costs)) h (c .before .before .before .before .pre .4),
+    let s = part-long (at-loop .loop .start) (entry .args .n) (now (entry .args .costs)) h in (
+      omega (arith, s, at-loop .loop .inv .0 .long, entry .pre .0, entry .pre .1, entry .pre .3),
+      inside-part (at-loop .loop .start) (entry .args .n) (now (entry .args .costs)) h (entry .pre .4),
     )
 
 add-i : tie.Need-add-i Inv-loop μ-loop
@@ -59,11 +61,14 @@ loop-less c = omega arith
 
 loop-again : tie.Need-loop-again Inv-loop μ-loop
 loop-again c =
-    let costs = now (c .before .before .before .before .before .args .costs) in (
-      move-next _ _ (c .before .before .before .before .loop .inv .0) (c .before .before .before .before .before .pre .1) (c .before .before .before .before .loop .inv .2) refl
-          (omega (arith, fits (c .before .before .before), length-map costs raisedOf)) (rw map-part at (c .raise-into .ensures)),
+    let at-loop-test = c .before .before .before in
+    let at-loop = at-loop-test .before in
+    let entry = at-loop .before in
+    let costs = now (entry .args .costs) in (
+      move-next _ _ (at-loop .loop .inv .0) (entry .pre .1) (at-loop .loop .inv .2) refl
+          (omega (arith, fits at-loop-test, length-map costs raisedOf)) (rw map-part at (c .raise-into .ensures)),
       omega arith,
-      row-start _ _ _ (c .before .before .before .before .loop .inv .2),
+      row-start _ _ _ (at-loop .loop .inv .2),
     )
 
 returns : tie.Need-returns Inv-loop μ-loop

@@ -24,16 +24,22 @@ returns c =
 
 returns-2 : tie.Need-returns-2
 returns-2 c =
-    let x = c .before .before .before .before .args .got in
-    let q : ltZ x (pos 0) ≡ false = ap (λ (z : ℤ). ltZ z (pos 0)) (sym (toZ-ofZ w64 x (c .before .before .before .before .fits .got))) ∙ c .before .if1 .left in
-    let k : c .before .before .count .result ≡ clamped x (length (c .before .before .before .before .args .room .now)) = c .before .before .count .ensures .1 ∙ ap (λ (z : ℤ). clamped z (length (c .before .before .before .before .args .room .now))) (toZ-ofZ w64 x (c .before .before .before .before .fits .got)) in
+    let at-count = c .before .before in
+    let entry = at-count .before .before in
+    let x = entry .args .got in
+    let q : ltZ x (pos 0) ≡ false = ap (λ (z : ℤ). ltZ z (pos 0)) (sym (toZ-ofZ w64 x (entry .fits .got))) ∙ c .before .if1 .left in
+    let k : at-count .count .result ≡ clamped x (length (entry .args .room .now)) = at-count .count .ensures .1 ∙
+    ap (λ (z : ℤ). clamped z (length (entry .args .room .now))) (toZ-ofZ w64 x (entry .fits .got)) in
     by-end _ _ _ _ _ q k (c .if2 .taken)
 
 returns-3 : tie.Need-returns-3
 returns-3 c =
-    let x = c .before .before .before .before .before .args .got in
-    let q : ltZ x (pos 0) ≡ false = ap (λ (z : ℤ). ltZ z (pos 0)) (sym (toZ-ofZ w64 x (c .before .before .before .before .before .fits .got))) ∙ c .before .before .if1 .left in
-    let k : c .before .before .before .count .result ≡ clamped x (length (c .before .before .before .before .before .args .room .now)) = c .before .before .before .count .ensures .1 ∙ ap (λ (z : ℤ). clamped z (length (c .before .before .before .before .before .args .room .now))) (toZ-ofZ w64 x (c .before .before .before .before .before .fits .got)) in
+    let at-count = c .before .before .before in
+    let entry = at-count .before .before in
+    let x = entry .args .got in
+    let q : ltZ x (pos 0) ≡ false = ap (λ (z : ℤ). ltZ z (pos 0)) (sym (toZ-ofZ w64 x (entry .fits .got))) ∙ c .before .before .if1 .left in
+    let k : at-count .count .result ≡ clamped x (length (entry .args .room .now)) = at-count .count .ensures .1 ∙
+    ap (λ (z : ℤ). clamped z (length (entry .args .room .now))) (toZ-ofZ w64 x (entry .fits .got)) in
     by-length _ _ _ _ _ q k (c .before .if2 .left) (omega (arith, c .if3 .taken))
 
 sub-if4 : tie.Need-sub-if4
@@ -41,9 +47,13 @@ sub-if4 c = search needs
 
 returns-4 : tie.Need-returns-4
 returns-4 c =
-    let x = c .before .before .before .before .before .before .args .got in
-    let q : ltZ x (pos 0) ≡ false = ap (λ (z : ℤ). ltZ z (pos 0)) (sym (toZ-ofZ w64 x (c .before .before .before .before .before .before .fits .got))) ∙ c .before .before .before .if1 .left in
-    let k : c .before .before .before .before .count .result ≡ clamped x (length (c .before .before .before .before .before .before .args .room .now)) = c .before .before .before .before .count .ensures .1 ∙ ap (λ (z : ℤ). clamped z (length (c .before .before .before .before .before .before .args .room .now))) (toZ-ofZ w64 x (c .before .before .before .before .before .before .fits .got)) in
+    let at-if1 = c .before .before .before in
+    let at-count = at-if1 .before in
+    let entry = at-count .before .before in
+    let x = entry .args .got in
+    let q : ltZ x (pos 0) ≡ false = ap (λ (z : ℤ). ltZ z (pos 0)) (sym (toZ-ofZ w64 x (entry .fits .got))) ∙ at-if1 .if1 .left in
+    let k : at-count .count .result ≡ clamped x (length (entry .args .room .now)) = at-count .count .ensures .1 ∙
+    ap (λ (z : ℤ). clamped z (length (entry .args .room .now))) (toZ-ofZ w64 x (entry .fits .got)) in
     by-length _ _ _ _ _ q k (c .before .before .if2 .left) (omega (arith, c .if4 .taken))
 
 add-t7 : tie.Need-add-t7
@@ -51,9 +61,13 @@ add-t7 c = search needs
 
 returns-5 : tie.Need-returns-5
 returns-5 c =
-    let x = c .before .before .before .before .before .before .args .got in
-    let q : ltZ x (pos 0) ≡ false = ap (λ (z : ℤ). ltZ z (pos 0)) (sym (toZ-ofZ w64 x (c .before .before .before .before .before .before .fits .got))) ∙ c .before .before .before .if1 .left in
-    let k : c .before .before .before .before .count .result ≡ clamped x (length (c .before .before .before .before .before .before .args .room .now)) = c .before .before .before .before .count .ensures .1 ∙ ap (λ (z : ℤ). clamped z (length (c .before .before .before .before .before .before .args .room .now))) (toZ-ofZ w64 x (c .before .before .before .before .before .before .fits .got)) in
+    let at-if1 = c .before .before .before in
+    let at-count = at-if1 .before in
+    let entry = at-count .before .before in
+    let x = entry .args .got in
+    let q : ltZ x (pos 0) ≡ false = ap (λ (z : ℤ). ltZ z (pos 0)) (sym (toZ-ofZ w64 x (entry .fits .got))) ∙ at-if1 .if1 .left in
+    let k : at-count .count .result ≡ clamped x (length (entry .args .room .now)) = at-count .count .ensures .1 ∙
+    ap (λ (z : ℤ). clamped z (length (entry .args .room .now))) (toZ-ofZ w64 x (entry .fits .got)) in
     by-more _ _ _ _ _ q k (c .before .before .if2 .left) (omega (arith, c .if4 .left))
 
 pub after-read-spec : {M : Type 1} → statement M

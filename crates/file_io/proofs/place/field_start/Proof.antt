@@ -47,11 +47,14 @@ loop-less c = search needs
 
 loop-again : tie.Need-loop-again Inv-loop μ-loop
 loop-again c =
-    let i = c .before .before .before .before .before .before .loop .inv in
-    let t = c .before .before .before .before .before .loop-test .taken in (
+    let at-if1 = c .before .before .before .before in
+    let at-loop-test = at-if1 .before in
+    let at-loop = at-loop-test .before in
+    let i = at-loop .loop .inv in
+    let t = at-loop-test .loop-test .taken in (
       i .0,
       omega (arith, i .0, t),
-      i .2 ∙ start-on _ _ _ _ _ _ _ _ t (λ e b. ⊎-elim (λ w. w .1 .left b) (λ w. w .left e) (c .before .before .before .before .if1 .came)) (c .before .before .record-after .ensures) (c .field-after .ensures),
+      i .2 ∙ start-on _ _ _ _ _ _ _ _ t (λ e b. ⊎-elim (λ w. w .1 .left b) (λ w. w .left e) (at-if1 .if1 .came)) (c .before .before .record-after .ensures) (c .field-after .ensures),
     )
 
 returns-2 : tie.Need-returns-2 Inv-loop μ-loop

@@ -64,9 +64,14 @@ smaller-requires-3 c κs = search needs
 
 returns : tie.Need-returns
 returns c =
-    four-is (c .before .before .before .before .before .before .before .before .pre) (c .before .before .before .before .before .before .total-of .ensures)
-    (c .before .before .before .before .before .total-of2 .ensures) (c .before .before .before .before .total-of3 .ensures)
-    (c .before .before .before .total-of4 .ensures) (c .before .before .smaller .ensures) (c .before .smaller2 .ensures) (c .smaller3 .ensures)
+    let at-total-of4 = c .before .before .before in
+    let at-total-of3 = at-total-of4 .before in
+    let at-total-of2 = at-total-of3 .before in
+    let at-total-of = at-total-of2 .before in
+    let entry = at-total-of .before .before in
+    four-is (entry .pre) (at-total-of .total-of .ensures)
+    (at-total-of2 .total-of2 .ensures) (at-total-of3 .total-of3 .ensures)
+    (at-total-of4 .total-of4 .ensures) (c .before .before .smaller .ensures) (c .before .smaller2 .ensures) (c .smaller3 .ensures)
 
 pub four-spec : {M : Type 1} → statement M
 four-spec =

@@ -33,7 +33,8 @@ add-four c = search needs
 
 -- the next four splits
 ready : (c : tie.In-loop Inv-loop μ-loop)
-    → LineReady (c .before .before .before .args .table .now) (c .before .before .before .args .y + c .before .loop .done) 4 (c .before .loop .value) (c .before .before .before .args .gain) (c .before .before .before .args .loss)
+    → LineReady (c .before .before .before .args .table .now) (c .before .before .before .args .y + c .before .loop .done) 4 (c .before .loop .value)
+    (c .before .before .before .args .gain) (c .before .before .before .args .loss)
 ready c = line-ready (c .before .loop .done) 4 (c .before .before .before .pre) (c .loop-test .taken) (c .before .loop .inv .2)
 
 four-requires : tie.Need-four-requires Inv-loop μ-loop
@@ -59,21 +60,26 @@ loop-less c = search needs
 
 loop-again : tie.Need-loop-again Inv-loop μ-loop
 loop-again c =
-    let i = c .before .before .before .before .loop .inv in
-    let p = ready (c .before .before .before) in (
-      omega (arith, c .before .before .before .loop-test .taken),
+    let at-four = c .before .before in
+    let at-loop-test = at-four .before in
+    let at-loop = at-loop-test .before in
+    let i = at-loop .loop .inv in
+    let p = ready at-loop-test in (
+      omega (arith, at-loop-test .loop-test .taken),
       omega (arith, i .1),
       omega (arith, i .2, p .above 4 (omega arith)),
       λ b e. ⊎-elim
-          (λ w. rw (w .1) (lowest-new (i .3 b e) _ (i .2) (c .before .before .four .ensures) (w .0 .taken)))
-          (λ w. rw (w .1) (lowest-old (i .3 b e) _ (i .2) (c .before .before .four .ensures) (w .0 .left)))
+          (λ w. rw (w .1) (lowest-new (i .3 b e) _ (i .2) (at-four .four .ensures) (w .0 .taken)))
+          (λ w. rw (w .1) (lowest-old (i .3 b e) _ (i .2) (at-four .four .ensures) (w .0 .left)))
           (c .if1 .came),
     )
 
 returns : tie.Need-returns Inv-loop μ-loop
 returns c =
-    let e : c .before .loop .done ≡ c .before .before .before .args .amount - c .before .before .before .args .amount % 4 = omega (arith, c .before .loop .inv .0, c .before .loop .inv .1, c .loop-test .left) in
-    rw (← e) (c .before .loop .inv .3 _ refl)
+    let at-loop = c .before in
+    let entry = at-loop .before .before in
+    let e : at-loop .loop .done ≡ entry .args .amount - entry .args .amount % 4 = omega (arith, at-loop .loop .inv .0, at-loop .loop .inv .1, c .loop-test .left) in
+    rw (← e) (at-loop .loop .inv .3 _ refl)
 
 pub lowest-spec : {M : Type 1} → statement M
 lowest-spec =
