@@ -274,7 +274,8 @@ module _ (t l h : List ℕ) (costs : List ℤ) (supplies demands table : List �
       rw e (step a (caseAnswer t h) printed)
     where
       step : Alike (cutCase m n entries costs′ supplies′ demands′ table′) (fileCase t l) → (x : CaseAnswer)
-          → OutcomePrinted (cutCase m n entries costs′ supplies′ demands′ table′) (entriesOf h) (filesThen x (caseOutcome (cutCase m n entries costs′ supplies′ demands′ table′) (entriesOf h))) m n out out′ r
+          → OutcomePrinted (cutCase m n entries costs′ supplies′ demands′ table′) (entriesOf h)
+          (filesThen x (caseOutcome (cutCase m n entries costs′ supplies′ demands′ table′) (entriesOf h))) m n out out′ r
           → OutcomePrinted (fileCase t l) (entriesOf h) (filesThen x (caseOutcome (fileCase t l) (entriesOf h))) m n out out′ r
       step a (answers.Case m′ n′ entries′) p = carry (cutCase m n entries costs′ supplies′ demands′ table′) (fileCase t l) (entriesOf h) (entriesOf h) (same-case (entriesOf h) a) p
       step a (answers.Refused k q) p = printed-refusal (fileCase t l) (entriesOf h) (refused k q) refl (p .refusal k q refl)

@@ -57,7 +57,9 @@ fn print_case(
     high: &[u64],
     out: &mut [u8],
 ) -> Printed
-    ensures { λ r. ⌜ CasePrinted (filedCase m n (now (costs .entry)) (now (supplies .entry)) (now (demands .entry)) (now (ceilings .entry)) (now (low .entry))) (now (high .entry)) (now (out .entry)) (now (out .exit)) r ⌝ }
+    ensures { λ r. ⌜ CasePrinted
+        (filedCase m n (now (costs .entry)) (now (supplies .entry)) (now (demands .entry)) (now (ceilings .entry)) (now (low .entry)))
+        (now (high .entry)) (now (out .entry)) (now (out .exit)) r ⌝ }
 {
     let mut answers = stop_cells();
     let answer = possible_splits(
@@ -98,7 +100,9 @@ fn print_stored(
     out: &mut [u8],
 ) -> Printed
     requires { ⌜ Stored (now costs) (now supplies) (now demands) (now low) × (length (now high) ≡ 4002) ⌝ }
-    ensures { λ r. ⌜ CasePrinted (cutCase m n entries (now (costs .entry)) (now (supplies .entry)) (now (demands .entry)) (now (low .entry))) (take (min more 4002) (now (high .entry))) (now (out .entry)) (now (out .exit)) r ⌝ }
+    ensures { λ r. ⌜ CasePrinted
+        (cutCase m n entries (now (costs .entry)) (now (supplies .entry)) (now (demands .entry)) (now (low .entry)))
+        (take (min more 4002) (now (high .entry))) (now (out .entry)) (now (out .exit)) r ⌝ }
 {
     let a = smaller(m, 32);
     let b = smaller(n, 64);
@@ -133,7 +137,9 @@ fn print_with_high(
     out: &mut [u8],
 ) -> Printed
     requires { ⌜ Stored (now costs) (now supplies) (now demands) (now low) ⌝ }
-    ensures { λ r. ⌜ HighPrinted (now (tariff .entry)) (now (high .entry)) (cutCase m n entries (now (costs .entry)) (now (supplies .entry)) (now (demands .entry)) (now (low .entry))) (now (out .entry)) (now (out .exit)) r ⌝ }
+    ensures { λ r. ⌜ HighPrinted (now (tariff .entry)) (now (high .entry))
+        (cutCase m n entries (now (costs .entry)) (now (supplies .entry)) (now (demands .entry)) (now (low .entry))) (now (out .entry))
+        (now (out .exit)) r ⌝ }
 {
     let mut spare = [0i64; 1];
     let mut sources = [0u64; 1];

@@ -10,7 +10,8 @@ use bounds_problem::Answer;
 // Writes the report and the worth of an answer; its number.
 pub fn tell_bounds(answer: Answer, report: &mut [u64], worth: &mut [i64]) -> u64
     requires { ⌜ (2 ≤ length (now report)) × (2 ≤ length (now worth)) ⌝ }
-    ensures { λ r. ⌜ (r ≡ numberOf (outcome answer)) × (now (report .exit) ≡ written (reportOf (outcome answer)) (now (report .entry))) × (now (worth .exit) ≡ written (worthOf (outcome answer)) (now (worth .entry))) ⌝ }
+    ensures { λ r. ⌜ (r ≡ numberOf (outcome answer)) × (now (report .exit) ≡ written (reportOf (outcome answer)) (now (report .entry))) ×
+        (now (worth .exit) ≡ written (worthOf (outcome answer)) (now (worth .entry))) ⌝ }
 {
     match answer {
         Answer::Known {

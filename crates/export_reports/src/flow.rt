@@ -10,7 +10,9 @@ use flow_network::Answer;
 // Writes the report and the worth of an answer; its number.
 pub fn tell_flow(answer: Answer, report: &mut [u64], worth: &mut [i64]) -> u64
     requires { ⌜ (1 ≤ length (now report)) × (1 ≤ length (now worth)) ⌝ }
-    ensures { λ r. ⌜ (r ≡ numberOf (outcome answer)) × (now (report .exit) ≡ written (reportOf (countIn answer) (outcome answer)) (now (report .entry))) × (now (worth .exit) ≡ written (worthOf (outcome answer)) (now (worth .entry))) ⌝ }
+    ensures { λ r. ⌜ (r ≡ numberOf (outcome answer)) ×
+        (now (report .exit) ≡ written (reportOf (countIn answer) (outcome answer)) (now (report .entry))) ×
+        (now (worth .exit) ≡ written (worthOf (outcome answer)) (now (worth .entry))) ⌝ }
 {
     match answer {
         Answer::Carried { total, arcs } => {

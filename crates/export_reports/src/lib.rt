@@ -14,7 +14,8 @@ pub mod flow;
 // Writes the report and the worth of an answer; its number.
 pub fn tell(answer: Answer, report: &mut [u64], worth: &mut [i64]) -> u64
     requires { ⌜ (2 ≤ length (now report)) × (2 ≤ length (now worth)) ⌝ }
-    ensures { λ r. ⌜ (r ≡ numberOf (outcome answer)) × (now (report .exit) ≡ written (reportOf (outcome answer)) (now (report .entry))) × (now (worth .exit) ≡ written (worthOf (outcome answer)) (now (worth .entry))) ⌝ }
+    ensures { λ r. ⌜ (r ≡ numberOf (outcome answer)) × (now (report .exit) ≡ written (reportOf (outcome answer)) (now (report .entry))) ×
+        (now (worth .exit) ≡ written (worthOf (outcome answer)) (now (worth .entry))) ⌝ }
 {
     match answer {
         Answer::Planned {

@@ -162,7 +162,8 @@ module _ (bytes : List ℕ) (place : ℕ) (table : List ℕ) (room : ℕ) (flow 
           let k : i < count = omega (arith, l, cells-length count (arcAt r)) in
           let q : i < length (arcsOf f) = omega (arith, k, counted, long-arcs) in
           cells-at count (arcAt r) (lentArc none) i k
-          ∙ ap₂ (λ (a b : ℕ). record { start = a; end = b; ceiling = getD (us ++ ru) i 0; cost = getD (cs ++ rc) i (pos 0) }) (front-at 0 (λ (a : file.Arc). a .start) (arcsOf f) z ys rs i refl (g .starts) q)
+          ∙ ap₂ (λ (a b : ℕ). record { start = a; end = b; ceiling = getD (us ++ ru) i 0; cost = getD (cs ++ rc) i (pos 0) })
+          (front-at 0 (λ (a : file.Arc). a .start) (arcsOf f) z ys rs i refl (g .starts) q)
           (front-at 0 (λ (a : file.Arc). a .end) (arcsOf f) e es re i refl (g .ends) q)
           ∙ ap₂ (λ (a : ℕ) (b : ℤ). record { start = getD (arcsOf f) i none .start; end = getD (arcsOf f) i none .end; ceiling = a; cost = b })
           (front-at 0 (λ (a : file.Arc). a .ceiling) (arcsOf f) u us ru i refl (g .ceilings) q) (front-at (pos 0) (λ (a : file.Arc). a .cost) (arcsOf f) c cs rc i refl (g .costs) q)
@@ -176,7 +177,8 @@ module _ (bytes : List ℕ) (place : ℕ) (table : List ℕ) (room : ℕ) (flow 
         arcs = arcs-are;
         starts = written-part (map (λ (a : file.Arc). a .start) (arcsOf f)) z ys rs _ (omega (arith, length-map (arcsOf f) (λ (a : file.Arc). a .start), long-arcs, roomy, long-z)) (g .starts) all-z;
         ends = written-part (map (λ (a : file.Arc). a .end) (arcsOf f)) e es re _ (omega (arith, length-map (arcsOf f) (λ (a : file.Arc). a .end), long-arcs, roomy, long-e)) (g .ends) all-e;
-        ceilings = written-part (map (λ (a : file.Arc). a .ceiling) (arcsOf f)) u us ru _ (omega (arith, length-map (arcsOf f) (λ (a : file.Arc). a .ceiling), long-arcs, roomy, long-u)) (g .ceilings) all-u;
+        ceilings =
+            written-part (map (λ (a : file.Arc). a .ceiling) (arcsOf f)) u us ru _ (omega (arith, length-map (arcsOf f) (λ (a : file.Arc). a .ceiling), long-arcs, roomy, long-u)) (g .ceilings) all-u;
         costs = written-part (map (λ (a : file.Arc). a .cost) (arcsOf f)) c cs rc _ (omega (arith, length-map (arcsOf f) (λ (a : file.Arc). a .cost), long-arcs, roomy, long-c)) (g .costs) all-c;
       }
 
@@ -214,7 +216,8 @@ unwritten : (h : ℕ → Arc) (arcs : List Arc) → written (cells 0 h) arcs ≡
 unfolding cells
 unwritten h arcs = refl
 
-pub arcs-answered : (bytes : List ℕ) (place : ℕ) (table flow flow′ : List ℕ) (arcs arcs′ : List Arc) (r : Found) (t : Answer) (n : ℕ) → FoundIs bytes place table (length arcs) flow flow′ r → n ≡ r .count
+pub arcs-answered :
+    (bytes : List ℕ) (place : ℕ) (table flow flow′ : List ℕ) (arcs arcs′ : List Arc) (r : Found) (t : Answer) (n : ℕ) → FoundIs bytes place table (length arcs) flow flow′ r → n ≡ r .count
     → arcs′ ≡ written (cells n (arcAt r)) arcs → t ≡ r .answer → ArcsAnswered bytes place table (outcome t) flow flow′ arcs arcs′
 arcs-answered bytes place table flow flow′ arcs arcs′ r t n F n-is arcs-are t-is =
     let q : outcome t ≡ outcome (r .answer) = ap outcome t-is in

@@ -37,7 +37,8 @@ pub fn cheapest_flow(
     flow: &mut [u64],
     arcs: &mut [Arc],
 ) -> Answer
-    ensures { λ r. ⌜ ArcsAnswered (now (bytes .entry)) place (now (table .entry)) (outcome r) (now (flow .entry)) (now (flow .exit)) (now (arcs .entry)) (now (arcs .exit)) ⌝ }
+    ensures { λ r. ⌜ ArcsAnswered (now (bytes .entry)) place (now (table .entry)) (outcome r) (now (flow .entry)) (now (flow .exit))
+        (now (arcs .entry)) (now (arcs .exit)) ⌝ }
 {
     let found = find(bytes, place, table, flow, arcs.len());
     write(arcs, found, count_in(found));

@@ -35,7 +35,9 @@ module _ (m n : ℕ) (cells : List ℕ) (o : Front m n cells) (a b c d e : ℕ) 
 
   -- what is lent to the planner
   lent-cells : (p q f lanes : ℕ) (costs : List ℤ) → lanes ≡ m * n → take (length (take (c - b) (drop b cells))) costs ≡ map costIn (take (c - b) (drop b cells))
-      → lent m n (getD cells (inCase 0) 0) (getD cells (inCase 1) 0) (take (lanes - 0) (drop 0 costs)) (take (a - inCase suppliesAt) (drop (inCase suppliesAt) cells)) (take (b - a) (drop a cells)) (take (d - c) (drop c cells)) (take (d + e - d) (drop d cells)) p q f
+      → lent m n (getD cells (inCase 0) 0) (getD cells (inCase 1) 0) (take (lanes - 0) (drop 0 costs))
+      (take (a - inCase suppliesAt) (drop (inCase suppliesAt) cells)) (take (b - a) (drop a cells)) (take (d - c) (drop c cells))
+      (take (d + e - d) (drop d cells)) p q f
       ≡ lentWith (draftIn m n (slot m n 0 cells)) p q f
   lent-cells p q f lanes costs el h =
       let u : a - inCase suppliesAt ≡ m = omega arith in
@@ -53,7 +55,11 @@ module _ (m n : ℕ) (cells : List ℕ) (o : Front m n cells) (a b c d e : ℕ) 
 
   pub planned-cells : (p q f lanes : ℕ) (costs : List ℤ) (r : Outcome) (before after : Slices) → lanes ≡ m * n
       → take (length (take (c - b) (drop b cells))) costs ≡ map costIn (take (c - b) (drop b cells))
-      → Answered (lent m n (getD cells (inCase 0) 0) (getD cells (inCase 1) 0) (take (lanes - 0) (drop 0 costs)) (take (a - inCase suppliesAt) (drop (inCase suppliesAt) cells)) (take (b - a) (drop a cells)) (take (d - c) (drop c cells)) (take (d + e - d) (drop d cells)) p q f) r before after
+      → Answered
+      (lent m n (getD cells (inCase 0) 0) (getD cells (inCase 1) 0) (take (lanes - 0) (drop 0 costs))
+      (take (a - inCase suppliesAt) (drop (inCase suppliesAt) cells)) (take (b - a) (drop a cells)) (take (d - c) (drop c cells))
+      (take (d + e - d) (drop d cells)) p q f)
+      r before after
       → Answered (lentWith (draftIn m n (slot m n 0 cells)) p q f) r before after
   planned-cells p q f lanes costs r before after el h w = subst (λ (x : Case). Answered x r before after) (lent-cells p q f lanes costs el h) w
 

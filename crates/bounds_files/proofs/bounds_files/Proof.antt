@@ -60,13 +60,20 @@ same-length : tie.Need-same-length
 same-length c = search needs
 
 returns : tie.Need-returns
-returns c = refused-files _ _ _ _ _ _ _ _ _ _ _ (c .before .before .before .before .before .before .before .before .before .before .before .read-case .ensures) (c .before .before .before .before .before .answer .given .1) (c .before .before .print-refusal .ensures)
+returns c =
+    let at-answer = c .before .before .before .before .before in
+    let at-read-case = at-answer .before .before .before .before .before .before in
+    refused-files _ _ _ _ _ _ _ _ _ _ _ (at-read-case .read-case .ensures) (at-answer .answer .given .1) (c .before .before .print-refusal .ensures)
 
 same-length-2 : tie.Need-same-length-2
 same-length-2 c = search needs
 
 returns-2 : tie.Need-returns-2
-returns-2 c = case-files _ _ _ _ _ _ _ _ _ _ _ (c .before .before .before .before .before .before .before .before .before .before .before .before .before .before .before .read-case .ensures) (stored (c .before .before .before .before .before .before .before .before .before .before .before .before .before .before .before .before .before .before .before .before)) _ _ _ (c .before .before .before .before .before .before .before .before .before .answer2 .given .1) (c .before .before .print-with-high .ensures)
+returns-2 c =
+    let at-answer2 = c .before .before .before .before .before .before .before .before .before in
+    let at-read-case = at-answer2 .before .before .before .before .before .before in
+    let at-entry-cells = at-read-case .before .before .before .before .before in
+    case-files _ _ _ _ _ _ _ _ _ _ _ (at-read-case .read-case .ensures) (stored at-entry-cells) _ _ _ (at-answer2 .answer2 .given .1) (c .before .before .print-with-high .ensures)
 
 pub bounds-files-spec : {M : Type 1} → statement M
 bounds-files-spec =

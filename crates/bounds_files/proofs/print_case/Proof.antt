@@ -40,16 +40,24 @@ same-length : tie.Need-same-length
 same-length c = search needs
 
 returns : tie.Need-returns
-returns c = by-refusal (c .before .before .before .before .before .before .before .before .possible-splits .ensures) (ap outcome (c .before .before .before .before .before .answer .given .1)) (cells (c .before .before .before .before .before .before .before .before .before .before)) (c .before .before .print-refusal .ensures)
+returns c =
+    let at-answer = c .before .before .before .before .before in
+    let at-possible-splits = at-answer .before .before .before in
+    let at-stop-cells = at-possible-splits .before .before in
+    by-refusal (at-possible-splits .possible-splits .ensures) (ap outcome (at-answer .answer .given .1)) (cells at-stop-cells) (c .before .before .print-refusal .ensures)
 
 same-length-2 : tie.Need-same-length-2
 same-length-2 c = search needs
 
 returns-2 : tie.Need-returns-2
 returns-2 c =
-    let d = c .before .before .before .before .before .before .answer2 .given .0 in
-    let k = c .before .before .before .before .before .known-told2 .given in
-    by-known (c .before .before .before .before .before .before .before .before .before .possible-splits .ensures) (ap outcome (c .before .before .before .before .before .before .answer2 .given .1)) (cells (c .before .before .before .before .before .before .before .before .before .before .before))
+    let at-known-told2 = c .before .before .before .before .before in
+    let at-answer2 = at-known-told2 .before in
+    let at-possible-splits = at-answer2 .before .before .before in
+    let at-stop-cells = at-possible-splits .before .before in
+    let d = at-answer2 .answer2 .given .0 in
+    let k = at-known-told2 .known-told2 .given in
+    by-known (at-possible-splits .possible-splits .ensures) (ap outcome (at-answer2 .answer2 .given .1)) (cells at-stop-cells)
     (rw (read-back (d .1 .1 .0) (k .1 .1 .0 .1), read-back (d .1 .1 .1 .0) (k .1 .1 .1 .0 .1)) at (c .before .before .print-known .ensures))
 
 pub print-case-spec : {M : Type 1} → statement M

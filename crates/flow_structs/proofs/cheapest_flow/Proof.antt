@@ -214,7 +214,8 @@ module _ {M : Type 1} (𝓤 : URA M) (H : Heap 𝓤) (A : Atoms 𝓤) (W : Given
   -- what is had at entry gives what `find` asks; of bytes and table a copy is kept, and the arcs' slice with its token
   asks : ent 𝓤 (onEntry 𝓤 H A top.signature κs qs a vals) (⋆ 𝓤 H A (raw (Find 𝓤 H A mem run .pre to-find) ∷ ‵ Ot ∷ ‵ Ob ∷ ‵ Oa ∷ ‵ (flft κ₃ q₃) ∷ []))
   asks =
-      qed W ((‵ (flft κ₀ q₀) ⊛ ‵ (flft κ₁ q₁) ⊛ ‵ (flft κ₂ q₂) ⊛ ‵ (flft κ₃ q₃) ⊛ ‵ ftrue) ∷ ‵ (owns (ShrSlice (named 0) κ₀ u8 ∷ usize ∷ ShrSlice (named 1) κ₁ u64 ∷ MutSlice (named 2) κ₂ u64 ∷ MutSlice (named 3) κ₃ R ∷ []) a vals) ∷ []) ∵
+      qed W ((‵ (flft κ₀ q₀) ⊛ ‵ (flft κ₁ q₁) ⊛ ‵ (flft κ₂ q₂) ⊛ ‵ (flft κ₃ q₃) ⊛ ‵ ftrue) ∷ ‵
+      (owns (ShrSlice (named 0) κ₀ u8 ∷ usize ∷ ShrSlice (named 1) κ₁ u64 ∷ MutSlice (named 2) κ₂ u64 ∷ MutSlice (named 3) κ₃ R ∷ []) a vals) ∷ []) ∵
       split ! $ move ! (1 ∷ []) $ split ! $ move ! (1 ∷ []) $ split ! $ move ! (1 ∷ []) $ split ! $
       -- [κ₃'s token; true; κ₂'s; κ₁'s; κ₀'s; what is owned]
       move ! (2 ∷ 1 ∷ []) $ join ! $ move ! (2 ∷ 0 ∷ []) $ join ! $ move ! (2 ∷ 0 ∷ []) $ join ! $
@@ -273,10 +274,14 @@ module _ {M : Type 1} (𝓤 : URA M) (H : Heap 𝓤) (A : Atoms 𝓤) (W : Given
           nothing ! $ move ! (2 ∷ 0 ∷ []) $ fjoin ! $ move ! (2 ∷ 0 ∷ []) $ fjoin ! $ move ! (2 ∷ 0 ∷ []) $ fjoin ! $
           owned ! usize (Is usize) (uint-makes 𝓤 H A W w64) p _ (refl, p-fits) $ fjoin ! $ move ! (2 ∷ 0 ∷ []) $ fjoin ! $ done !
 
-  module _ (C : Calls 𝓤 H) (Λ : Loops 𝓤 H) (fm : FmC 𝓤 H (W .laws) C) (known-find : Triple 𝓤 (C #arcs·find·find) (Find 𝓤 H A mem run)) (known-count : Triple 𝓤 (C #arclist·find·count-in) (CountIn 𝓤 H A mem run))
-      (known-write : Triple 𝓤 (C #arcs·write) (Write 𝓤 H A mem run)) (known-answer : Triple 𝓤 (C #arclist·find·answer-in) (AnswerIn 𝓤 H A mem run)) (l₀ l₁ l₂ l₃ l₄ l₅ l₆ l₇ l₈ l₉ l₁₀ l₁₁ l₁₂ : ℕ) where
+  module _ (C : Calls 𝓤 H) (Λ : Loops 𝓤 H) (fm : FmC 𝓤 H (W .laws) C) (known-find : Triple 𝓤 (C #arcs·find·find) (Find 𝓤 H A mem run))
+      (known-count : Triple 𝓤 (C #arclist·find·count-in) (CountIn 𝓤 H A mem run))
+      (known-write : Triple 𝓤 (C #arcs·write) (Write 𝓤 H A mem run)) (known-answer : Triple 𝓤 (C #arclist·find·answer-in) (AnswerIn 𝓤 H A mem run))
+      (l₀ l₁ l₂ l₃ l₄ l₅ l₆ l₇ l₈ l₉ l₁₀ l₁₁ l₁₂ : ℕ) where
     abbrev En : Env 𝓤 H
-    En = (answer′, l₀) ∷ (bytes′, l₁) ∷ (word, l₂) ∷ (table′, l₃) ∷ (flow′ (named 2), l₄) ∷ (arcs′ (named 3), l₅) ∷ (found′, l₆) ∷ (flow-ref, l₇) ∷ (flow′ erased, l₈) ∷ (word, l₉) ∷ (unit′, l₁₀) ∷ (arcs-ref, l₁₁) ∷ (arcs′ erased, l₁₂) ∷ []
+    En =
+        (answer′, l₀) ∷ (bytes′, l₁) ∷ (word, l₂) ∷ (table′, l₃) ∷ (flow′ (named 2), l₄) ∷ (arcs′ (named 3), l₅) ∷ (found′, l₆) ∷ (flow-ref, l₇) ∷
+        (flow′ erased, l₈) ∷ (word, l₉) ∷ (unit′, l₁₀) ∷ (arcs-ref, l₁₁) ∷ (arcs′ erased, l₁₂) ∷ []
 
     -- the parameters' locals and the result's
     abbrev Passed : List (Item 𝓤)
@@ -295,18 +300,30 @@ module _ {M : Type 1} (𝓤 : URA M) (H : Heap 𝓤) (A : Atoms 𝓤) (W : Given
       writes =
           qed W Found′ ∵ exec ! C Λ En pieces.t-5 (atRet En Post) $
           assigns ! (addr ! (from ! (fld ! refl (hop ! (look-in ! 20 (sub ! 0 refl (whole !))) (stop !))))) (from ! (stop !)) (init ! 8 refl (tt, tt)) $
-          assigns ! (agg ! (and-then ! (load ! (from ! (stop !)) (look ! 8 refl)) (and-then ! (load ! (from ! (fld ! refl (stop !))) (look-in ! 20 (sub ! 1 refl (whole !)))) (no-more !)))) (from ! (stop !)) (init ! 6 refl (tt, (tt, (record { fits = a-space .0 }, tt)))) $
+          assigns !
+          (agg ! (and-then ! (load ! (from ! (stop !)) (look ! 8 refl)) (and-then ! (load ! (from ! (fld ! refl (stop !))) (look-in ! 20 (sub ! 1 refl (whole !)))) (no-more !))))
+          (from ! (stop !)) (init ! 6 refl (tt, (tt, (record { fits = a-space .0 }, tt)))) $
           -- `count_in`
           nothing ! $ use1 W (raw (CountIn 𝓤 H A mem run .pre (to-count r w r-is))) (goes-count r w r-is) $
           calls-at ! fm (CountIn 𝓤 H A mem run) known-count (to-count r w r-is) (and-then ! (load ! (from ! (stop !)) (look ! 19 refl)) (no-more !)) (λ u.
-          use1 W (later (some (λ (k : ℕ). (‵ ftrue ⊛ ‵ (usize .own k (u ∷ []))) ⊛ raw (ensured 𝓤 H A count-in.ended (count-in.clauses 𝓤 H A mem run) tt (r, tt) tt k)))) (id⊢ 𝓤 _) $ await ! tt $ pick ! (λ k.
+          use1 W (later (some (λ (k : ℕ). (‵ ftrue ⊛ ‵ (usize .own k (u ∷ []))) ⊛ raw (ensured 𝓤 H A count-in.ended (count-in.clauses 𝓤 H A mem run) tt (r, tt) tt k)))) (id⊢ 𝓤 _) $
+          await ! tt $ pick ! (λ k.
           split ! $ move ! (1 ∷ []) $ use1 W (raw (fact 𝓤 (k ≡ r .count))) (count-said r w r-is k) $ heard ! (k ≡ r .count) (λ k-is. split ! $ drop ! $
           peeks ! usize (Is usize) (shows 𝓤 H A usize) k (u ∷ []) (λ is. land ! (from ! (stop !)) (store ! 13 refl (uint-lawful 𝓤 H A W w64 .typed k _ is .0)) $
           -- `write`
           move ! (0 ∷ 5 ∷ 6 ∷ []) $ use3 W (raw (Write 𝓤 H A mem run .pre (to-write r w r-is k u))) (goes-write r w r-is k u (omega (arith, k-is, f-is .few), omega (arith, k-is, f-is .fits))) $
-          calls-at ! fm (Write 𝓤 H A mem run) known-write (to-write r w r-is k u) (and-then ! (load ! (from ! (stop !)) (look ! 5 refl)) (and-then ! (load ! (from ! (stop !)) (look ! 17 refl)) (and-then ! (load ! (from ! (stop !)) (look ! 11 refl)) (no-more !)))) (λ u′.
-          use1 W (later (some (λ (z : Unit {0}). ((‵ (flft κ₃ q₃) ⊛ ‵ ftrue) ⊛ ‵ (unit .own z (u′ ∷ []))) ⊛ raw (ensured 𝓤 H A write.ended (write.clauses 𝓤 H A mem run) (κ₃, tt) (y, (r, (k, tt))) tt z)))) (id⊢ 𝓤 _) $ await ! tt $ pick ! (λ z.
-          split ! $ move ! (1 ∷ []) $ use1 W (some (λ (ws : List Arc × (Unit {0} × (Unit {0} × Unit {0}))). ‵ (lasts write.ended (κ₃, tt) (y, (r, (k, tt))) ws) ⊛ raw (fact 𝓤 (ws .0 ≡ written (cells k (arcAt r)) ys)))) (id⊢ 𝓤 _) $ pick ! (λ ws.
+          calls-at !
+          fm (Write 𝓤 H A mem run) known-write (to-write r w r-is k u)
+          (and-then ! (load ! (from ! (stop !)) (look ! 5 refl)) (and-then ! (load ! (from ! (stop !)) (look ! 17 refl)) (and-then ! (load ! (from ! (stop !)) (look ! 11 refl)) (no-more !))))
+          (λ u′.
+          use1 W (later
+          (some (λ (z : Unit {0}). ((‵ (flft κ₃ q₃) ⊛ ‵ ftrue) ⊛ ‵ (unit .own z (u′ ∷ []))) ⊛ raw (ensured 𝓤 H A write.ended (write.clauses 𝓤 H A mem run) (κ₃, tt) (y, (r, (k, tt))) tt z))))
+          (id⊢ 𝓤 _) $
+          await ! tt $ pick ! (λ z.
+          split ! $ move ! (1 ∷ []) $
+          use1 W (some (λ (ws : List Arc × (Unit {0} × (Unit {0} × Unit {0}))). ‵ (lasts write.ended (κ₃, tt) (y, (r, (k, tt))) ws) ⊛ raw (fact 𝓤 (ws .0 ≡ written (cells k (arcAt r)) ys))))
+          (id⊢ 𝓤 _) $
+          pick ! (λ ws.
           split ! $ move ! (1 ∷ []) $ heard ! (ws .0 ≡ written (cells k (arcAt r)) ys) (λ w-is. fsplit ! $ fsplit ! $ move ! (1 ∷ []) $ feqL ! (λ w-long.
           -- [the last arcs; …; κ₃'s token and the result; …]
           move ! (1 ∷ []) $ drop ! $ move ! (1 ∷ []) $ split ! $ move ! (1 ∷ []) $ feqL ! (λ u-is.
@@ -314,35 +331,53 @@ module _ {M : Type 1} (𝓤 : URA M) (H : Heap 𝓤) (A : Atoms 𝓤) (W : Given
           -- `answer_in`
           nothing ! $ use1 W (raw (AnswerIn 𝓤 H A mem run .pre (to-answer r w r-is))) (goes-answer r w r-is) $
           calls-at ! fm (AnswerIn 𝓤 H A mem run) known-answer (to-answer r w r-is) (and-then ! (load ! (from ! (stop !)) (look ! 19 refl)) (no-more !)) (λ v.
-          use1 W (later (some (λ (z : Answer). (‵ ftrue ⊛ ‵ (N.the-row .own z (v ∷ []))) ⊛ raw (ensured 𝓤 H A answer-in.ended (answer-in.clauses 𝓤 H A mem run) tt (r, tt) tt z)))) (id⊢ 𝓤 _) $ await ! tt $ pick ! (λ z′.
+          use1 W (later (some (λ (z : Answer). (‵ ftrue ⊛ ‵ (N.the-row .own z (v ∷ []))) ⊛ raw (ensured 𝓤 H A answer-in.ended (answer-in.clauses 𝓤 H A mem run) tt (r, tt) tt z)))) (id⊢ 𝓤 _) $
+          await ! tt $ pick ! (λ z′.
           split ! $ move ! (1 ∷ []) $ use1 W (raw (fact 𝓤 (z′ ≡ r .answer))) (answer-said r w r-is z′) $ heard ! (z′ ≡ r .answer) (λ z-is. split ! $ drop ! $
           peeks ! N.the-row (Is N.the-row) (shows 𝓤 H A N.the-row) z′ (v ∷ []) (λ is′. land ! (from ! (stop !)) (init ! 31 refl (EL.lawful N.the-type N′.the-laws 𝓤 H A W tt .typed z′ _ is′ .0)) $
           -- [the answer; κ₃'s token; the last arcs; the tokens; the last flow; table; bytes; _12; …; _0; …]
-          returns ! (look ! 31 refl) $ forget ! 7 refl $ forget ! 9 refl $ forget ! 11 refl $ forget ! 13 refl $ forget ! 15 refl $ forget ! 17 refl $ forget ! 19 refl $ forget ! 21 refl $ forget ! 23 refl $ forget ! 25 refl $ forget ! 27 refl $ forget ! 29 refl $ forget ! 31 refl $
-          move ! (31 ∷ 32 ∷ []) $ free1 ! $ move ! (29 ∷ 30 ∷ []) $ free1 ! $ move ! (27 ∷ 28 ∷ []) $ free1 ! $ move ! (25 ∷ 26 ∷ []) $ free1 ! $ move ! (23 ∷ 24 ∷ []) $ free1 ! $ move ! (21 ∷ 22 ∷ []) $ free1 ! $ move ! (19 ∷ 20 ∷ []) $ free1 ! $
-          move ! (17 ∷ 18 ∷ []) $ free1 ! $ move ! (15 ∷ 16 ∷ []) $ free1 ! $ move ! (13 ∷ 14 ∷ []) $ free1 ! $ move ! (11 ∷ 12 ∷ []) $ free1 ! $ move ! (9 ∷ 10 ∷ []) $ free1 ! $ move ! (7 ∷ 8 ∷ []) $ free1 ! $ free0 ! $
+          returns ! (look ! 31 refl) $ forget ! 7 refl $ forget ! 9 refl $ forget ! 11 refl $ forget ! 13 refl $ forget ! 15 refl $ forget ! 17 refl $
+          forget ! 19 refl $ forget ! 21 refl $ forget ! 23 refl $ forget ! 25 refl $ forget ! 27 refl $ forget ! 29 refl $ forget ! 31 refl $
+          move ! (31 ∷ 32 ∷ []) $ free1 ! $ move ! (29 ∷ 30 ∷ []) $ free1 ! $ move ! (27 ∷ 28 ∷ []) $ free1 ! $ move ! (25 ∷ 26 ∷ []) $ free1 ! $
+          move ! (23 ∷ 24 ∷ []) $ free1 ! $ move ! (21 ∷ 22 ∷ []) $ free1 ! $ move ! (19 ∷ 20 ∷ []) $ free1 ! $
+          move ! (17 ∷ 18 ∷ []) $ free1 ! $ move ! (15 ∷ 16 ∷ []) $ free1 ! $ move ! (13 ∷ 14 ∷ []) $ free1 ! $ move ! (11 ∷ 12 ∷ []) $ free1 ! $
+          move ! (9 ∷ 10 ∷ []) $ free1 ! $ move ! (7 ∷ 8 ∷ []) $ free1 ! $ free0 ! $
           by ! (exits r w r-is zs f-is z-long z′ v (ws .0) k z-is k-is w-is w-long)))))))))))))))
 
     -- the locals once the parameters are passed
     abbrev Entered : List (Item 𝓤)
-    Entered = ‵ (froom (arcs′ erased) l₁₂ 0) ∷ ‵ (fdies (arcs′ erased) l₁₂) ∷ ‵ (froom arcs-ref l₁₁ 0) ∷ ‵ (fdies arcs-ref l₁₁) ∷ ‵ (froom unit′ l₁₀ 0) ∷ ‵ (fdies unit′ l₁₀) ∷ ‵ (froom word l₉ 0) ∷ ‵ (fdies word l₉)
+    Entered =
+        ‵ (froom (arcs′ erased) l₁₂ 0) ∷ ‵ (fdies (arcs′ erased) l₁₂) ∷ ‵ (froom arcs-ref l₁₁ 0) ∷ ‵ (fdies arcs-ref l₁₁) ∷ ‵ (froom unit′ l₁₀ 0) ∷ ‵
+        (fdies unit′ l₁₀) ∷ ‵ (froom word l₉ 0) ∷ ‵ (fdies word l₉)
         ∷ ‵ (froom (flow′ erased) l₈ 0) ∷ ‵ (fdies (flow′ erased) l₈) ∷ ‵ (froom flow-ref l₇ 0) ∷ ‵ (fdies flow-ref l₇) ∷ ‵ (froom found′ l₆ 0) ∷ ‵ (fdies found′ l₆) ∷ Passed
 
     begins : ent 𝓤 (⋆ 𝓤 H A (raw (onEntry 𝓤 H A top.signature κs qs a vals) ∷ Entered)) (Wp 𝓤 H C Λ En (code.function .body) (atReturn 𝓤 H En Post))
     begins =
         qed W (raw (onEntry 𝓤 H A top.signature κs qs a vals) ∷ Entered) ∵ exec ! C Λ En (code.function .body) (atRet En Post) $
         assigns ! (addr ! (from ! (fld ! refl (hop ! (look-in ! 17 (sub ! 0 refl (whole !))) (stop !))))) (from ! (stop !)) (init ! 11 refl (tt, tt)) $
-        assigns ! (agg ! (and-then ! (load ! (from ! (stop !)) (look ! 11 refl)) (and-then ! (load ! (from ! (fld ! refl (stop !))) (look-in ! 17 (sub ! 1 refl (whole !)))) (no-more !)))) (from ! (stop !)) (init ! 9 refl (tt, (tt, (record { fits = f-space .0 }, tt)))) $
+        assigns !
+        (agg ! (and-then ! (load ! (from ! (stop !)) (look ! 11 refl)) (and-then ! (load ! (from ! (fld ! refl (stop !))) (look-in ! 17 (sub ! 1 refl (whole !)))) (no-more !))))
+        (from ! (stop !)) (init ! 9 refl (tt, (tt, (record { fits = f-space .0 }, tt)))) $
         assigns ! (of-opd ! (load ! (from ! (fld ! refl (stop !))) (look-in ! 15 (sub ! 1 refl (whole !))))) (from ! (stop !)) (init ! 7 refl (tt, record { fits = a-space .0 })) $
         -- `find`
         use1 W (raw (Find 𝓤 H A mem run .pre to-find) ⊛ ‵ Ot ⊛ ‵ Ob ⊛ ‵ Oa ⊛ ‵ (flft κ₃ q₃)) asks $ split ! $ move ! (1 ∷ []) $ split ! $ move ! (1 ∷ []) $ split ! $ move ! (1 ∷ []) $ split ! $
         -- [arcs; κ₃'s token; bytes; table; what `find` asks; …]
         move ! (4 ∷ 3 ∷ 2 ∷ 0 ∷ 1 ∷ []) $
         calls-at ! fm (Find 𝓤 H A mem run) known-find to-find
-        (and-then ! (load ! (from ! (stop !)) (look ! 27 refl)) (and-then ! (load ! (from ! (stop !)) (look ! 25 refl)) (and-then ! (load ! (from ! (stop !)) (look ! 23 refl)) (and-then ! (load ! (from ! (stop !)) (look ! 13 refl)) (and-then ! (load ! (from ! (stop !)) (look ! 11 refl)) (no-more !)))))) (λ w.
+        (and-then !
+        (load ! (from ! (stop !)) (look ! 27 refl))
+        (and-then !
+        (load ! (from ! (stop !)) (look ! 25 refl))
+        (and-then ! (load ! (from ! (stop !)) (look ! 23 refl)) (and-then ! (load ! (from ! (stop !)) (look ! 13 refl)) (and-then ! (load ! (from ! (stop !)) (look ! 11 refl)) (no-more !))))))
+        (λ w.
         use1 W (later (some (λ (r : Found). (Tokens ⊛ ‵ (F.the-row .own r (w ∷ []))) ⊛ raw (ensured 𝓤 H A find.ended (find.clauses 𝓤 H A mem run) κs₃ fa tt r)))) (id⊢ 𝓤 _) $ await ! tt $ pick ! (λ r.
-        split ! $ move ! (1 ∷ []) $ use1 W (some (λ (zs : Unit {0} × (Unit {0} × (Unit {0} × (List ℕ × (Unit {0} × Unit {0}))))). ‵ (lasts find.ended κs₃ fa zs) ⊛ raw (fact 𝓤 (FoundIs (b .now) p (t .now) n fs (zs .1 .1 .1 .0) r)))) (id⊢ 𝓤 _) $ pick ! (λ zs.
-        split ! $ move ! (1 ∷ []) $ heard ! (FoundIs (b .now) p (t .now) n fs (zs .1 .1 .1 .0) r) (λ f-is. fsplit ! $ drop ! $ fsplit ! $ drop ! $ fsplit ! $ drop ! $ fsplit ! $ fsplit ! $ move ! (1 ∷ []) $ feqL ! (λ z-long.
+        split ! $ move ! (1 ∷ []) $
+        use1 W (some
+        (λ (zs : Unit {0} × (Unit {0} × (Unit {0} × (List ℕ × (Unit {0} × Unit {0}))))). ‵ (lasts find.ended κs₃ fa zs) ⊛ raw (fact 𝓤 (FoundIs (b .now) p (t .now) n fs (zs .1 .1 .1 .0) r))))
+        (id⊢ 𝓤 _) $
+        pick ! (λ zs.
+        split ! $ move ! (1 ∷ []) $ heard !
+        (FoundIs (b .now) p (t .now) n fs (zs .1 .1 .1 .0) r) (λ f-is. fsplit ! $ drop ! $ fsplit ! $ drop ! $ fsplit ! $ drop ! $ fsplit ! $ fsplit ! $ move ! (1 ∷ []) $ feqL ! (λ z-long.
         -- [the last flow; …; the tokens and the result; table; bytes; arcs; κ₃'s token; …]
         move ! (1 ∷ []) $ drop ! $ move ! (1 ∷ []) $ split ! $ move ! (1 ∷ []) $
         peeks ! F.the-row (Is F.the-row) (shows 𝓤 H A F.the-row) r (w ∷ []) (λ r-is. land ! (from ! (stop !)) (init ! 19 refl (LL.lawful F.the-type F′.the-laws 𝓤 H A W .typed r _ r-is .0)) $
@@ -353,7 +388,9 @@ module _ {M : Type 1} (𝓤 : URA M) (H : Heap 𝓤) (A : Atoms 𝓤) (W : Given
       → ent 𝓤 (onEntry 𝓤 H A top.signature κs qs a vals) (WpFn 𝓤 H C Λ code.function (vb ∷ vint w64 p ∷ vt ∷ vx ∷ vy ∷ []) Post)
   walk C Λ fm known-find known-count known-write known-answer =
       qed W (raw (onEntry 𝓤 H A top.signature κs qs a vals) ∷ []) ∵ enter ! C Λ code.function (vb ∷ vint w64 p ∷ vt ∷ vx ∷ vy ∷ []) _ $
-      alloc1 ! (λ l₀. alloc1 ! (λ l₁. alloc1 ! (λ l₂. alloc1 ! (λ l₃. alloc1 ! (λ l₄. alloc1 ! (λ l₅. alloc1 ! (λ l₆. alloc1 ! (λ l₇. alloc1 ! (λ l₈. alloc1 ! (λ l₉. alloc1 ! (λ l₁₀. alloc1 ! (λ l₁₁. alloc1 ! (λ l₁₂. alloc0 ! $ params1 ! $
+      alloc1 ! (λ l₀. alloc1 !
+      (λ l₁. alloc1 !
+      (λ l₂. alloc1 ! (λ l₃. alloc1 ! (λ l₄. alloc1 ! (λ l₅. alloc1 ! (λ l₆. alloc1 ! (λ l₇. alloc1 ! (λ l₈. alloc1 ! (λ l₉. alloc1 ! (λ l₁₀. alloc1 ! (λ l₁₁. alloc1 ! (λ l₁₂. alloc0 ! $ params1 ! $
       pass1 ! (init ! 22 refl (shr-slice-lawful 𝓤 H A W (named 0) κ₀ u8 .typed b (vb ∷ []) b-is .0)) $ pass1 ! (init ! 20 refl (tt, record { fits = p-fits })) $
       pass1 ! (init ! 18 refl (shr-slice-lawful 𝓤 H A W (named 1) κ₁ u64 .typed t (vt ∷ []) t-is .0)) $ pass1 ! (init ! 16 refl (tt, (tt, (record { fits = f-space .0 }, tt)))) $
       pass1 ! (init ! 14 refl (tt, (tt, (record { fits = a-space .0 }, tt)))) $ pass0 ! $
@@ -365,9 +402,13 @@ module _ {M : Type 1} (𝓤 : URA M) (H : Heap 𝓤) (A : Atoms 𝓤) (W : Given
   top-walks : Walks 𝓤 H A top.ended stayed (WpFn 𝓤 H (𝓣 .C) (𝓣 .Λ) code.function) (top.clauses 𝓤 H A mem run)
   top-walks = walked 𝓤 H A top.ended stayed (top.clauses 𝓤 H A mem run) (WpFn 𝓤 H (𝓣 .C) (𝓣 .Λ) code.function)
       (λ κs. (slice-vals, (uint-vals w64, (slice-vals, (slice-vals, (slice-vals, tt))))))
-      (λ κs. (shr-slice-tells (named 0) (κs .0) u8, (uint-tells w64, (shr-slice-tells (named 1) (κs .1 .0) u64, (mut-slice-tells (named 2) (κs .1 .1 .0) u64, (mut-slice-tells (named 3) (κs .1 .1 .1 .0) R, tt))))))
+      (λ κs. (
+        shr-slice-tells (named 0) (κs .0) u8,
+        (uint-tells w64, (shr-slice-tells (named 1) (κs .1 .0) u64, (mut-slice-tells (named 2) (κs .1 .1 .0) u64, (mut-slice-tells (named 3) (κs .1 .1 .1 .0) R, tt)))),
+      ))
       (λ κs qs bounds a g are. via 𝓤 _ (fst∗ 𝓤 _ (emp 𝓤))
-      (walk 𝓤 H A W mem run (κs .0) (κs .1 .0) (κs .1 .1 .0) (κs .1 .1 .1 .0) (qs .0) (qs .1 .0) (qs .1 .1 .0) (qs .1 .1 .1 .0) (a .0) (a .1 .1 .0) (a .1 .0) (a .1 .1 .1 .0 .ptr .0) (a .1 .1 .1 .0 .ptr .1) (a .1 .1 .1 .0 .name) (a .1 .1 .1 .0 .now)
+      (walk 𝓤 H A W mem run (κs .0) (κs .1 .0) (κs .1 .1 .0) (κs .1 .1 .1 .0) (qs .0) (qs .1 .0) (qs .1 .1 .0) (qs .1 .1 .1 .0) (a .0) (a .1 .1 .0)
+      (a .1 .0) (a .1 .1 .1 .0 .ptr .0) (a .1 .1 .1 .0 .ptr .1) (a .1 .1 .1 .0 .name) (a .1 .1 .1 .0 .now)
       (a .1 .1 .1 .1 .0 .ptr .0) (a .1 .1 .1 .1 .0 .ptr .1) (a .1 .1 .1 .1 .0 .name) (a .1 .1 .1 .1 .0 .now) (are .0) (are .1 .1 .0) (are .1 .0 .1) (are .1 .1 .1 .0 .0 .1) (are .1 .1 .1 .1 .0 .0 .1)
       (𝓣 .C) (𝓣 .Λ) (fmOf 𝓤 H (W .laws) 𝓣) known-find known-count known-write known-answer))
 

@@ -26,7 +26,8 @@ use contract.Monad.{Fun, fact}
 use contract.Running.{givenOf, tables, tablesOf}
 use types.Kit.{Given, Item, ‵, raw, _⊛_, some, later, ⋆, anyQ, atRet, _$_, _∵_, !, qed, by, move, keep, drop, use1, split, join, pick, rewrite, fsplit, fjoin, feqI, suffices, frame, await, done}
 use types.Part.{whole, sub, look-in}
-use types.Run.{look, store, store-raw, init, forget, stop, hop, fld, from, load, lit, unit-lit, of-opd, bin, and-then, no-more, assigns, assigns-last, land, stays, leaves-loop, returns, enter, alloc1, alloc0, params1, pass1, pass0, free1, free0, exec}
+use types.Run.{look, store, store-raw, init, forget, stop, hop, fld, from, load, lit, unit-lit, of-opd, bin, and-then, no-more, assigns, assigns-last}
+use types.Run.{land, stays, leaves-loop, returns, enter, alloc1, alloc0, params1, pass1, pass0, free1, free0, exec}
 use sound.Loop.{loop-rule}
 use sound.WpLaws.{fmOf, WpFn-mono}
 use denote.RattleType.{RattleType, owns}
@@ -107,7 +108,8 @@ one-more i = omega arith
 abbrev ArcAt : {M : Type 1} (𝓤 : URA M) (H : Heap 𝓤) (A : Atoms 𝓤) (mem : Memory → SProp 𝓤) (run : Routine → Fun 𝓤) → Contract 𝓤
 ArcAt 𝓤 H A mem run = tripleOf 𝓤 H A arc-at.signature (arc-at.spec 𝓤 H A mem run)
 
-module _ {M : Type 1} (𝓤 : URA M) (H : Heap 𝓤) (A : Atoms 𝓤) (W : Given 𝓤 H A) (mem : Memory → SProp 𝓤) (run : Routine → Fun 𝓤) (κ : Lft) (q : Share) (b o : ℕ) (γ : GName) (ys : List Arc) (f : Found) (n : ℕ)
+module _ {M : Type 1} (𝓤 : URA M) (H : Heap 𝓤) (A : Atoms 𝓤) (W : Given 𝓤 H A) (mem : Memory → SProp 𝓤) (run : Routine → Fun 𝓤) (κ : Lft) (q : Share)
+    (b o : ℕ) (γ : GName) (ys : List Arc) (f : Found) (n : ℕ)
     (f-is : Is F.the-row f (LL.vals F.the-type F′.the-laws f)) (few : n ≤ 64) (fits : n ≤ length ys) (space : Room R (length ys)) where
   -- the borrow at a list
   abbrev x : List Arc → RefT (List Arc)
@@ -142,11 +144,14 @@ module _ {M : Type 1} (𝓤 : URA M) (H : Heap 𝓤) (A : Atoms 𝓤) (W : Given
   exits : ent 𝓤 (⋆ 𝓤 H A (‵ (fobs γ (codedHoleys R .code (heres R (l n)))) ∷ ‵ (fbor κ (Held R (length (l n)) b o γ)) ∷ ‵ (flft κ q) ∷ [])) (Post vunit)
   exits =
       qed W (‵ (fobs γ (codedHoleys R .code (heres R (l n)))) ∷ ‵ (fbor κ (Held R (length (l n)) b o γ)) ∷ ‵ (flft κ q) ∷ []) ∵
-      suffices ! _ (ends-at 𝓤 H A write.ended stayed (write.clauses 𝓤 H A mem run) W (((κ, tt), (q, tt), tt, a, vals), tt) vunit tt (l n, (tt, (tt, tt))) (same, (tt, (tt, tt)))) $ says ! (front-written (arcAt f) n ys) $
+      suffices !
+      _ (ends-at 𝓤 H A write.ended stayed (write.clauses 𝓤 H A mem run) W (((κ, tt), (q, tt), tt, a, vals), tt) vunit tt (l n, (tt, (tt, tt))) (same, (tt, (tt, tt)))) $
+      says ! (front-written (arcAt f) n ys) $
       nothing ! $ move ! (3 ∷ 0 ∷ []) $ join ! $ frame ! $
       -- [obs; the borrow]: with the fact on the machine value it is what the slice owns
       fjoin ! $ pureI ! (at-slice R (x (l n)) (s ∷ [])) (tt, (tt, tt)) (ap (λ (m : ℕ). sliceVal (b, o) m ∷ []) (sym same), subst (Room R) (sym same) space) $ fjoin ! $
-      nothing ! $ owned ! usize (Is usize) (uint-makes 𝓤 H A W w64) n _ (refl, omega (arith, few)) $ fjoin ! $ owned ! F.the-row (Is F.the-row) (LL.makes F.the-type F′.the-plain 𝓤 H A) f _ f-is $ fjoin ! $
+      nothing ! $ owned ! usize (Is usize) (uint-makes 𝓤 H A W w64) n _ (refl, omega (arith, few)) $ fjoin ! $ owned !
+      F.the-row (Is F.the-row) (LL.makes F.the-type F′.the-plain 𝓤 H A) f _ f-is $ fjoin ! $
       move ! (1 ∷ 0 ∷ []) $ fjoin ! $ feqI ! (List Val) (vunit ∷ []) (vunit ∷ []) refl $ move ! (1 ∷ 0 ∷ []) $ done !
 
   -- what `arc_at` is passed for arc i, and what it says
@@ -156,7 +161,8 @@ module _ {M : Type 1} (𝓤 : URA M) (H : Heap 𝓤) (A : Atoms 𝓤) (W : Given
   goes : (i : ℕ) → i < 64 → ent 𝓤 (sem 𝓤 H A ftrue) (ArcAt 𝓤 H A mem run .pre (to i))
   goes i small =
       qed W (‵ ftrue ∷ []) ∵ says ! small $ frame ! $
-      nothing ! $ owned ! usize (Is usize) (uint-makes 𝓤 H A W w64) i _ (refl, omega (arith, small)) $ fjoin ! $ owned ! F.the-row (Is F.the-row) (LL.makes F.the-type F′.the-plain 𝓤 H A) f _ f-is $ fjoin ! $ done !
+      nothing ! $ owned ! usize (Is usize) (uint-makes 𝓤 H A W w64) i _ (refl, omega (arith, small)) $ fjoin ! $ owned !
+      F.the-row (Is F.the-row) (LL.makes F.the-type F′.the-plain 𝓤 H A) f _ f-is $ fjoin ! $ done !
 
   made : (i : ℕ) (r : Arc) → ent 𝓤 (ensured 𝓤 H A arc-at.ended (arc-at.clauses 𝓤 H A mem run) tt (f, (i, tt)) tt r) (fact 𝓤 (r ≡ arcAt f i))
   made i r = exE 𝓤 _ (λ ws. snd∗ 𝓤 (sem 𝓤 H A (lasts arc-at.ended tt (f, (i, tt)) ws)) (fact 𝓤 (r ≡ arcAt f i)))
@@ -204,8 +210,10 @@ module _ {M : Type 1} (𝓤 : URA M) (H : Heap 𝓤) (A : Atoms 𝓤) (W : Given
         rewrite ! 2 (λ (t : Bool). ‵ (fat fullShare bool′ l₅ 0 (vbool t))) (lt-ltb i n small) refl $
         stays ! (load ! (from ! (stop !)) (look ! 2 refl)) $
         nothing ! $ use1 W (raw (ArcAt 𝓤 H A mem run .pre (to i))) (goes i (omega (arith, small, few))) $
-        calls-at ! (fmOf 𝓤 H (W .laws) 𝓣) (ArcAt 𝓤 H A mem run) known (to i) (and-then ! (load ! (from ! (stop !)) (look ! 8 refl)) (and-then ! (load ! (from ! (stop !)) (look ! 2 refl)) (no-more !))) (λ w.
-        use1 W (later (some (λ (r : Arc). (‵ ftrue ⊛ ‵ (R .own r (w ∷ []))) ⊛ raw (ensured 𝓤 H A arc-at.ended (arc-at.clauses 𝓤 H A mem run) tt (f, (i, tt)) tt r)))) (id⊢ 𝓤 _) $ await ! tt $ pick ! (λ r.
+        calls-at !
+        (fmOf 𝓤 H (W .laws) 𝓣) (ArcAt 𝓤 H A mem run) known (to i) (and-then ! (load ! (from ! (stop !)) (look ! 8 refl)) (and-then ! (load ! (from ! (stop !)) (look ! 2 refl)) (no-more !))) (λ w.
+        use1 W (later (some (λ (r : Arc). (‵ ftrue ⊛ ‵ (R .own r (w ∷ []))) ⊛ raw (ensured 𝓤 H A arc-at.ended (arc-at.clauses 𝓤 H A mem run) tt (f, (i, tt)) tt r)))) (id⊢ 𝓤 _) $
+        await ! tt $ pick ! (λ r.
         split ! $ move ! (1 ∷ []) $ use1 W (raw (fact 𝓤 (r ≡ arcAt f i))) (made i r) $ heard ! (r ≡ arcAt f i) (λ e. split ! $ drop ! $
         rewrite ! 0 (λ (h : Arc). ‵ (R .own h (w ∷ []))) e refl $
         peeks ! R (Is R) (shows 𝓤 H A R) (arcAt f i) (w ∷ []) (λ is.
@@ -216,7 +224,8 @@ module _ {M : Type 1} (𝓤 : URA M) (H : Heap 𝓤) (A : Atoms 𝓤) (W : Given
         rewrite ! 6 (λ (p : ℕ). ‵ (fat fullShare ptr′ l₈ 0 (vptr b p))) (sym (place-is 32 o i)) refl $
         -- element i is taken out, stored to and put back
         move ! (1 ∷ []) $ elem-out ! R (Is R) (shows 𝓤 H A R) (LL.vals T.the-type T′.the-laws) (LL.tells T.the-type T′.the-laws) fullShare (l i) i none b o within (λ _.
-        assigns ! (of-opd ! (load ! (from ! (stop !)) (look ! 6 refl))) (from ! (hop ! (look ! 8 refl) (stop !))) (store-raw ! 0 refl (LL.lawful T.the-type T′.the-laws 𝓤 H A W .typed (arcAt f i) _ is .0)) $
+        assigns !
+        (of-opd ! (load ! (from ! (stop !)) (look ! 6 refl))) (from ! (hop ! (look ! 8 refl) (stop !))) (store-raw ! 0 refl (LL.lawful T.the-type T′.the-laws 𝓤 H A W .typed (arcAt f i) _ is .0)) $
         move ! (1 ∷ []) $ drop ! $ move ! (0 ∷ 2 ∷ 1 ∷ []) $ elem-put ! R fullShare (l i) i (arcAt f i) (w ∷ []) b o within $
         rewrite ! 0 (λ (z : List Arc). ‵ (row R fullShare z b o)) (front-next (arcAt f) i ys (omega (arith, small, fits))) refl $
         assigns-last ! (bin ! (load ! (from ! (stop !)) (look ! 1 refl)) (lit ! tt) (record { fits = next })) (from ! (stop !)) (store ! 1 refl (tt, record { fits = next })) $
@@ -273,15 +282,20 @@ module _ {M : Type 1} (𝓤 : URA M) (H : Heap 𝓤) (A : Atoms 𝓤) (W : Given
         rewrite ! 0 (λ (z : List Arc). ‵ (row R fullShare z b o)) (sym (front-none (arcAt f) ys)) refl $
         keep ! (0 ∷ 12 ∷ 10 ∷ 8 ∷ 6 ∷ 4 ∷ 18 ∷ 16 ∷ 14 ∷ 20 ∷ 1 ∷ 2 ∷ 3 ∷ 21 ∷ 19 ∷ 17 ∷ 15 ∷ 13 ∷ 11 ∷ 9 ∷ 7 ∷ 5 ∷ []) $ by ! loops)
 
-  walk : (𝓣 : Tables 𝓤 H) → Triple 𝓤 (𝓣 .C #arclist·find·arc-at) (ArcAt 𝓤 H A mem run) → ent 𝓤 (onEntry 𝓤 H A write.signature (κ, tt) (q, tt) a vals) (WpFn 𝓤 H (𝓣 .C) (𝓣 .Λ) code.function (s ∷ mach ∷ vint w64 n ∷ []) Post)
+  walk :
+      (𝓣 : Tables 𝓤 H) → Triple 𝓤 (𝓣 .C #arclist·find·arc-at) (ArcAt 𝓤 H A mem run) →
+      ent 𝓤 (onEntry 𝓤 H A write.signature (κ, tt) (q, tt) a vals) (WpFn 𝓤 H (𝓣 .C) (𝓣 .Λ) code.function (s ∷ mach ∷ vint w64 n ∷ []) Post)
   walk 𝓣 known =
       qed W ((‵ (flft κ q) ⊛ ‵ ftrue) ∷ ‵ (owns (MutSlice (named 0) κ R ∷ F.the-row ∷ usize ∷ []) a vals) ∷ []) ∵ enter ! (𝓣 .C) (𝓣 .Λ) code.function (s ∷ mach ∷ vint w64 n ∷ []) _ $
       alloc1 ! (λ l₀. alloc1 ! (λ l₁. alloc1 ! (λ l₂. alloc1 ! (λ l₃. alloc1 ! (λ l₄. alloc1 ! (λ l₅. alloc1 ! (λ l₆. alloc1 ! (λ l₇. alloc1 ! (λ l₈. alloc0 ! $ params1 ! $
-      pass1 ! (init ! 14 refl (tt, (tt, (record { fits = space .0 }, tt)))) $ pass1 ! (init ! 12 refl (LL.lawful F.the-type F′.the-laws 𝓤 H A W .typed f _ f-is .0)) $ pass1 ! (init ! 10 refl (tt, record { fits = omega (arith, few) })) $ pass0 ! $
+      pass1 ! (init ! 14 refl (tt, (tt, (record { fits = space .0 }, tt)))) $ pass1 !
+      (init ! 12 refl (LL.lawful F.the-type F′.the-laws 𝓤 H A W .typed f _ f-is .0)) $ pass1 !
+      (init ! 10 refl (tt, record { fits = omega (arith, few) })) $ pass0 ! $
       -- [_8; …; _7; …; _6; …; _5; …; _4; …; _3; …; _2; …; _1; …; room for _0; …; the token; what arcs, found and n own]
       move ! (19 ∷ []) $ fsplit ! $ move ! (1 ∷ []) $ drop ! $ move ! (19 ∷ []) $ split ! $ move ! (1 ∷ []) $ drop ! $ move ! (1 ∷ 0 ∷ []) $ by ! (begins 𝓣 known l₀ l₁ l₂ l₃ l₄ l₅ l₆ l₇ l₈))))))))))
 
-module _ {M : Type 1} (𝓤 : URA M) (H : Heap 𝓤) (A : Atoms 𝓤) (W : Given 𝓤 H A) (mem : Memory → SProp 𝓤) (run : Routine → Fun 𝓤) (𝓣 : Tables 𝓤 H) (known : Triple 𝓤 (𝓣 .C #arclist·find·arc-at) (ArcAt 𝓤 H A mem run)) where
+module _ {M : Type 1} (𝓤 : URA M) (H : Heap 𝓤) (A : Atoms 𝓤) (W : Given 𝓤 H A) (mem : Memory → SProp 𝓤) (run : Routine → Fun 𝓤) (𝓣 : Tables 𝓤 H)
+    (known : Triple 𝓤 (𝓣 .C #arclist·find·arc-at) (ArcAt 𝓤 H A mem run)) where
   write-walks : Walks 𝓤 H A write.ended stayed (WpFn 𝓤 H (𝓣 .C) (𝓣 .Λ) code.function) (write.clauses 𝓤 H A mem run)
   write-walks = walked 𝓤 H A write.ended stayed (write.clauses 𝓤 H A mem run) (WpFn 𝓤 H (𝓣 .C) (𝓣 .Λ) code.function)
       (λ κs. (slice-vals, (LL.vals F.the-type F′.the-laws, (uint-vals w64, tt)))) (λ κs. (mut-slice-tells (named 0) (κs .0) R, (LL.tells F.the-type F′.the-laws, (uint-tells w64, tt))))
@@ -290,7 +304,9 @@ module _ {M : Type 1} (𝓤 : URA M) (H : Heap 𝓤) (A : Atoms 𝓤) (W : Given
 
   write-meets : Meets 𝓤 H A write.signature (WpFn 𝓤 H (𝓣 .C) (𝓣 .Λ) code.function) (write.spec 𝓤 H A mem run)
   write-meets =
-      walk-meets 𝓤 H A write.ended stayed W (goes-slice 𝓤 H A W 1 0 tt (plain (λ _. T.the-row)), (goes-none 𝓤 H A W 1 (λ _. F.the-row) yes (λ κs x f. refl), (goes-none 𝓤 H A W 1 (λ _. usize) yes (λ κs x f. refl), tt))) (write.clauses 𝓤 H A mem run)
+      walk-meets 𝓤 H A write.ended stayed W
+      (goes-slice 𝓤 H A W 1 0 tt (plain (λ _. T.the-row)), (goes-none 𝓤 H A W 1 (λ _. F.the-row) yes (λ κs x f. refl), (goes-none 𝓤 H A W 1 (λ _. usize) yes (λ κs x f. refl), tt)))
+      (write.clauses 𝓤 H A mem run)
       (WpFn 𝓤 H (𝓣 .C) (𝓣 .Λ) code.function) (WpFn-mono 𝓤 H (W .laws) 𝓣 code.function) write-walks
 
 pub write-spec : {M : Type 1} → stated.statement M

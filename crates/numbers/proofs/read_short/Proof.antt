@@ -25,10 +25,19 @@ shared-slice-read-byte : tie.Need-shared-slice-read-byte Inv-loop μ-loop
 shared-slice-read-byte c = search needs
 
 returns-3 : tie.Need-returns-3 Inv-loop μ-loop
-returns-3 c = as-read _ _ (c .before .before .before .before .before .if1 .left) (c .before .before .before .before .if2 .left) (reading-low (c .before .before .before .loop .inv) (c .before .before .loop-test .taken) (c .if3 .taken))
+returns-3 c =
+    let at-loop = c .before .before .before in
+    let at-if2 = at-loop .before in
+    let at-if1 = at-if2 .before in
+    as-read _ _ (at-if1 .if1 .left) (at-if2 .if2 .left) (reading-low (at-loop .loop .inv) (c .before .before .loop-test .taken) (c .if3 .taken))
 
 returns-4 : tie.Need-returns-4 Inv-loop μ-loop
-returns-4 c = as-read _ _ (c .before .before .before .before .before .before .if1 .left) (c .before .before .before .before .before .if2 .left) (reading-high (c .before .before .before .before .loop .inv) (c .before .before .before .loop-test .taken) (c .before .if3 .left) (c .if4 .taken))
+returns-4 c =
+    let at-loop-test = c .before .before .before in
+    let at-loop = at-loop-test .before in
+    let at-if2 = at-loop .before in
+    let at-if1 = at-if2 .before in
+    as-read _ _ (at-if1 .if1 .left) (at-if2 .if2 .left) (reading-high (at-loop .loop .inv) (at-loop-test .loop-test .taken) (c .before .if3 .left) (c .if4 .taken))
 
 mul-value : tie.Need-mul-value Inv-loop μ-loop
 mul-value c = let l = c .before .before .before .before .loop in omega (arith, below-1000 (l .value) (l .k) (omega arith) (l .inv .small))

@@ -55,8 +55,11 @@ same-length c = filling-length (c .before .loop .inv)
 
 returns-3 : tie.Need-returns-3 Inv-loop μ-loop
 returns-3 c =
-    let e : c .before .loop .y ≡ c .before .before .before .before .before .before .args .most + 1 = omega (arith, c .before .loop .inv .in-count, c .loop-test .left) in
-    filled _ _ _ (c .before .before .before .before .if1 .left) (c .before .before .before .if2 .left) (filling-end (c .before .loop .inv) e)
+    let at-if2 = c .before .before .before in
+    let at-if1 = at-if2 .before in
+    let entry = at-if1 .before .before in
+    let e : c .before .loop .y ≡ entry .args .most + 1 = omega (arith, c .before .loop .inv .in-count, c .loop-test .left) in
+    filled _ _ _ (at-if1 .if1 .left) (at-if2 .if2 .left) (filling-end (c .before .loop .inv) e)
 
 pub fill-spec : {M : Type 1} → statement M
 fill-spec =

@@ -46,7 +46,10 @@ part-costs-start : tie.Need-part-costs-start
 part-costs-start c = search needs
 
 part-costs-end : tie.Need-part-costs-end
-part-costs-end c = omega (arith, c .before .before .before .before .at-most .ensures, at-most-64 (c .before .before .before .before .before .before .before .before .args .room), length-replicate 64 (pos 0))
+part-costs-end c =
+    let at-at-most = c .before .before .before .before in
+    let entry = at-at-most .before .before .before .before in
+    omega (arith, at-at-most .at-most .ensures, at-most-64 (entry .args .room), length-replicate 64 (pos 0))
 
 cheapest-flow-requires : tie.Need-cheapest-flow-requires
 cheapest-flow-requires c κs = search needs
@@ -59,9 +62,12 @@ same-length c = search needs
 
 returns : tie.Need-returns
 returns c =
-    let a = c .before .before .before .before .before .before .before .before .before .before .before .before .before .at-most in
-    let w = c .before .before .before .before .before .before .before .cheapest-flow .ensures in
-    let room = c .before .before .before .before .before .before .before .before .before .before .before .before .before .before .before .before .before .args .room in
+    let at-cheapest-flow = c .before .before .before .before .before .before .before in
+    let at-at-most = at-cheapest-flow .before .before .before .before .before .before in
+    let entry = at-at-most .before .before .before .before in
+    let a = at-at-most .at-most in
+    let w = at-cheapest-flow .cheapest-flow .ensures in
+    let room = entry .args .room in
     let h : a .result ≤ 64 = omega (arith, a .ensures, at-most-64 room) in
     found _ _ _ room _ _ _ _ _ (part-length _ 0 h ∙ a .ensures) (part-length _ 0 h ∙ a .ensures) (part-length _ 0 h ∙ a .ensures) (part-length _ (pos 0) h ∙ a .ensures)
     _ _ _ _ _ _ _ _ _ _ _ (part-rest (a .result) 0) (part-rest (a .result) 0) (part-rest (a .result) 0) (part-rest (a .result) (pos 0)) (w .0) (w .1) (c .count-of .ensures)
