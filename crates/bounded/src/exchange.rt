@@ -7,11 +7,11 @@ use super::potentials::raise_subtree;
 use super::prices::fill;
 use super::residuals::VAST;
 use super::residuals::above;
-use super::residuals::toggle_part;
 use super::residuals::gain;
 use super::residuals::loss;
 use super::residuals::pair;
 use super::residuals::reverse_path;
+use super::residuals::toggle_part;
 use spanningtree::NONE;
 use spanningtree::flows::lane;
 use std::num::wrapping_sub_u32;
@@ -142,13 +142,7 @@ fn own_pair(ceiling: u32, amount: u32, less: bool, over: bool) -> u64 {
 }
 
 // The entering lane k is in the tree: it is full no longer; above its ceiling its price keeps the fine.
-fn enter(
-    k: usize,
-    less: bool,
-    cost: &[u32; 2048],
-    price: &mut [u32; 2048],
-    full: &mut [u64; 32],
-)
+fn enter(k: usize, less: bool, cost: &[u32; 2048], price: &mut [u32; 2048], full: &mut [u64; 32])
     requires { ⌜ k < 2048 ⌝ }
 {
     let i = k / 64;
@@ -282,7 +276,17 @@ pub fn pivot(
     }
     let own = own_pair(cap[k], far.amount, less, over);
     enter(k, less, cost, price, full);
-    leave(far.node, here, fine, cost, cap, price, full, parent, residual);
+    leave(
+        far.node,
+        here,
+        fine,
+        cost,
+        cap,
+        price,
+        full,
+        parent,
+        residual,
+    );
     exchange(
         i,
         j,

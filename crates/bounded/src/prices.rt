@@ -57,13 +57,7 @@ fn close_row(k: usize, n: usize, fine: u32, cap: &[u32; 2048], price: &mut [u32;
 }
 
 // The closed lanes of all sources do.
-pub fn close_lanes(
-    m: usize,
-    n: usize,
-    fine: u32,
-    cap: &[u32; 2048],
-    price: &mut [u32; 2048],
-)
+pub fn close_lanes(m: usize, n: usize, fine: u32, cap: &[u32; 2048], price: &mut [u32; 2048])
     requires { ⌜ (m ≤ 32) × (n ≤ 64) ⌝ }
 {
     for i in 0..m {

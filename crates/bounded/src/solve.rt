@@ -19,6 +19,7 @@ use std::num::wrapping_sub_u32;
 
 // The turns of the first try, and of the second.
 const TURNS: u32 = 20_000;
+
 const AGAIN: u32 = 400;
 
 // The source that is looked at, and how many in a row had no lane with a reduced cost of the wrong sign.
@@ -48,7 +49,13 @@ fn others(word: u64) -> u64
 }
 
 // The full lane of a source that is dearest for what it brings.
-fn dearest(row: u32, full: u64, cost: &[u32; 2048], potential: &[u32; 32], key: &[u32; 64]) -> Enter {
+fn dearest(
+    row: u32,
+    full: u64,
+    cost: &[u32; 2048],
+    potential: &[u32; 32],
+    key: &[u32; 64],
+) -> Enter {
     let base = potential[(row % 32) as usize] % 33_554_432;
     let mut terminal: u32 = 0;
     let mut most: u32 = 33_554_432;

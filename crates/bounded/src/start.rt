@@ -114,7 +114,11 @@ fn place(
     if over {
         full[s] = full[s] & (u64::MAX ^ (1u64 << j));
     }
-    let take = if over { VAST } else { wrapping_sub_u32(u, amount) };
+    let take = if over {
+        VAST
+    } else {
+        wrapping_sub_u32(u, amount)
+    };
     hang(
         i,
         32 + j,
@@ -253,7 +257,13 @@ fn follow_all(
     let mut k = count % 129;
     while 0 < k {
         k = k - 1;
-        follow(book[128 + (k % 128) as usize], price, parent, potential, key);
+        follow(
+            book[128 + (k % 128) as usize],
+            price,
+            parent,
+            potential,
+            key,
+        );
     }
 }
 

@@ -15,10 +15,11 @@ returns c =
 
 reach-requires : tie.Need-reach-requires
 reach-requires c κs =
-    let r = c .before .before .before .before .before .before .before .pre .1 .0 in (
-      free-ready (c .before .before .before .before .before .before .before .args .cap .now) (replicate {A = ℕ} 2048 0) r (λ k h. getD-replicate {A = ℕ} 2048 k 0 0 h) (length-replicate {A = ℕ} 96 800000000)
+    let entry = c .before .before .before .before .before .before .before in
+    let r = entry .pre .1 .0 in (
+      free-ready (entry .args .cap .now) (replicate {A = ℕ} 2048 0) r (λ k h. getD-replicate {A = ℕ} 2048 k 0 0 h) (length-replicate {A = ℕ} 96 800000000)
           (λ v h. getD-replicate {A = ℕ} 96 v 800000000 0 h),
-      c .before .before .before .before .before .before .before .pre .1 .1,
+      entry .pre .1 .1,
     )
 
 returns-2 : tie.Need-returns-2
