@@ -4,7 +4,7 @@ use mathlib.Core.Logic.{_⊎_, inl, inr, ⊎-elim}
 use mathlib.Core.Bool.{Bool, true, false, cond, _||_}
 use mathlib.Core.Option.{none, some}
 use mathlib.Core.List.{List, [], _∷_, _++_, append-nil}
-use Prim.Native.Nat.{ℕ, suc, _≤_, _<_, _^_}
+use Prim.Native.Nat.{ℕ, suc, min, _≤_, _<_, _^_}
 use native.Mathlib.Decide.{ℕ-discrete, decLt}
 use native.Mathlib.Omega.{arith}
 use lib.Dec.{eqb, ltb}
@@ -22,7 +22,7 @@ use Rattle.dimacs.specs.Form.{ArcLine, NodeLine, file, Stage, opening, r
 use Rattle.dimacs.specs.Lines.{supplyIn, anyOf, noNode, twice, badArc}
 use Rattle.dimacs.specs.inner.LineReader.{onLine}
 use Rattle.dimacs.specs.inner.FormReader.{tallyOf, endOf}
-use Rattle.dimacs.specs.inner.Stored.{nodeIn, arcIn, noLine, arcOn, HeldBy, ArcsRead, listedNode, NodesRead, flagged, stageOf, nodesIn, arcsIn, suppliesIn, LinesKept, ReadAs}
+use Rattle.dimacs.specs.inner.Stored.{nodeIn, arcIn, noLine, arcOn, HeldBy, ArcsRead, listedNode, noCell, NodesRead, flagged, stageOf, nodesIn, arcsIn, suppliesIn, LinesKept, ReadAs}
 use Rattle.dimacs.proofs.FileLines.{Stands, SoFar, end-closed, end-short, end-whole}
 use Rattle.dimacs.proofs.NodeAndArcLines.{or-first, or-next, any-joined, any-more, twice-more, supply-more, other-supply}
 
@@ -93,9 +93,9 @@ module _ (nodes : ℕ) (arcs : List ArcLine) (v : ArcLine) (bad worse : Bool) (s
 -- ---- one more supply
 
 module _ (nodes : ℕ) (sup : List NodeLine) (v : NodeLine) (odd : Bool) (gives takes marks : List ℕ) (r : NodesRead nodes sup odd gives takes marks) where
-  flags-next : (anyOf (λ (z : NodeLine). noNode nodes (z .id)) (sup ++ (v ∷ [])) || twice (sup ++ (v ∷ [])))
-      ≡ ((anyOf (λ (z : NodeLine). noNode nodes (z .id)) sup || noNode nodes (v .id)) || (twice sup || listedNode sup (v .id)))
-  flags-next = ap₂ (λ (a b : Bool). a || b) (any-more (λ (z : NodeLine). noNode nodes (z .id)) sup v) (twice-more sup v)
+  flags-next : (anyOf (noCell nodes) (sup ++ (v ∷ [])) || twice (sup ++ (v ∷ [])))
+      ≡ ((anyOf (noCell nodes) sup || noCell nodes v) || (twice sup || listedNode sup (v .id)))
+  flags-next = ap₂ (λ (a b : Bool). a || b) (any-more (noCell nodes) sup v) (twice-more sup v)
 
   -- the node's number is none: nothing is stored
   marks-kept : ((i : ℕ) → i < 32 → eqb (v .id) (suc i) ≡ false) → (i : ℕ) → i < 32 → ltb 0 (getD marks i 0) ≡ listedNode (sup ++ (v ∷ [])) (suc i)
@@ -109,19 +109,11 @@ module _ (nodes : ℕ) (sup : List NodeLine) (v : NodeLine) (odd : Bool) (gives 
   supplies-kept : ((i : ℕ) → i < 32 → eqb (v .id) (suc i) ≡ false) → (i : ℕ) → i < 32 → subℕ (getD gives i 0) (getD takes i 0) ≡ supplyIn (suc i) (sup ++ (v ∷ []))
   supplies-kept h i l = r .supply i l ∙ other-supply sup v (suc i) (h i l)
 
-  -- with one more there are some
-  some-lines : (b : Bool) → (sup ++ (v ∷ [])) ≡ [] → b ≡ false
-  some-lines b e = absurd (omega (arith, ap length e, length-append sup (v ∷ [])))
-
   pub node-none : (v .id < 1) ⊎ (32 < v .id) → NodesRead nodes (sup ++ (v ∷ [])) true gives takes marks
   node-none h =
       let other : (i : ℕ) → i < 32 → eqb (v .id) (suc i) ≡ false = λ i l. ne-eqb (v .id) (suc i) (λ e. ⊎-elim (λ q. omega arith) (λ q. omega arith) h) in
       record {
-        flag =
-            λ few. or-first (anyOf (λ (z : NodeLine). noNode nodes (z .id)) sup || noNode nodes (v .id)) (twice sup || listedNode sup (v .id))
-            (sym (or-next (anyOf (λ (z : NodeLine). noNode nodes (z .id)) sup) (noNode nodes (v .id)) (out few h))) ∙
-            sym flags-next;
-        fresh = some-lines true;
+        flag = or-first (anyOf (noCell nodes) sup || noCell nodes v) (twice sup || listedNode sup (v .id)) (sym (or-next (anyOf (noCell nodes) sup) (noCell nodes v) (out h))) ∙ sym flags-next;
         mark = marks-kept other;
         mark-one = r .mark-one;
         supply = supplies-kept other;
@@ -132,19 +124,15 @@ module _ (nodes : ℕ) (sup : List NodeLine) (v : NodeLine) (odd : Bool) (gives 
         marks-long = r .marks-long;
       }
     where
-      out : nodes ≤ 32 → (v .id < 1) ⊎ (32 < v .id) → true ≡ noNode nodes (v .id)
-      out few (inl h) = or-first (ltb (v .id) 1) (ltb nodes (v .id)) (lt-ltb (v .id) 1 h)
-      out few (inr h) = or-next (ltb (v .id) 1) (ltb nodes (v .id)) (sym (lt-ltb nodes (v .id) (omega arith)))
+      out : (v .id < 1) ⊎ (32 < v .id) → true ≡ noCell nodes v
+      out (inl h) = or-first (ltb (v .id) 1) (ltb (min nodes 32) (v .id)) (lt-ltb (v .id) 1 h)
+      out (inr h) = or-next (ltb (v .id) 1) (ltb (min nodes 32) (v .id)) (sym (lt-ltb (min nodes 32) (v .id) (omega arith)))
 
   module _ (i : ℕ) (e : v .id ≡ suc i) (l : i < 32) where
     -- the node has a line already
     pub node-again : 0 < getD marks i 0 → NodesRead nodes (sup ++ (v ∷ [])) true gives takes marks
     node-again h = record {
-      flag =
-          λ few. or-next (anyOf (λ (z : NodeLine). noNode nodes (z .id)) sup || noNode nodes (v .id)) (twice sup || listedNode sup (v .id))
-          (or-next (twice sup) (listedNode sup (v .id)) (sym (ap (listedNode sup) e ∙ there))) ∙
-          sym flags-next;
-      fresh = some-lines true;
+      flag = or-next (anyOf (noCell nodes) sup || noCell nodes v) (twice sup || listedNode sup (v .id)) (or-next (twice sup) (listedNode sup (v .id)) (sym (ap (listedNode sup) e ∙ there))) ∙ sym flags-next;
       mark = λ k q. r .mark k q ∙ same-mark k;
       mark-one = r .mark-one;
       supply = λ k q. r .supply k q ∙ same-supply k;
@@ -178,8 +166,7 @@ module _ (nodes : ℕ) (sup : List NodeLine) (v : NodeLine) (odd : Bool) (gives 
     module _ (g t : ℕ) (new : getD marks i 0 ≤ 0) (is : subℕ g t ≡ v .supply) (way : (g ≡ 0) ⊎ (t ≡ 0)) (sg : g < 10 ^ 10) (st : t < 10 ^ 10) where
       pub node-next : (worse : Bool) → worse ≡ (ltb nodes (v .id) || odd) → NodesRead nodes (sup ++ (v ∷ [])) worse (set gives i g) (set takes i t) (set marks i 1)
       node-next worse w = record {
-        flag = λ few. w ∙ ap (λ (b : Bool). ltb nodes (v .id) || b) (r .flag few) ∙ turn few ∙ sym flags-next;
-        fresh = some-lines worse;
+        flag = w ∙ ap₂ (λ (a b : Bool). a || b) celled (r .flag) ∙ turn ∙ sym flags-next;
         mark = λ k q. elim (ℕ-discrete k i) [ yes z ↦ mark-here k q z | no z ↦ mark-other k q z ];
         mark-one = λ k q. elim (ℕ-discrete k i) [
           | yes z ↦ rw (z, getD-set-same marks i 1 0 (omega (arith, r .marks-long))) (let h : 1 ≤ 1 = omega arith in h)
@@ -209,11 +196,18 @@ module _ (nodes : ℕ) (sup : List NodeLine) (v : NodeLine) (odd : Bool) (gives 
           shuffle false false c true e = refl
           shuffle false false c false e = sym e
 
-          turn : nodes ≤ 32 → (ltb nodes (v .id) || (anyOf (λ (z : NodeLine). noNode nodes (z .id)) sup || twice sup))
-              ≡ ((anyOf (λ (z : NodeLine). noNode nodes (z .id)) sup || noNode nodes (v .id)) || (twice sup || listedNode sup (v .id)))
-          turn few =
-              shuffle (ltb nodes (v .id)) (anyOf (λ (z : NodeLine). noNode nodes (z .id)) sup) (listedNode sup (v .id)) (twice sup) (ap (listedNode sup) e ∙ fresh)
-              ∙ ap (λ (b : Bool). (anyOf (λ (z : NodeLine). noNode nodes (z .id)) sup || (b || ltb nodes (v .id))) || (twice sup || listedNode sup (v .id)))
+          -- a number of at most 32 has a cell where it is a node's
+          celled : ltb nodes (v .id) ≡ ltb (min nodes 32) (v .id)
+          celled = elim (decLt nodes (v .id)) [
+            | yes h ↦ lt-ltb nodes (v .id) h ∙ sym (lt-ltb (min nodes 32) (v .id) (omega arith))
+            | no h ↦ le-ltb nodes (v .id) (omega arith) ∙ sym (le-ltb (min nodes 32) (v .id) (omega arith))
+          ]
+
+          turn : (ltb (min nodes 32) (v .id) || (anyOf (noCell nodes) sup || twice sup))
+              ≡ ((anyOf (noCell nodes) sup || noCell nodes v) || (twice sup || listedNode sup (v .id)))
+          turn =
+              shuffle (ltb (min nodes 32) (v .id)) (anyOf (noCell nodes) sup) (listedNode sup (v .id)) (twice sup) (ap (listedNode sup) e ∙ fresh)
+              ∙ ap (λ (b : Bool). (anyOf (noCell nodes) sup || (b || ltb (min nodes 32) (v .id))) || (twice sup || listedNode sup (v .id)))
               (sym (le-ltb (v .id) 1 (omega arith)))
 
           mark-here : (k : ℕ) → k < 32 → k ≡ i → ltb 0 (getD (set marks i 1) k 0) ≡ listedNode (sup ++ (v ∷ [])) (suc k)
@@ -321,8 +315,7 @@ no-arcs n m r = record {
 pub no-nodes : {odd : Bool} {gives takes marks : List ℕ} (n m : ℕ) → NodesRead n [] odd gives takes marks → NodesRead m [] odd gives takes marks
 unfolding anyOf twice
 no-nodes n m r = record {
-  flag = λ few. r .fresh refl;
-  fresh = r .fresh;
+  flag = r .flag;
   mark = r .mark;
   mark-one = r .mark-one;
   supply = r .supply;

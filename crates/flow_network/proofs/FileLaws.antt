@@ -3,7 +3,7 @@ use mathlib.Core.Path.{_≡_, refl, sym, ap, ap₂, _∙_, subst}
 use mathlib.Core.Logic.{inl}
 use mathlib.Core.Bool.{Bool, true, false, _||_}
 use mathlib.Core.List.{List, [], map}
-use Prim.Native.Nat.{ℕ, suc, _-_, _≤_, _<_}
+use Prim.Native.Nat.{ℕ, suc, min, _-_, _≤_, _<_}
 use native.Mathlib.Decide.{decLt}
 use native.Mathlib.Omega.{arith}
 use lib.Dec.{ltb}
@@ -70,8 +70,7 @@ zero-arcs = record {
 pub zero-nodes : NodesRead 0 [] false (replicate 32 0) (replicate 32 0) (replicate 32 0)
 unfolding anyOf twice supplyIn
 zero-nodes = record {
-  flag = λ h. refl;
-  fresh = λ e. refl;
+  flag = refl;
   mark = λ i h. ap (ltb 0) (getD-replicate {A = ℕ} 32 i 0 0 h);
   mark-one = λ i h. omega (arith, getD-replicate {A = ℕ} 32 i 0 0 h);
   supply = λ i h. ap₂ (λ (a b : ℕ). subℕ a b) (getD-replicate {A = ℕ} 32 i 0 0 h) (getD-replicate {A = ℕ} 32 i 0 0 h);
@@ -127,7 +126,7 @@ module _ (f : File) (nodes arcs : ℕ) (odd bad : Bool) (tails heads caps : List
         | yes l ↦ ap (λ (b : Bool). b || (ltb 64 (length (f .arcs)) || (odd || bad))) (lt-ltb 32 (f .nodes) l)
             ∙ sym (ap (λ (b : Bool). b || (ltb 64 (length (f .arcs)) || (none-named || (twice (f .supplies) || anyOf (badArc (f .nodes)) (f .arcs))))) (lt-ltb 32 (f .nodes) l))
         | no l ↦
-            ap₂ (λ (o b : Bool). ltb 32 (f .nodes) || (ltb 64 (length (f .arcs)) || (o || b))) (R .node-lines .flag (omega arith)) (R .arc-lines .flag)
+            ap₂ (λ (o b : Bool). ltb 32 (f .nodes) || (ltb 64 (length (f .arcs)) || (o || b))) (R .node-lines .flag ∙ ap (λ (k : ℕ). anyOf (λ (v : NodeLine). noNode k (v .id)) (f .supplies) || twice (f .supplies)) (let e : min (f .nodes) 32 ≡ f .nodes = omega arith in e)) (R .arc-lines .flag)
             ∙ ap (λ (b : Bool). ltb 32 (f .nodes) || (ltb 64 (length (f .arcs)) || b)) (or-regroup none-named (twice (f .supplies)) (anyOf (badArc (f .nodes)) (f .arcs)))
       ]
 

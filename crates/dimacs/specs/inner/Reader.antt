@@ -3,7 +3,7 @@ use mathlib.Core.Path.{_≡_}
 use mathlib.Core.Bool.{Bool}
 use mathlib.Core.Option.{Option, none, some}
 use mathlib.Core.List.{List}
-use Prim.Native.Nat.{ℕ, _≤_, _<_, _^_}
+use Prim.Native.Nat.{ℕ, _-_, _≤_, _<_, _^_}
 use lib.IntN.{ℤ}
 use lib.ListN.{length, drop}
 use Rattle.csv_form.specs.Records.{signed as withSign}
@@ -19,7 +19,9 @@ pub record DigitsRead (s : List ℕ) (at first value next : ℕ) : Type 0 where
   pub small : value < 10 ^ 10
   pub meaning : digits 9 first (drop at s) ≡ got value (drop next s)
 
+-- the offset after the spaces
 pub record SpacesRead (s : List ℕ) (at next : ℕ) : Type 0 where
+  pub offset : next ≡ length s - length (spaces (drop at s))
   pub upto : next ≤ length s
   pub meaning : spaces (drop at s) ≡ drop next s
 

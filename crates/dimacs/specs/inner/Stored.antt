@@ -4,7 +4,7 @@ use mathlib.Core.Logic.{_⊎_}
 use mathlib.Core.Bool.{Bool, false, _||_}
 use mathlib.Core.Option.{none, some}
 use mathlib.Core.List.{List, [], _∷_}
-use Prim.Native.Nat.{ℕ, suc, _≤_, _<_, _^_}
+use Prim.Native.Nat.{ℕ, suc, min, _≤_, _<_, _^_}
 use lib.Dec.{eqb, ltb}
 use lib.IntN.{ℤ, pos, subℕ}
 use lib.ListN.{length, getD}
@@ -69,11 +69,14 @@ pub record ArcsRead (nodes : ℕ) (arcs : List ArcLine) (bad : Bool) (starts end
 abbrev pub listedNode : List NodeLine → ℕ → Bool
 listedNode l i = anyOf (λ (z : NodeLine). eqb (z .id) i) l
 
+-- an n line for a node that the network has not, or for one above 32, for which there is no cell
+abbrev pub noCell : ℕ → NodeLine → Bool
+noCell nodes v = noNode (min nodes 32) (v .id)
+
 -- the n lines so far: a supply is what is given minus what is taken, one of which is 0; a mark, 1, says that the node has a line; the flag, that a line
 -- is out of the limits
 pub record NodesRead (nodes : ℕ) (supplies : List NodeLine) (odd : Bool) (gives takes marks : List ℕ) : Type 0 where
-  pub flag : nodes ≤ 32 → odd ≡ (anyOf (λ (v : NodeLine). noNode nodes (v .id)) supplies || twice supplies)
-  pub fresh : supplies ≡ [] → odd ≡ false
+  pub flag : odd ≡ (anyOf (noCell nodes) supplies || twice supplies)
   pub mark : (i : ℕ) → i < 32 → ltb 0 (getD marks i 0) ≡ listedNode supplies (suc i)
   pub mark-one : (i : ℕ) → i < 32 → getD marks i 0 ≤ 1
   pub supply : (i : ℕ) → i < 32 → subℕ (getD gives i 0) (getD takes i 0) ≡ supplyIn (suc i) supplies

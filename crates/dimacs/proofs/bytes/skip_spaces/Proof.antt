@@ -1,10 +1,10 @@
 -- `dimacs::bytes::skip_spaces` meets its contract. Assumes nothing.
-use mathlib.Core.Path.{_≡_, refl, _∙_}
+use mathlib.Core.Path.{_≡_, refl, ap, _∙_}
 use Prim.Native.Nat.{_-_, _≤_}
 use native.Mathlib.Omega.{arith}
 use denote.Ref.{now}
 use borrow.Author.Needs.{needs}
-use lib.ListN.{length, drop}
+use lib.ListN.{length, drop, length-drop}
 use Rattle.dimacs.specs.Bytes.{spaces}
 use Rattle.dimacs.proofs.LineOffsets.{there, spaces-more, spaces-stop}
 use Rattle.dimacs.proofs.bytes.skip_spaces.Statement.{statement}
@@ -24,11 +24,11 @@ byte-at-requires c κs = search needs
 
 returns : tie.Need-returns Inv-loop μ-loop
 returns c =
-    let at-loop = c .before .before in
-    let entry = at-loop .before .before in
-    let s = now (entry .args .s) in
-    let n = at-loop .loop .next in
-    record { upto = at-loop .loop .inv .0; meaning = at-loop .loop .inv .1 ∙ spaces-stop s n _ (c .before .byte-at .ensures) (c .if1 .taken) }
+    let s = now (c .before .before .before .before .args .s) in
+    let n = c .before .before .loop .next in
+    let v = c .before .before .loop .inv in
+    let e = v .1 ∙ spaces-stop s n _ (c .before .byte-at .ensures) (c .if1 .taken) in
+    record { offset = omega (arith, v .0, ap length e, length-drop n s); upto = v .0; meaning = e }
 
 add-next : tie.Need-add-next Inv-loop μ-loop
 add-next c = omega (arith, there (now (c .before .before .before .before .args .s)) (c .before .before .loop .next) _ (c .before .byte-at .ensures) (λ q. omega (arith, c .if1 .left)))
