@@ -3,11 +3,11 @@ use mathlib.Core.Path.{_≡_, refl, sym, ap, _∙_}
 use mathlib.Core.List.{List}
 use Prim.Native.Nat.{ℕ, suc, _+_, _-_, _*_, _≤_, _<_}
 use native.Mathlib.Nat.{suc-mul, mul-le-mul-right}
-use native.Mathlib.Decide.{ℕ-discrete}
+use native.Mathlib.Decide.{ℕ-discrete, decLt}
 use native.Mathlib.Omega.{arith}
-use lib.ListN.{length, getD, set, length-set, take, drop, length-take, length-drop}
+use lib.ListN.{length, getD, set, length-set, take, drop, length-take, length-drop, replicate, length-replicate, getD-replicate, List·getD-eq-default}
 use lib.Seq.{getD-set-same, getD-set-other, getD-take, getD-drop}
-use Rattle.engine_arrays.specs.inner.Copy.{Narrow, Copied, RowsMoved, Supplied}
+use Rattle.engine_arrays.specs.inner.Copy.{Narrow, Copied, RowsMoved, RowsKept, Supplied, Wanted}
 use Rattle.problem.proofs.CellRows.{row-at}
 
 -- the first k cells are copied
@@ -37,14 +37,15 @@ copy-next {s} {at} {k} {d} {e} q h l = record {
 pub copy-end : {s : List ℕ} {at k : ℕ} {d e : List ℕ} → Copying s at k d e → length s ≤ k → Copied s at d e
 copy-end {k = k} q h = record { long = q .long; here = λ j b. q .here j (omega arith); below = q .below; above = λ j b. q .above j (omega (arith, q .few)) }
 
--- the first k rows are copied from rows of p cells to rows of q, and the cells from k × q on are as they were
+-- the first k rows are copied from rows of p cells to rows of q, and the cells between them and from k × q on are as they were
 pub record Moving (n p q k : ℕ) (s d e : List ℕ) : Type 0 where
   pub long : length e ≡ length d
   pub rows : (i j : ℕ) → i < k → j < n → getD e (i * q + j) 0 ≡ getD s (i * p + j) 0
+  pub gaps : (i j : ℕ) → i < k → n ≤ j → j < q → getD e (i * q + j) 0 ≡ getD d (i * q + j) 0
   pub rest : (j : ℕ) → k * q ≤ j → getD e j 0 ≡ getD d j 0
 
 pub move-start : (n p q : ℕ) (s d : List ℕ) → Moving n p q 0 s d d
-move-start n p q s d = record { long = refl; rows = λ i j h. absurd (omega arith); rest = λ j h. refl }
+move-start n p q s d = record { long = refl; rows = λ i j h. absurd (omega arith); gaps = λ i j h. absurd (omega arith); rest = λ j h. refl }
 
 pub part-size : (f n : ℕ) (s : List ℕ) → f + n ≤ length s → length (take (f + n - f) (drop f s)) ≡ n
 part-size f n s h = simp (length-take, length-drop) (omega arith)
@@ -68,6 +69,12 @@ move-next {n} {p} {q} {k} {s} {d} {e} {e'} f t m wide ef et fits c = record {
         ∙ ap (λ (v : ℕ). getD s (v + j) 0) (sym zp)
     | no z ↦ c .below (i * q + j) (omega (arith, mul-le-mul-right q (let y : suc i ≤ k = omega arith in y), suc-mul i q)) ∙ m .rows i j (omega arith) l
   ];
+  gaps = λ i j h a b. elim (ℕ-discrete i k) [
+    | yes z ↦
+        let zq : i * q ≡ t = ap (λ (v : ℕ). v * q) z ∙ sym et in
+        c .above (i * q + j) (omega (arith, size)) ∙ m .rest (i * q + j) (omega arith)
+    | no z ↦ c .below (i * q + j) (omega (arith, mul-le-mul-right q (let y : suc i ≤ k = omega arith in y), suc-mul i q)) ∙ m .gaps i j (omega arith) a b
+  ];
   rest = λ j h. c .above j (omega (arith, size, suc-mul k q, next)) ∙ m .rest j (omega (arith, suc-mul k q, next));
 }
   where
@@ -87,6 +94,26 @@ row-start k p f e = omega (arith, suc-mul k p, ap (λ (v : ℕ). v * p) (let y :
 pub move-end : {m n p q k : ℕ} {s d e : List ℕ} → Moving n p q k s d e → m ≤ k → RowsMoved m n p q s e
 move-end {m} q h = record { cells = λ i j a b. q .rows i j (omega arith) b }
 
--- a copy from index 0 on
-pub copied-first : {s d e : List ℕ} → Copied s 0 d e → Supplied s e
-copied-first {s} {d} {e} q = record { sources = λ i h. ap (λ (v : ℕ). getD e v 0) (let z : i ≡ 0 + i = omega arith in z) ∙ q .here i h }
+pub kept-end : {m n p q k : ℕ} {s d e : List ℕ} → Moving n p q k s d e → m ≡ k → RowsKept m n q d e
+kept-end w z = record { columns = λ i j a. w .gaps i j (rw (← z) a); rows = λ k a. w .rest k (rw (← z) a) }
+
+-- a list of zeros
+zeros : (n i : ℕ) → getD {A = ℕ} (replicate n 0) i 0 ≡ 0
+zeros n i = elim (decLt i n) [ yes h ↦ getD-replicate {A = ℕ} n i 0 0 h | no h ↦ List·getD-eq-default {A = ℕ} (replicate n 0) 0 (omega (arith, length-replicate {A = ℕ} n 0)) ]
+
+-- a copy from index 0 on into zeros
+pub copied-first : {s e : List ℕ} → Copied s 0 (replicate 32 0) e → Supplied s e
+copied-first {s} {e} q = record {
+  long = q .long ∙ length-replicate {A = ℕ} 32 0;
+  sources = λ i h. ap (λ (v : ℕ). getD e v 0) (let z : i ≡ 0 + i = omega arith in z) ∙ q .here i h;
+  rest = λ i h. q .above i (omega arith) ∙ zeros 32 i;
+}
+
+-- a copy to the terminals' nodes
+pub copied-last : {s e : List ℕ} → Copied s 32 (replicate 96 0) e → Wanted s e
+copied-last q = record {
+  long = q .long ∙ length-replicate {A = ℕ} 96 0;
+  quiet = λ v h. q .below v h ∙ zeros 96 v;
+  terminals = q .here;
+  rest = λ v h. q .above v h ∙ zeros 96 v;
+}

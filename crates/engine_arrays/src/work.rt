@@ -5,7 +5,7 @@ ghost use mathlib.Core.Bool.{false};
 ghost use mathlib.Core.List.{map};
 ghost use lib.ListN.{length, getD};
 ghost use Rattle.problem.specs.Range.{outside, raisedOf, AllInside};
-ghost use Rattle.engine_arrays.specs.inner.Copy.{Narrow, Copied, RowsMoved, Supplied, Wanted};
+ghost use Rattle.engine_arrays.specs.inner.Copy.{Narrow, Copied, RowsMoved, RowsKept, Supplied, Wanted};
 
 // Copies a slice whose numbers fit 32 bits into working cells from index `at` on.
 fn copy_into(source: &[u64], at: usize, to: &mut [u32])
@@ -51,10 +51,10 @@ fn raise_into(source: &[i64], at: usize, to: &mut [u32])
     }
 }
 
-// Writes the m rows of n unit costs, raised, into rows of 64.
+// Writes the m rows of n unit costs, raised, into rows of 64; other cells are left as they are.
 pub fn raise_rows(m: usize, n: usize, costs: &[i64], to: &mut [u32; 2048])
     requires { ⌜ (m ≤ 32) × (n ≤ 64) × (length (now costs) ≡ m * n) × (length (now to) ≡ 2048) × AllInside (now costs) ⌝ }
-    ensures { λ _. ⌜ RowsMoved m n n 64 (map raisedOf (now (costs .entry))) (now (to .exit)) × (length (now (to .exit)) ≡ 2048) ⌝ }
+    ensures { λ _. ⌜ RowsMoved m n n 64 (map raisedOf (now (costs .entry))) (now (to .exit)) × (length (now (to .exit)) ≡ 2048) × RowsKept m n 64 (now (to .entry)) (now (to .exit)) ⌝ }
 {
     let mut start: usize = 0;
     for i in 0..m {
@@ -80,10 +80,10 @@ pub fn gather_rows(m: usize, n: usize, cells: &[u32; 2048], to: &mut [u64])
     }
 }
 
-// Copies the m rows of n ceilings into rows of 64.
+// Copies the m rows of n ceilings into rows of 64; other cells are left as they are.
 pub fn copy_rows(m: usize, n: usize, ceilings: &[u64], to: &mut [u32; 2048])
     requires { ⌜ (m ≤ 32) × (n ≤ 64) × (length (now ceilings) ≡ m * n) × (length (now to) ≡ 2048) × Narrow (now ceilings) ⌝ }
-    ensures { λ _. ⌜ RowsMoved m n n 64 (now (ceilings .entry)) (now (to .exit)) × (length (now (to .exit)) ≡ 2048) ⌝ }
+    ensures { λ _. ⌜ RowsMoved m n n 64 (now (ceilings .entry)) (now (to .exit)) × (length (now (to .exit)) ≡ 2048) × RowsKept m n 64 (now (to .entry)) (now (to .exit)) ⌝ }
 {
     let mut start: usize = 0;
     for i in 0..m {
@@ -93,7 +93,7 @@ pub fn copy_rows(m: usize, n: usize, ceilings: &[u64], to: &mut [u32; 2048])
     }
 }
 
-// The supplies at the sources' nodes.
+// The supplies at the sources' nodes, and 0 after them.
 pub fn supplied(supplies: &[u64]) -> [u32; 32]
     requires { ⌜ (length (now supplies) ≤ 32) × Narrow (now supplies) ⌝ }
     ensures { λ r. ⌜ Supplied (now (supplies .entry)) r ⌝ }
@@ -103,7 +103,7 @@ pub fn supplied(supplies: &[u64]) -> [u32; 32]
     amounts
 }
 
-// The demands at the terminals' nodes, 32 and up.
+// The demands at the terminals' nodes, 32 and up, and 0 at all others.
 pub fn wanted(demands: &[u64]) -> [u32; 96]
     requires { ⌜ (length (now demands) ≤ 64) × Narrow (now demands) ⌝ }
     ensures { λ r. ⌜ Wanted (now (demands .entry)) r ⌝ }

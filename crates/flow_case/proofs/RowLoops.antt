@@ -11,7 +11,7 @@ use lib.ListN.{length, getD, set, take, drop, length-set, length-take, length-dr
 use lib.Seq.{getD-set-same, getD-set-other, getD-take, getD-drop, ext-getD, take-add}
 use Rattle.flow_problem.specs.Network.{cells}
 use Rattle.flow_problem.specs.inner.Reduce.{rowsOf}
-use Rattle.flow_case.specs.inner.Build.{Put, RowsAre}
+use Rattle.flow_case.specs.inner.Build.{Put, RowsAre, RowsAfter}
 use Rattle.flow_problem.specs.Answer.{anyBelow}
 use Rattle.flow_problem.proofs.NodesAndSources.{cells-length, cells-at}
 use Rattle.flow_problem.proofs.FlowListing.{or-both}
@@ -78,6 +78,13 @@ module _ {A : Type 0} (d : A) (f : ℕ → ℕ → A) (n : ℕ) where
         ∙ ap (λ (k : ℕ). f k j) (sym z)
     | no z ↦ p .below (i * n + j) (omega (arith, suc-mul i n, mul-le-mul-right n (let w : suc i ≤ m = omega arith in w))) ∙ r i j (omega arith) q
   ]
+
+-- the cells past the rows
+pub after-next : {A : Type 0} {d : A} {f : ℕ → A} (n m at : ℕ) (first before after : List A) → at ≡ m * n → RowsAfter d m n first before
+    → Put d f at n before after → RowsAfter d (m + 1) n first after
+after-next n m at first before after e r p k h =
+    let w : (m + 1) * n ≡ m * n + n = omega (arith, suc-mul m n, ap (λ (i : ℕ). i * n) (add-one m)) in
+    p .above k (omega arith) ∙ r k (omega arith)
 
 -- the first cells as a list
 pub cells-list : {A : Type 0} (d : A) (f : ℕ → A) (n : ℕ) (l : List A) → n ≤ length l → ((j : ℕ) → j < n → getD l j d ≡ f j) → take n l ≡ cells n f

@@ -9,7 +9,7 @@ ghost use lib.Dec.{eqb};
 ghost use lib.IntN.{pos};
 ghost use lib.ListN.{length, getD};
 ghost use Rattle.flow_problem.specs.inner.Reduce.{nodeOf, sourceOf};
-ghost use Rattle.flow_case.specs.inner.Build.{Moderate, Put, RowsAre, laneIn, costIn, haveIn, stockIn, flowIn, AtMostAll, cellOf};
+ghost use Rattle.flow_case.specs.inner.Build.{Moderate, Put, RowsAre, RowsAfter, laneIn, costIn, haveIn, stockIn, flowIn, AtMostAll, cellOf};
 use crate::build::lane;
 
 // What each node has.
@@ -56,13 +56,14 @@ fn lanes_into(starts: &[u64], ends: &[u64], id: u64, at: usize, to: &mut [u64; 2
     }
 }
 
-// The lane ceilings, row after row.
+// The lane ceilings, row after row; later cells are left as they are.
 pub fn lane_rows(m: usize, w: usize, v: usize, starts: &[u64], ends: &[u64], to: &mut [u64; 2048])
     requires { ⌜ (m ≤ 32) × (length (now starts) ≤ 64) × (length (now starts) ≡ length (now ends)) × (length (now to) ≡ 2048) ⌝ }
     requires { ⌜ ((s : ℕ) → s < m → nodeOf w v s < m) ⌝ }
     ensures { λ _.
         ⌜ RowsAre 0 (λ s j. laneIn (now (starts .entry)) (now (ends .entry)) (nodeOf w v s + 1) j) m (length (now (starts .entry))) (now (to .exit)) ×
-        (length (now (to .exit)) ≡ 2048) ⌝ }
+        (length (now (to .exit)) ≡ 2048) ×
+        RowsAfter 0 m (length (now (starts .entry))) (now (to .entry)) (now (to .exit)) ⌝ }
 {
     let mut at: usize = 0;
     for s in 0..m {
@@ -90,13 +91,14 @@ fn costs_into(starts: &[u64], costs: &[i64], id: u64, at: usize, to: &mut [i64; 
     }
 }
 
-// The unit costs, row after row.
+// The unit costs, row after row; later cells are left as they are.
 pub fn cost_rows(m: usize, w: usize, v: usize, starts: &[u64], costs: &[i64], to: &mut [i64; 2048])
     requires { ⌜ (m ≤ 32) × (length (now starts) ≤ 64) × (length (now starts) ≡ length (now costs)) × (length (now to) ≡ 2048) ⌝ }
     requires { ⌜ ((s : ℕ) → s < m → nodeOf w v s < m) ⌝ }
     ensures { λ _.
         ⌜ RowsAre (pos 0) (λ s j. costIn (now (starts .entry)) (now (costs .entry)) (nodeOf w v s + 1) j) m (length (now (starts .entry))) (now (to .exit)) ×
-        (length (now (to .exit)) ≡ 2048) ⌝ }
+        (length (now (to .exit)) ≡ 2048) ×
+        RowsAfter (pos 0) m (length (now (starts .entry))) (now (to .entry)) (now (to .exit)) ⌝ }
 {
     let mut at: usize = 0;
     for s in 0..m {

@@ -3,7 +3,8 @@ ghost use mathlib.Core.Path.{_≡_};
 ghost use mathlib.Core.Bool.{false};
 ghost use mathlib.Core.List.{map};
 ghost use Prim.Native.Nat.{_+_, _≤_};
-ghost use lib.ListN.{length, take};
+ghost use lib.IntN.{pos};
+ghost use lib.ListN.{length, take, replicate};
 ghost use lib.Seq.{paste};
 ghost use Rattle.transport.specs.Curve.{written};
 ghost use Rattle.problem.specs.Range.{outside, raisedOf, AllInside};
@@ -51,10 +52,10 @@ pub fn lower_cells(source: &[u64], to: &mut [i64])
     }
 }
 
-// The unit costs of at most 2,048 cells.
+// The unit costs of at most 2,048 cells, and 0 after them.
 pub fn costs_of(source: &[u64]) -> [i64; 2048]
     requires { ⌜ length (now source) ≤ 2048 ⌝ }
-    ensures { λ r. ⌜ (length r ≡ 2048) × (take (length (now (source .entry))) r ≡ map costIn (now (source .entry))) ⌝ }
+    ensures { λ r. ⌜ (length r ≡ 2048) × (take (length (now (source .entry))) r ≡ map costIn (now (source .entry))) × (r ≡ written (map costIn (now (source .entry))) (replicate 2048 (pos 0))) ⌝ }
 {
     let mut costs = [0i64; 2048];
     lower_cells(source, &mut costs);

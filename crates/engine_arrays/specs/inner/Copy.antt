@@ -19,12 +19,20 @@ pub record Copied (source : List ℕ) (at : ℕ) (before after : List ℕ) : Typ
 pub record RowsMoved (m n p q : ℕ) (source after : List ℕ) : Type 0 where
   pub cells : (i j : ℕ) → i < m → j < n → getD after (i * q + j) 0 ≡ getD source (i * p + j) 0
 
--- the supplies, one after the other
-pub record Supplied (supplies amounts : List ℕ) : Type 0 where
-  pub sources : (i : ℕ) → i < length supplies → getD amounts i 0 ≡ getD supplies i 0
+-- the cells that lie in none of m rows of n cells, row i at i × q, are those of `before`: past column n of a row, and past row m
+pub record RowsKept (m n q : ℕ) (before after : List ℕ) : Type 0 where
+  pub columns : (i j : ℕ) → i < m → n ≤ j → j < q → getD after (i * q + j) 0 ≡ getD before (i * q + j) 0
+  pub rows : (k : ℕ) → m * q ≤ k → getD after k 0 ≡ getD before k 0
 
--- the demands at the terminals' nodes
+-- the supplies, one after the other, and 0 after them
+pub record Supplied (supplies amounts : List ℕ) : Type 0 where
+  pub long : length amounts ≡ 32
+  pub sources : (i : ℕ) → i < length supplies → getD amounts i 0 ≡ getD supplies i 0
+  pub rest : (i : ℕ) → length supplies ≤ i → getD amounts i 0 ≡ 0
+
+-- the demands at the terminals' nodes, and 0 at all others
 pub record Wanted (demands wants : List ℕ) : Type 0 where
   pub long : length wants ≡ 96
   pub quiet : (v : ℕ) → v < 32 → getD wants v 0 ≡ 0
   pub terminals : (j : ℕ) → j < length demands → getD wants (32 + j) 0 ≡ getD demands j 0
+  pub rest : (v : ℕ) → 32 + length demands ≤ v → getD wants v 0 ≡ 0

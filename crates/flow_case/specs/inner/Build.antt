@@ -46,6 +46,10 @@ pub record Put {A : Type 0} (d : A) (f : ℕ → A) (at n : ℕ) (before after :
 abbrev pub RowsAre : {A : Type 0} → A → (ℕ → ℕ → A) → ℕ → ℕ → List A → Type 0
 RowsAre d f m n l = (i j : ℕ) → i < m → j < n → getD l (i * n + j) d ≡ f i j
 
+-- the cells past m rows of n are as they were
+abbrev pub RowsAfter : {A : Type 0} → A → ℕ → ℕ → List A → List A → Type 0
+RowsAfter d m n before after = (k : ℕ) → m * n ≤ k → getD after k d ≡ getD before k d
+
 -- unit cost of lane (node, arc j): the arc's where it starts at the node
 abbrev pub costIn : List ℕ → List ℤ → ℕ → ℕ → ℤ
 costIn starts costs id j = cond (eqb (getD starts j 0) id) (getD costs j (pos 0)) (pos 0)

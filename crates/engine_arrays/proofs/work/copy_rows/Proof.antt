@@ -5,7 +5,7 @@ use native.Mathlib.Nat.{zero-mul}
 use native.Mathlib.Omega.{arith}
 use denote.Ref.{now}
 use lib.ListN.{length}
-use Rattle.engine_arrays.proofs.CellCopies.{Moving, move-start, move-next, move-end, part-size, narrow-part, row-within, row-start}
+use Rattle.engine_arrays.proofs.CellCopies.{Moving, move-start, move-next, move-end, kept-end, part-size, narrow-part, row-within, row-start}
 use Rattle.engine_arrays.proofs.work.copy_rows.Statement.{statement}
 use Rattle.engine_arrays.proofs.work.copy_rows.Tie as tie
 
@@ -67,7 +67,10 @@ loop-again c =
     )
 
 returns : tie.Need-returns Inv-loop μ-loop
-returns c = (move-end (c .before .loop .inv .0) (c .loop-test .left), c .before .loop .inv .0 .long ∙ c .before .before .before .pre .3)
+returns c =
+    let q = c .before .loop .inv .0 in
+    let h : c .before .before .before .args .m ≡ c .before .loop .i = omega arith in
+    (move-end q (c .loop-test .left), q .long ∙ c .before .before .before .pre .3, kept-end q h)
 
 pub copy-rows-spec : {M : Type 1} → statement M
 copy-rows-spec =

@@ -8,7 +8,7 @@ use mathlib.Core.List.{map}
 use lib.ListN.{length, length-map}
 use Rattle.problem.specs.Range.{raisedOf}
 use Rattle.problem.proofs.RaisedLists.{part-long, inside-part, map-part}
-use Rattle.engine_arrays.proofs.CellCopies.{Moving, move-start, move-next, move-end, row-within, row-start}
+use Rattle.engine_arrays.proofs.CellCopies.{Moving, move-start, move-next, move-end, kept-end, row-within, row-start}
 use Rattle.engine_arrays.proofs.work.raise_rows.Statement.{statement}
 use Rattle.engine_arrays.proofs.work.raise_rows.Tie as tie
 
@@ -72,7 +72,10 @@ loop-again c =
     )
 
 returns : tie.Need-returns Inv-loop μ-loop
-returns c = (move-end (c .before .loop .inv .0) (c .loop-test .left), c .before .loop .inv .0 .long ∙ c .before .before .pre .3)
+returns c =
+    let q = c .before .loop .inv .0 in
+    let h : c .before .before .args .m ≡ c .before .loop .i = omega arith in
+    (move-end q (c .loop-test .left), q .long ∙ c .before .before .pre .3, kept-end q h)
 
 pub raise-rows-spec : {M : Type 1} → statement M
 raise-rows-spec =

@@ -9,13 +9,13 @@ use denote.Ref.{now}
 use lib.IntN.{pos}
 use lib.ListN.{length}
 use Rattle.flow_problem.specs.inner.Reduce.{nodeOf}
-use Rattle.flow_case.specs.inner.Build.{RowsAre, costIn}
-use Rattle.flow_case.proofs.RowLoops.{rows-none, rows-next, put-ext, at-mul}
+use Rattle.flow_case.specs.inner.Build.{RowsAre, RowsAfter, costIn}
+use Rattle.flow_case.proofs.RowLoops.{rows-none, rows-next, after-next, put-ext, at-mul}
 use Rattle.flow_case.proofs.rows.cost_rows.Statement.{statement}
 use Rattle.flow_case.proofs.rows.cost_rows.Tie as tie
 
 abbrev Inv-loop : tie.InvT-loop
-Inv-loop m w v starts costs to₀ at₀ s₀ to at s = RowsAre (pos 0) (λ s j. costIn starts costs (nodeOf w v s + 1) j) s (length starts) to × (length to ≡ 2048) × (s ≤ m) × (at ≡ s * length starts)
+Inv-loop m w v starts costs to₀ at₀ s₀ to at s = RowsAre (pos 0) (λ s j. costIn starts costs (nodeOf w v s + 1) j) s (length starts) to × (length to ≡ 2048) × (s ≤ m) × (at ≡ s * length starts) × RowsAfter (pos 0) s (length starts) to₀ to
 
 abbrev μ-loop : tie.MeasureT-loop
 μ-loop m w v starts costs to₀ at₀ s₀ to at s = m - s
@@ -28,6 +28,7 @@ loop-holds c = (
   c .before .pre .0 .3,
   omega arith,
   sym (zero-mul (length (now (c .before .args .starts)))),
+  λ k h. refl,
 )
 
 node-of-requires : tie.Need-node-of-requires Inv-loop μ-loop
@@ -84,10 +85,13 @@ loop-again c =
       c .costs-into .ensures .long ∙ at-loop .loop .inv .1,
       omega (arith, at-loop-test .loop-test .taken),
       omega (arith, suc-mul s n, ap (λ (k : ℕ). k * n) (add-one s), at-loop .loop .inv .3),
+      after-next n s (at-loop .loop .at) (now (a .to)) _ _ (at-loop .loop .inv .3) (at-loop .loop .inv .4) (c .costs-into .ensures),
     )
 
 returns : tie.Need-returns Inv-loop μ-loop
-returns c = (λ i j h q. c .before .loop .inv .0 i j (omega (arith, h, c .loop-test .left)) q, c .before .loop .inv .1)
+returns c =
+    let h : c .before .before .before .args .m ≡ c .before .loop .s = omega arith in
+    (λ i j h q. c .before .loop .inv .0 i j (omega (arith, h, c .loop-test .left)) q, c .before .loop .inv .1, λ k l. c .before .loop .inv .4 k (rw (← h) l))
 
 pub cost-rows-spec : {M : Type 1} → statement M
 cost-rows-spec = tie.close (tie.spec Inv-loop μ-loop loop-holds node-of-requires add-costs-into costs-into-requires add-at add-s loop-less loop-again returns)

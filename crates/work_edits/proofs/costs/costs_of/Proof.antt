@@ -13,7 +13,7 @@ lower-cells-requires : tie.Need-lower-cells-requires
 lower-cells-requires c κs = search needs
 
 returns : tie.Need-returns
-returns c = (omega (arith, c .before .lower-cells .kept), front-taken (now (c .before .before .before .before .args .source)) _ _ (c .before .lower-cells .ensures))
+returns c = (omega (arith, c .before .lower-cells .kept), front-taken (now (c .before .before .before .before .args .source)) _ _ (c .before .lower-cells .ensures), c .before .lower-cells .ensures)
 
 pub costs-of-spec : {M : Type 1} → statement M
 costs-of-spec =
