@@ -203,16 +203,16 @@ module _ (c : Case) (high before : List ℕ) where
       never : {i n : ℕ} {s l : ℤ} → refused k p ≡ known i n s l → ⊥
       never {i} {n} {s} {l} q = let z : _≡_ {A = ℕ} 0 1 = cc in omega arith
 
-  -- the planner gave a plan: the later tests decide
-  pub to-later : (y : ℕ) (t v : ℤ) (k : ℕ) → planner.outcomeOf c ≡ planner.planned y t v k → outcomeOf c high (length before) ≡ laterOf c high (length before)
-  unfolding outcomeOf
-  to-later y t v k e =
-      ap (λ (o : planner.Outcome). elim o [ planner.refused k p ↦ refused k p | planner.planned s t f k ↦ laterOf c high (length before) ]) e
-
   -- the planner refused: its refusal is handed on
   pub handed-on : (k p : ℕ) → planner.outcomeOf c ≡ planner.refused k p → outcomeOf c high (length before) ≡ refused k p
   unfolding outcomeOf
   handed-on k p e =
+      ap (λ (o : planner.Outcome). elim o [ planner.refused k p ↦ refused k p | planner.planned s t f k ↦ laterOf c high (length before) ]) e
+
+  -- the planner gave a plan: the later tests decide
+  pub to-later : (y : ℕ) (t v : ℤ) (k : ℕ) → planner.outcomeOf c ≡ planner.planned y t v k → outcomeOf c high (length before) ≡ laterOf c high (length before)
+  unfolding outcomeOf
+  to-later y t v k e =
       ap (λ (o : planner.Outcome). elim o [ planner.refused k p ↦ refused k p | planner.planned s t f k ↦ laterOf c high (length before) ]) e
 
   pub later-28 : (p : ℕ) → place28 c high ≡ some p → laterOf c high (length before) ≡ refused 28 p

@@ -166,7 +166,7 @@ pub fn see_table(role: usize, store: &[u64], table: &mut [u64]) -> Verdict
 const PLAN: usize = 6;
 
 // Whether the role may plan: the three operations below count as planning.
-fn may_plan(role: usize) -> bool
+fn allows_plan(role: usize) -> bool
     ensures { λ r. ⌜ r ≡ not (barred role 6) ⌝ }
 {
     may(role, PLAN)
@@ -185,7 +185,7 @@ pub fn plan_mark(
         (length (now (freights .entry))) (outcome r) (slices (now (plan .entry)) (now (splits .entry)) (now (freights .entry)))
         (slices (now (plan .exit)) (now (splits .exit)) (now (freights .exit))) ⌝ }
 {
-    if may_plan(role) {
+    if allows_plan(role) {
         return work_case::plan_mark(k, store, plan, splits, freights);
     }
     Answer::Refused {
@@ -199,7 +199,7 @@ pub fn see_limits(role: usize, store: &[u64], runs: &mut [u64], ceilings: &mut [
     ensures { λ r. ⌜ LimitsSeen role (heldIn (now (store .entry))) (now (runs .entry)) (now (ceilings .entry)) (now (runs .exit))
         (now (ceilings .exit)) (verdict r) ⌝ }
 {
-    if may_plan(role) {
+    if allows_plan(role) {
         return work_case::see_limits(store, runs, ceilings);
     }
     Verdict::Refused(31, 0)
@@ -209,7 +209,7 @@ pub fn see_limits(role: usize, store: &[u64], runs: &mut [u64], ceilings: &mut [
 pub fn marks_set(role: usize, store: &[u64], marks: &mut [u64]) -> Verdict
     ensures { λ r. ⌜ MarksSeen role (heldIn (now (store .entry))) (now (marks .entry)) (now (marks .exit)) (verdict r) ⌝ }
 {
-    if may_plan(role) {
+    if allows_plan(role) {
         return work_case::marks_set(store, marks);
     }
     Verdict::Refused(31, 0)

@@ -1,15 +1,23 @@
 -- The whole table with its exception, against the paper's sentences. Assumes nothing.
-use mathlib.Core.Path.{_≡_, refl}
+use mathlib.Core.Path.{_≡_, refl, ap}
 use mathlib.Core.Bool.{Bool, true, false}
 use mathlib.Core.List.{List, [], _∷_, map}
 use mathlib.Core.Option.{Option, none, some}
 use Prim.Native.Nat.{ℕ}
 use lib.IntN.{ℤ}
 use Rattle.transport.specs.Listing.{upFrom}
-use Rattle.problem.specs.Outcome.{Outcome, refuseIf}
-use Rattle.work_store.specs.Calls.{editDemand, editSupply, editCost, editEntry, setMark, goBack}
+use Rattle.problem.specs.Outcome.{Outcome, refuseIf, _orElse_}
+use Rattle.work_store.specs.State.{State}
+use Rattle.work_store.specs.Promise.{answerTo}
+use Rattle.work_store.specs.Calls.{Call, editDemand, editSupply, editCost, editEntry, setMark, goBack}
 use Rattle.roletable.specs.Roles.{noRole, barred, barredFirst}
+use Rattle.roletable.specs.Promise.{answerBy}
 use Rattle.roletable.specs.Deeds.{Deed, work, seeTariff, seeTable, plan, column, first, test31}
+
+-- 31 comes first: a role that may not call is told so, whatever the store holds
+pub told-first : (role : ℕ) (call : Call) (r : Outcome) (held : Option State) → test31 role (work call) ≡ some r → answerBy role call held ≡ some r
+unfolding answerBy _orElse_
+told-first role call r held e = ap (λ (t : Option Outcome). t orElse answerTo call held) e
 
 -- every kind of deed in the paper's order, whatever is edited to what; editing a_1 stands behind editing another supply
 unfoldable pub deeds : ℕ → ℕ → ℤ → ℕ → ℕ → List Deed

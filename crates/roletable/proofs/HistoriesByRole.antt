@@ -20,6 +20,7 @@ use Rattle.roletable.specs.Deeds.{work, plan, column, first, test31}
 use Rattle.roletable.specs.Promise.{answerBy, unlessHeld, stepsBy, PerformedBy, PlannedBy}
 use Rattle.roletable.specs.Secrecy.{Asked, act, tariff, table, planning, markPlanning, limits, marks, Heard, Made, Did, By, Goes}
 use Rattle.roletable.specs.History.{letIn, workOf, callsOf}
+use Rattle.roletable.proofs.Allowed.{told-first}
 
 -- one call, then the rest of a history
 module _ (role : ℕ) (call : Call) (before after last : List ℕ) (r : Option Outcome) (p : PerformedBy role call before after r) where
@@ -32,11 +33,10 @@ module _ (role : ℕ) (call : Call) (before after last : List ℕ) (r : Option O
   }
 
   unchanged : (o : Outcome) → test31 role (work call) ≡ some o → after ≡ before
-  unfolding answerBy _orElse_
   unchanged o e =
       p .cells
       ∙ ap (λ (t : Option Outcome). cellsUnless t (writes (sources before) (terminals before) call before) before)
-      (p .answer ∙ ap (λ (t : Option Outcome). t orElse answerTo call (heldIn before)) e)
+      (p .answer ∙ told-first role call o (heldIn before) e)
 
   pub acted-leads : (h : List Call) → Leads h after last → Leads (letIn (test31 role (work call)) call ++ h) before last
   acted-leads h l = go (test31 role (work call)) refl

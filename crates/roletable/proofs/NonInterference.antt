@@ -23,6 +23,7 @@ use Rattle.roletable.specs.Promise.{answerBy, unlessHeld, stepsBy}
 use Rattle.roletable.specs.Secrecy.{veiled, veiledHeld, Alike, Outsider, Outside, ends, more, Asked, act, tariff, table, planning, markPlanning, limits, marks}
 use Rattle.roletable.specs.Secrecy.{Heard, verdict, costs, entries, runs, flags, Did, Saw, Looked, Tried, TriedMark, SawLimits, SawMarks, Made, By, Goes}
 use Rattle.roletable.specs.Secrecy as secrecy
+use Rattle.roletable.proofs.Allowed.{told-first}
 
 -- ---- one edit, mark or return
 
@@ -33,8 +34,11 @@ record Blind (role : ℕ) (call : Call) (o : Option State) : Type 0 where
 
 -- a call that is refused whatever the store holds
 by-bar : (role : ℕ) (call : Call) (r : Outcome) → test31 role (work call) ≡ some r → (o : Option State) → Blind role call o
-unfolding answerBy stepsBy _orElse_
-by-bar role call r e o = record { same-answer = rw (e, answerBy) refl; same-left = rw (e, stepsBy) refl }
+unfolding stepsBy
+by-bar role call r e o = record {
+  same-answer = told-first role call r o e ∙ sym (told-first role call r (veiledHeld o) e);
+  same-left = rw (e, stepsBy) refl;
+}
 
 veiled-unless : (t : Option Outcome) (a b : State) → veiled (unless t a b) ≡ unless t (veiled a) (veiled b)
 veiled-unless none a b = refl

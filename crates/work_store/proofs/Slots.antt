@@ -27,6 +27,10 @@ unfolding start
 slots-apart m n j k h = omega (arith, suc-mul j (width m n), mul-le-mul-right (width m n) h)
 
 -- the nine slots are within the store
+-- two slots that differ
+pub two-slots : (j k : ℕ) → j ≤ 8 → k ≤ 8 → (j ≡ k → ⊥) → Slots j k
+two-slots j k a b d = record { from-slot = a; to-slot = b; differ = elim (decLt j k) [ yes h ↦ inl h | no h ↦ inr (elim (decLt k j) [ yes l ↦ l | no l ↦ absurd (d (omega arith)) ]) ] }
+
 pub slot-room : (m n k l : ℕ) → k ≤ 8 → cellsFor m n ≤ l → start m n k + width m n ≤ l
 unfolding start cellsFor width
 slot-room m n k l h r = omega (arith, mul-le-mul-right (width m n) h)

@@ -8,8 +8,8 @@ use borrow.Author.Needs.{needs}
 use Rattle.roles.proofs.plan_mark.Statement.{statement}
 use Rattle.roles.proofs.plan_mark.Tie as tie
 
-may-plan-requires : tie.Need-may-plan-requires
-may-plan-requires c κs = search needs
+allows-plan-requires : tie.Need-allows-plan-requires
+allows-plan-requires c κs = search needs
 
 plan-mark-requires : tie.Need-plan-mark-requires
 plan-mark-requires c κs = search needs
@@ -28,22 +28,22 @@ unfolding column first
 returns c =
     let at-plan-mark = c .before .before .before .before .before in
     let at-if1 = at-plan-mark .before .before .before .before in
-    let at-may-plan = at-if1 .before in
-    let entry = at-may-plan .before .before .before .before in
+    let at-allows-plan = at-if1 .before in
+    let entry = at-allows-plan .before .before .before .before in
     let p = entry .args in
-    mark-call _ (heldIn (now (p .store))) _ _ _ (p .k) _ _ _ (let-in _ plan _ (at-may-plan .may-plan .ensures) refl (at-if1 .if1 .taken)) (at-plan-mark .plan-mark .ensures)
+    mark-call _ (heldIn (now (p .store))) _ _ _ (p .k) _ _ _ (let-in _ plan _ (at-allows-plan .allows-plan .ensures) refl (at-if1 .if1 .taken)) (at-plan-mark .plan-mark .ensures)
 
 returns-2 : tie.Need-returns-2
 unfolding column first
 returns-2 c =
     let p = c .before .before .before .before .before .args in
-    mark-barred _ (heldIn (now (p .store))) _ _ _ (p .k) _ (kept-out _ plan _ (c .before .may-plan .ensures) (c .if1 .left))
+    mark-barred _ (heldIn (now (p .store))) _ _ _ (p .k) _ (kept-out _ plan _ (c .before .allows-plan .ensures) (c .if1 .left))
 
 pub plan-mark-spec : {M : Type 1} → statement M
 plan-mark-spec =
     tie.close
     (tie.spec
-    may-plan-requires
+    allows-plan-requires
     plan-mark-requires
     same-length
     same-length-2

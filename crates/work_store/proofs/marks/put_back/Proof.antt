@@ -1,7 +1,7 @@
 -- `work_store::marks::put_back` meets its contract. Assumes nothing.
-use mathlib.Core.Logic.{inr}
 use native.Mathlib.Omega.{arith}
 use Rattle.work_store.specs.Store.{writes}
+use Rattle.work_store.proofs.Slots.{two-slots}
 use Rattle.work_store.proofs.StateAfterWrites.{within, large}
 use Rattle.work_store.proofs.CallRefusals.{refuses, works, out-low, out-high, back-24, back-25, back-none, flag-unset, flag-set}
 use borrow.Author.Needs.{needs}
@@ -36,11 +36,7 @@ returns-3 c = let i = (within _ _ (c .before .before .before .if1 .left) (c .bef
 
 -- src/marks.rt:80:5
 copy-slot-requires : tie.Need-copy-slot-requires
-copy-slot-requires c κs =
-    let at-if2 = c .before .before .before in
-    let at-if1 = at-if2 .before in
-    let entry = at-if1 .before .before in
-    (entry .pre, record { from-slot = at-if2 .if2 .left; to-slot = omega arith; differ = inr (at-if1 .if1 .left) })
+copy-slot-requires c κs = (c .before .before .before .before .before .before .pre, two-slots _ _ (omega arith) (omega arith) (λ e. omega arith))
 
 -- src/marks.rt:66:1
 same-length : tie.Need-same-length
