@@ -1,5 +1,6 @@
 // The planner for callers outside Rattle: numbers and slices only.
 mod rates;
+mod told;
 
 ghost use lib.ListN.{length};
 ghost use Rattle.problem.specs.Case.{lent};

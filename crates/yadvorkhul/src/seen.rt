@@ -2,7 +2,7 @@
 ghost use Rattle.planner.specs.Answer.{slices};
 ghost use Rattle.work_store.specs.Store.{heldIn};
 ghost use Rattle.yadvorkhul.specs.Work.{PlanExported, MarkExported, TariffExported, TableExported, LimitsExported, MarksExported};
-use crate::work::tell_verdict;
+use crate::told::tell_verdict;
 use export_reports::tell;
 
 // Plans the working case: answers, report and worth as for a lent case.

@@ -2,29 +2,11 @@
 // every call but entering. Each answers 0 where it is done, else the number of the refusal, whose place the report's first cell then gets.
 // Where the report has fewer than two cells the answer is 34, and nothing is done.
 ghost use mathlib.Core.Path.{_≡_};
-ghost use Prim.Native.Nat.{_≤_};
-ghost use lib.ListN.{length};
-ghost use Rattle.transport.specs.Curve.{written};
-ghost use Rattle.validation.specs.Verdict.{verdict};
 ghost use Rattle.work_store.specs.State.{draft};
 ghost use Rattle.work_store.specs.Store.{cellsToLend};
 ghost use Rattle.work_store.specs.Calls.{editDemand, editSupply, editCost, editEntry, setMark, goBack};
-ghost use Rattle.yadvorkhul.specs.Work.{verdictNumber, verdictReport, EnterExported, WorkExported};
-use validation::tests::Verdict;
-
-// Writes the place of a refusal; its number, or 0.
-pub fn tell_verdict(told: Verdict, report: &mut [u64]) -> u64
-    requires { ⌜ 2 ≤ length (now report) ⌝ }
-    ensures { λ r. ⌜ (r ≡ verdictNumber (verdict told)) × (now (report .exit) ≡ written (verdictReport (verdict told)) (now (report .entry))) ⌝ }
-{
-    match told {
-        Verdict::Passed => 0,
-        Verdict::Refused(number, place) => {
-            report[0] = place;
-            number
-        }
-    }
-}
+ghost use Rattle.yadvorkhul.specs.Work.{EnterExported, WorkExported};
+use crate::told::tell_verdict;
 
 // How many cells a store for m sources and n terminals must have; 0 where no case has that size.
 #[no_mangle]

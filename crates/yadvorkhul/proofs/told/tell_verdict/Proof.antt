@@ -1,4 +1,4 @@
--- `yadvorkhul::work::tell_verdict` meets its contract, by what a verdict stands for. Assumes nothing.
+-- `yadvorkhul::told::tell_verdict` meets its contract, by what a verdict stands for. Assumes nothing.
 use mathlib.Core.Path.{_≡_, sym, ap, _∙_}
 use denote.Ref.{now}
 use Rattle.transport.specs.Curve.{written}
@@ -6,8 +6,8 @@ use Rattle.validation.specs.Verdict.{verdict}
 use Rattle.yadvorkhul.specs.Work.{verdictNumber, verdictReport}
 use Rattle.export_reports.proofs.Reports.{one-written}
 use borrow.Author.Needs.{needs}
-use Rattle.yadvorkhul.proofs.work.tell_verdict.Statement.{statement}
-use Rattle.yadvorkhul.proofs.work.tell_verdict.Tie as tie
+use Rattle.yadvorkhul.proofs.told.tell_verdict.Statement.{statement}
+use Rattle.yadvorkhul.proofs.told.tell_verdict.Tie as tie
 
 enum-told : tie.Need-enum-told
 enum-told c = search needs
