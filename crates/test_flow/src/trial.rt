@@ -4,11 +4,16 @@ use crate::brute::kept;
 use crate::brute::level_of;
 use crate::brute::try_amounts;
 use crate::file::write_network;
+use crate::lent::lend;
+use crate::lent::same_answer;
+use crate::lent::same_arcs;
 use crate::number::first_bytes;
 use crate::number::level;
+use flow_arcs::find::count_of;
 use flow_network::Answer;
 use flow_network::cheapest_flow;
 use test_draws::at;
+use test_draws::first_cells;
 
 // The number of the refusal, 0 of none; whether the answer is the one wanted; and how many flows there are.
 pub struct Seen {
@@ -54,7 +59,7 @@ fn holds(numbers: &[u64], cells: &[u64]) -> bool {
 }
 
 // Are the arcs those of the network, as many as are told, and the later cells as they were?
-fn same_arcs(
+fn arcs_agree(
     count: u64,
     starts: &[u64],
     ends: &[u64],
@@ -136,6 +141,31 @@ fn all(a: bool, b: bool, c: bool) -> bool {
     false
 }
 
+// Asks once more, with the arcs in a lent slice of structs. Are answer and flow the same, and the arcs those of the network?
+fn by_structs(
+    bytes: &[u8],
+    starts: &[u64],
+    ends: &[u64],
+    ceilings: &[u64],
+    costs: &[u64],
+    place: usize,
+    table: &[u64],
+    answer: Answer,
+    flow: &[u64],
+) -> bool {
+    let mut again = [7u64; 6];
+    let lent = lend(bytes, place, table, &mut again);
+    let n = count_of(answer);
+    let arcs = same_arcs(
+        lent,
+        first_cells(starts, n),
+        first_cells(ends, n),
+        first_cells(ceilings, n),
+        first_cells(costs, n),
+    );
+    all(same_answer(lent, answer), holds(flow, &again), arcs)
+}
+
 // Asks for the flow of a file, and holds the answer to all flows. Each lent cell holds 7 before.
 fn ask(
     bytes: &[u8],
@@ -165,9 +195,20 @@ fn ask(
         &mut caps,
         &mut rates,
     );
+    let structs = by_structs(
+        bytes,
+        starts,
+        ends,
+        ceilings,
+        costs,
+        place,
+        table,
+        answer,
+        &flow,
+    );
     match answer {
         Answer::Refused { number, place: _ } => {
-            let agrees = refused(number, flows, &flow, &tails);
+            let agrees = all(structs, refused(number, flows, &flow, &tails), true);
             Seen {
                 number,
                 agrees,
@@ -175,12 +216,12 @@ fn ask(
             }
         }
         Answer::Carried { total, arcs: count } => {
-            let arcs = same_arcs(count, starts, ends, ceilings, &tails, &heads, &caps);
+            let arcs = arcs_agree(count, starts, ends, ceilings, &tails, &heads, &caps);
             let carried = carries(starts, ends, ceilings, supplies, &flow);
             let least = cheapest(costs, named, table, &flow, level(total), best);
             Seen {
                 number: 0,
-                agrees: all(arcs, carried, least),
+                agrees: all(structs, arcs, all(carried, least, true)),
                 flows,
             }
         }
