@@ -71,7 +71,7 @@ fn drained(v: usize, w: usize, x: &[u32; 2048], before: u32) -> u32 {
 }
 
 // Carries amount over the last count arcs of the path to goal, and notes the lanes that they bring drums on. The last source on the way back from goal
-// whose lane lost its last drums, 96 where there is none: a hint, of which nothing is promised.
+// whose lane lost its last drums, 96 where there is none. Any number will do there: a hint, of which nothing is promised.
 pub fn push(
     prev: &[u32; 96],
     count: u32,
@@ -147,7 +147,7 @@ pub struct Sent {
     pub amount: u32,
 }
 
-// Sends up to limit along a cheapest path from a source to a node that has room.
+// Sends up to limit along a cheapest path from a source to a node that has room. Any cheapest path will do: the plan after it is slack.
 pub fn send(
     m: usize,
     n: usize,

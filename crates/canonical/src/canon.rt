@@ -301,7 +301,8 @@ fn places(plan: &[u32; 2048]) -> usize
     all.len()
 }
 
-// Puts the plan for everybody in the place of a plan that is slack with the given potentials.
+// Puts the plan for everybody in the place of a plan that is slack with the given potentials. Any contents will do in cells past the case: nothing
+// reads them.
 pub fn canonize(
     m: usize,
     n: usize,

@@ -122,7 +122,7 @@ fn step(
 }
 
 // Cuts as long as the path is blocked. Where that fails the tree has no path any more. The source drained, where it is one, is taken to be the last at
-// which the path is blocked.
+// which the path is blocked. Any potentials will do under which what was slack is slack: the path is checked, or searched for.
 pub fn advance(
     m: usize,
     n: usize,

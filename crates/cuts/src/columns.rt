@@ -13,7 +13,8 @@ fn transpose_column(m: usize, j: usize, cost: &[u32; 2048], to: &mut [u32; 2048]
     }
 }
 
-// Into an array that is lent cleared.
+// Into an array that is lent cleared. Any number of at most 2,000,000 will do for a lane that the case has not: it is
+// read, and does not count.
 pub fn by_terminal(m: usize, n: usize, cost: &[u32; 2048], to: &mut [u32; 2048])
     requires { ⌜ TransposeReady m n (now cost) × Filled m (now cost) 0 0 (now to) ⌝ }
     ensures { λ _. ⌜ Transposed m n (now (cost .entry)) (now (to .exit)) ⌝ }

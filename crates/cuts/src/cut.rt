@@ -284,7 +284,7 @@ fn lift(m: usize, n: usize, rows: u32, cols: u64, d: u32, pot: &mut [u32; 96]) -
     rise(rows, cols, d, pot)
 }
 
-// The cut of a part, whichever it is.
+// The cut of a part, whichever it is. Any cut will do: what was slack under the potentials before is slack under those after it.
 pub fn cut(
     m: usize,
     n: usize,

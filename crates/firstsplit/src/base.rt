@@ -141,7 +141,8 @@ fn send_plants(
     First { found: true, split }
 }
 
-// From no amounts at all, a cheapest plan at the first split that has one.
+// From no amounts at all, a cheapest plan at the first split that has one. Any cheapest plan will do: the climb starts from it, and the plan for
+// everybody takes its place at the end.
 pub fn first_plan(
     m: usize,
     n: usize,

@@ -202,7 +202,8 @@ fn prefer(room: &[u32; 96], x: &[u32; 2048], full: &mut [u32; 96])
     }
 }
 
-// Cheapest paths from a source to the nearest node that has room.
+// Cheapest paths from a source to the nearest node that has room. Any of several cheapest paths will do: a plan that is slack after drums went along
+// one is as cheap as one after another.
 pub fn search(
     m: usize,
     n: usize,

@@ -153,7 +153,7 @@ fn look_ahead(
 }
 
 // Looks for a way from source i to terminal j for limit drums at most, by terminals that a source after i may serve; the nodes before go into
-// prev. The lane (i, j) is closed.
+// prev. The lane (i, j) is closed. Any way will do: drums go along one after another until there is none.
 pub fn reach(
     m: usize,
     n: usize,

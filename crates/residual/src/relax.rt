@@ -161,7 +161,8 @@ fn relax_column(
     next
 }
 
-// Offers each node that an open arc out of v leads to a path through v. A node that is as near as v, or 96.
+// Offers each node that an open arc out of v leads to a path through v. A node that is as near as v, or 96. Any of the nodes as near will do: they
+// are settled in any order. The labels are fixed, a key but for its last bit.
 pub fn relax(
     n: usize,
     v: usize,

@@ -144,7 +144,7 @@ fn levels_good(pot: &[u32; 96]) -> bool
     true
 }
 
-// Is x a plan at this split within the ceilings, and slack?
+// Is x a plan at this split within the ceilings, and slack? Any answer no will do: a cheapest plan is then found by paths.
 pub fn good(
     m: usize,
     n: usize,

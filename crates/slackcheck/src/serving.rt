@@ -23,7 +23,8 @@ fn serve_row(n: usize, i: usize, x: &[u32; 2048], serves: &mut [u32; 64])
     }
 }
 
-// The sources that serve each terminal, a bit for each.
+// The sources that serve each terminal, a bit for each. Any further bit will do: each lane in use has one, and a lane is looked
+// at before drums are taken off it.
 pub fn all_servers(m: usize, n: usize, x: &[u32; 2048], serves: &mut [u32; 64])
     requires { ⌜ (m ≤ 32) × (n ≤ 64) × (length (now serves) ≡ 64) ⌝ }
     ensures { λ _. ⌜ Covers m n (now (x .entry)) (now (serves .exit)) ⌝ }

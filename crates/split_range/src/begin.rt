@@ -14,7 +14,7 @@ pub struct Range {
 
 // The first and the last split of a prepared case that have a plan within the ceilings; a cheapest plan at the first goes into x, with its
 // potentials and the lanes in use, and the simplex's tree, of which nothing is promised, into up, rows and cols. Whether the simplex is tried does
-// not show in what is promised.
+// not show in what is promised. Any cheapest plan will do: the plan for everybody takes its place at the end.
 pub fn begin(
     quick: bool,
     m: usize,

@@ -133,7 +133,7 @@ fn quick_plan(
 }
 
 // A cheapest plan at the first split that has one: by the simplex, where that is wanted and its plan passes the check; else by cheapest paths,
-// and there is no tree: no node is above plant 2.
+// and there is no tree: no node is above plant 2. Any cheapest plan will do: the plan for everybody takes its place at the end.
 pub fn cheapest_first(
     quick: bool,
     wide: bool,

@@ -196,7 +196,8 @@ pub struct Moved {
 }
 
 // One stretch from split y, whose plan x has the given freight, at most limit drums further, which are left to u. The incumbent's plan is x, where
-// its split is that of x; when the climb leaves it, it is kept, with its potentials. Nothing is asked of the tree in parent, sources_below and terminals_below, nor of drained.
+// its split is that of x; when the climb leaves it, it is kept, with its potentials. Nothing is asked of the tree in parent, sources_below and
+// terminals_below, nor of drained. Any slack plan at the next split will do: its freight is the least there.
 pub fn stretch(
     m: usize,
     n: usize,

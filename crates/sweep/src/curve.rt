@@ -179,7 +179,8 @@ fn climb(
 }
 
 // The sweep from split lo to split hi of a prepared case, of which x holds a cheapest plan at lo: the stops and their freights, less what was
-// added, go into the slices, the plan for everybody at the best split into kept. Nothing is asked of the tree in parent, sources_below and terminals_below.
+// added, go into the slices, the plan for everybody at the best split into kept. Nothing is asked of the tree in parent, sources_below and
+// terminals_below. Any contents will do in the working arrays from x on but kept afterwards: nothing reads them.
 pub fn sweep(
     m: usize,
     n: usize,

@@ -98,7 +98,8 @@ pub struct Traced {
 }
 
 // The way from plant 2 up the tree, for limit drums at most: does it lead to plant 1? It ends there, or where an arc is not open or not tight, or
-// after as many arcs as no path has. For each node on it but the last, prev then has the node before it.
+// after as many arcs as no path has. For each node on it but the last, prev then has the node before it. Any answer 0 will do: a path is then
+// searched for.
 pub fn follow(
     m: usize,
     n: usize,
