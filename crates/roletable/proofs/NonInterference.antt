@@ -183,10 +183,12 @@ module _ (role : ℕ) (out : Outsider role) (a b : List ℕ) (alike : Alike a b)
   tried-mark-same k old a' b' x y p q =
       let e : p .r ≡ refused 31 0 =
       p .done .answer
-      ∙ ap (λ (z : Option Outcome). outcomeUnless z (outcomeIn (steps (goBack k) (heldIn a)) (length (old .plan)) (length (old .splits)) (length (old .freights)))) (barred-31 (answerTo (goBack k) (heldIn a))) in
+      ∙ ap (λ (z : Option Outcome). outcomeUnless z (outcomeIn (steps (goBack k) (heldIn a)) (length (old .plan)) (length (old .splits)) (length (old .freights))))
+      (barred-31 (answerTo (goBack k) (heldIn a))) in
       let f : q .r ≡ refused 31 0 =
       q .done .answer
-      ∙ ap (λ (z : Option Outcome). outcomeUnless z (outcomeIn (steps (goBack k) (heldIn b)) (length (old .plan)) (length (old .splits)) (length (old .freights)))) (barred-31 (answerTo (goBack k) (heldIn b))) in
+      ∙ ap (λ (z : Option Outcome). outcomeUnless z (outcomeIn (steps (goBack k) (heldIn b)) (length (old .plan)) (length (old .splits)) (length (old .freights))))
+      (barred-31 (answerTo (goBack k) (heldIn b))) in
       (p .gets ∙ ap₂ secrecy.plan (e ∙ sym f) (p .done .kept 31 0 e ∙ sym (q .done .kept 31 0 f)) ∙ sym (q .gets), stay-alike a' b' (p .stays) (q .stays))
 
   limits-same : (u c a' b' : List ℕ) (x y : Heard) → SawLimits role u c a a' x → SawLimits role u c b b' y → (x ≡ y) × Alike a' b'

@@ -7,7 +7,8 @@ ghost use Rattle.transport.specs.Sum.{sum};
 ghost use Rattle.problem.specs.Range.{outside};
 ghost use Rattle.problem.specs.Outcome.{formRefusal};
 ghost use Rattle.problem.specs.Case.{lent};
-ghost use Rattle.problem.specs.inner.LentTests.{firstAbove, firstOutside, amountsRefusal, runsRefusal, ceilingsRefusal, entriesRefusal, splitsRefusal, AtMost, Amounts, Within};
+ghost use Rattle.problem.specs.inner.LentTests.{firstAbove, firstOutside, amountsRefusal, runsRefusal, ceilingsRefusal, entriesRefusal};
+ghost use Rattle.problem.specs.inner.LentTests.{splitsRefusal, AtMost, Amounts, Within};
 ghost use Rattle.validation.specs.inner.Above.{NoneAbove};
 ghost use Rattle.validation.specs.Verdict.{found, verdict, madeOf};
 use crate::limits::Checked;
@@ -63,7 +64,7 @@ fn none_above(s: &[u64], limit: u64) -> usize
 }
 
 // The first number above the limit.
-pub fn first_above(s: &[u64], limit: u64) -> Found
+fn first_above(s: &[u64], limit: u64) -> Found
     ensures { λ r. ⌜ found r ≡ firstAbove limit (now (s .entry)) ⌝ }
 {
     let mut k = none_above(s, limit);
@@ -130,7 +131,7 @@ pub enum Made {
 }
 
 // Test 4: a supply or a demand above 4,000.
-pub fn amounts_test(supplies: &[u64], demands: &[u64]) -> Verdict
+fn amounts_test(supplies: &[u64], demands: &[u64]) -> Verdict
     ensures { λ r. ⌜ verdict r ≡ amountsRefusal (now (supplies .entry)) (now (demands .entry)) ⌝ }
 {
     if let Found::At(k) = first_above(supplies, 4_000) {
@@ -143,7 +144,7 @@ pub fn amounts_test(supplies: &[u64], demands: &[u64]) -> Verdict
 }
 
 // Test 23: a least run above its plant's supply.
-pub fn runs_test(run1: u64, run2: u64, supplies: &[u64]) -> Verdict
+fn runs_test(run1: u64, run2: u64, supplies: &[u64]) -> Verdict
     requires { ⌜ 2 ≤ length (now supplies) ⌝ }
     ensures { λ r. ⌜ verdict r ≡ runsRefusal run1 run2 (now (supplies .entry)) ⌝ }
 {
@@ -157,7 +158,7 @@ pub fn runs_test(run1: u64, run2: u64, supplies: &[u64]) -> Verdict
 }
 
 // Test 26: a ceiling slice of another length than the lanes, or a ceiling above 4,000.
-pub fn ceilings_test(lanes: usize, ceilings: &[u64]) -> Verdict
+fn ceilings_test(lanes: usize, ceilings: &[u64]) -> Verdict
     ensures { λ r. ⌜ verdict r ≡ ceilingsRefusal lanes (now (ceilings .entry)) ⌝ }
 {
     if ceilings.len() != lanes {
@@ -181,7 +182,10 @@ pub fn form_test(
     ceilings: &[u64],
     table: &[u64],
 ) -> Verdict
-    ensures { λ r. ⌜ ((p s f : ℕ) → verdict r ≡ formRefusal (lent m n run1 run2 (now (costs .entry)) (now (supplies .entry)) (now (demands .entry)) (now (ceilings .entry)) (now (table .entry)) p s f)) ⌝ }
+    ensures { λ r. ⌜ ((p s f : ℕ) →
+        verdict r ≡
+        formRefusal
+        (lent m n run1 run2 (now (costs .entry)) (now (supplies .entry)) (now (demands .entry)) (now (ceilings .entry)) (now (table .entry)) p s f)) ⌝ }
 {
     if let Checked::Refused(number) = Size::checked(m, n) {
         return Verdict::Refused(number, 0);

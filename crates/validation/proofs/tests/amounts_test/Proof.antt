@@ -18,12 +18,14 @@ enum-known-k c = search needs
 
 add-t7 : tie.Need-add-t7
 add-t7 c =
-    let at : firstAbove 4000 (now (c .before .before .before .before .before .before .args .supplies)) ≡ some (c .before .k .given .0 .0) = sym (c .before .before .before .first-above .ensures) ∙ ap found (c .before .k .given .1) in
+    let at : firstAbove 4000 (now (c .before .before .before .before .before .before .args .supplies)) ≡
+    some (c .before .k .given .0 .0) = sym (c .before .before .before .first-above .ensures) ∙ ap found (c .before .k .given .1) in
     omega (arith, above-within 4000 _ _ at)
 
 returns : tie.Need-returns
 returns c =
-    let at : firstAbove 4000 (now (c .before .before .before .before .before .before .args .supplies)) ≡ some (c .before .k .given .0 .0) = sym (c .before .before .before .first-above .ensures) ∙ ap found (c .before .k .given .1) in
+    let at : firstAbove 4000 (now (c .before .before .before .before .before .before .args .supplies)) ≡
+    some (c .before .k .given .0 .0) = sym (c .before .before .before .first-above .ensures) ∙ ap found (c .before .k .given .1) in
     sym (amounts-supply _ _ _ at)
 
 enum-told : tie.Need-enum-told
@@ -37,18 +39,26 @@ enum-known-k-2 c = search needs
 
 add-t10 : tie.Need-add-t10
 add-t10 c =
-    let at : firstAbove 4000 (now (c .before .before .before .before .before .before .before .before .before .args .demands)) ≡ some (c .before .k2 .given .0 .0) = sym (c .before .before .before .first-above2 .ensures) ∙ ap found (c .before .k2 .given .1) in
+    let at-first-above2 = c .before .before .before in
+    let entry = at-first-above2 .before .before .before .before .before .before in
+    let at : firstAbove 4000 (now (entry .args .demands)) ≡ some (c .before .k2 .given .0 .0) = sym (at-first-above2 .first-above2 .ensures) ∙ ap found (c .before .k2 .given .1) in
     omega (arith, above-within 4000 _ _ at)
 
 add-t12 : tie.Need-add-t12
 add-t12 c =
-    let at : firstAbove 4000 (now (c .before .before .before .before .before .before .before .before .before .args .demands)) ≡ some (c .before .k2 .given .0 .0) = sym (c .before .before .before .first-above2 .ensures) ∙ ap found (c .before .k2 .given .1) in
+    let at-first-above2 = c .before .before .before in
+    let entry = at-first-above2 .before .before .before .before .before .before in
+    let at : firstAbove 4000 (now (entry .args .demands)) ≡ some (c .before .k2 .given .0 .0) = sym (at-first-above2 .first-above2 .ensures) ∙ ap found (c .before .k2 .given .1) in
     omega (arith, above-within 4000 _ _ at)
 
 returns-2 : tie.Need-returns-2
 returns-2 c =
-    let at : firstAbove 4000 (now (c .before .before .before .before .before .before .before .before .before .args .demands)) ≡ some (c .before .k2 .given .0 .0) = sym (c .before .before .before .first-above2 .ensures) ∙ ap found (c .before .k2 .given .1) in
-    let no : firstAbove 4000 (now (c .before .before .before .before .before .before .before .before .before .args .supplies)) ≡ none = sym (c .before .before .before .before .before .before .first-above .ensures) ∙ ap found (c .before .before .before .before .enum-told .given .1) in
+    let at-first-above2 = c .before .before .before in
+    let at-enum-told = at-first-above2 .before in
+    let at-first-above = at-enum-told .before .before in
+    let entry = at-first-above .before .before .before in
+    let at : firstAbove 4000 (now (entry .args .demands)) ≡ some (c .before .k2 .given .0 .0) = sym (at-first-above2 .first-above2 .ensures) ∙ ap found (c .before .k2 .given .1) in
+    let no : firstAbove 4000 (now (entry .args .supplies)) ≡ none = sym (at-first-above .first-above .ensures) ∙ ap found (at-enum-told .enum-told .given .1) in
     sym (amounts-demand _ _ _ no at)
 
 enum-told-2 : tie.Need-enum-told-2
@@ -56,8 +66,11 @@ enum-told-2 c = search needs
 
 returns-3 : tie.Need-returns-3
 returns-3 c =
-    let at : firstAbove 4000 (now (c .before .before .before .before .before .before .before .before .args .demands)) ≡ none = sym (c .before .before .first-above2 .ensures) ∙ ap found (c .enum-told2 .given .1) in
-    let no : firstAbove 4000 (now (c .before .before .before .before .before .before .before .before .args .supplies)) ≡ none = sym (c .before .before .before .before .before .first-above .ensures) ∙ ap found (c .before .before .before .enum-told .given .1) in
+    let at-enum-told = c .before .before .before in
+    let at-first-above = at-enum-told .before .before in
+    let entry = at-first-above .before .before .before in
+    let at : firstAbove 4000 (now (entry .args .demands)) ≡ none = sym (c .before .before .first-above2 .ensures) ∙ ap found (c .enum-told2 .given .1) in
+    let no : firstAbove 4000 (now (entry .args .supplies)) ≡ none = sym (at-first-above .first-above .ensures) ∙ ap found (at-enum-told .enum-told .given .1) in
     sym (amounts-pass _ _ no at)
 
 pub amounts-test-spec : {M : Type 1} → statement M

@@ -21,13 +21,17 @@ enum-known-k c = search needs
 
 add-t8 : tie.Need-add-t8
 add-t8 c =
-    let at : firstAbove 4000 (now (c .before .before .before .before .before .before .args .ceilings)) ≡ some (c .before .k .given .0 .0) = sym (c .before .before .before .first-above .ensures) ∙ ap found (c .before .k .given .1) in
+    let at : firstAbove 4000 (now (c .before .before .before .before .before .before .args .ceilings)) ≡
+    some (c .before .k .given .0 .0) = sym (c .before .before .before .first-above .ensures) ∙ ap found (c .before .k .given .1) in
     omega (arith, above-within 4000 _ _ at)
 
 returns-2 : tie.Need-returns-2
 returns-2 c =
-    let at : firstAbove 4000 (now (c .before .before .before .before .before .before .args .ceilings)) ≡ some (c .before .k .given .0 .0) = sym (c .before .before .before .first-above .ensures) ∙ ap found (c .before .k .given .1) in
-    sym (ceilings-high _ _ (c .before .before .before .before .if1 .left) _ at)
+    let at-first-above = c .before .before .before in
+    let at-if1 = at-first-above .before in
+    let entry = at-if1 .before .before in
+    let at : firstAbove 4000 (now (entry .args .ceilings)) ≡ some (c .before .k .given .0 .0) = sym (at-first-above .first-above .ensures) ∙ ap found (c .before .k .given .1) in
+    sym (ceilings-high _ _ (at-if1 .if1 .left) _ at)
 
 enum-told : tie.Need-enum-told
 enum-told c = search needs

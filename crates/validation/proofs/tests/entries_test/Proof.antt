@@ -33,20 +33,26 @@ enum-known-k c = search needs
 
 add-t14 : tie.Need-add-t14
 add-t14 c =
-    let h = high-within (now (c .before .before .before .before .before .before .args .table)) (c .before .before .before .before .before .before .args .lo) (c .before .before .before .before .before .before .args .hi) (c .before .before .before .before .before .before .pre .order) (c .before .before .before .before .before .before .pre .long) _ (sym (c .before .before .before .first-above .ensures) ∙ ap found (c .before .k .given .1)) in
-    omega (arith, c .before .before .before .before .before .before .pre .long)
+    let at-first-above = c .before .before .before in
+    let entry = at-first-above .before .before .before in
+    let h = high-within (now (entry .args .table)) (entry .args .lo) (entry .args .hi) (entry .pre .order) (entry .pre .long) _
+    (sym (at-first-above .first-above .ensures) ∙ ap found (c .before .k .given .1)) in
+    omega (arith, entry .pre .long)
 
 returns : tie.Need-returns
 returns c =
-    let at : firstAbove 1000000000 _ ≡ some (c .before .k .given .0 .0) = sym (c .before .before .before .first-above .ensures) ∙ ap found (c .before .k .given .1) in
-    sym (entries-high _ _ _ (c .before .before .before .before .before .before .pre .order) (c .before .before .before .before .before .before .pre .long) _ at)
+    let at-first-above = c .before .before .before in
+    let entry = at-first-above .before .before .before in
+    let at : firstAbove 1000000000 _ ≡ some (c .before .k .given .0 .0) = sym (at-first-above .first-above .ensures) ∙ ap found (c .before .k .given .1) in
+    sym (entries-high _ _ _ (entry .pre .order) (entry .pre .long) _ at)
 
 enum-told : tie.Need-enum-told
 enum-told c = search needs
 
 returns-2 : tie.Need-returns-2
 returns-2 c =
-    sym (entries-pass _ _ _ (c .before .before .before .before .before .pre .order) (c .before .before .before .before .before .pre .long) (sym (c .before .before .first-above .ensures) ∙ ap found (c .enum-told .given .1)))
+    let entry = c .before .before .before .before .before in
+    sym (entries-pass _ _ _ (entry .pre .order) (entry .pre .long) (sym (c .before .before .first-above .ensures) ∙ ap found (c .enum-told .given .1)))
 
 pub entries-test-spec : {M : Type 1} → statement M
 entries-test-spec =

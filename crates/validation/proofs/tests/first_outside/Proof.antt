@@ -38,8 +38,9 @@ abbrev μ-lanes : tie.MeasureT-lanes
 -- the row of this pass lies within the costs
 row-fits : (c : tie.In-loop Inv-loop2 μ-loop2 Inv-loop μ-loop Inv-lanes μ-lanes) → c .before .loop .start + c .before .before .before .args .n ≤ length (now (c .before .before .before .args .costs))
 row-fits c =
-    row-end (c .before .before .before .args .m) (c .before .before .before .args .n) (c .before .loop .i) (c .before .loop .start) _
-    (c .loop-test .taken) (c .before .loop .inv .1) (c .before .before .before .pre)
+    let entry = c .before .before .before in
+    row-end (entry .args .m) (entry .args .n) (c .before .loop .i) (c .before .loop .start) _
+    (c .loop-test .taken) (c .before .loop .inv .1) (entry .pre)
 
 lanes-holds : tie.Need-lanes-holds Inv-loop2 μ-loop2 Inv-loop μ-loop Inv-lanes μ-lanes
 lanes-holds c = search needs
@@ -77,7 +78,9 @@ out-of-range-requires c κs = search needs
 
 -- what the test says of the lane
 lane : (c : tie.After-out-of-range Inv-loop2 μ-loop2 Inv-loop μ-loop Inv-lanes μ-lanes)
-    → c .out-of-range .result ≡ outside (getD (now (c .before .before .before .before .before .before .before .before .args .costs)) (c .before .before .before .before .before .before .loop .start + c .before .before .before .loop2 .j) (pos 0))
+    → c .out-of-range .result ≡
+    outside (getD (now (c .before .before .before .before .before .before .before .before .args .costs))
+    (c .before .before .before .before .before .before .loop .start + c .before .before .before .loop2 .j) (pos 0))
 lane c =
     c .out-of-range .ensures ∙ ap outside (read-back _ (c .before .out-of-range-arg .given) ∙ rate-at _ _ _ _ (c .before .before .loop2-test .taken))
 
@@ -100,23 +103,29 @@ loop-less : tie.Need-loop-less Inv-loop2 μ-loop2 Inv-loop μ-loop Inv-lanes μ-
 loop-less c = search needs
 
 loop-again : tie.Need-loop-again Inv-loop2 μ-loop2 Inv-loop μ-loop Inv-lanes μ-lanes
-loop-again c = (
-  omega arith,
-  omega (arith, suc-mul (c .before .before .before .before .loop .i) (c .before .before .before .before .before .before .args .n), add-one (c .before .before .before .before .loop .i)),
-  λ k h. c .before .loop2 .inv .1 k (omega arith),
-)
+loop-again c =
+    let at-loop = c .before .before .before .before in
+    let entry = at-loop .before .before in (
+      omega arith,
+      omega (arith, suc-mul (at-loop .loop .i) (entry .args .n), add-one (at-loop .loop .i)),
+      λ k h. c .before .loop2 .inv .1 k (omega arith),
+    )
 
 returns : tie.Need-returns Inv-loop2 μ-loop2 Inv-loop μ-loop Inv-lanes μ-lanes
 returns c =
+    let at-loop2 = c .before .before .before .before in
+    let at-loop-test = at-loop2 .before .before in
+    let at-loop = at-loop-test .before in
     sym
-    (outside-some _ (c .before .before .before .before .before .before .before .loop .start + c .before .before .before .before .loop2 .j)
-    (omega (arith, row-fits (c .before .before .before .before .before .before)))
-    (c .before .before .before .before .loop2 .inv .1)
+    (outside-some _ (at-loop .loop .start + at-loop2 .loop2 .j)
+    (omega (arith, row-fits at-loop-test))
+    (at-loop2 .loop2 .inv .1)
     (sym (lane (c .before)) ∙ c .if1 .taken))
 
 returns-2 : tie.Need-returns-2 Inv-loop2 μ-loop2 Inv-loop μ-loop Inv-lanes μ-lanes
 returns-2 c =
-    let all = rows-end (c .before .before .before .args .m) _ (c .before .loop .i) _ _ (c .loop-test .left) (c .before .loop .inv .1) (c .before .before .before .pre)
+    let entry = c .before .before .before in
+    let all = rows-end (entry .args .m) _ (c .before .loop .i) _ _ (c .loop-test .left) (c .before .loop .inv .1) (entry .pre)
     in sym (outside-none _ (λ k h. c .before .loop .inv .2 k (omega arith)))
 
 pub first-outside-spec : {M : Type 1} → statement M

@@ -12,14 +12,23 @@ use Rattle.validation.proofs.tests.made_of.Statement.{statement}
 use Rattle.validation.proofs.tests.made_of.Tie as tie
 
 -- the depots' stock
-stock-is : (c : tie.After-sum-of2) → c .sum-of2 .result ≡ sum (length (now (c .before .before .before .before .before .args .supplies)) - 2) (λ k. getD (now (c .before .before .before .before .before .args .supplies)) (2 + k) 0)
+stock-is :
+    (c : tie.After-sum-of2) →
+    c .sum-of2 .result ≡ sum (length (now (c .before .before .before .before .before .args .supplies)) - 2) (λ k. getD (now (c .before .before .before .before .before .args .supplies)) (2 + k) 0)
 stock-is c = c .sum-of2 .ensures ∙ depots-sum (now (c .before .before .before .before .before .args .supplies)) (c .before .before .before .before .before .pre .two)
 
 -- it is small, and so are the runs
 small : (c : tie.After-sum-of2) → (c .sum-of2 .result ≤ 128000) × (c .before .before .before .before .before .args .run1 ≤ 4000) × (c .before .before .before .before .before .args .run2 ≤ 4000)
 small c =
-    let p = c .before .before .before .before .before .pre in (
-      omega (arith, c .sum-of2 .ensures, sum-most (take (length (now (c .before .before .before .before .before .args .supplies)) - 2) (drop 2 (now (c .before .before .before .before .before .args .supplies)))) (depots-most (now (c .before .before .before .before .before .args .supplies)) (p .two) (p .supplies)), depots-length (now (c .before .before .before .before .before .args .supplies)) (p .two), p .sources),
+    let entry = c .before .before .before .before .before in
+    let p = entry .pre in (
+      omega (
+        arith,
+        c .sum-of2 .ensures,
+        sum-most (take (length (now (entry .args .supplies)) - 2) (drop 2 (now (entry .args .supplies)))) (depots-most (now (entry .args .supplies)) (p .two) (p .supplies)),
+        depots-length (now (entry .args .supplies)) (p .two),
+        p .sources,
+      ),
       omega (arith, p .run1, p .supplies 0 (omega (arith, p .two))),
       omega (arith, p .run2, p .supplies 1 (omega (arith, p .two))),
     )
@@ -37,7 +46,9 @@ part-sum-of-end : tie.Need-part-sum-of-end
 part-sum-of-end c = search needs
 
 sum-of-requires-2 : tie.Need-sum-of-requires-2
-sum-of-requires-2 c κs = (let z = depots-length (now (c .before .before .before .before .args .supplies)) (c .before .before .before .before .pre .two) in omega (arith, c .before .before .before .before .pre .sources), depots-most (now (c .before .before .before .before .args .supplies)) (c .before .before .before .before .pre .two) (c .before .before .before .before .pre .supplies))
+sum-of-requires-2 c κs =
+    let entry = c .before .before .before .before in
+    (let z = depots-length (now (entry .args .supplies)) (entry .pre .two) in omega (arith, entry .pre .sources), depots-most (now (entry .args .supplies)) (entry .pre .two) (entry .pre .supplies))
 
 add-if1 : tie.Need-add-if1
 add-if1 c = omega (arith, small c)
@@ -46,7 +57,10 @@ add-if1-2 : tie.Need-add-if1-2
 add-if1-2 c = omega (arith, small c)
 
 returns : tie.Need-returns
-returns c = sym (made-below (c .before .before .before .before .before .before .args .run1) (c .before .before .before .before .before .before .args .run2) (now (c .before .before .before .before .before .before .args .supplies)) (now (c .before .before .before .before .before .before .args .demands)) _ _ (c .before .before .before .sum-of .ensures) (stock-is (c .before)) (c .if1 .taken))
+returns c =
+    let at-sum-of = c .before .before .before in
+    let entry = at-sum-of .before .before .before in
+    sym (made-below (entry .args .run1) (entry .args .run2) (now (entry .args .supplies)) (now (entry .args .demands)) _ _ (at-sum-of .sum-of .ensures) (stock-is (c .before)) (c .if1 .taken))
 
 sub-made : tie.Need-sub-made
 sub-made c = omega arith
@@ -58,13 +72,27 @@ shared-slice-read-second : tie.Need-shared-slice-read-second
 shared-slice-read-second c = search needs
 
 add-if2 : tie.Need-add-if2
-add-if2 c = omega (arith, c .before .before .before .before .before .before .before .before .pre .supplies 0 (omega (arith, c .before .before .before .before .before .before .before .before .pre .two)), c .before .before .before .before .before .before .before .before .pre .supplies 1 (omega (arith, c .before .before .before .before .before .before .before .before .pre .two)))
+add-if2 c =
+    let entry = c .before .before .before .before .before .before .before .before in
+    omega (arith, entry .pre .supplies 0 (omega (arith, entry .pre .two)), entry .pre .supplies 1 (omega (arith, entry .pre .two)))
 
 returns-2 : tie.Need-returns-2
-returns-2 c = sym (made-above (c .before .before .before .before .before .before .before .before .before .args .run1) (c .before .before .before .before .before .before .before .before .before .args .run2) (now (c .before .before .before .before .before .before .before .before .before .args .supplies)) (now (c .before .before .before .before .before .before .before .before .before .args .demands)) _ _ (c .before .before .before .before .before .before .sum-of .ensures) (stock-is (c .before .before .before .before)) (c .before .before .before .if1 .left) (c .if2 .taken))
+returns-2 c =
+    let at-if1 = c .before .before .before in
+    let at-sum-of2 = at-if1 .before in
+    let at-sum-of = at-sum-of2 .before .before in
+    let entry = at-sum-of .before .before .before in
+    sym (made-above (entry .args .run1) (entry .args .run2) (now (entry .args .supplies)) (now (entry .args .demands)) _ _
+    (at-sum-of .sum-of .ensures) (stock-is at-sum-of2) (at-if1 .if1 .left) (c .if2 .taken))
 
 returns-3 : tie.Need-returns-3
-returns-3 c = sym (made-drums (c .before .before .before .before .before .before .before .before .before .args .run1) (c .before .before .before .before .before .before .before .before .before .args .run2) (now (c .before .before .before .before .before .before .before .before .before .args .supplies)) (now (c .before .before .before .before .before .before .before .before .before .args .demands)) _ _ (c .before .before .before .before .before .before .sum-of .ensures) (stock-is (c .before .before .before .before)) (c .before .before .before .if1 .left) (c .if2 .left))
+returns-3 c =
+    let at-if1 = c .before .before .before in
+    let at-sum-of2 = at-if1 .before in
+    let at-sum-of = at-sum-of2 .before .before in
+    let entry = at-sum-of .before .before .before in
+    sym (made-drums (entry .args .run1) (entry .args .run2) (now (entry .args .supplies)) (now (entry .args .demands)) _ _
+    (at-sum-of .sum-of .ensures) (stock-is at-sum-of2) (at-if1 .if1 .left) (c .if2 .left))
 
 pub made-of-spec : {M : Type 1} → statement M
 made-of-spec =

@@ -10,7 +10,9 @@ use Rattle.validation.proofs.tests.splits_test.Statement.{statement}
 use Rattle.validation.proofs.tests.splits_test.Tie as tie
 
 -- past test 9
-passed : (c : tie.After-enum-told) → entriesRefusal (now (c .before .before .before .before .args .table)) (c .before .before .before .before .args .lo) (c .before .before .before .before .args .hi) ≡ none
+passed : (c : tie.After-enum-told) →
+    let entry = c .before .before .before .before in
+    entriesRefusal (now (entry .args .table)) (entry .args .lo) (entry .args .hi) ≡ none
 passed c = sym (c .before .before .entries-test .ensures) ∙ ap verdict (c .enum-told .given .1)
 
 entries-test-requires : tie.Need-entries-test-requires

@@ -43,11 +43,13 @@ loop-less c = search needs
 -- src/tests.rt:80:5
 loop-again : tie.Need-loop-again Inv-loop μ-loop
 loop-again c =
-    let i = c .before .before .loop .i in
-    let s = c .before .before .before .args .s .now in (
+    let at-loop = c .before .before in
+    let entry = at-loop .before in
+    let i = at-loop .loop .i in
+    let s = entry .args .s .now in (
       omega arith,
-      ap (λ (t : ℕ). t + getD s i 0) (c .before .before .loop .inv .1) ∙ sym (sum-suc i (λ j. getD s j 0)) ∙ ap (λ (k : ℕ). sum k (λ j. getD s j 0)) (sym (add-one i)),
-      omega (arith, c .before .before .before .pre .1 i (omega arith)),
+      ap (λ (t : ℕ). t + getD s i 0) (at-loop .loop .inv .1) ∙ sym (sum-suc i (λ j. getD s j 0)) ∙ ap (λ (k : ℕ). sum k (λ j. getD s j 0)) (sym (add-one i)),
+      omega (arith, entry .pre .1 i (omega arith)),
     )
 
 -- src/tests.rt:73:1

@@ -65,13 +65,13 @@ add-at : tie.Need-add-at
 add-at c =
     let at-if2 = c .before .before .before .before .before in
     let entry = at-if2 .before .before .before in
-    omega (arith, room-0 _ _ _ (entry .pre), lanes-few _ _ _ (entry .pre), entry .pre .few, entry .pre .many, row-few _ _ _ (entry .pre) (entry .args .i) (at-if2 .if2 .left), c .costs-at .ensures)
+    omega (arith, room-0 _ _ _ (entry .pre), lanes-few _ _ _ (entry .pre), row-few _ _ _ (entry .pre) (entry .args .i) (at-if2 .if2 .left))
 
 add-at-2 : tie.Need-add-at-2
 add-at-2 c =
     let at-if2 = c .before .before .before .before .before in
     let entry = at-if2 .before .before .before in
-    omega (arith, room-0 _ _ _ (entry .pre), lanes-few _ _ _ (entry .pre), entry .pre .few, entry .pre .many, row-few _ _ _ (entry .pre) (entry .args .i) (at-if2 .if2 .left), c .costs-at .ensures)
+    omega (arith, room-0 _ _ _ (entry .pre), lanes-few _ _ _ (entry .pre), row-few _ _ _ (entry .pre) (entry .args .i) (at-if2 .if2 .left))
 
 raised-requires : tie.Need-raised-requires
 raised-requires c κs = sym (c .before .before .out-of-range .ensures) ∙ c .before .if5 .left
@@ -80,15 +80,7 @@ mul-store : tie.Need-mul-store
 mul-store c =
     let at-if2 = c .before .before .before .before .before .before in
     let entry = at-if2 .before .before .before in
-    omega (
-      arith,
-      room-0 _ _ _ (entry .pre),
-      lanes-few _ _ _ (entry .pre),
-      entry .pre .few,
-      entry .pre .many,
-      row-few _ _ _ (entry .pre) (entry .args .i) (at-if2 .if2 .left),
-      c .before .costs-at .ensures,
-    )
+    omega (arith, room-0 _ _ _ (entry .pre), lanes-few _ _ _ (entry .pre), row-few _ _ _ (entry .pre) (entry .args .i) (at-if2 .if2 .left), c .before)
 
 slice-write-store : tie.Need-slice-write-store
 slice-write-store c =

@@ -29,13 +29,11 @@ demands-at-requires c κs = search needs
 
 add-at : tie.Need-add-at
 add-at c =
-    let entry = c .before .before .before .before .before in
-    omega (arith, entry .pre .few, entry .pre .many, c .demands-at .ensures, c .before .before .if2 .left)
+    omega (arith)
 
 mul-store : tie.Need-mul-store
 mul-store c =
-    let entry = c .before .before .before .before .before in
-    omega (arith, entry .pre .few, entry .pre .many, c .demands-at .ensures, c .before .before .if2 .left)
+    omega (arith)
 
 slice-write-store : tie.Need-slice-write-store
 slice-write-store c = omega (arith, room-0 _ _ _ (c .before .before .before .before .before .pre), c .demands-at .ensures, c .before .before .if2 .left)

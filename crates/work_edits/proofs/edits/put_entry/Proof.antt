@@ -25,44 +25,17 @@ table-at-requires c κs = search needs
 add-at : tie.Need-add-at
 add-at c =
     let entry = c .before .before .before .before .before in
-    omega (
-      arith,
-      room-0 _ _ _ (entry .pre),
-      lanes-few _ _ _ (entry .pre),
-      entry .pre .few,
-      entry .pre .many,
-      few-entries (now (entry .args .store)),
-      c .before .before .entries .ensures,
-      c .table-at .ensures,
-    )
+    omega (arith, room-0 _ _ _ (entry .pre), lanes-few _ _ _ (entry .pre), few-entries (now (entry .args .store)))
 
 mul-store : tie.Need-mul-store
 mul-store c =
     let entry = c .before .before .before .before .before in
-    omega (
-      arith,
-      room-0 _ _ _ (entry .pre),
-      lanes-few _ _ _ (entry .pre),
-      entry .pre .few,
-      entry .pre .many,
-      few-entries (now (entry .args .store)),
-      c .before .before .entries .ensures,
-      c .table-at .ensures,
-    )
+    omega (arith, room-0 _ _ _ (entry .pre), lanes-few _ _ _ (entry .pre), few-entries (now (entry .args .store)))
 
 slice-write-store : tie.Need-slice-write-store
 slice-write-store c =
     let entry = c .before .before .before .before .before in
-    omega (
-      arith,
-      room-0 _ _ _ (entry .pre),
-      lanes-few _ _ _ (entry .pre),
-      entry .pre .few,
-      entry .pre .many,
-      few-entries (now (entry .args .store)),
-      c .before .before .entries .ensures,
-      c .table-at .ensures,
-    )
+    omega (arith, room-0 _ _ _ (entry .pre), lanes-few _ _ _ (entry .pre), few-entries (now (entry .args .store)))
 
 same-length-2 : tie.Need-same-length-2
 same-length-2 c = search needs

@@ -10,7 +10,7 @@ use Rattle.work_edits.proofs.edits.put_first.Tie as tie
 entries-requires : tie.Need-entries-requires
 entries-requires c κs =
     let entry = c .before .before in
-    omega (arith, room-0 _ _ _ (entry .pre .0), lanes-few _ _ _ (entry .pre .0), entry .pre .0 .few, entry .pre .0 .many, entry .pre .1, few-entries (now (entry .args .store)))
+    omega (arith, room-0 _ _ _ (entry .pre .0), lanes-few _ _ _ (entry .pre .0), few-entries (now (entry .args .store)), entry)
 
 table-at-requires : tie.Need-table-at-requires
 table-at-requires c κs = search needs
@@ -18,17 +18,7 @@ table-at-requires c κs = search needs
 add-zero-cells : tie.Need-add-zero-cells
 add-zero-cells c =
     let entry = c .before .before .before .before in
-    omega (
-      arith,
-      room-0 _ _ _ (entry .pre .0),
-      lanes-few _ _ _ (entry .pre .0),
-      entry .pre .0 .few,
-      entry .pre .0 .many,
-      entry .pre .1,
-      few-entries (now (entry .args .store)),
-      c .before .entries .ensures,
-      c .table-at .ensures,
-    )
+    omega (arith, room-0 _ _ _ (entry .pre .0), lanes-few _ _ _ (entry .pre .0), few-entries (now (entry .args .store)))
 
 add-excess : tie.Need-add-excess
 add-excess c = search needs
@@ -38,34 +28,13 @@ excess-requires c κs = search needs
 
 zero-cells-requires : tie.Need-zero-cells-requires
 zero-cells-requires c κs =
-    let at-entries = c .before .before .before in
-    let entry = at-entries .before .before .before in
-    omega (
-      arith,
-      room-0 _ _ _ (entry .pre .0),
-      lanes-few _ _ _ (entry .pre .0),
-      entry .pre .0 .few,
-      entry .pre .0 .many,
-      entry .pre .1,
-      few-entries (now (entry .args .store)),
-      at-entries .entries .ensures,
-      c .before .before .table-at .ensures,
-      c .before .excess .ensures,
-    )
+    let entry = c .before .before .before .before .before .before in
+    omega (arith, room-0 _ _ _ (entry .pre .0), lanes-few _ _ _ (entry .pre .0), few-entries (now (entry .args .store)), c .before)
 
 slice-write-store : tie.Need-slice-write-store
 slice-write-store c =
     let entry = c .before .before .before .before .before .before .before .before .before in
-    omega (
-      arith,
-      room-0 _ _ _ (entry .pre .0),
-      lanes-few _ _ _ (entry .pre .0),
-      entry .pre .0 .few,
-      entry .pre .0 .many,
-      entry .pre .1,
-      few-entries (now (entry .args .store)),
-      c .before .before .zero-cells .kept,
-    )
+    omega (arith, room-0 _ _ _ (entry .pre .0), lanes-few _ _ _ (entry .pre .0), few-entries (now (entry .args .store)), c .before .before)
 
 same-length : tie.Need-same-length
 same-length c = search needs

@@ -24,105 +24,27 @@ slice-aggregate-put-cells c = search needs
 put-cells-requires : tie.Need-put-cells-requires
 unfolding cellsFor
 put-cells-requires c κs =
-    let at-ceilings-at = c .before .before .before in
-    let at-costs-at = at-ceilings-at .before in
-    let at-demands-at = at-costs-at .before in
-    let entry = at-demands-at .before .before .before .before .before .before in
-    omega (
-      arith,
-      entry .pre .opening .room,
-      entry .pre .supplies-long,
-      entry .pre .demands-long,
-      entry .pre .costs-long,
-      entry .pre .ceilings-long,
-      entry .pre .table-long,
-      entry .pre .first-small,
-      at-demands-at .demands-at .ensures,
-      at-costs-at .costs-at .ensures,
-      at-ceilings-at .ceilings-at .ensures,
-      c .before .before .table-at .ensures,
-    )
+    omega (arith, c .before .before)
 
 put-cells-requires-2 : tie.Need-put-cells-requires-2
 unfolding cellsFor
 put-cells-requires-2 c κs =
     let at-put-cells = c .before .before .before in
-    let at-table-at = at-put-cells .before .before .before in
-    let at-ceilings-at = at-table-at .before in
-    let at-costs-at = at-ceilings-at .before in
-    let at-demands-at = at-costs-at .before in
-    let entry = at-demands-at .before .before .before .before .before .before in
-    omega (
-      arith,
-      entry .pre .opening .room,
-      entry .pre .supplies-long,
-      entry .pre .demands-long,
-      entry .pre .costs-long,
-      entry .pre .ceilings-long,
-      entry .pre .table-long,
-      entry .pre .first-small,
-      at-demands-at .demands-at .ensures,
-      at-costs-at .costs-at .ensures,
-      at-ceilings-at .ceilings-at .ensures,
-      at-table-at .table-at .ensures,
-      at-put-cells .put-cells .kept,
-    )
+    omega (arith, at-put-cells)
 
 put-cells-requires-3 : tie.Need-put-cells-requires-3
 unfolding cellsFor
 put-cells-requires-3 c κs =
     let at-put-cells2 = c .before .before .before in
-    let at-put-cells = at-put-cells2 .before .before .before .before in
-    let at-table-at = at-put-cells .before .before .before in
-    let at-ceilings-at = at-table-at .before in
-    let at-costs-at = at-ceilings-at .before in
-    let at-demands-at = at-costs-at .before in
-    let entry = at-demands-at .before .before .before .before .before .before in
-    omega (
-      arith,
-      entry .pre .opening .room,
-      entry .pre .supplies-long,
-      entry .pre .demands-long,
-      entry .pre .costs-long,
-      entry .pre .ceilings-long,
-      entry .pre .table-long,
-      entry .pre .first-small,
-      at-demands-at .demands-at .ensures,
-      at-costs-at .costs-at .ensures,
-      at-ceilings-at .ceilings-at .ensures,
-      at-table-at .table-at .ensures,
-      at-put-cells .put-cells .kept,
-      at-put-cells2 .put-cells2 .kept,
-    )
+    omega (arith, at-put-cells2)
 
 raise-cells-requires : tie.Need-raise-cells-requires
 unfolding cellsFor
 raise-cells-requires c κs =
     let at-put-cells3 = c .before .before .before in
-    let at-put-cells2 = at-put-cells3 .before .before .before .before in
-    let at-put-cells = at-put-cells2 .before .before .before .before in
-    let at-table-at = at-put-cells .before .before .before in
-    let at-ceilings-at = at-table-at .before in
-    let at-costs-at = at-ceilings-at .before in
-    let at-demands-at = at-costs-at .before in
-    let entry = at-demands-at .before .before .before .before .before .before in (
-      omega (
-        arith,
-        entry .pre .opening .room,
-        entry .pre .supplies-long,
-        entry .pre .demands-long,
-        entry .pre .costs-long,
-        entry .pre .ceilings-long,
-        entry .pre .table-long,
-        entry .pre .first-small,
-        at-demands-at .demands-at .ensures,
-        at-costs-at .costs-at .ensures,
-        at-ceilings-at .ceilings-at .ensures,
-        at-table-at .table-at .ensures,
-        at-put-cells .put-cells .kept,
-        at-put-cells2 .put-cells2 .kept,
-        at-put-cells3 .put-cells3 .kept,
-      ),
+    let back-13 = at-put-cells3 .before .before .before .before .before .before .before .before .before .before in
+    let entry = back-13 .before .before .before .before .before .before .before .before .before .before in (
+      omega (arith, at-put-cells3),
       entry .pre .costs-inside,
     )
 
@@ -130,65 +52,14 @@ put-cells-requires-4 : tie.Need-put-cells-requires-4
 unfolding cellsFor
 put-cells-requires-4 c κs =
     let at-raise-cells = c .before .before .before in
-    let at-put-cells3 = at-raise-cells .before .before .before .before in
-    let at-put-cells2 = at-put-cells3 .before .before .before .before in
-    let at-put-cells = at-put-cells2 .before .before .before .before in
-    let at-table-at = at-put-cells .before .before .before in
-    let at-ceilings-at = at-table-at .before in
-    let at-costs-at = at-ceilings-at .before in
-    let at-demands-at = at-costs-at .before in
-    let entry = at-demands-at .before .before .before .before .before .before in
-    omega (
-      arith,
-      entry .pre .opening .room,
-      entry .pre .supplies-long,
-      entry .pre .demands-long,
-      entry .pre .costs-long,
-      entry .pre .ceilings-long,
-      entry .pre .table-long,
-      entry .pre .first-small,
-      at-demands-at .demands-at .ensures,
-      at-costs-at .costs-at .ensures,
-      at-ceilings-at .ceilings-at .ensures,
-      at-table-at .table-at .ensures,
-      at-put-cells .put-cells .kept,
-      at-put-cells2 .put-cells2 .kept,
-      at-put-cells3 .put-cells3 .kept,
-      at-raise-cells .raise-cells .kept,
-    )
+    omega (arith, at-raise-cells)
 
 put-cells-requires-5 : tie.Need-put-cells-requires-5
 unfolding cellsFor
 put-cells-requires-5 c κs =
     let at-put-cells4 = c .before .before .before in
     let at-raise-cells = at-put-cells4 .before .before .before .before in
-    let at-put-cells3 = at-raise-cells .before .before .before .before in
-    let at-put-cells2 = at-put-cells3 .before .before .before .before in
-    let at-put-cells = at-put-cells2 .before .before .before .before in
-    let at-table-at = at-put-cells .before .before .before in
-    let at-ceilings-at = at-table-at .before in
-    let at-costs-at = at-ceilings-at .before in
-    let at-demands-at = at-costs-at .before in
-    let entry = at-demands-at .before .before .before .before .before .before in
-    omega (
-      arith,
-      entry .pre .opening .room,
-      entry .pre .supplies-long,
-      entry .pre .demands-long,
-      entry .pre .costs-long,
-      entry .pre .ceilings-long,
-      entry .pre .table-long,
-      entry .pre .first-small,
-      at-demands-at .demands-at .ensures,
-      at-costs-at .costs-at .ensures,
-      at-ceilings-at .ceilings-at .ensures,
-      at-table-at .table-at .ensures,
-      at-put-cells .put-cells .kept,
-      at-put-cells2 .put-cells2 .kept,
-      at-put-cells3 .put-cells3 .kept,
-      at-raise-cells .raise-cells .kept,
-      at-put-cells4 .put-cells4 .kept,
-    )
+    omega (arith, at-raise-cells, at-put-cells4 .put-cells4 .kept)
 
 same-length : tie.Need-same-length
 same-length c = search needs
