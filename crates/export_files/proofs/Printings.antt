@@ -23,7 +23,8 @@ use Rattle.flow_files.specs.Printing as carried
 use Rattle.export_reports.specs.Report.{numberOf, shortReport}
 use Rattle.export_reports.specs.Bounds as bounds-told
 use Rattle.export_reports.specs.Flow as flow-told
-use Rattle.export_files.specs.Printing.{TextTold, TextUntold, TextExported, planPlace, PlanFilesTold, PlanFilesExported, boundsPlace, boundsBytes, BoundsFilesTold, BoundsFilesExported, flowPlace, FlowFilesTold, FlowFilesExported}
+use Rattle.export_files.specs.Printing.{TextTold, TextUntold, TextExported, planPlace, PlanFilesTold, PlanFilesExported, boundsPlace}
+use Rattle.export_files.specs.Printing.{boundsBytes, BoundsFilesTold, BoundsFilesExported, flowPlace, FlowFilesTold, FlowFilesExported}
 
 module _ (Told : Type 0) (out report : List ℕ) where
   pub text-untold : length report < 2 → TextExported Told out out report report shortReport

@@ -27,7 +27,9 @@ use Rattle.csv_case.proofs.CaseLengths.{BothStand, both-stand}
 use Rattle.export_reports.specs.Report.{shortReport}
 use Rattle.export_files.specs.declared.reading.Reading.{Reading}
 use Rattle.export_files.specs.declared.reading.Reading.the-variants.{Read, Refused}
-use Rattle.export_files.specs.Reading.{faultyFile, tooShort, roomyReading, bySize, sizedReading, readingFor, readingOf, readingNumber, readingReport, CaseRead, ReadTold, ReadUntold, ReadExported, entriesReading, entriesNumber, entriesReport, entriesIf, entriesAnswer, EntriesTold, EntriesUntold, EntriesExported}
+use Rattle.export_files.specs.Reading.{faultyFile, tooShort, roomyReading, bySize, sizedReading, readingFor, readingOf, readingNumber}
+use Rattle.export_files.specs.Reading.{readingReport, CaseRead, ReadTold, ReadUntold, ReadExported, entriesReading, entriesNumber, entriesReport}
+use Rattle.export_files.specs.Reading.{entriesIf, entriesAnswer, EntriesTold, EntriesUntold, EntriesExported}
 
 pub three-written : (l : List ℕ) (a b c : ℕ) → 3 ≤ length l → set (set (set l 0 a) 1 b) 2 c ≡ written (a ∷ b ∷ c ∷ []) l
 three-written [] a b c h = absurd (omega arith)
@@ -149,7 +151,10 @@ module _ (t p : List ℕ) (costs : List ℤ) (supplies demands table : List ℕ)
     unfolding ReadExported
     read-told a report reported r h s x w =
         let q : a ≡ due = s .answered in
-        subst (λ (b : Bool). cond b (ReadUntold costs supplies demands table costs′ supplies′ demands′ table′ report reported r) (ReadTold t p costs supplies demands table costs′ supplies′ demands′ table′ report reported r)) (sym (le-ltb (length report) 3 h))
+        subst (λ (b : Bool).
+        cond b (ReadUntold costs supplies demands table costs′ supplies′ demands′ table′ report reported r)
+        (ReadTold t p costs supplies demands table costs′ supplies′ demands′ table′ report reported r))
+        (sym (le-ltb (length report) 3 h))
         record {
           number = x ∙ ap readingNumber q;
           cells = w ∙ ap (λ (a : Reading). written (readingReport a) report) q;
@@ -160,7 +165,10 @@ module _ (t p : List ℕ) (costs : List ℤ) (supplies demands table : List ℕ)
       → ReadExported t p costs supplies demands table costs supplies demands table report report shortReport
   unfolding ReadExported
   read-untold report h =
-      subst (λ (b : Bool). cond b (ReadUntold costs supplies demands table costs supplies demands table report report shortReport) (ReadTold t p costs supplies demands table costs supplies demands table report report shortReport)) (sym (lt-ltb (length report) 3 h))
+      subst (λ (b : Bool).
+      cond b (ReadUntold costs supplies demands table costs supplies demands table report report shortReport)
+      (ReadTold t p costs supplies demands table costs supplies demands table report report shortReport))
+      (sym (lt-ltb (length report) 3 h))
       record { number = refl; cells = refl; costs-kept = refl; supplies-kept = refl; demands-kept = refl; table-kept = refl }
 
 -- ---- a production file alone

@@ -21,7 +21,8 @@ fn tell_printed(printed: Printed, report: &mut [u64]) -> u64
 
 // The printed plan of a tariff and a production file, or the refusal.
 pub fn plan_text(tariff: &[u8], production: &[u8], text: &mut [u8], report: &mut [u64]) -> u64
-    ensures { λ r. ⌜ PlanFilesExported (now (tariff .entry)) (now (production .entry)) (now (text .entry)) (now (text .exit)) (now (report .entry)) (now (report .exit)) r ⌝ }
+    ensures { λ r. ⌜ PlanFilesExported (now (tariff .entry)) (now (production .entry)) (now (text .entry)) (now (text .exit))
+        (now (report .entry)) (now (report .exit)) r ⌝ }
 {
     if report.len() < 2 {
         return 34;
@@ -38,7 +39,8 @@ pub fn bounds_text(
     text: &mut [u8],
     report: &mut [u64],
 ) -> u64
-    ensures { λ r. ⌜ BoundsFilesExported (now (tariff .entry)) (now (low .entry)) (now (high .entry)) (now (text .entry)) (now (text .exit)) (now (report .entry)) (now (report .exit)) r ⌝ }
+    ensures { λ r. ⌜ BoundsFilesExported (now (tariff .entry)) (now (low .entry)) (now (high .entry)) (now (text .entry)) (now (text .exit))
+        (now (report .entry)) (now (report .exit)) r ⌝ }
 {
     if report.len() < 2 {
         return 34;
@@ -55,7 +57,8 @@ pub fn flow_text(
     text: &mut [u8],
     report: &mut [u64],
 ) -> u64
-    ensures { λ r. ⌜ FlowFilesExported (now (network .entry)) (now (arc .entry)) (now (table .entry)) (now (text .entry)) (now (text .exit)) (now (report .entry)) (now (report .exit)) r ⌝ }
+    ensures { λ r. ⌜ FlowFilesExported (now (network .entry)) (now (arc .entry)) (now (table .entry)) (now (text .entry)) (now (text .exit))
+        (now (report .entry)) (now (report .exit)) r ⌝ }
 {
     if report.len() < 2 {
         return 34;

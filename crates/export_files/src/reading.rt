@@ -5,7 +5,8 @@ ghost use mathlib.Core.Path.{_≡_};
 ghost use Prim.Native.Nat.{_≤_};
 ghost use lib.ListN.{length};
 ghost use Rattle.transport.specs.Curve.{written};
-ghost use Rattle.export_files.specs.Reading.{faultyFile, tooShort, roomyReading, sizedReading, readingOf, readingNumber, readingReport, CaseRead, ReadExported, entriesAnswer, EntriesExported};
+ghost use Rattle.export_files.specs.Reading.{faultyFile, tooShort, roomyReading, sizedReading, readingOf, readingNumber, readingReport};
+ghost use Rattle.export_files.specs.Reading.{CaseRead, ReadExported, entriesAnswer, EntriesExported};
 use csv_case::case::CaseAnswer;
 use csv_case::case::Entries;
 use csv_case::case::read_case;
@@ -128,7 +129,7 @@ fn judged(
 }
 
 // Reads the case of two files into lent slices: of the entries 4,002 at most, which is one more than any case has.
-pub fn read_into(
+fn read_into(
     tariff: &[u8],
     production: &[u8],
     costs: &mut [i64],
@@ -136,7 +137,8 @@ pub fn read_into(
     demands: &mut [u64],
     table: &mut [u64],
 ) -> Reading
-    ensures { λ r. ⌜ CaseRead (now (tariff .entry)) (now (production .entry)) (now (costs .entry)) (now (supplies .entry)) (now (demands .entry)) (now (table .entry)) (now (costs .exit)) (now (supplies .exit)) (now (demands .exit)) (now (table .exit)) r ⌝ }
+    ensures { λ r. ⌜ CaseRead (now (tariff .entry)) (now (production .entry)) (now (costs .entry)) (now (supplies .entry))
+        (now (demands .entry)) (now (table .entry)) (now (costs .exit)) (now (supplies .exit)) (now (demands .exit)) (now (table .exit)) r ⌝ }
 {
     let reading = judged(
         tariff,
@@ -197,7 +199,9 @@ pub fn read_files(
     table: &mut [u64],
     report: &mut [u64],
 ) -> u64
-    ensures { λ r. ⌜ ReadExported (now (tariff .entry)) (now (production .entry)) (now (costs .entry)) (now (supplies .entry)) (now (demands .entry)) (now (table .entry)) (now (costs .exit)) (now (supplies .exit)) (now (demands .exit)) (now (table .exit)) (now (report .entry)) (now (report .exit)) r ⌝ }
+    ensures { λ r. ⌜ ReadExported (now (tariff .entry)) (now (production .entry)) (now (costs .entry)) (now (supplies .entry))
+        (now (demands .entry)) (now (table .entry)) (now (costs .exit)) (now (supplies .exit)) (now (demands .exit)) (now (table .exit))
+        (now (report .entry)) (now (report .exit)) r ⌝ }
 {
     if report.len() < 3 {
         return 34;

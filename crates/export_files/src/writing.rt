@@ -39,7 +39,10 @@ pub fn write_texts(
     production: &mut [u8],
     report: &mut [u64],
 ) -> u64
-    ensures { λ r. ⌜ WriteExported (freeCase m n (now (costs .entry)) (now (supplies .entry)) (now (demands .entry)) (now (table .entry)) 2048 4001 4001) (now (tariff .entry)) (now (production .entry)) (now (tariff .exit)) (now (production .exit)) (now (report .entry)) (now (report .exit)) r ⌝ }
+    ensures { λ r. ⌜ WriteExported
+        (freeCase m n (now (costs .entry)) (now (supplies .entry)) (now (demands .entry)) (now (table .entry)) 2048 4001 4001)
+        (now (tariff .entry)) (now (production .entry)) (now (tariff .exit)) (now (production .exit)) (now (report .entry)) (now (report .exit))
+        r ⌝ }
 {
     if report.len() < 2 {
         return 34;
@@ -56,7 +59,8 @@ pub fn rewrite_texts(
     new_production: &mut [u8],
     report: &mut [u64],
 ) -> u64
-    ensures { λ r. ⌜ RewriteExported (now (tariff .entry)) (now (production .entry)) (now («new_tariff» .entry)) (now («new_production» .entry)) (now («new_tariff» .exit)) (now («new_production» .exit)) (now (report .entry)) (now (report .exit)) r ⌝ }
+    ensures { λ r. ⌜ RewriteExported (now (tariff .entry)) (now (production .entry)) (now («new_tariff» .entry))
+        (now («new_production» .entry)) (now («new_tariff» .exit)) (now («new_production» .exit)) (now (report .entry)) (now (report .exit)) r ⌝ }
 {
     if report.len() < 2 {
         return 34;

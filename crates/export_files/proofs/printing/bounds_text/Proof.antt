@@ -30,8 +30,10 @@ same-length-2 c = search needs
 -- src/printing.rt:34:1
 returns-2 : tie.Need-returns-2
 returns-2 c =
+    let at-bounds-files = c .before .before .before .before .before .before in
+    let at-if1 = at-bounds-files .before .before in
     let t = c .before .before .tell-printed .ensures in
-    bounds-told-of _ _ _ _ _ _ (c .before .before .before .before .before .before .before .before .if1 .left) (t .0) (t .1) _ _ _ (c .before .before .before .before .before .before .bounds-files .ensures)
+    bounds-told-of _ _ _ _ _ _ (at-if1 .if1 .left) (t .0) (t .1) _ _ _ (at-bounds-files .bounds-files .ensures)
 
 pub bounds-text-spec : {M : Type 1} → statement M
 bounds-text-spec =

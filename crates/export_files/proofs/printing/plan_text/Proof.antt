@@ -30,8 +30,10 @@ same-length-2 c = search needs
 -- src/printing.rt:23:1
 returns-2 : tie.Need-returns-2
 returns-2 c =
+    let at-plan-files = c .before .before .before .before .before .before in
+    let at-if1 = at-plan-files .before .before in
     let t = c .before .before .tell-printed .ensures in
-    plan-told _ _ _ _ _ _ (c .before .before .before .before .before .before .before .before .if1 .left) (t .0) (t .1) _ _ (c .before .before .before .before .before .before .plan-files .ensures)
+    plan-told _ _ _ _ _ _ (at-if1 .if1 .left) (t .0) (t .1) _ _ (at-plan-files .plan-files .ensures)
 
 pub plan-text-spec : {M : Type 1} → statement M
 plan-text-spec =

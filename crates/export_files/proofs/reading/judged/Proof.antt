@@ -47,11 +47,15 @@ sized-requires c κs = search needs
 
 -- src/reading.rt:104:1
 returns : tie.Need-returns
-returns c = files-refused _ _ _ _ _ _ _ _ _ (sym (c .before .before .before .before .before .before .before .before .read-case .ensures .answered) ∙ c .before .before .answer .given .1) (c .faulty-file .ensures)
+returns c =
+    files-refused _ _ _ _ _ _ _ _ _
+    (sym (c .before .before .before .before .before .before .before .before .read-case .ensures .answered) ∙ c .before .before .answer .given .1)
+    (c .faulty-file .ensures)
 
 -- src/reading.rt:104:1
 returns-2 : tie.Need-returns-2
-returns-2 c = files-case _ _ _ _ _ _ _ _ _ _ (sym (c .before .before .before .before .before .before .before .before .read-case .ensures .answered) ∙ c .before .before .answer2 .given .1) (c .sized .ensures)
+returns-2 c =
+    files-case _ _ _ _ _ _ _ _ _ _ (sym (c .before .before .before .before .before .before .before .before .read-case .ensures .answered) ∙ c .before .before .answer2 .given .1) (c .sized .ensures)
 
 pub judged-spec : {M : Type 1} → statement M
 judged-spec =

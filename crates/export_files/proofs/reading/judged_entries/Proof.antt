@@ -29,7 +29,9 @@ smaller-requires c κs = search needs
 
 -- src/reading.rt:220:17
 returns : tie.Need-returns
-returns c = entries-short _ _ _ _ _ (c .before .before .before .before .before .before .read-entries .ensures .answered) (c .before .before .before .found2 .given .1) (c .before .smaller .ensures) (c .if1 .taken)
+returns c =
+    entries-short _ _ _ _ _ (c .before .before .before .before .before .before .read-entries .ensures .answered)
+    (c .before .before .before .found2 .given .1) (c .before .smaller .ensures) (c .if1 .taken)
 
 -- src/reading.rt:211:1
 returns-2 : tie.Need-returns-2
@@ -37,7 +39,9 @@ returns-2 c = entries-faulty _ _ _ _ _ (c .before .before .before .before .read-
 
 -- src/reading.rt:211:1
 returns-3 : tie.Need-returns-3
-returns-3 c = entries-roomy _ _ _ _ _ (c .before .before .before .before .before .before .read-entries .ensures .answered) (c .before .before .before .found2 .given .1) (c .before .smaller .ensures) (c .if1 .left)
+returns-3 c =
+    entries-roomy _ _ _ _ _ (c .before .before .before .before .before .before .read-entries .ensures .answered)
+    (c .before .before .before .found2 .given .1) (c .before .smaller .ensures) (c .if1 .left)
 
 pub judged-entries-spec : {M : Type 1} → statement M
 judged-entries-spec =

@@ -41,7 +41,10 @@ same-length-5 c = search needs
 
 -- src/reading.rt:192:1
 returns-2 : tie.Need-returns-2
-returns-2 c = let t = c .before .before .tell-reading .ensures in read-told _ _ _ _ _ _ _ _ _ _ _ _ _ _ (c .before .before .before .before .before .before .before .before .before .before .before .before .before .before .before .before .if1 .left) (c .before .before .before .before .before .before .before .before .before .before .before .read-into .ensures) (t .0) (t .1)
+returns-2 c =
+    let at-read-into = c .before .before .before .before .before .before .before .before .before .before .before in
+    let at-if1 = at-read-into .before .before .before .before .before in
+    let t = c .before .before .tell-reading .ensures in read-told _ _ _ _ _ _ _ _ _ _ _ _ _ _ (at-if1 .if1 .left) (at-read-into .read-into .ensures) (t .0) (t .1)
 
 pub read-files-spec : {M : Type 1} → statement M
 read-files-spec =

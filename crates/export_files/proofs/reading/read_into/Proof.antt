@@ -45,7 +45,11 @@ same-length-4 c = search needs
 
 -- src/reading.rt:132:1
 returns-2 : tie.Need-returns-2
-returns-2 c = into-read _ _ _ _ _ _ _ _ _ _ _ _ _ _ _ (c .before .before .before .before .before .before .before .before .before .before .before .before .before .before .before .judged .ensures) (c .before .before .before .before .before .before .before .before .before .before .before .before .before .reading2 .given .1) (c .before .before .before .before .before .before .before .read-case .ensures)
+returns-2 c =
+    let at-read-case = c .before .before .before .before .before .before .before in
+    let at-reading2 = at-read-case .before .before .before .before .before .before in
+    let at-judged = at-reading2 .before .before in
+    into-read _ _ _ _ _ _ _ _ _ _ _ _ _ _ _ (at-judged .judged .ensures) (at-reading2 .reading2 .given .1) (at-read-case .read-case .ensures)
 
 pub read-into-spec : {M : Type 1} → statement M
 read-into-spec =

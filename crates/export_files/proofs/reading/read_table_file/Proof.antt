@@ -43,7 +43,11 @@ same-length c = search needs
 
 -- src/reading.rt:231:1
 returns-2 : tie.Need-returns-2
-returns-2 c = entries-refused _ _ _ _ _ _ _ (c .before .before .before .before .if1 .left) (c .before .before .before .judged-entries .ensures) (c .before .found .given .1) (one-written (now (c .before .before .before .before .before .before .before .before .args .report)) _ (c .before .before .before .before .if1 .left))
+returns-2 c =
+    let at-judged-entries = c .before .before .before in
+    let at-if1 = at-judged-entries .before in
+    let entry = at-if1 .before .before .before .before in
+    entries-refused _ _ _ _ _ _ _ (at-if1 .if1 .left) (at-judged-entries .judged-entries .ensures) (c .before .found .given .1) (one-written (now (entry .args .report)) _ (at-if1 .if1 .left))
 
 -- src/reading.rt:231:1
 same-length-2 : tie.Need-same-length-2
@@ -55,7 +59,13 @@ same-length-3 c = search needs
 
 -- src/reading.rt:231:1
 returns-3 : tie.Need-returns-3
-returns-3 c = entries-stored _ _ _ _ _ _ _ _ (c .before .before .before .before .before .before .before .before .if1 .left) (c .before .before .before .before .before .before .before .judged-entries .ensures) (c .before .before .before .before .before .found2 .given .1) (c .before .before .read-entries .ensures) (one-written (now (c .before .before .before .before .before .before .before .before .before .before .before .before .args .report)) _ (c .before .before .before .before .before .before .before .before .if1 .left))
+returns-3 c =
+    let at-found2 = c .before .before .before .before .before in
+    let at-judged-entries = at-found2 .before .before in
+    let at-if1 = at-judged-entries .before in
+    let entry = at-if1 .before .before .before .before in
+    entries-stored _ _ _ _ _ _ _ _ (at-if1 .if1 .left) (at-judged-entries .judged-entries .ensures) (at-found2 .found2 .given .1)
+    (c .before .before .read-entries .ensures) (one-written (now (entry .args .report)) _ (at-if1 .if1 .left))
 
 pub read-table-file-spec : {M : Type 1} → statement M
 read-table-file-spec =

@@ -34,8 +34,10 @@ same-length-3 c = search needs
 -- src/writing.rt:31:1
 returns-2 : tie.Need-returns-2
 returns-2 c =
+    let at-write-case = c .before .before .before .before .before .before .before .before in
+    let at-if1 = at-write-case .before .before .before in
     let t = c .before .before .tell-texts .ensures in
-    texts-told _ _ _ _ _ _ _ _ _ _ _ (c .before .before .before .before .before .before .before .before .before .before .before .if1 .left) (c .before .before .before .before .before .before .before .before .write-case .ensures 2048 4001 4001) (t .0) (t .1)
+    texts-told _ _ _ _ _ _ _ _ _ _ _ (at-if1 .if1 .left) (at-write-case .write-case .ensures 2048 4001 4001) (t .0) (t .1)
 
 pub write-texts-spec : {M : Type 1} → statement M
 write-texts-spec =
