@@ -75,7 +75,11 @@ module _ {N : Net} {p room : List ℕ} {s limit : ℕ} {x : List ℕ} {B : Book}
 
     -- the lane's open arcs keep their reduced costs no less than 0
     slack : Slack (N .m) (N .n) (N .c) (N .u) (N .x) (λ i. get p' i) (λ j. get p' (32 + j))
-    slack i j a b = record { ahead = λ l. ahead-ok l (decLt (get (B .dist) i + get p g) (get (B .dist) g + get p i)); back = λ l. back-ok l (decLt (get (B .dist) (32 + j) + get p g) (get (B .dist) g + get p (32 + j))) }
+    slack i j a b =
+        record {
+          ahead = λ l. ahead-ok l (decLt (get (B .dist) i + get p g) (get (B .dist) g + get p i));
+          back = λ l. back-ok l (decLt (get (B .dist) (32 + j) + get p g) (get (B .dist) g + get p (32 + j)));
+        }
       where
         hi : i < 96
         hi = omega (arith, r .sound .sources)
@@ -118,7 +122,16 @@ module _ {N : Net} {p room : List ℕ} {s limit : ℕ} {x : List ℕ} {B : Book}
         tight : (i j : ℕ) → i < N .m → j < N .n → cells x' i j ≢ N .x i j → N .c i j + get p' i ≡ get p' (32 + j)
         tight i j a b z =
             let t = w .tight i j a b z in
-            omega (arith, down i (omega (arith, r .sound .sources)), down (32 + j) (omega (arith, r .sound .terminals)), gap, t .even, t .source .1, t .terminal .1, above i (omega (arith, r .sound .sources)))
+            omega (
+              arith,
+              down i (omega (arith, r .sound .sources)),
+              down (32 + j) (omega (arith, r .sound .terminals)),
+              gap,
+              t .even,
+              t .source .1,
+              t .terminal .1,
+              above i (omega (arith, r .sound .sources)),
+            )
 
     pub delivered : {x' : List ℕ} {d : ℕ} → d ≡ min (get (B .width) g) (get room g) → Walking N p B g d x' s → Delivered N p room s limit x' p' g d
     delivered {x'} {d} ed w = record {

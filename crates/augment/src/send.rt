@@ -164,7 +164,8 @@ pub fn send(
     requires { ⌜ SendReady (net m n (now cost) (now cap) (now x)) (now pot) (now room) start limit (now x) ⌝ }
     requires { ⌜ Wanted (net m n (now cost) (now cap) (now x)) (now demand) ⌝ }
     requires { ⌜ Covers m n (now x) (now serves) ⌝ }
-    ensures { λ r. ⌜ SendDone (net m n (now (cost .entry)) (now (cap .entry)) (now (x .entry))) (now (pot .entry)) (now (room .entry)) start limit (now (x .entry)) (now (x .exit)) (now (pot .exit)) (r .goal) (r .amount) ⌝ }
+    ensures { λ r. ⌜ SendDone (net m n (now (cost .entry)) (now (cap .entry)) (now (x .entry))) (now (pot .entry)) (now (room .entry)) start
+        limit (now (x .entry)) (now (x .exit)) (now (pot .exit)) (r .goal) (r .amount) ⌝ }
     ensures { λ r. ⌜ Covers m n (now (x .exit)) (now (serves .exit)) ⌝ }
 {
     let found = search(m, n, cost, x, cap, serves, pot, room, demand, start);

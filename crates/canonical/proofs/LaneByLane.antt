@@ -131,7 +131,8 @@ module _ {N : Net} {p o f x o' f' x' : List ℕ} {i j : ℕ} (small : N .n ≤ 6
     cols = λ l h. omega (arith, cols l h, d .cols l h, s .cols l h);
     under = d .under;
     within = λ a b ha hb. elim (ℕ-discrete (a * 64 + b) k) [
-      | yes z ↦ omega (arith, ap (λ v. get o' v) z, ap (λ v. get f' v) z, ap (λ v. get o v) z, ap (λ v. get f v) z, ap (λ v. get x v) z, d .own-o, d .own-f, few, s .under a b ha hb, s .within a b ha hb)
+      | yes z ↦
+          omega (arith, ap (λ v. get o' v) z, ap (λ v. get f' v) z, ap (λ v. get o v) z, ap (λ v. get f v) z, ap (λ v. get x v) z, d .own-o, d .own-f, few, s .under a b ha hb, s .within a b ha hb)
       | no z ↦ omega (arith, d .off-o (a * 64 + b) z, d .off-f (a * 64 + b) z, s .within a b ha hb)
     ];
     done = λ a b ha hb l. elim (ℕ-discrete (a * 64 + b) k) [

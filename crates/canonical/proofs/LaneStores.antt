@@ -18,7 +18,8 @@ use Rattle.residual.specs.inner.LanesInUse.{Covers}
 use Rattle.augment.specs.inner.LaneMarks.{Served}
 use Rattle.augment.specs.inner.PathWalk.{Carried}
 use Rattle.reachability.specs.inner.Reachability.{Opens, Supplied}
-use Rattle.canonical.specs.inner.Canonize.{Doors, TightLane, PartedAt, free, aside, Settling, FreeReady, LaneSettled, Longs, CanonReady, bare, PartReady, Kept, Clear, LaneParted, PartedTo, Open, Onward, Canonized}
+use Rattle.canonical.specs.inner.Canonize.{Doors, TightLane, PartedAt, free, aside, Settling, FreeReady, LaneSettled, Longs, CanonReady, bare}
+use Rattle.canonical.specs.inner.Canonize.{PartReady, Kept, Clear, LaneParted, PartedTo, Open, Onward, Canonized}
 use Rattle.residual.proofs.Bits.{bit-none, bit-place, power-fits, low-set, rest-other, left-start, left-low, left-none, left-next}
 use Rattle.augment.proofs.LaneMarks.{cover-arc, cover-none, set-less}
 use Rattle.reachability.proofs.Reachability.{cover-drop}
@@ -341,7 +342,8 @@ module _ {m n i : ℕ} {o₀ f₀ x₀ o f x s w g : List ℕ} {t all rest : ℕ
 
         here : Onward m n (i * 64) (i * 64 + trailingZeros 64 rest) o₀ f₀ x₀ o f x
         here =
-            onward-over (λ a b c e g h. lane a b c e (omega (arith, r .terminals, row-terminal, q .most)) (omega (arith, r .terminals, row-terminal, q .most)) (omega (arith, r .terminals, row-terminal, q .most)))
+            onward-over
+            (λ a b c e g h. lane a b c e (omega (arith, r .terminals, row-terminal, q .most)) (omega (arith, r .terminals, row-terminal, q .most)) (omega (arith, r .terminals, row-terminal, q .most)))
             (omega (arith, left-low 64 (q .past) p row-fits)) (q .onward)
 
 pub row-start : {m n i : ℕ} {o f x s w d : List ℕ} {t : ℕ} → Open m n o f x s w d → Supplied m n 32 x t → RowTo m n i o f x o f x s w d t (get w i) (get w i)

@@ -7,7 +7,8 @@ ghost use Rattle.residual.specs.inner.Cells.{cells};
 ghost use Rattle.residual.specs.inner.Network.{net};
 ghost use Rattle.residual.specs.inner.LanesInUse.{Covers};
 ghost use Rattle.reachability.specs.inner.Reachability.{Opens, Supplied, Known, Trodden};
-ghost use Rattle.canonical.specs.inner.Canonize.{FreeReady, Followed, Rerouted, Doors, Resent, LaneSettled, CanonReady, bare, Kept, PartReady, Clear, LaneParted, PartedTo, Open, Onward, Canonized};
+ghost use Rattle.canonical.specs.inner.Canonize.{FreeReady, Followed, Rerouted, Doors, Resent, LaneSettled, CanonReady, bare, Kept};
+ghost use Rattle.canonical.specs.inner.Canonize.{PartReady, Clear, LaneParted, PartedTo, Open, Onward, Canonized};
 use augment::send::measure;
 use augment::send::push;
 use augment::send::serve;
@@ -36,7 +37,8 @@ fn part_lane(
     requires { ⌜ Covers m n (now x) (now serves) ⌝ }
     requires { ⌜ Opens m n (now free) (now ways) ⌝ }
     requires { ⌜ Doors m n (now free) (now doors) ⌝ }
-    ensures { λ _. ⌜ LaneParted (bare m n (cells (now (cost .entry))) (cells (now (cap .entry)))) (now (pot .entry)) i j (now (plan .entry)) (now (free .entry)) (now (x .entry)) (now (plan .exit)) (now (free .exit)) (now (x .exit)) ⌝ }
+    ensures { λ _. ⌜ LaneParted (bare m n (cells (now (cost .entry))) (cells (now (cap .entry)))) (now (pot .entry)) i j (now (plan .entry))
+        (now (free .entry)) (now (x .entry)) (now (plan .exit)) (now (free .exit)) (now (x .exit)) ⌝ }
     ensures { λ _. ⌜ Covers m n (now (x .exit)) (now (serves .exit)) ⌝ }
     ensures { λ _. ⌜ Opens m n (now (free .exit)) (now (ways .exit)) ⌝ }
     ensures { λ _. ⌜ Doors m n (now (free .exit)) (now (doors .exit)) ⌝ }
@@ -73,8 +75,10 @@ fn part_row(
 )
     requires { ⌜ i < m ⌝ }
     requires { ⌜ PartReady (bare m n (cells (now cost)) (cells (now cap))) (now pot) ⌝ }
-    requires { ⌜ PartedTo (bare m n (cells (now cost)) (cells (now cap))) (now pot) (i * 64) (now plan) (now free) (now x) (now serves) (now ways) (now doors) ⌝ }
-    ensures { λ _. ⌜ PartedTo (bare m n (cells (now (cost .entry))) (cells (now (cap .entry)))) (now (pot .entry)) (i * 64 + 64) (now (plan .exit)) (now (free .exit)) (now (x .exit)) (now (serves .exit)) (now (ways .exit)) (now (doors .exit)) ⌝ }
+    requires { ⌜ PartedTo (bare m n (cells (now cost)) (cells (now cap))) (now pot) (i * 64) (now plan) (now free) (now x) (now serves)
+        (now ways) (now doors) ⌝ }
+    ensures { λ _. ⌜ PartedTo (bare m n (cells (now (cost .entry))) (cells (now (cap .entry)))) (now (pot .entry)) (i * 64 + 64)
+        (now (plan .exit)) (now (free .exit)) (now (x .exit)) (now (serves .exit)) (now (ways .exit)) (now (doors .exit)) ⌝ }
     ensures { λ _. ⌜ Kept (now (plan .entry)) (now (x .entry)) (now (plan .exit)) (now (x .exit)) ⌝ }
 {
     for j in 0..n {
@@ -112,7 +116,8 @@ fn part(
 )
     requires { ⌜ PartReady (bare m n (cells (now cost)) (cells (now cap))) (now pot) ⌝ }
     requires { ⌜ PartedTo (bare m n (cells (now cost)) (cells (now cap))) (now pot) 0 (now plan) (now free) (now x) (now serves) (now ways) (now doors) ⌝ }
-    ensures { λ _. ⌜ PartedTo (bare m n (cells (now (cost .entry))) (cells (now (cap .entry)))) (now (pot .entry)) (m * 64) (now (plan .exit)) (now (free .exit)) (now (x .exit)) (now (serves .exit)) (now (ways .exit)) (now (doors .exit)) ⌝ }
+    ensures { λ _. ⌜ PartedTo (bare m n (cells (now (cost .entry))) (cells (now (cap .entry)))) (now (pot .entry)) (m * 64)
+        (now (plan .exit)) (now (free .exit)) (now (x .exit)) (now (serves .exit)) (now (ways .exit)) (now (doors .exit)) ⌝ }
     ensures { λ _. ⌜ Kept (now (plan .entry)) (now (x .entry)) (now (plan .exit)) (now (x .exit)) ⌝ }
 {
     for i in 0..m {
@@ -259,7 +264,8 @@ fn settle_row(
     requires { ⌜ i < m ⌝ }
     requires { ⌜ Supplied m n 32 (now x) (now supplied) ⌝ }
     requires { ⌜ Open m n (now aside) (now free) (now x) (now serves) (now ways) (now doors) ⌝ }
-    ensures { λ _. ⌜ Onward m n (i * 64) (i * 64 + 64) (now (aside .entry)) (now (free .entry)) (now (x .entry)) (now (aside .exit)) (now (free .exit)) (now (x .exit)) ⌝ }
+    ensures { λ _. ⌜ Onward m n (i * 64) (i * 64 + 64) (now (aside .entry)) (now (free .entry)) (now (x .entry)) (now (aside .exit))
+        (now (free .exit)) (now (x .exit)) ⌝ }
     ensures { λ _. ⌜ Open m n (now (aside .exit)) (now (free .exit)) (now (x .exit)) (now (serves .exit)) (now (ways .exit)) (now (doors .exit)) ⌝ }
     ensures { λ _. ⌜ Supplied m n 32 (now (x .exit)) (now (supplied .exit)) ⌝ }
 {

@@ -33,7 +33,8 @@ use Rattle.problem.proofs.TestParts.{met, sum-under}
 use Rattle.problem.proofs.Splits.{Fitting, fitting, fits-split, sent-all, in-order, last-split, ends-within, most-made}
 use Rattle.problem.proofs.Promise.{from27, from9, refused-outcome, balance-rule, cheapest}
 use Rattle.problem.specs.Range.{AllInside, lower}
-use Rattle.problem.proofs.RaisedCurve.{lane-in, raisedCosts, raisedFreight, raisedAt, raisedTotal, added, cost-most, freight-above, plan-for-is, least-above, total-above, best-is, best-in, stops-are, stop-freights-are}
+use Rattle.problem.proofs.RaisedCurve.{lane-in, raisedCosts, raisedFreight, raisedAt, raisedTotal, added, cost-most, freight-above, plan-for-is}
+use Rattle.problem.proofs.RaisedCurve.{least-above, total-above, best-is, best-in, stops-are, stop-freights-are}
 use Rattle.problem.proofs.TotalBounds.{few-drums, raised-most, total-bounded}
 
 -- the amounts at a split depend on the depots' stock alone

@@ -49,7 +49,9 @@ module _ (c : Case) (e : formRefusal c ≡ none) where
   all-stock = ap (λ (m : ℕ). sum (m - 2) (λ k. supply c (2 + k))) (sym (formed c e .supplies-long))
 
   -- the definition by the case's own words
-  pub made-by : madeOf (c .run1) (c .run2) (c .supplies) (c .demands) ≡ cond (ltb (allDemand c) (depotStock c + c .run1 + c .run2)) (Unbalanced 7) (cond (ltb (supply c 0 + supply c 1) (made c)) (Unbalanced 8) (Drums (made c)))
+  pub made-by :
+      madeOf (c .run1) (c .run2) (c .supplies) (c .demands) ≡
+      cond (ltb (allDemand c) (depotStock c + c .run1 + c .run2)) (Unbalanced 7) (cond (ltb (supply c 0 + supply c 1) (made c)) (Unbalanced 8) (Drums (made c)))
   unfolding madeOf made
   made-by = rw (all-demand, all-stock) refl
 

@@ -57,7 +57,8 @@ fn free_form(
     demands: &[u64],
     table: &[u64],
 ) -> Verdict
-    ensures { λ r. ⌜ ((p s f : ℕ) → verdict r ≡ formRefusal (freeCase m n (now (costs .entry)) (now (supplies .entry)) (now (demands .entry)) (now (table .entry)) p s f)) ⌝ }
+    ensures { λ r. ⌜ ((p s f : ℕ) →
+        verdict r ≡ formRefusal (freeCase m n (now (costs .entry)) (now (supplies .entry)) (now (demands .entry)) (now (table .entry)) p s f)) ⌝ }
 {
     if let Checked::Refused(number) = Size::checked(m, n) {
         return Verdict::Refused(number, 0);
@@ -86,7 +87,8 @@ pub fn judge(
     demands: &[u64],
     table: &[u64],
 ) -> Judged
-    ensures { λ r. ⌜ ((p s f : ℕ) → judged r ≡ caseRefusal (freeCase m n (now (costs .entry)) (now (supplies .entry)) (now (demands .entry)) (now (table .entry)) p s f)) ⌝ }
+    ensures { λ r. ⌜ ((p s f : ℕ) →
+        judged r ≡ caseRefusal (freeCase m n (now (costs .entry)) (now (supplies .entry)) (now (demands .entry)) (now (table .entry)) p s f)) ⌝ }
 {
     if let Verdict::Refused(number, place) = free_form(m, n, costs, supplies, demands, table) {
         return Judged::Refused { number, place };

@@ -41,7 +41,11 @@ pub fn plan_by(
     splits: &mut [u64],
     freights: &mut [i64],
 ) -> Answer
-    ensures { λ r. ⌜ Answered (lent m n run1 run2 (now (costs .entry)) (now (supplies .entry)) (now (demands .entry)) (now (ceilings .entry)) (now (table .entry)) (length (now (plan .entry))) (length (now (splits .entry))) (length (now (freights .entry)))) (outcome r) (slices (now (plan .entry)) (now (splits .entry)) (now (freights .entry))) (slices (now (plan .exit)) (now (splits .exit)) (now (freights .exit))) ⌝ }
+    ensures { λ r. ⌜ Answered
+        (lent m n run1 run2 (now (costs .entry)) (now (supplies .entry)) (now (demands .entry)) (now (ceilings .entry)) (now (table .entry))
+        (length (now (plan .entry))) (length (now (splits .entry))) (length (now (freights .entry))))
+        (outcome r) (slices (now (plan .entry)) (now (splits .entry)) (now (freights .entry)))
+        (slices (now (plan .exit)) (now (splits .exit)) (now (freights .exit))) ⌝ }
 {
     if let Verdict::Refused(number, place) = form_test(
         m,
@@ -92,7 +96,11 @@ pub fn plan(
     splits: &mut [u64],
     freights: &mut [i64],
 ) -> Answer
-    ensures { λ r. ⌜ Answered (lent m n run1 run2 (now (costs .entry)) (now (supplies .entry)) (now (demands .entry)) (now (ceilings .entry)) (now (table .entry)) (length (now (plan .entry))) (length (now (splits .entry))) (length (now (freights .entry)))) (outcome r) (slices (now (plan .entry)) (now (splits .entry)) (now (freights .entry))) (slices (now (plan .exit)) (now (splits .exit)) (now (freights .exit))) ⌝ }
+    ensures { λ r. ⌜ Answered
+        (lent m n run1 run2 (now (costs .entry)) (now (supplies .entry)) (now (demands .entry)) (now (ceilings .entry)) (now (table .entry))
+        (length (now (plan .entry))) (length (now (splits .entry))) (length (now (freights .entry))))
+        (outcome r) (slices (now (plan .entry)) (now (splits .entry)) (now (freights .entry)))
+        (slices (now (plan .exit)) (now (splits .exit)) (now (freights .exit))) ⌝ }
 {
     plan_by(
         true,

@@ -35,9 +35,19 @@ pub fn solve(
     splits: &mut [u64],
     freights: &mut [i64],
 ) -> Answer
-    requires { ⌜ OnBalance (lent m n run1 run2 (now costs) (now supplies) (now demands) (now ceilings) (now table) (length (now plan)) (length (now splits)) (length (now freights))) made ⌝ }
-    ensures { λ r. ⌜ Answered (lent m n run1 run2 (now (costs .entry)) (now (supplies .entry)) (now (demands .entry)) (now (ceilings .entry)) (now (table .entry)) (length (now (plan .entry))) (length (now (splits .entry))) (length (now (freights .entry)))) (outcome r) (slices (now (plan .entry)) (now (splits .entry)) (now (freights .entry))) (slices (now (plan .exit)) (now (splits .exit)) (now (freights .exit))) ⌝ }
-    ensures { λ r. ⌜ Climbed (lent m n run1 run2 (now (costs .entry)) (now (supplies .entry)) (now (demands .entry)) (now (ceilings .entry)) (now (table .entry)) (length (now (plan .entry))) (length (now (splits .entry))) (length (now (freights .entry)))) (outcome r) ⌝ }
+    requires { ⌜ OnBalance
+        (lent m n run1 run2 (now costs) (now supplies) (now demands) (now ceilings) (now table) (length (now plan)) (length (now splits))
+        (length (now freights)))
+        made ⌝ }
+    ensures { λ r. ⌜ Answered
+        (lent m n run1 run2 (now (costs .entry)) (now (supplies .entry)) (now (demands .entry)) (now (ceilings .entry)) (now (table .entry))
+        (length (now (plan .entry))) (length (now (splits .entry))) (length (now (freights .entry))))
+        (outcome r) (slices (now (plan .entry)) (now (splits .entry)) (now (freights .entry)))
+        (slices (now (plan .exit)) (now (splits .exit)) (now (freights .exit))) ⌝ }
+    ensures { λ r. ⌜ Climbed
+        (lent m n run1 run2 (now (costs .entry)) (now (supplies .entry)) (now (demands .entry)) (now (ceilings .entry)) (now (table .entry))
+        (length (now (plan .entry))) (length (now (splits .entry))) (length (now (freights .entry))))
+        (outcome r) ⌝ }
 {
     let mut cost = [0u32; 2048];
     raise_rows(m, n, costs, &mut cost);

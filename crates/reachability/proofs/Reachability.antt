@@ -21,7 +21,8 @@ use Rattle.residual.specs.inner.Bits.{bit}
 use Rattle.residual.specs.inner.LanesInUse.{Covers}
 use Rattle.paths.specs.inner.Search.{Near, Label, Prev}
 use Rattle.paths.specs.inner.Search.Prev.{root, step}
-use Rattle.reachability.specs.inner.Reachability.{Opens, Supplied, Known, Dropped, level, reached, Tree, Reaching, AtTerminal, Aiming, ReachAt, AheadAt, Moved, Back, Shut, Trodden, NoRoute, Through}
+use Rattle.reachability.specs.inner.Reachability.{Opens, Supplied, Known, Dropped, level, reached, Tree, Reaching, AtTerminal, Aiming, ReachAt}
+use Rattle.reachability.specs.inner.Reachability.{AheadAt, Moved, Back, Shut, Trodden, NoRoute, Through}
 use Rattle.transport.proofs.Sums.{sum-change, marks-most}
 use Rattle.residual.proofs.ResidualArc.{arc-room, arc-source, arc-terminal, arc-eq}
 use Rattle.residual.proofs.Bits.{bit-none, bit-most, bit-or, bit-own, bit-place, low-set, rest-same, rest-other}
@@ -113,7 +114,14 @@ module _ {N : Net} {s limit : ℕ} {B : Book} (hm : N .m ≤ 32) (q : Tree N s l
           step c (rw e b) (rw e (still (get (B .prev) u) d))
           (arc-eq e (ap (λ y. get T' y) e ∙ dist-off (get (B .prev) u) o) (dist-off u z) a)
           (omega (arith, eh, hops-off u z, ap (λ y. get (set (B .hops) w (get (B .hops) v + 1)) y) e, hops-off (get (B .prev) u) o))
-          (omega (arith, ew, width-off u z, ap (λ y. get (set (B .width) w (min (get (B .width) v) c)) y) e, ap (λ y. get (set (B .width) w (min (get (B .width) v) k)) y) e, width-off (get (B .prev) u) o))
+          (omega (
+            arith,
+            ew,
+            width-off u z,
+            ap (λ y. get (set (B .width) w (min (get (B .width) v) c)) y) e,
+            ap (λ y. get (set (B .width) w (min (get (B .width) v) k)) y) e,
+            width-off (get (B .prev) u) o,
+          ))
 
   own : Label N s (λ u. get T' u < far) level (sum 96 (λ u. reached (get T' u))) limit (grown B v w k) w
   own =

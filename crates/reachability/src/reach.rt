@@ -4,7 +4,8 @@ ghost use Prim.Native.Nat.{_+_, _*_, _^_, _<_};
 ghost use lib.ListN.{length, getD};
 ghost use Rattle.residual.specs.inner.Bits.{bit};
 ghost use Rattle.residual.specs.inner.LanesInUse.{Covers};
-ghost use Rattle.reachability.specs.inner.Reachability.{Opens, Known, Room, Unserved, Dropped, Reaching, AtTerminal, Aiming, ReachAt, AheadAt, Shut, LookedBack, LookedAhead, ReachDone};
+ghost use Rattle.reachability.specs.inner.Reachability.{Opens, Known, Room, Unserved, Dropped, Reaching, AtTerminal, Aiming, ReachAt};
+ghost use Rattle.reachability.specs.inner.Reachability.{AheadAt, Shut, LookedBack, LookedAhead, ReachDone};
 
 // The terminals that a source other than the start may serve; the terminals of these and the sources that are not reached yet, and the sources
 // that are and are to be looked at, a bit for each; is the goal reached?
@@ -68,7 +69,8 @@ fn look_back(
     requires { ⌜ Covers m n (now x) (now serves) ⌝ }
     requires { ⌜ AtTerminal m n (now free) (now x) start limit (front .supplied) (front .terminals) (front .sources) (front .wait) (now prev) j ⌝ }
     requires { ⌜ Aiming m n goal (now free) (now x) (front .terminals) (front .sources) ⌝ }
-    ensures { λ r. ⌜ LookedBack m n j start goal limit (now (free .entry)) (now (x .entry)) (front .supplied) (front .terminals) (front .sources) (front .wait) (r .supplied) (r .terminals) (r .sources) (r .wait) (now (prev .exit)) (r .found) ⌝ }
+    ensures { λ r. ⌜ LookedBack m n j start goal limit (now (free .entry)) (now (x .entry)) (front .supplied) (front .terminals)
+        (front .sources) (front .wait) (r .supplied) (r .terminals) (r .sources) (r .wait) (now (prev .exit)) (r .found) ⌝ }
     ensures { λ r. ⌜ Covers m n (now (x .entry)) (now (serves .exit)) ⌝ }
 {
     let mut sources = front.sources;
@@ -128,7 +130,8 @@ fn look_ahead(
     requires { ⌜ Reaching m n (now free) (now x) start limit (front .supplied) (front .terminals) (front .sources) (front .wait) (now prev) ⌝ }
     requires { ⌜ Aiming m n goal (now free) (now x) (front .terminals) (front .sources) ⌝ }
     requires { ⌜ Shut m n i (now free) (now x) (front .terminals) (front .sources) (front .wait) ⌝ }
-    ensures { λ r. ⌜ LookedAhead m n start goal limit (now (free .entry)) (now (x .entry)) (front .sources) (front .wait) (r .supplied) (r .terminals) (r .sources) (r .wait) (now (prev .exit)) (r .found) ⌝ }
+    ensures { λ r. ⌜ LookedAhead m n start goal limit (now (free .entry)) (now (x .entry)) (front .sources) (front .wait) (r .supplied)
+        (r .terminals) (r .sources) (r .wait) (now (prev .exit)) (r .found) ⌝ }
     ensures { λ r. ⌜ Covers m n (now (x .entry)) (now (serves .exit)) ⌝ }
 {
     let mut now = front;

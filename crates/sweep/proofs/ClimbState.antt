@@ -58,7 +58,8 @@ held-ready m n cost cap x kept p held split y {P} k s = elim (ℕ-discrete split
   | no e ↦ subst (λ (l : List ℕ). CanonReady (net m n cost cap (heldAt split y x kept)) l) (held-kept p held e ∙ sym (held-kept P held e)) s
 ]
 
-module _ {m n : ℕ} {cost cap x₀ p₀ : List ℕ} {lo hi v : ℕ} {table : List ℕ} {added : ℕ} {splits : List ℕ} {freights : List ℤ} (r : ClimbReady m n cost cap x₀ p₀ lo hi v table added splits freights) where
+module _ {m n : ℕ} {cost cap x₀ p₀ : List ℕ} {lo hi v : ℕ} {table : List ℕ} {added : ℕ} {splits : List ℕ} {freights : List ℤ}
+    (r : ClimbReady m n cost cap x₀ p₀ lo hi v table added splits freights) where
   pub two : 2 ≤ m
   two = omega (arith, r .plant-slack .plants)
 

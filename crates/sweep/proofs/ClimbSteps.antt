@@ -22,7 +22,8 @@ use Rattle.sweep.proofs.SweptCurve.{climb-start, climb-splits, climb-fr
 use Rattle.sweep.proofs.StretchChain.{stretched-end}
 use Rattle.sweep.proofs.ClimbState.{stand-start, here, value-most, stretch-line, most, value-next}
 
-module _ {m n : ℕ} {cost cap x₀ p₀ : List ℕ} {lo hi v : ℕ} {table : List ℕ} {added : ℕ} {splits : List ℕ} {freights : List ℤ} (r : ClimbReady m n cost cap x₀ p₀ lo hi v table added splits freights) where
+module _ {m n : ℕ} {cost cap x₀ p₀ : List ℕ} {lo hi v : ℕ} {table : List ℕ} {added : ℕ} {splits : List ℕ} {freights : List ℤ}
+    (r : ClimbReady m n cost cap x₀ p₀ lo hi v table added splits freights) where
   pub ascend-start : Climbing (curveFrom m n cost cap x₀) table added splits freights lo hi splits freights lo v 0 0 0
       (record { split = lo; total = v + getD table lo 0; freight = v })
   ascend-start =
@@ -56,7 +57,8 @@ module _ {m n : ℕ} {cost cap x₀ p₀ : List ℕ} {lo hi v : ℕ} {table : Li
 
     pub ascend-end : {splits'' k kept' : List ℕ} {freights'' : List ℤ} {count' : ℕ} → hi ≤ y → Noted count y value added splits' freights' splits'' freights'' count'
         → k ≡ heldAt (b .split) y x kept → Canonized (net m n cost cap k) kept' → StretchedTo m n cost cap x₀ lo hi y x
-        → Swept m n (cells cost) (cells cap) (bothIn n x₀) (row n (cells x₀)) (col m (cells x₀)) lo hi table added splits freights x₀ splits'' freights'' x kept' (b .split) (b .total) (b .freight) count'
+        → Swept m n (cells cost) (cells cap) (bothIn n x₀) (row n (cells x₀)) (col m (cells x₀)) lo hi table added splits freights x₀ splits''
+        freights'' x kept' (b .split) (b .total) (b .freight) count'
     ascend-end {kept' = kept'} h k f held w =
         let e : y ≡ hi = omega (arith, c .high) in
         let o = subst (λ (l : List ℕ). Canonized (net m n cost cap l) kept') f held in

@@ -117,7 +117,10 @@ fn climb(
     requires { ⌜ Wanted (net m n (now cost) (now cap) (now x)) (now demand) ⌝ }
     requires { ⌜ Covers m n (now x) (now serves) ⌝ }
     requires { ⌜ Transposed m n (now cost) (now columns) ⌝ }
-    ensures { λ r. ⌜ Swept m n (cells (now (cost .entry))) (cells (now (cap .entry))) (bothIn n (now (x .entry))) (row n (cells (now (x .entry)))) (col m (cells (now (x .entry)))) lo hi (now (table .entry)) added (now (splits .entry)) (now (freights .entry)) (now (x .entry)) (now (splits .exit)) (now (freights .exit)) (now (x .exit)) (now (kept .exit)) (r .split) (r .total) (r .freight) (r .stops) ⌝ }
+    ensures { λ r. ⌜ Swept m n (cells (now (cost .entry))) (cells (now (cap .entry))) (bothIn n (now (x .entry)))
+        (row n (cells (now (x .entry)))) (col m (cells (now (x .entry)))) lo hi (now (table .entry)) added (now (splits .entry))
+        (now (freights .entry)) (now (x .entry)) (now (splits .exit)) (now (freights .exit)) (now (x .exit)) (now (kept .exit)) (r .split)
+        (r .total) (r .freight) (r .stops) ⌝ }
 {
     // The end of step 1: the incumbent is the plan at lo. Its plan is kept when the climb leaves it.
     let at = lo as usize;
@@ -203,7 +206,12 @@ pub fn sweep(
 ) -> Curve
     requires { ⌜ SweepStart m n (now cost) (now cap) (now demand) lo hi (now x) (now serves) (now pot) ⌝ }
     requires { ⌜ SweepReady m n (now demand) lo hi (now table) added (now splits) (now freights) ⌝ }
-    ensures { λ r. ⌜ ((made : ℕ) (a : ℕ → ℕ) → Begun m n (now (cost .entry)) (now (cap .entry)) a (demandIn (now (demand .entry))) made lo hi (now (x .entry)) (now (serves .entry)) (now (pot .entry)) → Swept m n (byRow 64 (now (cost .entry))) (byRow 64 (now (cap .entry))) made a (demandIn (now (demand .entry))) lo hi (now (table .entry)) added (now (splits .entry)) (now (freights .entry)) (now (x .entry)) (now (splits .exit)) (now (freights .exit)) (now (x .exit)) (now (kept .exit)) (r .split) (r .total) (r .freight) (r .stops)) ⌝ }
+    ensures { λ r. ⌜ ((made : ℕ) (a : ℕ → ℕ) →
+        Begun m n (now (cost .entry)) (now (cap .entry)) a (demandIn (now (demand .entry))) made lo hi (now (x .entry))
+        (now (serves .entry)) (now (pot .entry)) →
+        Swept m n (byRow 64 (now (cost .entry))) (byRow 64 (now (cap .entry))) made a (demandIn (now (demand .entry))) lo hi
+        (now (table .entry)) added (now (splits .entry)) (now (freights .entry)) (now (x .entry)) (now (splits .exit)) (now (freights .exit))
+        (now (x .exit)) (now (kept .exit)) (r .split) (r .total) (r .freight) (r .stops)) ⌝ }
 {
     let freight = freight_of(m, n, cost, x);
     let mut columns = [0u32; 2048];

@@ -55,7 +55,8 @@ fn tied_ahead(
 ) -> u32
     requires { ⌜ FollowReady m (v - 31) (now cost) (now pot) ⌝ }
     requires { ⌜ 32 ≤ v ⌝ }
-    ensures { λ r. ⌜ (0 < r → (n : ℕ) → v < 32 + n → n ≤ 64 → Bears (net m n (now (cost .entry)) (now (cap .entry)) (now (x .entry))) (now (pot .entry)) w v r) ⌝ }
+    ensures { λ r. ⌜ (0 < r → (n : ℕ) → v < 32 + n → n ≤ 64 →
+        Bears (net m n (now (cost .entry)) (now (cap .entry)) (now (x .entry))) (now (pot .entry)) w v r) ⌝ }
 {
     if m <= w {
         return 0;
@@ -113,7 +114,8 @@ pub fn follow(
 ) -> Traced
     requires { ⌜ FollowReady m n (now cost) (now pot) ⌝ }
     requires { ⌜ 1 < m ⌝ }
-    ensures { λ r. ⌜ (0 < r .count → Followed (net m n (now (cost .entry)) (now (cap .entry)) (now (x .entry))) (now (pot .entry)) limit (now (prev .exit)) (r .count) (r .amount)) ⌝ }
+    ensures { λ r. ⌜ (0 < r .count →
+        Followed (net m n (now (cost .entry)) (now (cap .entry)) (now (x .entry))) (now (pot .entry)) limit (now (prev .exit)) (r .count) (r .amount)) ⌝ }
 {
     *prev = [0u32; 96];
     let mut v: usize = 1;

@@ -87,7 +87,8 @@ module _ (h : List Said) (lent store last : List ℕ) (l : List Got) (d : Draft)
           → cond b (Untold old new' u v' w y' r') (PlanTold t (heldIn fresh) old new' u v' w y' r') → (r ≡ r') × (v ≡ v') × (y ≡ y') × (new ≡ new')
       go true p q = (p .number ∙ sym (q .number), p .cells ∙ sym (q .cells), p .values ∙ sym (q .values), p .slices ∙ sym (q .slices))
       go false p q =
-          let s = plans-afresh-by d e (runs-lead h store last l g) a role (length (old .plan)) (length (old .splits)) (length (old .freights)) (outcomeTold t (heldIn last) old) (outcomeTold t (heldIn fresh) old) old new new' (p .planned) (q .planned) in (
+          let s = plans-afresh-by d e (runs-lead h store last l g) a role (length (old .plan)) (length (old .splits)) (length (old .freights))
+          (outcomeTold t (heldIn last) old) (outcomeTold t (heldIn fresh) old) old new new' (p .planned) (q .planned) in (
             p .number ∙ ap numberOf (s .0) ∙ sym (q .number),
             p .cells ∙ ap (λ (o : Outcome). written (reportOf o) u) (s .0) ∙ sym (q .cells),
             p .values ∙ ap (λ (o : Outcome). written (worthOf o) w) (s .0) ∙ sym (q .values),

@@ -128,7 +128,8 @@ module _ (role : ℕ) (out : Outsider role) (a b : List ℕ) (long : length a �
 
       told : CallTold A (PerformedBy role call a a') u (x .report) (x .number) × CallTold A' (PerformedBy role call b b') u (y .report) (y .number) → Same x y a' b'
       told t =
-          let h = same-heard role out a b alike (act call) a' b' (secrecy.verdict A) (secrecy.verdict A') (record { r = A; done = t .0 .done; gets = refl }) (record { r = A'; done = t .1 .done; gets = refl }) in
+          let h = same-heard role out a b alike (act call) a' b' (secrecy.verdict A) (secrecy.verdict A')
+          (record { r = A; done = t .0 .done; gets = refl }) (record { r = A'; done = t .1 .done; gets = refl }) in
           let s = told-same A A' (PerformedBy role call a a') (PerformedBy role call b b') (a' ≡ a) (b' ≡ b) u (x .report) (y .report) (x .number) (y .number) t (verdict-eq A A' (h .0)) in
           record {
             got = got-eq x y (s .0) (s .1) (p .1 ∙ sym (q .1)) (p .2 ∙ sym (q .2));
@@ -306,7 +307,9 @@ module _ (role : ℕ) (out : Outsider role) (a b : List ℕ) (long : length a �
 
   mark-planning-same : (k : ℕ) (old : Slices) → Answers role (markPlanning k old) u w a a' x → Answers role (markPlanning k old) u w b b' y → Same x y a' b'
   mark-planning-same k old p q =
-      stays (⊎-elim told untold (plan-both t t' (steps (goBack k) (heldIn a)) (steps (goBack k) (heldIn b)) old (p .0) (q .0) u (x .report) (y .report) w (x .worth) (y .worth) (x .number) (y .number) (p .1) (q .1))) (p .3) (q .3)
+      stays (⊎-elim told untold
+      (plan-both t t' (steps (goBack k) (heldIn a)) (steps (goBack k) (heldIn b)) old (p .0) (q .0) u (x .report) (y .report) w (x .worth) (y .worth) (x .number) (y .number) (p .1) (q .1)))
+      (p .3) (q .3)
     where
       t : Option Outcome
       t = test31 role plan orElse answerTo (goBack k) (heldIn a)
@@ -326,7 +329,8 @@ module _ (role : ℕ) (out : Outsider role) (a b : List ℕ) (long : length a �
           let h = same-heard role out a b alike (markPlanning k old) a' b' (secrecy.plan o (p .0)) (secrecy.plan o' (q .0))
           (record { r = o; new = p .0; done = s .0 .planned; gets = refl; stays = p .3 }) (record { r = o'; new = q .0; done = s .1 .planned; gets = refl; stays = q .3 }) in
           let e = plan-eq o o' (p .0) (q .0) (h .0) in
-          let n = plan-told-same t t' (steps (goBack k) (heldIn a)) (steps (goBack k) (heldIn b)) old (p .0) (q .0) u (x .report) (y .report) w (x .worth) (y .worth) (x .number) (y .number) s (e .0) in
+          let n = plan-told-same t t' (steps (goBack k) (heldIn a)) (steps (goBack k) (heldIn b)) old (p .0) (q .0) u (x .report) (y .report) w
+          (x .worth) (y .worth) (x .number) (y .number) s (e .0) in
           got-eq x y (n .0) (n .1) (n .2) (p .2 ∙ ap planCells (e .1) ∙ sym (q .2))
 
       untold : Untold old (p .0) u (x .report) w (x .worth) (x .number) × Untold old (q .0) u (y .report) w (y .worth) (y .number) → x ≡ y

@@ -22,7 +22,10 @@ pub extern "C" fn yadvorkhul_bounds(
     report: &mut [u64],
     worth: &mut [i64],
 ) -> u64
-    ensures { λ r. ⌜ BoundsExported (lowCase m n run1 run2 (now (costs .entry)) (now (supplies .entry)) (now (demands .entry)) (now (ceilings .entry)) (now (low .entry))) (now (high .entry)) (now (answers .entry)) (now (answers .exit)) (now (report .entry)) (now (report .exit)) (now (worth .entry)) (now (worth .exit)) r ⌝ }
+    ensures { λ r. ⌜ BoundsExported
+        (lowCase m n run1 run2 (now (costs .entry)) (now (supplies .entry)) (now (demands .entry)) (now (ceilings .entry)) (now (low .entry)))
+        (now (high .entry)) (now (answers .entry)) (now (answers .exit)) (now (report .entry)) (now (report .exit)) (now (worth .entry))
+        (now (worth .exit)) r ⌝ }
 {
     if report.len() < 2 {
         return 34;

@@ -16,7 +16,9 @@ pub extern "C" fn yadvorkhul_read_case(
     table: &mut [u64],
     report: &mut [u64],
 ) -> u64
-    ensures { λ r. ⌜ ReadExported (now (tariff .entry)) (now (production .entry)) (now (costs .entry)) (now (supplies .entry)) (now (demands .entry)) (now (table .entry)) (now (costs .exit)) (now (supplies .exit)) (now (demands .exit)) (now (table .exit)) (now (report .entry)) (now (report .exit)) r ⌝ }
+    ensures { λ r. ⌜ ReadExported (now (tariff .entry)) (now (production .entry)) (now (costs .entry)) (now (supplies .entry))
+        (now (demands .entry)) (now (table .entry)) (now (costs .exit)) (now (supplies .exit)) (now (demands .exit)) (now (table .exit))
+        (now (report .entry)) (now (report .exit)) r ⌝ }
 {
     export_files::reading::read_files(tariff, production, costs, supplies, demands, table, report)
 }
@@ -41,7 +43,8 @@ pub extern "C" fn yadvorkhul_plan_files(
     text: &mut [u8],
     report: &mut [u64],
 ) -> u64
-    ensures { λ r. ⌜ PlanFilesExported (now (tariff .entry)) (now (production .entry)) (now (text .entry)) (now (text .exit)) (now (report .entry)) (now (report .exit)) r ⌝ }
+    ensures { λ r. ⌜ PlanFilesExported (now (tariff .entry)) (now (production .entry)) (now (text .entry)) (now (text .exit))
+        (now (report .entry)) (now (report .exit)) r ⌝ }
 {
     export_files::printing::plan_text(tariff, production, text, report)
 }
@@ -55,7 +58,8 @@ pub extern "C" fn yadvorkhul_bounds_files(
     text: &mut [u8],
     report: &mut [u64],
 ) -> u64
-    ensures { λ r. ⌜ BoundsFilesExported (now (tariff .entry)) (now (low .entry)) (now (high .entry)) (now (text .entry)) (now (text .exit)) (now (report .entry)) (now (report .exit)) r ⌝ }
+    ensures { λ r. ⌜ BoundsFilesExported (now (tariff .entry)) (now (low .entry)) (now (high .entry)) (now (text .entry)) (now (text .exit))
+        (now (report .entry)) (now (report .exit)) r ⌝ }
 {
     export_files::printing::bounds_text(tariff, low, high, text, report)
 }
@@ -69,7 +73,8 @@ pub extern "C" fn yadvorkhul_flow_files(
     text: &mut [u8],
     report: &mut [u64],
 ) -> u64
-    ensures { λ r. ⌜ FlowFilesExported (now (network .entry)) (now (arc .entry)) (now (table .entry)) (now (text .entry)) (now (text .exit)) (now (report .entry)) (now (report .exit)) r ⌝ }
+    ensures { λ r. ⌜ FlowFilesExported (now (network .entry)) (now (arc .entry)) (now (table .entry)) (now (text .entry)) (now (text .exit))
+        (now (report .entry)) (now (report .exit)) r ⌝ }
 {
     export_files::printing::flow_text(network, arc, table, text, report)
 }
@@ -87,7 +92,10 @@ pub extern "C" fn yadvorkhul_write_case(
     production: &mut [u8],
     report: &mut [u64],
 ) -> u64
-    ensures { λ r. ⌜ WriteExported (freeCase m n (now (costs .entry)) (now (supplies .entry)) (now (demands .entry)) (now (table .entry)) 2048 4001 4001) (now (tariff .entry)) (now (production .entry)) (now (tariff .exit)) (now (production .exit)) (now (report .entry)) (now (report .exit)) r ⌝ }
+    ensures { λ r. ⌜ WriteExported
+        (freeCase m n (now (costs .entry)) (now (supplies .entry)) (now (demands .entry)) (now (table .entry)) 2048 4001 4001)
+        (now (tariff .entry)) (now (production .entry)) (now (tariff .exit)) (now (production .exit)) (now (report .entry)) (now (report .exit))
+        r ⌝ }
 {
     export_files::writing::write_texts(
         m,
@@ -111,7 +119,8 @@ pub extern "C" fn yadvorkhul_tidy_files(
     new_production: &mut [u8],
     report: &mut [u64],
 ) -> u64
-    ensures { λ r. ⌜ RewriteExported (now (tariff .entry)) (now (production .entry)) (now («new_tariff» .entry)) (now («new_production» .entry)) (now («new_tariff» .exit)) (now («new_production» .exit)) (now (report .entry)) (now (report .exit)) r ⌝ }
+    ensures { λ r. ⌜ RewriteExported (now (tariff .entry)) (now (production .entry)) (now («new_tariff» .entry))
+        (now («new_production» .entry)) (now («new_tariff» .exit)) (now («new_production» .exit)) (now (report .entry)) (now (report .exit)) r ⌝ }
 {
     export_files::writing::rewrite_texts(tariff, production, new_tariff, new_production, report)
 }

@@ -19,7 +19,10 @@ pub extern "C" fn yadvorkhul_flow(
     report: &mut [u64],
     worth: &mut [i64],
 ) -> u64
-    ensures { λ r. ⌜ FlowExported (now (bytes .entry)) place (now (table .entry)) (slicesOf (now (flow .entry)) (now (starts .entry)) (now (ends .entry)) (now (ceilings .entry)) (now (costs .entry))) (slicesOf (now (flow .exit)) (now (starts .exit)) (now (ends .exit)) (now (ceilings .exit)) (now (costs .exit))) (now (report .entry)) (now (report .exit)) (now (worth .entry)) (now (worth .exit)) r ⌝ }
+    ensures { λ r. ⌜ FlowExported (now (bytes .entry)) place (now (table .entry))
+        (slicesOf (now (flow .entry)) (now (starts .entry)) (now (ends .entry)) (now (ceilings .entry)) (now (costs .entry)))
+        (slicesOf (now (flow .exit)) (now (starts .exit)) (now (ends .exit)) (now (ceilings .exit)) (now (costs .exit))) (now (report .entry))
+        (now (report .exit)) (now (worth .entry)) (now (worth .exit)) r ⌝ }
 {
     if report.len() < 1 {
         return 34;

@@ -34,7 +34,12 @@ pub extern "C" fn yadvorkhul_plan(
     report: &mut [u64],
     worth: &mut [i64],
 ) -> u64
-    ensures { λ r. ⌜ Exported (lent m n run1 run2 (now (costs .entry)) (now (supplies .entry)) (now (demands .entry)) (now (ceilings .entry)) (now (table .entry)) (length (now (plan .entry))) (length (now (splits .entry))) (length (now (freights .entry)))) (slices (now (plan .entry)) (now (splits .entry)) (now (freights .entry))) (slices (now (plan .exit)) (now (splits .exit)) (now (freights .exit))) (now (report .entry)) (now (report .exit)) (now (worth .entry)) (now (worth .exit)) r ⌝ }
+    ensures { λ r. ⌜ Exported
+        (lent m n run1 run2 (now (costs .entry)) (now (supplies .entry)) (now (demands .entry)) (now (ceilings .entry)) (now (table .entry))
+        (length (now (plan .entry))) (length (now (splits .entry))) (length (now (freights .entry))))
+        (slices (now (plan .entry)) (now (splits .entry)) (now (freights .entry)))
+        (slices (now (plan .exit)) (now (splits .exit)) (now (freights .exit))) (now (report .entry)) (now (report .exit)) (now (worth .entry))
+        (now (worth .exit)) r ⌝ }
 {
     if report.len() < 2 {
         return 34;

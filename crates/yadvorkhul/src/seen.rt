@@ -16,7 +16,10 @@ pub extern "C" fn yadvorkhul_plan_case(
     report: &mut [u64],
     worth: &mut [i64],
 ) -> u64
-    ensures { λ r. ⌜ PlanExported role (heldIn (now (store .entry))) (slices (now (plan .entry)) (now (splits .entry)) (now (freights .entry))) (slices (now (plan .exit)) (now (splits .exit)) (now (freights .exit))) (now (report .entry)) (now (report .exit)) (now (worth .entry)) (now (worth .exit)) r ⌝ }
+    ensures { λ r. ⌜ PlanExported role (heldIn (now (store .entry)))
+        (slices (now (plan .entry)) (now (splits .entry)) (now (freights .entry)))
+        (slices (now (plan .exit)) (now (splits .exit)) (now (freights .exit))) (now (report .entry)) (now (report .exit)) (now (worth .entry))
+        (now (worth .exit)) r ⌝ }
 {
     if report.len() < 2 {
         return 34;
@@ -38,7 +41,8 @@ pub extern "C" fn yadvorkhul_see_tariff(
     demands: &mut [u64],
     report: &mut [u64],
 ) -> u64
-    ensures { λ r. ⌜ TariffExported role (heldIn (now (store .entry))) (now (costs .entry)) (now (supplies .entry)) (now (demands .entry)) (now (costs .exit)) (now (supplies .exit)) (now (demands .exit)) (now (report .entry)) (now (report .exit)) r ⌝ }
+    ensures { λ r. ⌜ TariffExported role (heldIn (now (store .entry))) (now (costs .entry)) (now (supplies .entry)) (now (demands .entry))
+        (now (costs .exit)) (now (supplies .exit)) (now (demands .exit)) (now (report .entry)) (now (report .exit)) r ⌝ }
 {
     if report.len() < 2 {
         return 34;
@@ -76,7 +80,10 @@ pub extern "C" fn yadvorkhul_plan_mark(
     report: &mut [u64],
     worth: &mut [i64],
 ) -> u64
-    ensures { λ r. ⌜ MarkExported role mark (heldIn (now (store .entry))) (slices (now (plan .entry)) (now (splits .entry)) (now (freights .entry))) (slices (now (plan .exit)) (now (splits .exit)) (now (freights .exit))) (now (report .entry)) (now (report .exit)) (now (worth .entry)) (now (worth .exit)) r ⌝ }
+    ensures { λ r. ⌜ MarkExported role mark (heldIn (now (store .entry)))
+        (slices (now (plan .entry)) (now (splits .entry)) (now (freights .entry)))
+        (slices (now (plan .exit)) (now (splits .exit)) (now (freights .exit))) (now (report .entry)) (now (report .exit)) (now (worth .entry))
+        (now (worth .exit)) r ⌝ }
 {
     if report.len() < 2 {
         return 34;
@@ -97,7 +104,8 @@ pub extern "C" fn yadvorkhul_see_limits(
     ceilings: &mut [u64],
     report: &mut [u64],
 ) -> u64
-    ensures { λ r. ⌜ LimitsExported role (heldIn (now (store .entry))) (now (runs .entry)) (now (ceilings .entry)) (now (runs .exit)) (now (ceilings .exit)) (now (report .entry)) (now (report .exit)) r ⌝ }
+    ensures { λ r. ⌜ LimitsExported role (heldIn (now (store .entry))) (now (runs .entry)) (now (ceilings .entry)) (now (runs .exit))
+        (now (ceilings .exit)) (now (report .entry)) (now (report .exit)) r ⌝ }
 {
     if report.len() < 2 {
         return 34;

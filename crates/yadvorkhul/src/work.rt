@@ -31,7 +31,9 @@ pub extern "C" fn yadvorkhul_enter(
     store: &mut [u64],
     report: &mut [u64],
 ) -> u64
-    ensures { λ r. ⌜ EnterExported (draft m n run1 run2 (now (costs .entry)) (now (supplies .entry)) (now (demands .entry)) (now (ceilings .entry)) (now (table .entry))) (now (store .entry)) (now (store .exit)) (now (report .entry)) (now (report .exit)) r ⌝ }
+    ensures { λ r. ⌜ EnterExported
+        (draft m n run1 run2 (now (costs .entry)) (now (supplies .entry)) (now (demands .entry)) (now (ceilings .entry)) (now (table .entry)))
+        (now (store .entry)) (now (store .exit)) (now (report .entry)) (now (report .exit)) r ⌝ }
 {
     if report.len() < 2 {
         return 34;
@@ -97,7 +99,8 @@ pub extern "C" fn yadvorkhul_edit_cost(
     store: &mut [u64],
     report: &mut [u64],
 ) -> u64
-    ensures { λ r. ⌜ WorkExported role (editCost source terminal value) (now (store .entry)) (now (store .exit)) (now (report .entry)) (now (report .exit)) r ⌝ }
+    ensures { λ r. ⌜ WorkExported role (editCost source terminal value) (now (store .entry)) (now (store .exit)) (now (report .entry))
+        (now (report .exit)) r ⌝ }
 {
     if report.len() < 2 {
         return 34;

@@ -44,10 +44,19 @@ enum-known-made : tie.Need-enum-known-made
 enum-known-made c = search needs
 
 solve-requires : tie.Need-solve-requires
-solve-requires c κs = on-balance (the (c .before .before .before .before .before .before .before .before .before .before .before .before .before .before .before .before)) (passed (c .before .before .before .before .before .before .before)) _ (sym (c .before .before .before .before .before .before .made-of .ensures) ∙ c .before .before .before .before .made .given .1)
+solve-requires c κs =
+    let at-made = c .before .before .before .before in
+    let at-made-of = at-made .before .before in
+    let at-enum-told = at-made-of .before in
+    let entry = at-enum-told .before .before .before .before .before .before .before .before .before in
+    on-balance (the entry) (passed at-enum-told) _ (sym (at-made-of .made-of .ensures) ∙ at-made .made .given .1)
 
 returns-2 : tie.Need-returns-2
-returns-2 c = refuses _ _ _ _ (unbalanced (the (c .before .before .before .before .before .before .before .before .before .before .before .before .before)) (passed (c .before .before .before .before)) _ (sym (c .before .before .before .made-of .ensures) ∙ c .before .number2 .given .1))
+returns-2 c =
+    let at-made-of = c .before .before .before in
+    let at-enum-told = at-made-of .before in
+    let entry = at-enum-told .before .before .before .before .before .before .before .before .before in
+    refuses _ _ _ _ (unbalanced (the entry) (passed at-enum-told) _ (sym (at-made-of .made-of .ensures) ∙ c .before .number2 .given .1))
 
 same-length : tie.Need-same-length
 same-length c = search needs

@@ -32,10 +32,18 @@ smaller-requires : tie.Need-smaller-requires Inv-loop μ-loop
 smaller-requires c κs = search needs
 
 add-count : tie.Need-add-count Inv-loop μ-loop
-add-count c = omega (arith, measure-few (c .before .before .before .before .loop .inv) (c .before .before .before .loop-test .taken) (c .before .before .before .before .before .pre))
+add-count c =
+    let at-loop-test = c .before .before .before in
+    let at-loop = at-loop-test .before in
+    let entry = at-loop .before in
+    omega (arith, measure-few (at-loop .loop .inv) (at-loop-test .loop-test .taken) (entry .pre))
 
 loop-less : tie.Need-loop-less Inv-loop μ-loop
-loop-less c = omega (arith, measure-few (c .before .before .before .before .loop .inv) (c .before .before .before .loop-test .taken) (c .before .before .before .before .before .pre))
+loop-less c =
+    let at-loop-test = c .before .before .before in
+    let at-loop = at-loop-test .before in
+    let entry = at-loop .before in
+    omega (arith, measure-few (at-loop .loop .inv) (at-loop-test .loop-test .taken) (entry .pre))
 
 loop-again : tie.Need-loop-again Inv-loop μ-loop
 loop-again c = measure-next (c .before .before .before .before .loop .inv) (c .before .before .before .loop-test .taken) (c .before .residual .ensures) (c .smaller .ensures)

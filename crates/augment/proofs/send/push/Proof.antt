@@ -27,19 +27,36 @@ loop-holds : tie.Need-loop-holds Inv-loop μ-loop
 loop-holds c = record { able = c .pre .0; rest = λ z w. w; trail = c .pre .1; marked = λ z w. w }
 
 mul-w : tie.Need-mul-w Inv-loop μ-loop
-mul-w c = omega (arith, pass-node (c .before .before .args .prev .now) (c .before .before .args .amount) (c .before .loop .v) (c .before .loop .x) (c .before .loop .left) (c .loop-test .taken) (c .before .loop .inv .able) .0)
+mul-w c =
+    omega (
+      arith,
+      pass-node (c .before .before .args .prev .now) (c .before .before .args .amount) (c .before .loop .v) (c .before .loop .x)
+          (c .before .loop .left) (c .loop-test .taken) (c .before .loop .inv .able) .0,
+    )
 
 element-copy-out-w : tie.Need-element-copy-out-w Inv-loop μ-loop
-element-copy-out-w c = pass-node (c .before .before .args .prev .now) (c .before .before .args .amount) (c .before .loop .v) (c .before .loop .x) (c .before .loop .left) (c .loop-test .taken) (c .before .loop .inv .able) .0
+element-copy-out-w c =
+    pass-node (c .before .before .args .prev .now) (c .before .before .args .amount) (c .before .loop .v) (c .before .loop .x) (c .before .loop .left)
+    (c .loop-test .taken) (c .before .loop .inv .able) .0
 
 cast-w : tie.Need-cast-w Inv-loop μ-loop
-cast-w c = omega (arith, pass-prev (c .before .before .before .args .prev .now) (c .before .before .before .args .amount) (c .before .before .loop .v) (c .before .before .loop .x) (c .before .before .loop .left) (c .before .loop-test .taken) (c .before .before .loop .inv .able))
+cast-w c =
+    let at-loop = c .before .before in
+    let entry = at-loop .before in
+    omega (arith, pass-prev (entry .args .prev .now) (entry .args .amount) (at-loop .loop .v) (at-loop .loop .x) (at-loop .loop .left) (c .before .loop-test .taken) (at-loop .loop .inv .able))
 
 carry-requires : tie.Need-carry-requires Inv-loop μ-loop
-carry-requires c κs = pass-node (c .before .before .before .before .args .prev .now) (c .before .before .before .before .args .amount) (c .before .before .before .loop .v) (c .before .before .before .loop .x) (c .before .before .before .loop .left) (c .before .before .loop-test .taken) (c .before .before .before .loop .inv .able) .1
+carry-requires c κs =
+    let at-loop = c .before .before .before in
+    let entry = at-loop .before in
+    pass-node (entry .args .prev .now) (entry .args .amount) (at-loop .loop .v) (at-loop .loop .x) (at-loop .loop .left) (c .before .before .loop-test .taken) (at-loop .loop .inv .able) .1
 
 serve-requires : tie.Need-serve-requires Inv-loop μ-loop
-serve-requires c κs = let n = trail-node (c .before .before .before .before .before .before .args .prev .now) (c .before .before .before .before .before .loop .v) 32 (c .before .before .before .before .before .loop .left) (c .before .before .before .before .loop-test .taken) (c .before .before .before .before .before .loop .inv .trail) in (n .0, n .2)
+serve-requires c κs =
+    let at-loop-test = c .before .before .before .before in
+    let at-loop = at-loop-test .before in
+    let entry = at-loop .before in
+    let n = trail-node (entry .args .prev .now) (at-loop .loop .v) 32 (at-loop .loop .left) (at-loop-test .loop-test .taken) (at-loop .loop .inv .trail) in (n .0, n .2)
 
 drained-requires : tie.Need-drained-requires Inv-loop μ-loop
 drained-requires c κs = search needs
@@ -52,20 +69,26 @@ loop-less c = search needs
 
 loop-again : tie.Need-loop-again Inv-loop μ-loop
 loop-again c =
-    let l = c .before .before .before .before .before .before .before .loop-test .taken in
-    let i = c .before .before .before .before .before .before .before .before .loop .inv in
+    let at-carry = c .before .before .before .before in
+    let at-loop-test = at-carry .before .before .before in
+    let at-loop = at-loop-test .before in
+    let entry = at-loop .before in
+    let l = at-loop-test .loop-test .taken in
+    let i = at-loop .loop .inv in
     record {
-      able = pass-able (c .before .before .before .before .before .before .before .before .before .args .prev .now) (c .before .before .before .before .before .before .before .before .before .args .amount) (c .before .before .before .before .before .before .before .before .loop .v) (c .before .before .before .before .before .before .before .before .loop .x) (c .before .before .before .before .before .before .before .before .loop .left) l (i .able) _ (c .before .before .before .before .carry .ensures);
-      rest = λ z w. i .rest z (pass-back (c .before .before .before .before .before .before .before .before .before .args .prev .now) (c .before .before .before .before .before .before .before .before .before .args .amount) (c .before .before .before .before .before .before .before .before .loop .v) (c .before .before .before .before .before .before .before .before .loop .x) (c .before .before .before .before .before .before .before .before .loop .left) l _ z (c .before .before .before .before .carry .ensures) w);
-      trail = trail-next (c .before .before .before .before .before .before .before .before .before .args .prev .now) (c .before .before .before .before .before .before .before .before .loop .v) 32 (c .before .before .before .before .before .before .before .before .loop .left) l (i .trail);
-      marked = λ z w. i .marked z (marks-back (c .before .before .before .before .before .before .before .before .before .args .prev .now) (c .before .before .before .before .before .before .before .before .loop .v) (c .before .before .before .before .before .before .before .before .loop .left) l z (c .before .before .serve .ensures) w);
+      able = pass-able (entry .args .prev .now) (entry .args .amount) (at-loop .loop .v) (at-loop .loop .x) (at-loop .loop .left) l (i .able) _ (at-carry .carry .ensures);
+      rest = λ z w. i .rest z (pass-back (entry .args .prev .now) (entry .args .amount) (at-loop .loop .v) (at-loop .loop .x) (at-loop .loop .left) l _ z (at-carry .carry .ensures) w);
+      trail = trail-next (entry .args .prev .now) (at-loop .loop .v) 32 (at-loop .loop .left) l (i .trail);
+      marked = λ z w. i .marked z (marks-back (entry .args .prev .now) (at-loop .loop .v) (at-loop .loop .left) l z (c .before .before .serve .ensures) w);
     }
 
 returns : tie.Need-returns Inv-loop μ-loop
-returns c = (
-  c .before .loop .inv .rest _ (walked-none (c .before .before .args .prev .now) (c .before .before .args .amount) (c .before .loop .v) (c .before .loop .x) (c .before .loop .left) (c .loop-test .left)),
-  c .before .loop .inv .marked (c .before .loop .serves) (marks-none (c .before .before .args .prev .now) (c .before .loop .v) (c .before .loop .left) (c .loop-test .left) (c .before .loop .serves)),
-)
+returns c =
+    let at-loop = c .before in
+    let entry = at-loop .before in (
+      at-loop .loop .inv .rest _ (walked-none (entry .args .prev .now) (entry .args .amount) (at-loop .loop .v) (at-loop .loop .x) (at-loop .loop .left) (c .loop-test .left)),
+      at-loop .loop .inv .marked (at-loop .loop .serves) (marks-none (entry .args .prev .now) (at-loop .loop .v) (at-loop .loop .left) (c .loop-test .left) (at-loop .loop .serves)),
+    )
 
 pub push-spec : {M : Type 1} → statement M
 push-spec =

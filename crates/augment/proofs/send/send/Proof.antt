@@ -17,20 +17,24 @@ goal c = c .search .ensures (c .before .before .before .before .args .limit) (c 
 
 returns : tie.Need-returns
 returns c =
-    let q = c .before .search .ensures (c .before .before .before .before .before .args .limit) (c .before .before .before .before .before .pre .0 .positive) .searched in (
+    let entry = c .before .before .before .before .before in
+    let q = c .before .search .ensures (entry .args .limit) (entry .pre .0 .positive) .searched in (
       record {
         bound = q .bound;
         found = λ h. absurd (omega (arith, c .if1 .taken));
         none = λ e. record { labels = _; stuck = q .stuck e; same-x = refl; same-p = refl };
       },
-      c .before .before .before .before .before .pre .1 .1,
+      entry .pre .1 .1,
     )
 
 measure-requires : tie.Need-measure-requires
 measure-requires c κs =
-    let q = c .before .before .before .before .before .search .ensures (c .before .before .before .before .before .before .before .before .before .args .limit) (c .before .before .before .before .before .before .before .before .before .pre .0 .positive) .searched in
-    let hg : c .before .before .before .before .before .search .result .goal < 96 = omega (arith, q .bound, c .before .before .before .before .if1 .left) in
-    route (c .before .before .before .before .before .before .before .before .before .args .m) (c .before .before .before .before .before .before .before .before .before .args .n) (c .before .before .before .before .before .before .before .before .before .args .cost .now) (c .before .before .before .before .before .before .before .before .before .pre .0 .sound .sources) hg q
+    let at-if1 = c .before .before .before .before in
+    let at-search = at-if1 .before in
+    let entry = at-search .before .before .before .before in
+    let q = at-search .search .ensures (entry .args .limit) (entry .pre .0 .positive) .searched in
+    let hg : at-search .search .result .goal < 96 = omega (arith, q .bound, at-if1 .if1 .left) in
+    route (entry .args .m) (entry .args .n) (entry .args .cost .now) (entry .pre .0 .sound .sources) hg q
 
 mul-smaller : tie.Need-mul-smaller
 mul-smaller c = let b = goal (c .before .before .before .before .before .before) in search needs
@@ -43,12 +47,17 @@ smaller-requires c κs = search needs
 
 push-requires : tie.Need-push-requires
 push-requires c κs =
-    let q = c .before .before .before .before .before .before .before .before .before .before .before .search .ensures (c .before .before .before .before .before .before .before .before .before .before .before .before .before .before .before .args .limit) (c .before .before .before .before .before .before .before .before .before .before .before .before .before .before .before .pre .0 .positive) .searched in
-    let hg : c .before .before .before .before .before .before .before .before .before .before .before .search .result .goal < 96 = omega (arith, q .bound, c .before .before .before .before .before .before .before .before .before .before .if1 .left) in
-    let way = c .before .before .before .before .before .measure .ensures in
-    let r = route (c .before .before .before .before .before .before .before .before .before .before .before .before .before .before .before .args .m) (c .before .before .before .before .before .before .before .before .before .before .before .before .before .before .before .args .n) (c .before .before .before .before .before .before .before .before .before .before .before .before .before .before .before .args .cost .now) (c .before .before .before .before .before .before .before .before .before .before .before .before .before .before .before .pre .0 .sound .sources) hg q in (
-      push-ready (c .before .before .before .before .before .before .before .before .before .before .before .before .before .before .before .pre .0) q hg refl (way .arcs r) (omega (arith, c .before .before .before .smaller .ensures, way .width r)),
-      trail-wide _ (c .before .before .before .before .before .before .before .before .before .before .before .before .before .before .before .pre .0 .sound .sources) _ _ (mark-ready (c .before .before .before .before .before .before .before .before .before .before .before .before .before .before .before .pre .0) q hg {d = 0} refl (way .arcs r) (omega arith)),
+    let at-smaller = c .before .before .before in
+    let at-measure = at-smaller .before .before in
+    let at-if1 = at-measure .before .before .before .before .before in
+    let at-search = at-if1 .before in
+    let entry = at-search .before .before .before .before in
+    let q = at-search .search .ensures (entry .args .limit) (entry .pre .0 .positive) .searched in
+    let hg : at-search .search .result .goal < 96 = omega (arith, q .bound, at-if1 .if1 .left) in
+    let way = at-measure .measure .ensures in
+    let r = route (entry .args .m) (entry .args .n) (entry .args .cost .now) (entry .pre .0 .sound .sources) hg q in (
+      push-ready (entry .pre .0) q hg refl (way .arcs r) (omega (arith, at-smaller .smaller .ensures, way .width r)),
+      trail-wide _ (entry .pre .0 .sound .sources) _ _ (mark-ready (entry .pre .0) q hg {d = 0} refl (way .arcs r) (omega arith)),
     )
 
 mul-gap : tie.Need-mul-gap
@@ -65,31 +74,47 @@ element-copy-out-gap c = let b = goal (c .before .before .before .before .before
 
 sub-gap : tie.Need-sub-gap
 sub-gap c =
-    let q = c .before .before .before .before .before .before .before .before .before .before .before .before .before .search .ensures (c .before .before .before .before .before .before .before .before .before .before .before .before .before .before .before .before .before .args .limit) (c .before .before .before .before .before .before .before .before .before .before .before .before .before .before .before .before .before .pre .0 .positive) .searched in
-    let hg : c .before .before .before .before .before .before .before .before .before .before .before .before .before .search .result .goal < 96 = omega (arith, q .bound, c .before .before .before .before .before .before .before .before .before .before .before .before .if1 .left) in
-    omega (arith, q .low (c .before .before .before .before .before .before .before .before .before .before .before .before .before .search .result .goal) hg)
+    let at-if1 = c .before .before .before .before .before .before .before .before .before .before .before .before in
+    let at-search = at-if1 .before in
+    let entry = at-search .before .before .before .before in
+    let q = at-search .search .ensures (entry .args .limit) (entry .pre .0 .positive) .searched in
+    let hg : at-search .search .result .goal < 96 = omega (arith, q .bound, at-if1 .if1 .left) in
+    omega (arith, q .low (at-search .search .result .goal) hg)
 
 lower-requires : tie.Need-lower-requires
 lower-requires c κs =
-    let q = c .before .before .before .before .before .before .before .before .before .before .before .before .before .before .before .search .ensures (c .before .before .before .before .before .before .before .before .before .before .before .before .before .before .before .before .before .before .before .args .limit) (c .before .before .before .before .before .before .before .before .before .before .before .before .before .before .before .before .before .before .before .pre .0 .positive) .searched in
-    let hg : c .before .before .before .before .before .before .before .before .before .before .before .before .before .before .before .search .result .goal < 96 = omega (arith, q .bound, c .before .before .before .before .before .before .before .before .before .before .before .before .before .before .if1 .left) in
-    lower-ready (c .before .before .before .before .before .before .before .before .before .before .before .before .before .before .before .before .before .before .before .pre .0) q hg refl
+    let at-if1 = c .before .before .before .before .before .before .before .before .before .before .before .before .before .before in
+    let at-search = at-if1 .before in
+    let entry = at-search .before .before .before .before in
+    let q = at-search .search .ensures (entry .args .limit) (entry .pre .0 .positive) .searched in
+    let hg : at-search .search .result .goal < 96 = omega (arith, q .bound, at-if1 .if1 .left) in
+    lower-ready (entry .pre .0) q hg refl
 
 returns-2 : tie.Need-returns-2
 returns-2 c =
-    let q = c .before .before .before .before .before .before .before .before .before .before .before .before .before .before .before .before .search .ensures (c .before .before .before .before .before .before .before .before .before .before .before .before .before .before .before .before .before .before .before .before .args .limit) (c .before .before .before .before .before .before .before .before .before .before .before .before .before .before .before .before .before .before .before .before .pre .0 .positive) .searched in
-    let hg : c .before .before .before .before .before .before .before .before .before .before .before .before .before .before .before .before .search .result .goal < 96 = omega (arith, q .bound, c .before .before .before .before .before .before .before .before .before .before .before .before .before .before .before .if1 .left) in
-    let way = c .before .before .before .before .before .before .before .before .before .before .measure .ensures in
-    let small = c .before .before .before .before .before .before .before .before .smaller .ensures in (
+    let at-push = c .before .before .before .before in
+    let at-smaller = at-push .before .before .before .before in
+    let at-measure = at-smaller .before .before in
+    let at-if1 = at-measure .before .before .before .before .before in
+    let at-search = at-if1 .before in
+    let entry = at-search .before .before .before .before in
+    let q = at-search .search .ensures (entry .args .limit) (entry .pre .0 .positive) .searched in
+    let hg : at-search .search .result .goal < 96 = omega (arith, q .bound, at-if1 .if1 .left) in
+    let way = at-measure .measure .ensures in
+    let small = at-smaller .smaller .ensures in (
       record {
         bound = q .bound;
         found = λ h.
-            let r = route (c .before .before .before .before .before .before .before .before .before .before .before .before .before .before .before .before .before .before .before .before .args .m) (c .before .before .before .before .before .before .before .before .before .before .before .before .before .before .before .before .before .before .before .before .args .n) (c .before .before .before .before .before .before .before .before .before .before .before .before .before .before .before .before .before .before .before .before .args .cost .now) (c .before .before .before .before .before .before .before .before .before .before .before .before .before .before .before .before .before .before .before .before .pre .0 .sound .sources) h q in
-            delivered (c .before .before .before .before .before .before .before .before .before .before .before .before .before .before .before .before .before .before .before .before .pre .0) q h refl (c .lower .ensures) (omega (arith, small, way .width r))
-            (pushed (c .before .before .before .before .before .before .before .before .before .before .before .before .before .before .before .before .before .before .before .before .pre .0) q h refl (way .arcs r) (omega (arith, small, way .width r)) (c .before .before .before .before .push .ensures .0));
-        none = λ e. absurd (c .before .before .before .before .before .before .before .before .before .before .before .before .before .before .before .if1 .left e);
+            let r = route (entry .args .m) (entry .args .n) (entry .args .cost .now) (entry .pre .0 .sound .sources) h q in
+            delivered (entry .pre .0) q h refl (c .lower .ensures) (omega (arith, small, way .width r))
+            (pushed (entry .pre .0) q h refl (way .arcs r) (omega (arith, small, way .width r)) (at-push .push .ensures .0));
+        none = λ e. absurd (at-if1 .if1 .left e);
       },
-      cover-walk (c .before .before .before .before .before .before .before .before .before .before .before .before .before .before .before .before .before .before .before .before .pre .0 .sound .terminals) _ _ _ _ _ _ (mark-ready (c .before .before .before .before .before .before .before .before .before .before .before .before .before .before .before .before .before .before .before .before .pre .0) q hg {d = 0} refl (c .before .before .before .before .before .before .before .before .before .before .measure .ensures .arcs (route (c .before .before .before .before .before .before .before .before .before .before .before .before .before .before .before .before .before .before .before .before .args .m) (c .before .before .before .before .before .before .before .before .before .before .before .before .before .before .before .before .before .before .before .before .args .n) (c .before .before .before .before .before .before .before .before .before .before .before .before .before .before .before .before .before .before .before .before .args .cost .now) (c .before .before .before .before .before .before .before .before .before .before .before .before .before .before .before .before .before .before .before .before .pre .0 .sound .sources) hg q)) (omega arith)) (c .before .before .before .before .before .before .before .before .before .before .before .before .before .before .before .before .before .before .before .before .pre .1 .1) (c .before .before .before .before .push .ensures .0) (c .before .before .before .before .push .ensures .1),
+      cover-walk (entry .pre .0 .sound .terminals) _ _ _ _ _ _
+          (mark-ready (entry .pre .0) q hg {d = 0} refl
+          (at-measure .measure .ensures .arcs (route (entry .args .m) (entry .args .n) (entry .args .cost .now) (entry .pre .0 .sound .sources) hg q))
+          (omega arith))
+          (entry .pre .1 .1) (at-push .push .ensures .0) (at-push .push .ensures .1),
     )
 
 pub send-spec : {M : Type 1} → statement M

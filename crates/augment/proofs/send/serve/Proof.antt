@@ -29,11 +29,14 @@ element-write-serves : tie.Need-element-write-serves
 element-write-serves c = search needs
 
 returns : tie.Need-returns
-returns c = record {
-  less = λ l. absurd (omega (arith, c .before .if1 .taken));
-  more = λ l.
-      ap (λ z. set (c .before .before .args .serves .now) (c .before .before .args .v - 32) (bitOr (get (c .before .before .args .serves .now) (c .before .before .args .v - 32)) z)) (power-fits (c .before .before .args .w) (c .before .before .pre .1 (c .before .if1 .taken)));
-}
+returns c =
+    let entry = c .before .before in
+    record {
+      less = λ l. absurd (omega (arith, c .before .if1 .taken));
+      more = λ l.
+          ap (λ z. set (entry .args .serves .now) (entry .args .v - 32) (bitOr (get (entry .args .serves .now) (entry .args .v - 32)) z))
+          (power-fits (entry .args .w) (entry .pre .1 (c .before .if1 .taken)));
+    }
 
 returns-2 : tie.Need-returns-2
 returns-2 c = record { less = λ l. refl; more = λ l. absurd (omega (arith, c .if1 .left)) }

@@ -9,7 +9,8 @@ use Rattle.canonical.proofs.canon.part.Statement.{statement}
 use Rattle.canonical.proofs.canon.part.Tie as tie
 
 abbrev Inv-loop : tie.InvT-loop
-Inv-loop m n cost cap pot plan₀ free₀ x₀ serves₀ ways₀ doors₀ i₀ plan free x serves ways doors i = (i ≤ m) × PartedTo (bare m n (cells cost) (cells cap)) pot (i * 64) plan free x serves ways doors × Kept plan₀ x₀ plan x
+Inv-loop m n cost cap pot plan₀ free₀ x₀ serves₀ ways₀ doors₀ i₀ plan free x serves ways doors i =
+    (i ≤ m) × PartedTo (bare m n (cells cost) (cells cap)) pot (i * 64) plan free x serves ways doors × Kept plan₀ x₀ plan x
 
 abbrev μ-loop : tie.MeasureT-loop
 μ-loop m n cost cap pot plan₀ free₀ x₀ serves₀ ways₀ doors₀ i₀ plan free x serves ways doors i = m - i
@@ -19,7 +20,10 @@ loop-holds c = (omega arith, part-skip (c .pre .1) (λ a b ha hb l. omega arith)
 
 part-row-requires : tie.Need-part-row-requires Inv-loop μ-loop
 part-row-requires c κs =
-    let s = c .before .before .before .before .before .before .before .before in (c .before .before .before .before .before .before .loop-test .taken, (s .pre .0, c .before .before .before .before .before .before .before .loop .inv .1))
+    let at-loop-test = c .before .before .before .before .before .before in
+    let at-loop = at-loop-test .before in
+    let s = at-loop .before in
+    (at-loop-test .loop-test .taken, (s .pre .0, at-loop .loop .inv .1))
 
 add-i : tie.Need-add-i Inv-loop μ-loop
 add-i c = search needs

@@ -31,7 +31,9 @@ element-copy-out-if1-2 : tie.Need-element-copy-out-if1-2
 element-copy-out-if1-2 c = search needs
 
 add-if1 : tie.Need-add-if1
-add-if1 c = let s = c .before .before in omega (arith, s .pre .1 .0 .costs (s .args .i) (s .args .j) (s .pre .0 .0) (s .pre .0 .1), s .pre .1 .0 .high (s .args .i) (omega arith))
+add-if1 c =
+    let s = c .before .before in
+    omega (arith, s .pre .1 .0 .costs (s .args .i) (s .args .j) (s .pre .0 .0) (s .pre .0 .1), s .pre .1 .0 .high (s .args .i) (omega arith))
 
 add-if1-2 : tie.Need-add-if1-2
 add-if1-2 c = search needs
@@ -43,7 +45,9 @@ element-copy-out-if1-3 : tie.Need-element-copy-out-if1-3
 element-copy-out-if1-3 c = search needs
 
 returns : tie.Need-returns
-returns c = let s = c .before .before .before .before in (part-aside (s .pre .1 .0) (s .pre .0 .0) (s .pre .0 .1) (s .pre .1 .1 .0) (c .if1 .taken), s .pre .1 .1 .1)
+returns c =
+    let s = c .before .before .before .before in
+    (part-aside (s .pre .1 .0) (s .pre .0 .0) (s .pre .0 .1) (s .pre .1 .1 .0) (c .if1 .taken), s .pre .1 .1 .1)
 
 mul-free : tie.Need-mul-free
 mul-free c = search needs
@@ -119,18 +123,24 @@ noted : (s : tie.Start) → let a = s .args in let k = a .i * 64 + a .j in let f
     Opens (a .m) (a .n) f (set (a .ways .now) (a .i) (bitOr (getD (a .ways .now) (a .i) 0) ((1 * 2 ^ a .j) % 2 ^ 64)))
     × Doors (a .m) (a .n) f (set (a .doors .now) (a .j) (bitOr (getD (a .doors .now) (a .j) 0) ((1 * 2 ^ a .i) % 2 ^ 32)))
 noted s =
-    let r = s .pre .1 .0 in
-    (rw (power-fits-long (s .args .j) (omega (arith, s .pre .0 .1, r .terminals))) (open-lane _ (r .sources) (r .terminals) (s .pre .0 .0) (s .pre .0 .1) (s .pre .1 .1 .1 .1 .0)), door-open r (s .pre .0 .0) (s .pre .0 .1) (s .pre .1 .1 .0) _ (s .pre .1 .1 .1 .1 .1))
+    let r = s .pre .1 .0 in (
+      rw (power-fits-long (s .args .j) (omega (arith, s .pre .0 .1, r .terminals))) (open-lane _ (r .sources) (r .terminals) (s .pre .0 .0) (s .pre .0 .1) (s .pre .1 .1 .1 .1 .0)),
+      door-open r (s .pre .0 .0) (s .pre .0 .1) (s .pre .1 .1 .0) _ (s .pre .1 .1 .1 .1 .1),
+    )
 
 returns-2 : tie.Need-returns-2
 returns-2 c =
-    let s = c .before .before .before .before .before .before .before .before .before .before .before in
-    (part-moved (s .pre .1 .0) (s .pre .0 .0) (s .pre .0 .1) (s .pre .1 .1 .0) (c .before .before .before .before .before .before .before .if1 .left), (cover-brought (s .pre .1 .0) (s .pre .0 .0) (s .pre .0 .1) (s .pre .1 .1 .0) _ (s .pre .1 .1 .1 .0) (c .serve .ensures), noted s))
+    let at-if1 = c .before .before .before .before .before .before .before in
+    let s = at-if1 .before .before .before .before in (
+      part-moved (s .pre .1 .0) (s .pre .0 .0) (s .pre .0 .1) (s .pre .1 .1 .0) (at-if1 .if1 .left),
+      (cover-brought (s .pre .1 .0) (s .pre .0 .0) (s .pre .0 .1) (s .pre .1 .1 .0) _ (s .pre .1 .1 .1 .0) (c .serve .ensures), noted s),
+    )
 
 returns-3 : tie.Need-returns-3
 returns-3 c =
-    let s = c .before .before .before .before .before .before .before .before .before in
-    (part-empty (s .pre .1 .0) (s .pre .0 .0) (s .pre .0 .1) (s .pre .1 .1 .0) (c .before .before .before .before .before .if1 .left) (omega (arith, c .if2 .left)), (s .pre .1 .1 .1 .0, noted s))
+    let at-if1 = c .before .before .before .before .before in
+    let s = at-if1 .before .before .before .before in
+    (part-empty (s .pre .1 .0) (s .pre .0 .0) (s .pre .0 .1) (s .pre .1 .1 .0) (at-if1 .if1 .left) (omega (arith, c .if2 .left)), (s .pre .1 .1 .1 .0, noted s))
 
 pub part-lane-spec : {M : Type 1} → statement M
 part-lane-spec =

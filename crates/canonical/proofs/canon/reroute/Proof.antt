@@ -23,15 +23,23 @@ loop-holds c = (reroute-start (c .pre .0), c .pre .1 .1 .1 .1, length-replicate 
 
 reach-requires : tie.Need-reach-requires Inv-loop μ-loop
 reach-requires c κs =
-    let h = c .before .before .before .before in let s = h .before .before .pre in
-    let q = h .before .loop .inv in
+    let h = c .before .before .before .before in
+    let at-loop = h .before in
+    let entry = at-loop .before in
+    let s = entry .pre in
+    let q = at-loop .loop .inv in
     (reach-at (s .0) (q .0), (h .loop-test .taken, (s .1 .0, (q .3, (q .1, (s .1 .1 .1 .0, q .2))))))
 
 follow-requires : tie.Need-follow-requires Inv-loop μ-loop
 follow-requires c κs =
-    let t = c .before .before .before in let h = t .before .before .before .before .before .before in let s = h .before .before .pre in
-    let r = t .before .reach .ensures in
-    (free-again (s .0) (h .before .loop .inv .0), (h .loop-test .taken, (r .0 .found (t .if1 .taken) .trodden, r .1 .1)))
+    let t = c .before .before .before in
+    let at-reach = t .before in
+    let h = at-reach .before .before .before .before .before in
+    let at-loop = h .before in
+    let entry = at-loop .before in
+    let s = entry .pre in
+    let r = at-reach .reach .ensures in
+    (free-again (s .0) (at-loop .loop .inv .0), (h .loop-test .taken, (r .0 .found (t .if1 .taken) .trodden, r .1 .1)))
 
 sub-left : tie.Need-sub-left Inv-loop μ-loop
 sub-left c = c .follow .ensures .0 .most
@@ -41,9 +49,13 @@ loop-less c = omega (arith, c .follow .ensures .0 .some, c .follow .ensures .0 .
 
 loop-again : tie.Need-loop-again Inv-loop μ-loop
 loop-again c =
-    let t = c .before .before .before .before in let h = t .before .before .before .before .before .before in let s = h .before .before .pre in
-    let r = t .before .reach .ensures in let w = r .0 .found (t .if1 .taken) in let d = c .follow .ensures in
-    (reroute-next (s .0) (h .before .loop .inv .0) (d .0), d .1, w .trodden .labelled .searched .long .prevs, known-next (r .1 .0) w (d .0))
+    let t = c .before .before .before .before in
+    let at-reach = t .before in
+    let at-loop = at-reach .before .before .before .before .before .before in
+    let entry = at-loop .before in
+    let s = entry .pre in
+    let r = at-reach .reach .ensures in let w = r .0 .found (t .if1 .taken) in let d = c .follow .ensures in
+    (reroute-next (s .0) (at-loop .loop .inv .0) (d .0), d .1, w .trodden .labelled .searched .long .prevs, known-next (r .1 .0) w (d .0))
 
 returns : tie.Need-returns Inv-loop μ-loop
 returns c =

@@ -20,7 +20,10 @@ loop-holds : tie.Need-loop-holds Inv-loop μ-loop
 loop-holds c = (omega arith, onward-skip (λ a b ha hb l. omega arith) (omega arith) onward-none, c .pre, supplied-all (c .pre .terminals))
 
 settle-row-requires : tie.Need-settle-row-requires Inv-loop μ-loop
-settle-row-requires c κs = let q = c .before .before .before .before .before .before .before .before .loop .inv in (c .before .before .before .before .before .before .before .loop-test .taken, (q .3, q .2))
+settle-row-requires c κs =
+    let at-loop-test = c .before .before .before .before .before .before .before in
+    let at-loop = at-loop-test .before in
+    let q = at-loop .loop .inv in (at-loop-test .loop-test .taken, (q .3, q .2))
 
 add-i : tie.Need-add-i Inv-loop μ-loop
 add-i c = search needs

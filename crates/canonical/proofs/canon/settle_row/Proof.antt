@@ -27,7 +27,10 @@ cast-j c = let s = c .before .before .before .pre in omega (arith, row-terminal 
 
 settle-lane-requires : tie.Need-settle-lane-requires Inv-loop μ-loop
 settle-lane-requires c κs =
-    let h = c .before .before .before .before .before .before .before in let s = h .before .before .before .pre in let q = h .before .loop .inv in
+    let h = c .before .before .before .before .before .before .before in
+    let at-loop = h .before in
+    let entry = at-loop .before .before in
+    let s = entry .pre in let q = at-loop .loop .inv in
     ((s .0, row-terminal (s .0) q (h .loop-test .taken)), (q .supplied, q .state))
 
 sub-rest : tie.Need-sub-rest Inv-loop μ-loop
@@ -42,12 +45,16 @@ element-write-ways c = let s = c .before .before .before .before .before .before
 loop-less : tie.Need-loop-less Inv-loop μ-loop
 loop-less c =
     let h = c .before .before .before .before .before .before .before .before in
-    omega (arith, and-le-r (h .before .loop .rest) (h .before .loop .rest - 1), h .loop-test .taken)
+    let at-loop = h .before in
+    omega (arith, and-le-r (at-loop .loop .rest) (at-loop .loop .rest - 1), h .loop-test .taken)
 
 loop-again : tie.Need-loop-again Inv-loop μ-loop
 loop-again c =
-    let h = c .before .before .before .before .before .before .before .before in let s = h .before .before .before .pre in let d = c .settle-lane .ensures in
-    row-next (s .0) (h .before .loop .inv) (h .loop-test .taken) (d .0) (d .1 .0) (d .1 .1)
+    let h = c .before .before .before .before .before .before .before .before in
+    let at-loop = h .before in
+    let entry = at-loop .before .before in
+    let s = entry .pre in let d = c .settle-lane .ensures in
+    row-next (s .0) (at-loop .loop .inv) (h .loop-test .taken) (d .0) (d .1 .0) (d .1 .1)
 
 returns : tie.Need-returns Inv-loop μ-loop
 returns c =

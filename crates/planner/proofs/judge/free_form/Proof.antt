@@ -23,7 +23,9 @@ enum-told : tie.Need-enum-told
 enum-told c = search needs
 
 -- past tests 1 and 2
-limits : (c : tie.After-enum-told) → Limits (c .before .before .before .before .before .before .args .m) (c .before .before .before .before .before .before .args .n)
+limits : (c : tie.After-enum-told) →
+    let entry = c .before .before .before .before .before .before in
+    Limits (entry .args .m) (entry .args .n)
 limits c = in-limits _ _ _ (sym (c .before .before .checked .ensures) ∙ c .enum-told .given .1)
 
 mul-lanes : tie.Need-mul-lanes

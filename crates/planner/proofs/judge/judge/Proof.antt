@@ -25,7 +25,11 @@ passed c p s f = sym (c .before .before .free-form .ensures p s f) ∙ ap verdic
 
 -- past test 8
 on : (c : tie.After-known-told3) (p s f : ℕ) → OnBalance (the (c .before .before .before .before .before .before .before .before .before .before) p s f) (c .before .made .given .0 .0)
-on c p s f = on-balance (the (c .before .before .before .before .before .before .before .before .before .before) p s f) (passed (c .before .before .before .before) p s f) _ (sym (c .before .before .before .made-of .ensures) ∙ c .before .made .given .1)
+on c p s f =
+    let at-made-of = c .before .before .before in
+    let at-enum-told = at-made-of .before in
+    let entry = at-enum-told .before .before .before .before .before .before in
+    on-balance (the entry p s f) (passed at-enum-told p s f) _ (sym (at-made-of .made-of .ensures) ∙ c .before .made .given .1)
 
 free-form-requires : tie.Need-free-form-requires
 free-form-requires c κs = search needs
@@ -49,28 +53,46 @@ enum-known-made : tie.Need-enum-known-made
 enum-known-made c = search needs
 
 shared-slice-read-less : tie.Need-shared-slice-read-less
-shared-slice-read-less c = omega (arith, amounts (the (c .before .before .before .before .before .before .before .before .before .before .before) 0 0 0) (passed (c .before .before .before .before .before) 0 0 0) .two)
+shared-slice-read-less c =
+    let at-enum-told = c .before .before .before .before .before in
+    let entry = at-enum-told .before .before .before .before .before .before in
+    omega (arith, amounts (the entry 0 0 0) (passed at-enum-told 0 0 0) .two)
 
 less-requires : tie.Need-less-requires
 less-requires c κs = search needs
 
 shared-slice-read-smaller : tie.Need-shared-slice-read-smaller
-shared-slice-read-smaller c = omega (arith, amounts (the (c .before .before .before .before .before .before .before .before .before .before .before .before .before) 0 0 0) (passed (c .before .before .before .before .before .before .before) 0 0 0) .two)
+shared-slice-read-smaller c =
+    let at-enum-told = c .before .before .before .before .before .before .before in
+    let entry = at-enum-told .before .before .before .before .before .before in
+    omega (arith, amounts (the entry 0 0 0) (passed at-enum-told 0 0 0) .two)
 
 smaller-requires : tie.Need-smaller-requires
 smaller-requires c κs = search needs
 
 entries-test-requires : tie.Need-entries-test-requires
-entries-test-requires c κs = case-within (the (c .before .before .before .before .before .before .before .before .before .before .before .before .before .before) 0 0 0) refl refl refl _ (on (c .before .before .before .before) 0 0 0) _ _ (c .before .before .less .ensures) (c .smaller .ensures)
+entries-test-requires c κs =
+    let at-known-told3 = c .before .before .before .before in
+    let entry = at-known-told3 .before .before .before .before .before .before .before .before .before .before in
+    case-within (the entry 0 0 0) refl refl refl _ (on at-known-told3 0 0 0) _ _ (c .before .before .less .ensures) (c .smaller .ensures)
 
 told-requires : tie.Need-told-requires
 told-requires c κs = search needs
 
 returns-2 : tie.Need-returns-2
-returns-2 c p s f = sym (case-unbalanced (the (c .before .before .before .before .before .before .before .before .before .before) p s f) (passed (c .before .before .before .before) p s f) _ (sym (c .before .before .before .made-of .ensures) ∙ c .before .number2 .given .1))
+returns-2 c p s f =
+    let at-made-of = c .before .before .before in
+    let at-enum-told = at-made-of .before in
+    let entry = at-enum-told .before .before .before .before .before .before in
+    sym (case-unbalanced (the entry p s f) (passed at-enum-told p s f) _ (sym (at-made-of .made-of .ensures) ∙ c .before .number2 .given .1))
 
 returns-3 : tie.Need-returns-3
-returns-3 c p s f = c .told .ensures ∙ c .before .entries-test .ensures ∙ sym (case-entries (the (c .before .before .before .before .before .before .before .before .before .before .before .before .before .before .before .before) p s f) refl refl refl _ (on (c .before .before .before .before .before .before) p s f) _ _ (c .before .before .before .before .less .ensures) (c .before .before .smaller .ensures))
+returns-3 c p s f =
+    let at-less = c .before .before .before .before in
+    let at-known-told3 = at-less .before .before in
+    let entry = at-known-told3 .before .before .before .before .before .before .before .before .before .before in
+    c .told .ensures ∙ c .before .entries-test .ensures ∙
+    sym (case-entries (the entry p s f) refl refl refl _ (on at-known-told3 p s f) _ _ (at-less .less .ensures) (c .before .before .smaller .ensures))
 
 pub judge-spec : {M : Type 1} → statement M
 judge-spec =

@@ -3,13 +3,15 @@ use mathlib.Core.Path.{sym, _∙_}
 use mathlib.Core.Bool.{true≢false, false≢true}
 use Prim.Native.Nat.{_<_}
 use native.Mathlib.Omega.{arith}
-use Rattle.reachability.proofs.Reachability.{LookingAhead, ahead-start, ahead-terminal, ahead-fresh, ahead-supplied, ahead-fewer, ahead-drop, ahead-visit, ahead-aim, ahead-take, ahead-skip, ahead-end}
+use Rattle.reachability.proofs.Reachability.{LookingAhead, ahead-start, ahead-terminal, ahead-fresh, ahead-supplied, ahead-fewer, ahead-drop}
+use Rattle.reachability.proofs.Reachability.{ahead-visit, ahead-aim, ahead-take, ahead-skip, ahead-end}
 use Rattle.reachability.proofs.MaskBits.{take-fits, power-fits-long}
 use Rattle.reachability.proofs.reach.look_ahead.Statement.{statement}
 use Rattle.reachability.proofs.reach.look_ahead.Tie as tie
 
 abbrev Inv-loop : tie.InvT-loop
-Inv-loop m n start goal limit i ways free x serves₀ prev₀ now₀ rest₀ serves prev now rest = LookingAhead m n i goal free x start limit (now₀ .sources) (now₀ .wait) prev serves (now .supplied) (now .terminals) (now .sources) (now .wait) rest
+Inv-loop m n start goal limit i ways free x serves₀ prev₀ now₀ rest₀ serves prev now rest =
+    LookingAhead m n i goal free x start limit (now₀ .sources) (now₀ .wait) prev serves (now .supplied) (now .terminals) (now .sources) (now .wait) rest
 
 abbrev μ-loop : tie.MeasureT-loop
 μ-loop m n start goal limit i ways free x serves₀ prev₀ now₀ rest₀ serves prev now rest = rest
@@ -59,32 +61,55 @@ shl-now : tie.Need-shl-now Inv-loop μ-loop
 shl-now c = short (c .before .before .before)
 
 sub-now : tie.Need-sub-now Inv-loop μ-loop
-sub-now c = let h = c .before .before .before .before in let s = h .before .before .before .before .before .pre in
-    rw (power-fits-long (h .highest .result) (short h)) (take-fits _ _ (ahead-supplied (s .0) (s .1 .0) _ (h .before .before .loop .inv) (h .highest .ensures)))
+sub-now c =
+    let h = c .before .before .before .before in
+    let at-loop = h .before .before in
+    let entry = at-loop .before .before .before in
+    let s = entry .pre in
+    rw (power-fits-long (h .highest .result) (short h)) (take-fits _ _ (ahead-supplied (s .0) (s .1 .0) _ (at-loop .loop .inv) (h .highest .ensures)))
 
 shl-now-2 : tie.Need-shl-now-2 Inv-loop μ-loop
 shl-now-2 c = short (c .before .before .before .before)
 
 sub-now-2 : tie.Need-sub-now-2 Inv-loop μ-loop
-sub-now-2 c = let h = c .before .before .before .before .before in let s = h .before .before .before .before .before .pre in
-    rw (power-fits-long (h .highest .result) (short h)) (take-fits _ _ (ahead-fresh (s .0) (s .1 .0) _ (h .before .before .loop .inv) (h .highest .ensures)))
+sub-now-2 c =
+    let h = c .before .before .before .before .before in
+    let at-loop = h .before .before in
+    let entry = at-loop .before .before .before in
+    let s = entry .pre in
+    rw (power-fits-long (h .highest .result) (short h)) (take-fits _ _ (ahead-fresh (s .0) (s .1 .0) _ (at-loop .loop .inv) (h .highest .ensures)))
 
 loop-less : tie.Need-loop-less Inv-loop μ-loop
-loop-less c = let h = c .before .before .before .before .before in let s = h .before .before .before .before .before .pre in
-    rw (power-fits-long (h .highest .result) (short h)) (ahead-fewer (s .0) (s .1 .0) _ (h .before .before .loop .inv) (h .highest .ensures))
+loop-less c =
+    let h = c .before .before .before .before .before in
+    let at-loop = h .before .before in
+    let entry = at-loop .before .before .before in
+    let s = entry .pre in
+    rw (power-fits-long (h .highest .result) (short h)) (ahead-fewer (s .0) (s .1 .0) _ (at-loop .loop .inv) (h .highest .ensures))
 
 loop-again : tie.Need-loop-again Inv-loop μ-loop
-loop-again c = let t = c .before .before in let h = t .before .before .before in let s = h .before .before .before .before .before .pre in
+loop-again c =
+    let t = c .before .before in
+    let at-unserved = t .before in
+    let h = at-unserved .before .before in
+    let at-loop = h .before .before in
+    let entry = at-loop .before .before .before in
+    let s = entry .pre in
     rw (power-fits-long (h .highest .result) (short h))
-    (ahead-drop (s .0) (s .1 .0) _ (h .before .before .loop .inv) (h .highest .ensures) (t .before .unserved .ensures .none (t .if1 .taken)))
+    (ahead-drop (s .0) (s .1 .0) _ (at-loop .loop .inv) (h .highest .ensures) (at-unserved .unserved .ensures .none (t .if1 .taken)))
 
 -- ---- the source has room
 
 has-room-requires : tie.Need-has-room-requires Inv-loop μ-loop
-has-room-requires c κs = let h = c .before .before .before in let s = h .before .before .before .before .before .pre .0 in (omega (arith, s .source, s .sources), short h)
+has-room-requires c κs =
+    let h = c .before .before .before in
+    let entry = h .before .before .before .before .before in
+    let s = entry .pre .0 in (omega (arith, s .source, s .sources), short h)
 
 cast-prev : tie.Need-cast-prev Inv-loop μ-loop
-cast-prev c = let h = c .before .before .before .before .before in let s = h .before .before .before .before .before .pre .0 in omega (arith, s .source, s .sources)
+cast-prev c =
+    let entry = c .before .before .before .before .before .before .before .before .before .before in
+    let s = entry .pre .0 in omega (arith, s .source, s .sources)
 
 add-prev : tie.Need-add-prev Inv-loop μ-loop
 add-prev c = omega (arith, short (c .before .before .before .before .before))
@@ -99,23 +124,33 @@ shl-now-3 : tie.Need-shl-now-3 Inv-loop μ-loop
 shl-now-3 c = short (c .before .before .before .before .before)
 
 sub-now-3 : tie.Need-sub-now-3 Inv-loop μ-loop
-sub-now-3 c = let h = c .before .before .before .before .before .before in let s = h .before .before .before .before .before .pre in
-    rw (power-fits-long (h .highest .result) (short h)) (take-fits _ _ (ahead-fresh (s .0) (s .1 .0) _ (h .before .before .loop .inv) (h .highest .ensures)))
+sub-now-3 c =
+    let h = c .before .before .before .before .before .before in
+    let at-loop = h .before .before in
+    let entry = at-loop .before .before .before in
+    let s = entry .pre in
+    rw (power-fits-long (h .highest .result) (short h)) (take-fits _ _ (ahead-fresh (s .0) (s .1 .0) _ (at-loop .loop .inv) (h .highest .ensures)))
 
 look-back-requires : tie.Need-look-back-requires Inv-loop μ-loop
 look-back-requires c κs =
-    let t = c .before .before .before in let h = t .before .before .before .before .before in let s = h .before .before .before .before .before .pre in
-    let q = h .before .before .loop .inv in let o = t .before .has-room .ensures .room (t .if2 .taken) in
+    let t = c .before .before .before in
+    let at-has-room = t .before in
+    let h = at-has-room .before .before .before .before in
+    let at-loop = h .before .before in
+    let entry = at-loop .before .before .before in
+    let s = entry .pre in
+    let q = at-loop .loop .inv in let o = at-has-room .has-room .ensures .room (t .if2 .taken) in
     rw (power-fits-long (h .highest .result) (short h)) (
       record { sources = s .0 .sources; terminals = s .0 .terminals; source = s .0 .start; terminal = terminal h },
       (q .covers, (ahead-visit (s .0) (s .1 .0) _ q (h .highest .ensures) o, ahead-aim (s .0) (s .1 .0) _ q (h .highest .ensures))),
     )
 
 returns : tie.Need-returns Inv-loop μ-loop
-returns c = let d = c .before .look-back .ensures in
-    let h = c .before .before .before .before .before .before .before .before .before .before in (
+returns c =
+    let at-loop = c .before .before .before .before .before .before .before .before .before .before .before .before in
+    let d = c .before .look-back .ensures in (
       record {
-        known = rw (d .0 .same) (h .before .before .loop .inv .known);
+        known = rw (d .0 .same) (at-loop .loop .inv .known);
         found = d .0 .found;
         reaching = λ e. absurd (true≢false (sym (c .if3 .taken) ∙ e));
         aiming = λ e. absurd (true≢false (sym (c .if3 .taken) ∙ e));
@@ -126,25 +161,42 @@ returns c = let d = c .before .look-back .ensures in
     )
 
 loop-less-2 : tie.Need-loop-less-2 Inv-loop μ-loop
-loop-less-2 c = let h = c .before .before .before .before .before .before .before .before .before .before in let s = h .before .before .before .before .before .pre in
-    rw (power-fits-long (h .highest .result) (short h)) (ahead-fewer (s .0) (s .1 .0) _ (h .before .before .loop .inv) (h .highest .ensures))
+loop-less-2 c =
+    let h = c .before .before .before .before .before .before .before .before .before .before in
+    let at-loop = h .before .before in
+    let entry = at-loop .before .before .before in
+    let s = entry .pre in
+    rw (power-fits-long (h .highest .result) (short h)) (ahead-fewer (s .0) (s .1 .0) _ (at-loop .loop .inv) (h .highest .ensures))
 
 loop-again-2 : tie.Need-loop-again-2 Inv-loop μ-loop
 loop-again-2 c =
-    let t = c .before .before .before .before .before in let h = t .before .before .before .before .before in let s = h .before .before .before .before .before .pre in
+    let t = c .before .before .before .before .before in
+    let at-has-room = t .before in
+    let h = at-has-room .before .before .before .before in
+    let at-loop = h .before .before in
+    let entry = at-loop .before .before .before in
+    let s = entry .pre in
     let d = c .before .look-back .ensures in let l = c .if3 .left in
     rw (power-fits-long (h .highest .result) (short h))
-    (ahead-take (s .0) (s .1 .0) _ (h .before .before .loop .inv) (h .highest .ensures) (t .before .has-room .ensures .room (t .if2 .taken)) (d .0 .same) (d .1) (d .0 .reaching l) (d .0 .aiming l)
+    (ahead-take (s .0) (s .1 .0) _ (at-loop .loop .inv) (h .highest .ensures) (at-has-room .has-room .ensures .room (t .if2 .taken)) (d .0 .same) (d .1) (d .0 .reaching l) (d .0 .aiming l)
     (rw (power-fits-long (h .highest .result) (short h)) at (d .0 .back l)))
 
 loop-less-3 : tie.Need-loop-less-3 Inv-loop μ-loop
-loop-less-3 c = let h = c .before .before .before .before .before in let s = h .before .before .before .before .before .pre in
-    rw (power-fits-long (h .highest .result) (short h)) (ahead-fewer (s .0) (s .1 .0) _ (h .before .before .loop .inv) (h .highest .ensures))
+loop-less-3 c =
+    let h = c .before .before .before .before .before in
+    let at-loop = h .before .before in
+    let entry = at-loop .before .before .before in
+    let s = entry .pre in
+    rw (power-fits-long (h .highest .result) (short h)) (ahead-fewer (s .0) (s .1 .0) _ (at-loop .loop .inv) (h .highest .ensures))
 
 loop-again-3 : tie.Need-loop-again-3 Inv-loop μ-loop
-loop-again-3 c = let h = c .before .before .before .before .before in let s = h .before .before .before .before .before .pre in
+loop-again-3 c =
+    let h = c .before .before .before .before .before in
+    let at-loop = h .before .before in
+    let entry = at-loop .before .before .before in
+    let s = entry .pre in
     rw (power-fits-long (h .highest .result) (short h))
-    (ahead-skip (s .0) (s .1 .0) _ (h .before .before .loop .inv) (h .highest .ensures) (c .before .has-room .ensures .full (c .if2 .left)))
+    (ahead-skip (s .0) (s .1 .0) _ (at-loop .loop .inv) (h .highest .ensures) (c .before .has-room .ensures .full (c .if2 .left)))
 
 returns-2 : tie.Need-returns-2 Inv-loop μ-loop
 returns-2 c = let s = c .before .before .before .before .pre in let q = c .before .loop .inv in (

@@ -86,11 +86,14 @@ element-write-prev-2 c = omega (arith, goal (c .before .before .before .before))
 
 returns : tie.Need-returns Inv-loop μ-loop
 returns c =
-    let s = c .before .before .before .before .before .before .before .pre in
-    let q = c .before .before .before .before .before .loop .inv in (
+    let at-loop-test = c .before .before .before .before in
+    let at-loop = at-loop-test .before in
+    let entry = at-loop .before .before in
+    let s = entry .pre in
+    let q = at-loop .loop .inv in (
       record {
         same = refl;
-        found = λ e. back-found (s .0) q (c .before .before .before .before .loop-test .taken) (c .before .before .if1 .taken) (c .before .has-room .ensures .room (c .if2 .taken));
+        found = λ e. back-found (s .0) q (at-loop-test .loop-test .taken) (c .before .before .if1 .taken) (c .before .has-room .ensures .room (c .if2 .taken));
         reaching = λ e. absurd (true≢false e);
         aiming = λ e. absurd (true≢false e);
         back = λ e. absurd (true≢false e);
@@ -105,9 +108,13 @@ shl-sources : tie.Need-shl-sources Inv-loop μ-loop
 shl-sources c = omega (arith, source (c .before .before .before .before))
 
 sub-sources : tie.Need-sub-sources Inv-loop μ-loop
-sub-sources c = let s = c .before .before .before .before .before .before .before .pre in
-    rw (power-fits (trailingZeros 32 (c .before .before .before .before .before .loop .rest)) (source (c .before .before .before .before)))
-    (take-fits _ _ (back-fresh (s .0) (c .before .before .before .before .before .loop .inv) (c .before .before .before .before .loop-test .taken)))
+sub-sources c =
+    let at-loop-test = c .before .before .before .before in
+    let at-loop = at-loop-test .before in
+    let entry = at-loop .before .before in
+    let s = entry .pre in
+    rw (power-fits (trailingZeros 32 (at-loop .loop .rest)) (source at-loop-test))
+    (take-fits _ _ (back-fresh (s .0) (at-loop .loop .inv) (at-loop-test .loop-test .taken)))
 
 cast-wait : tie.Need-cast-wait Inv-loop μ-loop
 cast-wait c = omega (arith, source (c .before .before .before .before))
@@ -116,26 +123,42 @@ shl-wait : tie.Need-shl-wait Inv-loop μ-loop
 shl-wait c = omega (arith, source (c .before .before .before .before))
 
 loop-less : tie.Need-loop-less Inv-loop μ-loop
-loop-less c = let s = c .before .before .before .before .before .before .before .pre in back-fewer (s .0) (c .before .before .before .before .before .loop .inv) (c .before .before .before .before .loop-test .taken)
+loop-less c =
+    let at-loop-test = c .before .before .before .before in
+    let at-loop = at-loop-test .before in
+    let entry = at-loop .before .before in
+    let s = entry .pre in back-fewer (s .0) (at-loop .loop .inv) (at-loop-test .loop-test .taken)
 
 loop-again : tie.Need-loop-again Inv-loop μ-loop
-loop-again c = let s = c .before .before .before .before .before .before .before .pre in
-    rw (power-fits (trailingZeros 32 (c .before .before .before .before .before .loop .rest)) (source (c .before .before .before .before)))
-    (back-take (s .0) (c .before .before .before .before .before .loop .inv) (c .before .before .before .before .loop-test .taken) (c .before .before .if1 .taken) (c .before .has-room .ensures .full (c .if2 .left)))
+loop-again c =
+    let at-loop-test = c .before .before .before .before in
+    let at-loop = at-loop-test .before in
+    let entry = at-loop .before .before in
+    let s = entry .pre in
+    rw (power-fits (trailingZeros 32 (at-loop .loop .rest)) (source at-loop-test))
+    (back-take (s .0) (at-loop .loop .inv) (at-loop-test .loop-test .taken) (c .before .before .if1 .taken) (c .before .has-room .ensures .full (c .if2 .left)))
 
 drop-source-requires : tie.Need-drop-source-requires Inv-loop μ-loop
 drop-source-requires c κs = let s = c .before .before .before .before .before .before .pre .0 in (source (c .before .before .before), omega (arith, s .terminal, s .terminals))
 
 loop-less-2 : tie.Need-loop-less-2 Inv-loop μ-loop
-loop-less-2 c = let s = c .before .before .before .before .before .before .before .pre in back-fewer (s .0) (c .before .before .before .before .before .loop .inv) (c .before .before .before .before .loop-test .taken)
+loop-less-2 c =
+    let at-loop-test = c .before .before .before .before in
+    let at-loop = at-loop-test .before in
+    let entry = at-loop .before .before in
+    let s = entry .pre in back-fewer (s .0) (at-loop .loop .inv) (at-loop-test .loop-test .taken)
 
 loop-again-2 : tie.Need-loop-again-2 Inv-loop μ-loop
 loop-again-2 c =
-    let s = c .before .before .before .before .before .before .before .pre in
-    let q = c .before .before .before .before .before .loop .inv in
-    let p = c .before .before .before .before .loop-test .taken in
-    back-skip (s .0) q p (omega (arith, c .before .before .if1 .left))
-    (cover-drop (s .0 .sources) (back-source (s .0) q p) (s .0 .terminal) (q .covers) (omega (arith, c .before .before .if1 .left)) (s .0 .terminals) (c .drop-source .ensures))
+    let at-if1 = c .before .before in
+    let at-loop-test = at-if1 .before .before in
+    let at-loop = at-loop-test .before in
+    let entry = at-loop .before .before in
+    let s = entry .pre in
+    let q = at-loop .loop .inv in
+    let p = at-loop-test .loop-test .taken in
+    back-skip (s .0) q p (omega (arith, at-if1 .if1 .left))
+    (cover-drop (s .0 .sources) (back-source (s .0) q p) (s .0 .terminal) (q .covers) (omega (arith, at-if1 .if1 .left)) (s .0 .terminals) (c .drop-source .ensures))
 
 returns-2 : tie.Need-returns-2 Inv-loop μ-loop
 returns-2 c = let s = c .before .before .before .pre in let q = c .before .loop .inv in (

@@ -12,7 +12,9 @@ use Rattle.reachability.proofs.reach.reach.Tie as tie
 
 abbrev Inv-loop : tie.InvT-loop
 Inv-loop m n i j limit ways free x supplied₀ serves₀ prev₀ front₀ supplied serves prev front =
-    Reaching m n free x i limit (front .supplied) (front .terminals) (front .sources) (front .wait) prev × Shut m n 32 free x (front .terminals) (front .sources) (front .wait) × Aiming m n j free x (front .terminals) (front .sources) × Covers m n x serves × Known m n i j x (front .supplied) × (supplied ≡ front .supplied)
+    Reaching m n free x i limit (front .supplied) (front .terminals) (front .sources) (front .wait) prev ×
+    Shut m n 32 free x (front .terminals) (front .sources) (front .wait) × Aiming m n j free x (front .terminals) (front .sources) ×
+    Covers m n x serves × Known m n i j x (front .supplied) × (supplied ≡ front .supplied)
 
 abbrev μ-loop : tie.MeasureT-loop
 μ-loop m n i j limit ways free x supplied₀ serves₀ prev₀ front₀ supplied serves prev front = front .sources + front .wait
@@ -50,24 +52,34 @@ sub-front : tie.Need-sub-front Inv-loop μ-loop
 sub-front c = omega (arith, c .before .before .if1 .taken)
 
 look-ahead-requires : tie.Need-look-ahead-requires Inv-loop μ-loop
-look-ahead-requires c κs = let t = c .before .before .before .before .before in let s = t .before .before .before .before .pre in
-    let q = t .before .before .loop .inv in let p = t .if1 .taken in
+look-ahead-requires c κs =
+    let t = c .before .before .before .before .before in
+    let at-loop = t .before .before in
+    let entry = at-loop .before .before in
+    let s = entry .pre in
+    let q = at-loop .loop .inv in let p = t .if1 .taken in
     (pass-at (s .0) (q .0) p, (pass-seen (s .0) (q .0) p, (q .3, (s .1 .1 .1 .1 .1 .0, (q .4, (pass-reaching (s .0) (q .0) p, (q .2, pass-shut (s .0) (q .0) p (q .1))))))))
 
 returns : tie.Need-returns Inv-loop μ-loop
 returns c = let d = c .before .look-ahead .ensures in (record { found = λ e. d .0 .found (c .if2 .taken); none = λ e. absurd (true≢false e) }, (d .0 .known, d .1))
 
 loop-less : tie.Need-loop-less Inv-loop μ-loop
-loop-less c = let t = c .before .before .before .before .before .before .before in let s = t .before .before .before .before .pre in
-    let q = t .before .before .loop .inv in
+loop-less c =
+    let t = c .before .before .before .before .before .before .before in
+    let at-loop = t .before .before in
+    let entry = at-loop .before .before in
+    let s = entry .pre in
+    let q = at-loop .loop .inv in
     omega (arith, c .before .look-ahead .ensures .0 .fewer (c .if2 .left), pass-fewer (s .0) (q .0) (t .if1 .taken))
 
 loop-again : tie.Need-loop-again Inv-loop μ-loop
 loop-again c = let d = c .before .look-ahead .ensures in let l = c .if2 .left in (d .0 .reaching l, d .0 .shut l, d .0 .aiming l, d .1, d .0 .known, refl)
 
 returns-2 : tie.Need-returns-2 Inv-loop μ-loop
-returns-2 c = let q = c .before .before .loop .inv in
-    (record { found = λ e. absurd (true≢false (sym e)); none = λ e. no-route (c .before .before .before .before .pre .0) (q .0) (q .1) (omega (arith, c .if1 .left)) (q .2 .fresh) }, (rw (q .5) (q .4), q .3))
+returns-2 c = let q = c .before .before .loop .inv in (
+  record { found = λ e. absurd (true≢false (sym e)); none = λ e. no-route (c .before .before .before .before .pre .0) (q .0) (q .1) (omega (arith, c .if1 .left)) (q .2 .fresh) },
+  (rw (q .5) (q .4), q .3),
+)
 
 pub reach-spec : {M : Type 1} → statement M
 reach-spec =

@@ -13,10 +13,16 @@ use Rattle.sweep.proofs.curve.climb.Statement.{statement}
 use Rattle.sweep.proofs.curve.climb.Tie as tie
 
 abbrev Inv-loop : tie.InvT-loop
-Inv-loop m n cost cap lo hi freight demand table added splits₀ freights₀ x₀ serves₀ pot₀ kept₀ up₀ rows₀ cols₀ columns at best₀ prices₀ y₀ value₀ count₀ rise₀ fall₀ drained₀ splits freights x serves pot kept parent sources-below terminals-below best prices y value count rise fall drained = Standing m n cost cap x₀ x pot kept prices y value best × Climbing (curveFrom m n cost cap x₀) table added splits₀ freights₀ lo hi splits freights y value count rise fall best × (rise ≤ 800000000) × (fall ≤ 800000000) × Covers m n x serves × StretchedTo m n cost cap x₀ lo hi y x
+Inv-loop m n cost cap lo hi freight demand table added splits₀ freights₀ x₀ serves₀ pot₀ kept₀ up₀ rows₀ cols₀ columns at best₀ prices₀ y₀ value₀
+    count₀ rise₀ fall₀ drained₀ splits freights x serves pot kept parent sources-below terminals-below best prices y value count rise fall drained =
+    Standing m n cost cap x₀ x pot kept prices y value best ×
+    Climbing (curveFrom m n cost cap x₀) table added splits₀ freights₀ lo hi splits freights y value count rise fall best × (rise ≤ 800000000) ×
+    (fall ≤ 800000000) × Covers m n x serves × StretchedTo m n cost cap x₀ lo hi y x
 
 abbrev μ-loop : tie.MeasureT-loop
-μ-loop m n cost cap lo hi freight demand table added splits₀ freights₀ x₀ serves₀ pot₀ kept₀ up₀ rows₀ cols₀ columns at best₀ prices₀ y₀ value₀ count₀ rise₀ fall₀ drained₀ splits freights x serves pot kept parent sources-below terminals-below best prices y value count rise fall drained = hi - y
+μ-loop m n cost cap lo hi freight demand table added splits₀ freights₀ x₀ serves₀ pot₀ kept₀ up₀ rows₀ cols₀ columns at best₀ prices₀ y₀ value₀ count₀
+    rise₀ fall₀ drained₀ splits freights x serves pot kept parent sources-below terminals-below best prices y value count rise fall drained =
+    hi - y
 
 mul-t33 : tie.Need-mul-t33 Inv-loop μ-loop
 mul-t33 c = omega (arith, c .before .before .pre .0 .entries, c .before .before .pre .0 .order, c .before .before .good)
@@ -37,19 +43,60 @@ cast-left : tie.Need-cast-left Inv-loop μ-loop
 cast-left c = omega (arith, c .before .before .before .before .before .before .pre .0 .short, c .before .loop .inv .1 .low)
 
 stretch-requires : tie.Need-stretch-requires Inv-loop μ-loop
-stretch-requires c κs = let i = c .before .before .before .before .before .before .before .before .before .loop .inv in let r = c .before .before .before .before .before .before .before .before .before .before .before .before .before .before .pre .0 in (stretch-ready r (i .0) (i .1 .low) (c .before .before .before .before .before .before .before .before .loop-test .taken), (λ j h. omega (arith, i .0 .at .demands j (omega arith) h, c .before .before .before .before .before .before .before .before .before .before .before .before .before .before .pre .1 .0 j h), (i .4, c .before .before .before .before .before .before .before .before .before .before .before .before .before .before .pre .1 .1 .1)))
+stretch-requires c κs =
+    let at-loop-test = c .before .before .before .before .before .before .before .before in
+    let at-loop = at-loop-test .before in
+    let entry = at-loop .before .before .before .before .before in
+    let i = at-loop .loop .inv in
+    let r = entry .pre .0 in
+    (stretch-ready r (i .0) (i .1 .low) (at-loop-test .loop-test .taken), (λ j h. omega (arith, i .0 .at .demands j (omega arith) h, entry .pre .1 .0 j h), (i .4, entry .pre .1 .1 .1)))
 
 turn-requires : tie.Need-turn-requires Inv-loop μ-loop
-turn-requires c κs = let i = c .before .before .before .before .before .before .before .before .before .before .loop .inv in let r = c .before .before .before .before .before .before .before .before .before .before .before .before .before .before .before .pre .0 in let l = c .before .before .before .before .before .before .before .before .before .loop-test .taken in (omega (arith, gain-most r (i .0) (i .1 .low) l (c .stretch .ensures .0), i .3), omega (arith, loss-most r (i .0) (i .1 .low) l (c .stretch .ensures .0), i .2))
+turn-requires c κs =
+    let at-loop-test = c .before .before .before .before .before .before .before .before .before in
+    let at-loop = at-loop-test .before in
+    let entry = at-loop .before .before .before .before .before in
+    let i = at-loop .loop .inv in
+    let r = entry .pre .0 in
+    let l = at-loop-test .loop-test .taken in
+    (omega (arith, gain-most r (i .0) (i .1 .low) l (c .stretch .ensures .0), i .3), omega (arith, loss-most r (i .0) (i .1 .low) l (c .stretch .ensures .0), i .2))
 
 mark-requires : tie.Need-mark-requires Inv-loop μ-loop
-mark-requires c κs = let i = c .before .before .before .before .before .before .before .before .before .before .before .before .before .loop .inv in let r = c .before .before .before .before .before .before .before .before .before .before .before .before .before .before .before .before .before .before .pre .0 in ascend-room r (i .0) (i .1)
+mark-requires c κs =
+    let at-loop = c .before .before .before .before .before .before .before .before .before .before .before .before .before in
+    let entry = at-loop .before .before .before .before .before in
+    let i = at-loop .loop .inv in let r = entry .pre .0 in ascend-room r (i .0) (i .1)
 
 loop-less : tie.Need-loop-less Inv-loop μ-loop
-loop-less c = let i = c .before .before .before .before .before .before .before .before .before .before .before .before .before .before .before .before .before .before .loop .inv in let r = c .before .before .before .before .before .before .before .before .before .before .before .before .before .before .before .before .before .before .before .before .before .before .before .pre .0 in let q = c .before .before .before .before .before .before .before .before .stretch .ensures .0 in omega (arith, most r (i .0) (i .1 .low) (c .before .before .before .before .before .before .before .before .before .before .before .before .before .before .before .before .before .loop-test .taken) q, q .some, q .split, c .before .before .before .before .before .before .before .before .before .before .before .before .before .before .before .before .before .loop-test .taken)
+loop-less c =
+    let at-stretch = c .before .before .before .before .before .before .before .before in
+    let at-loop-test = at-stretch .before .before .before .before .before .before .before .before .before in
+    let at-loop = at-loop-test .before in
+    let entry = at-loop .before .before .before .before .before in
+    let i = at-loop .loop .inv in
+    let r = entry .pre .0 in
+    let q = at-stretch .stretch .ensures .0 in
+    omega (arith, most r (i .0) (i .1 .low) (at-loop-test .loop-test .taken) q, q .some, q .split, at-loop-test .loop-test .taken)
 
 loop-again : tie.Need-loop-again Inv-loop μ-loop
-loop-again c = let i = c .before .before .before .before .before .before .before .before .before .before .before .before .before .before .before .before .before .before .loop .inv in let r = c .before .before .before .before .before .before .before .before .before .before .before .before .before .before .before .before .before .before .before .before .before .before .before .pre .0 in let l = c .before .before .before .before .before .before .before .before .before .before .before .before .before .before .before .before .before .loop-test .taken in let q = c .before .before .before .before .before .before .before .before .stretch .ensures .0 in (stand-next r (i .0) (i .1 .low) l q refl refl refl refl, ascend-next r (i .0) (i .1) l q (c .before .before .before .before .before .before .before .turn .ensures) (c .before .before .before .before .mark .ensures), gain-most r (i .0) (i .1 .low) l q, loss-most r (i .0) (i .1 .low) l q, c .before .before .before .before .before .before .before .before .stretch .ensures .1, stretched-next r (i .0) (i .1 .low) l q (i .5))
+loop-again c =
+    let at-mark = c .before .before .before .before in
+    let at-turn = at-mark .before .before .before in
+    let at-stretch = at-turn .before in
+    let at-loop-test = at-stretch .before .before .before .before .before .before .before .before .before in
+    let at-loop = at-loop-test .before in
+    let entry = at-loop .before .before .before .before .before in
+    let i = at-loop .loop .inv in
+    let r = entry .pre .0 in
+    let l = at-loop-test .loop-test .taken in
+    let q = at-stretch .stretch .ensures .0 in (
+      stand-next r (i .0) (i .1 .low) l q refl refl refl refl,
+      ascend-next r (i .0) (i .1) l q (at-turn .turn .ensures) (at-mark .mark .ensures),
+      gain-most r (i .0) (i .1 .low) l q,
+      loss-most r (i .0) (i .1 .low) l q,
+      at-stretch .stretch .ensures .1,
+      stretched-next r (i .0) (i .1 .low) l q (i .5),
+    )
 
 note-requires : tie.Need-note-requires Inv-loop μ-loop
 note-requires c κs = let i = c .before .before .before .loop .inv in ascend-room (c .before .before .before .before .before .before .before .before .pre .0) (i .0) (i .1)
@@ -58,16 +105,33 @@ keep-last-requires : tie.Need-keep-last-requires Inv-loop μ-loop
 keep-last-requires c κs = search needs
 
 canonize-requires : tie.Need-canonize-requires Inv-loop μ-loop
-canonize-requires c κs = let k = c .before .before .keep-last .ensures in last-ready (c .before .before .before .before .before .before .before .before .before .before .before .before .before .before .before .before .before .before .before .pre .0) (c .before .before .before .before .before .before .before .before .before .before .before .before .before .before .loop .inv .0) (k .0) (k .1)
+canonize-requires c κs =
+    let at-loop = c .before .before .before .before .before .before .before .before .before .before .before .before .before .before in
+    let entry = at-loop .before .before .before .before .before in
+    let k = c .before .before .keep-last .ensures in last-ready (entry .pre .0) (at-loop .loop .inv .0) (k .0) (k .1)
 
 same-length : tie.Need-same-length Inv-loop μ-loop
-same-length c = let i = c .before .before .before .before .before .before .before .before .before .before .before .before .before .before .before .loop .inv in c .before .before .before .before .before .before .before .before .before .before .before .note .kept .1 .1 .1 .1 .0 ∙ ascend-splits (c .before .before .before .before .before .before .before .before .before .before .before .before .before .before .before .before .before .before .before .before .pre .0) (i .0) (i .1)
+same-length c =
+    let at-note = c .before .before .before .before .before .before .before .before .before .before .before in
+    let at-loop = at-note .before .before .before .before in
+    let entry = at-loop .before .before .before .before .before in
+    let i = at-loop .loop .inv in at-note .note .kept .1 .1 .1 .1 .0 ∙ ascend-splits (entry .pre .0) (i .0) (i .1)
 
 same-length-2 : tie.Need-same-length-2 Inv-loop μ-loop
-same-length-2 c = let i = c .before .before .before .before .before .before .before .before .before .before .before .before .before .before .before .loop .inv in c .before .before .before .before .before .before .before .before .before .before .before .note .kept .1 .1 .1 .1 .1 .0 ∙ ascend-freights (c .before .before .before .before .before .before .before .before .before .before .before .before .before .before .before .before .before .before .before .before .pre .0) (i .0) (i .1)
+same-length-2 c =
+    let at-note = c .before .before .before .before .before .before .before .before .before .before .before in
+    let at-loop = at-note .before .before .before .before in
+    let entry = at-loop .before .before .before .before .before in
+    let i = at-loop .loop .inv in at-note .note .kept .1 .1 .1 .1 .1 .0 ∙ ascend-freights (entry .pre .0) (i .0) (i .1)
 
 returns : tie.Need-returns Inv-loop μ-loop
-returns c = let i = c .before .before .before .before .before .before .before .before .before .before .before .before .before .before .before .loop .inv in ascend-end (c .before .before .before .before .before .before .before .before .before .before .before .before .before .before .before .before .before .before .before .before .pre .0) (i .0) (i .1) (c .before .before .before .before .before .before .before .before .before .before .before .before .before .before .loop-test .left) (c .before .before .before .before .before .before .before .before .before .before .before .note .ensures) (c .before .before .before .keep-last .ensures .0) (c .canonize .ensures) (i .5)
+returns c =
+    let at-keep-last = c .before .before .before in
+    let at-note = at-keep-last .before .before .before .before .before .before .before .before in
+    let at-loop-test = at-note .before .before .before in
+    let at-loop = at-loop-test .before in
+    let entry = at-loop .before .before .before .before .before in
+    let i = at-loop .loop .inv in ascend-end (entry .pre .0) (i .0) (i .1) (at-loop-test .loop-test .left) (at-note .note .ensures) (at-keep-last .keep-last .ensures .0) (c .canonize .ensures) (i .5)
 
 pub climb-spec : {M : Type 1} → statement M
 climb-spec =

@@ -17,7 +17,8 @@ same-length-2 c = search needs
 returns : tie.Need-returns
 returns c =
     let n = c .before .before .before in
-    let t = n .before .before .before .if1 .taken in
+    let at-if1 = n .before .before .before in
+    let t = at-if1 .if1 .taken in
     record {
       noted = λ e. n .note .ensures;
       same-splits = λ e. absurd (true≢false (sym t ∙ e));

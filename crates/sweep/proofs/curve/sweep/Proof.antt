@@ -10,10 +10,15 @@ freight-of-requires : tie.Need-freight-of-requires
 freight-of-requires c κs = freight-ready (c .before .before .before .pre .0 .begun) (c .before .before .before .pre .1)
 
 by-terminal-requires : tie.Need-by-terminal-requires
-by-terminal-requires c κs = let s = c .before .before .before .before .before .pre .0 .begun .plant-slack .sound in (record { sources = s .sources; terminals = s .terminals; costs = s .costs }, fill-start)
+by-terminal-requires c κs =
+    let s = c .before .before .before .before .before .pre .0 .begun .plant-slack .sound in (record { sources = s .sources; terminals = s .terminals; costs = s .costs }, fill-start)
 
 climb-requires : tie.Need-climb-requires
-climb-requires c κs = let s = c .before .before .before .before .before .before .before .before .before .before .before .before .before .before .before .before in let b = s .pre .0 .begun in let r = s .pre .1 in (climb-ready b r (c .before .before .before .before .before .before .before .before .before .before .before .before .freight-of .ensures), (λ j h. omega (arith, cols-met b r j h), (b .covers, c .before .before .before .before .before .before .before .before .before .before .by-terminal .ensures)))
+climb-requires c κs =
+    let at-by-terminal = c .before .before .before .before .before .before .before .before .before .before in
+    let at-freight-of = at-by-terminal .before .before in
+    let s = at-freight-of .before .before .before .before in
+    let b = s .pre .0 .begun in let r = s .pre .1 in (climb-ready b r (at-freight-of .freight-of .ensures), (λ j h. omega (arith, cols-met b r j h), (b .covers, at-by-terminal .by-terminal .ensures)))
 
 same-length : tie.Need-same-length
 same-length c = search needs
@@ -22,7 +27,11 @@ same-length-2 : tie.Need-same-length-2
 same-length-2 c = search needs
 
 returns : tie.Need-returns
-returns c = let r = c .before .before .before .before .before .before .before .before .before .before .before .before .before .before .before .before .before .before .before .before .pre .1 in λ made a b. swept-same _ _ (both-made b r) (λ i h l. b .at .depots i h l) (cols-met b r) (b .plant-slack .sound .sources) (c .before .before .before .climb .ensures)
+returns c =
+    let at-climb = c .before .before .before in
+    let back-11 = at-climb .before .before .before .before .before .before .before .before in
+    let entry = back-11 .before .before .before .before .before .before .before .before .before in
+    let r = entry .pre .1 in λ made a b. swept-same _ _ (both-made b r) (λ i h l. b .at .depots i h l) (cols-met b r) (b .plant-slack .sound .sources) (at-climb .climb .ensures)
 
 pub sweep-spec : {M : Type 1} → statement M
 sweep-spec =

@@ -32,7 +32,9 @@ element-copy-out-total : tie.Need-element-copy-out-total Inv-loop μ-loop
 element-copy-out-total c = search needs
 
 cast-total : tie.Need-cast-total Inv-loop μ-loop
-cast-total c = let s = c .before .before .before in omega (arith, s .pre .costs (s .args .i) (c .before .before .loop .j) (omega arith) (omega arith))
+cast-total c =
+    let s = c .before .before .before in
+    omega (arith, s .pre .costs (s .args .i) (c .before .before .loop .j) (omega arith) (omega arith))
 
 mul-total-2 : tie.Need-mul-total-2 Inv-loop μ-loop
 mul-total-2 c = search needs
@@ -41,18 +43,25 @@ element-copy-out-total-2 : tie.Need-element-copy-out-total-2 Inv-loop μ-loop
 element-copy-out-total-2 c = search needs
 
 cast-total-2 : tie.Need-cast-total-2 Inv-loop μ-loop
-cast-total-2 c = let s = c .before .before .before .before in omega (arith, s .pre .amounts (s .args .i) (c .before .before .before .loop .j) (omega arith) (omega arith))
+cast-total-2 c =
+    let at-loop = c .before .before .before in
+    let s = at-loop .before in
+    omega (arith, s .pre .amounts (s .args .i) (at-loop .loop .j) (omega arith) (omega arith))
 
 mul-total-3 : tie.Need-mul-total-3 Inv-loop μ-loop
 mul-total-3 c =
-    let a = c .before .before .before .before .args in
-    omega (arith, lane-most (c .before .before .before .before .pre) (a .i) (c .before .before .before .loop .j) (omega arith) (omega arith))
+    let at-loop = c .before .before .before in
+    let entry = at-loop .before in
+    let a = entry .args in
+    omega (arith, lane-most (entry .pre) (a .i) (at-loop .loop .j) (omega arith) (omega arith))
 
 add-total : tie.Need-add-total Inv-loop μ-loop
 add-total c =
-    let p = c .before .before .before .before .pre in
-    let i = c .before .before .before .before .args .i in
-    let j = c .before .before .before .loop .j in
+    let at-loop = c .before .before .before in
+    let entry = at-loop .before in
+    let p = entry .pre in
+    let i = entry .args .i in
+    let j = at-loop .loop .j in
     omega (arith, lane-most p i j (omega arith) (omega arith), row-most p i j (omega arith) (omega arith), p .terminals)
 
 add-j : tie.Need-add-j Inv-loop μ-loop

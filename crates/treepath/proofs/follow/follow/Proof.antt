@@ -47,13 +47,18 @@ add-count : tie.Need-add-count Inv-loop μ-loop
 add-count c = search needs
 
 returns-2 : tie.Need-returns-2 Inv-loop μ-loop
-returns-2 c = λ e. let k = c .before .before .before in walk-end (k .before .before .before .loop .inv) (k .tied .ensures (omega (arith, c .before .before .if1 .left))) (c .before .smaller .ensures) (c .if2 .taken) (k .before .before .loop-test .taken)
+returns-2 c =
+    λ e. let k = c .before .before .before in
+    walk-end (k .before .before .before .loop .inv) (k .tied .ensures (omega (arith, c .before .before .if1 .left))) (c .before .smaller .ensures) (c .if2 .taken) (k .before .before .loop-test .taken)
 
 loop-less : tie.Need-loop-less Inv-loop μ-loop
 loop-less c = search needs
 
 loop-again : tie.Need-loop-again Inv-loop μ-loop
-loop-again c = let k = c .before .before .before in walk-next (k .before .before .before .loop .inv) (k .tied .ensures (omega (arith, c .before .before .if1 .left))) (c .before .smaller .ensures) (c .if2 .left)
+loop-again c =
+    let k = c .before .before .before in
+    let at-loop = k .before .before .before in
+    walk-next (at-loop .loop .inv) (k .tied .ensures (omega (arith, c .before .before .if1 .left))) (c .before .smaller .ensures) (c .if2 .left)
 
 returns-3 : tie.Need-returns-3 Inv-loop μ-loop
 returns-3 c = λ e. absurd (omega arith)

@@ -53,7 +53,10 @@ element-copy-out-even-3 : tie.Need-element-copy-out-even-3
 element-copy-out-even-3 c = search needs
 
 even-requires : tie.Need-even-requires
-even-requires c κs = let i = c .before .before .before .before .before .before in let s = i .before in let r = s .pre .0 in (r .costs (s .args .w) (s .args .v - 32) (omega (arith, i .if1 .left)) (omega (arith, s .pre .1)), r .high (s .args .w) (omega (arith, r .sources, i .if1 .left)))
+even-requires c κs =
+    let i = c .before .before .before .before .before .before in
+    let s = i .before in
+    let r = s .pre .0 in (r .costs (s .args .w) (s .args .v - 32) (omega (arith, i .if1 .left)) (omega (arith, s .pre .1)), r .high (s .args .w) (omega (arith, r .sources, i .if1 .left)))
 
 mul-result : tie.Need-mul-result
 mul-result c = search needs
@@ -71,7 +74,10 @@ sub-result : tie.Need-sub-result
 sub-result c = search needs
 
 returns-3 : tie.Need-returns-3
-returns-3 c = λ e n h l. let i = c .before .before .before .before .before .before .before .before .before .before in let s = i .before in tied-ahead (s .pre .0 .sources) l e (s .pre .1) h (omega (arith, i .if1 .left)) refl (c .before .before .before .even .ensures (c .before .before .if3 .taken))
+returns-3 c =
+    let at-even = c .before .before .before in
+    let back-10 = at-even .before .before .before .before .before .before .before in
+    λ e n h l. let i = back-10 in let s = i .before in tied-ahead (s .pre .0 .sources) l e (s .pre .1) h (omega (arith, i .if1 .left)) refl (at-even .even .ensures (c .before .before .if3 .taken))
 
 returns-4 : tie.Need-returns-4
 returns-4 c = λ e. absurd (omega arith)

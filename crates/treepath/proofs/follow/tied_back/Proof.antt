@@ -41,7 +41,11 @@ element-copy-out-even-3 : tie.Need-element-copy-out-even-3
 element-copy-out-even-3 c = search needs
 
 even-requires : tie.Need-even-requires
-even-requires c κs = let s = c .before .before .before .before .before in let r = s .pre in (r .costs (s .args .v) (s .args .w - 32) (omega arith) (omega (arith, c .before .before .before .if2 .left, c .before .before .before .before .if1 .left)), r .high (s .args .v) (omega (arith, r .sources)))
+even-requires c κs =
+    let at-if2 = c .before .before .before in
+    let at-if1 = at-if2 .before in
+    let s = at-if1 .before in
+    let r = s .pre in (r .costs (s .args .v) (s .args .w - 32) (omega arith) (omega (arith, at-if2 .if2 .left, at-if1 .if1 .left)), r .high (s .args .v) (omega (arith, r .sources)))
 
 mul-result : tie.Need-mul-result
 mul-result c = search needs
@@ -50,7 +54,11 @@ element-copy-out-result : tie.Need-element-copy-out-result
 element-copy-out-result c = search needs
 
 returns-3 : tie.Need-returns-3
-returns-3 c = λ e m cap h l. tied-back l (c .before .before .before .before .before .before .before .before .pre .terminals) e h (c .before .before .before .before .before .before .before .if1 .left) (c .before .before .before .before .before .before .if2 .left) refl (c .before .before .even .ensures (c .before .if3 .taken))
+returns-3 c =
+    let at-if2 = c .before .before .before .before .before .before in
+    let at-if1 = at-if2 .before in
+    let entry = at-if1 .before in
+    λ e m cap h l. tied-back l (entry .pre .terminals) e h (at-if1 .if1 .left) (at-if2 .if2 .left) refl (c .before .before .even .ensures (c .before .if3 .taken))
 
 returns-4 : tie.Need-returns-4
 returns-4 c = λ e. absurd (omega arith)

@@ -27,8 +27,12 @@ same-length-3 c = search needs
 
 returns-3 : tie.Need-returns-3
 returns-3 c =
-    let t = c .before .before .before .tell-bounds .ensures in
-    by-bounds _ _ _ _ _ _ _ _ _ _ (c .before .before .before .before .before .before .before .before .before .before .before .if1 .left) (c .before .before .before .before .before .before .before .before .before .before .if2 .left) (c .before .before .before .before .before .before .before .before .possible-splits .ensures) (t .0) (t .1) (t .2)
+    let at-tell-bounds = c .before .before .before in
+    let at-possible-splits = at-tell-bounds .before .before .before .before .before in
+    let at-if2 = at-possible-splits .before .before in
+    let at-if1 = at-if2 .before in
+    let t = at-tell-bounds .tell-bounds .ensures in
+    by-bounds _ _ _ _ _ _ _ _ _ _ (at-if1 .if1 .left) (at-if2 .if2 .left) (at-possible-splits .possible-splits .ensures) (t .0) (t .1) (t .2)
 
 pub yadvorkhul-bounds-spec : {M : Type 1} → statement M
 yadvorkhul-bounds-spec =

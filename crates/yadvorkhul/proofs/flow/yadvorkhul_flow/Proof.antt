@@ -39,9 +39,13 @@ same-length-7 c = search needs
 
 returns-3 : tie.Need-returns-3
 returns-3 c =
-    let t = c .before .before .before .tell-flow .ensures in
-    let w = c .before .before .before .before .before .before .before .before .before .before .before .before .before .before .before .cheapest-flow .ensures in
-    by-flow _ _ _ _ _ _ _ _ _ _ _ _ (c .before .before .before .before .before .before .before .before .before .before .before .before .before .before .before .before .before .before .before .before .before .before .if1 .left) (c .before .before .before .before .before .before .before .before .before .before .before .before .before .before .before .before .before .before .before .before .before .if2 .left) (w .1) (w .0) (t .0) (t .1) (t .2)
+    let at-tell-flow = c .before .before .before in
+    let at-cheapest-flow = at-tell-flow .before .before .before .before .before .before .before .before .before .before .before .before in
+    let at-if2 = at-cheapest-flow .before .before .before .before .before .before in
+    let at-if1 = at-if2 .before in
+    let t = at-tell-flow .tell-flow .ensures in
+    let w = at-cheapest-flow .cheapest-flow .ensures in
+    by-flow _ _ _ _ _ _ _ _ _ _ _ _ (at-if1 .if1 .left) (at-if2 .if2 .left) (w .1) (w .0) (t .0) (t .1) (t .2)
 
 pub yadvorkhul-flow-spec : {M : Type 1} → statement M
 yadvorkhul-flow-spec =

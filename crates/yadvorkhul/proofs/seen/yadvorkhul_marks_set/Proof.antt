@@ -22,9 +22,11 @@ same-length-2 c = search needs
 
 returns-2 : tie.Need-returns-2
 returns-2 c =
-    let p = c .before .before .before .before .before .before .marks-set .ensures in
+    let at-marks-set = c .before .before .before .before .before .before in
+    let at-if1 = at-marks-set .before .before in
+    let p = at-marks-set .marks-set .ensures in
     let t = c .before .before .tell-verdict .ensures in
-    call-told _ _ _ _ _ _ _ (c .before .before .before .before .before .before .before .before .if1 .left) (p .answer) p (t .0) (t .1)
+    call-told _ _ _ _ _ _ _ (at-if1 .if1 .left) (p .answer) p (t .0) (t .1)
 
 pub yadvorkhul-marks-set-spec : {M : Type 1} → statement M
 yadvorkhul-marks-set-spec =

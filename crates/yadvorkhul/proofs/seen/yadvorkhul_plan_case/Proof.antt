@@ -33,8 +33,12 @@ same-length-5 c = search needs
 
 returns-3 : tie.Need-returns-3
 returns-3 c =
-    let t = c .before .before .before .tell .ensures in
-    plan-told _ _ _ _ _ _ _ _ _ _ (c .before .before .before .before .before .before .before .before .before .before .before .before .before .before .before .before .if1 .left) (c .before .before .before .before .before .before .before .before .before .before .before .before .before .before .before .if2 .left) (c .before .before .before .before .before .before .before .before .before .before .before .plan-case .ensures) (t .0) (t .1) (t .2)
+    let at-tell = c .before .before .before in
+    let at-plan-case = at-tell .before .before .before .before .before .before .before .before in
+    let at-if2 = at-plan-case .before .before .before .before in
+    let at-if1 = at-if2 .before in
+    let t = at-tell .tell .ensures in
+    plan-told _ _ _ _ _ _ _ _ _ _ (at-if1 .if1 .left) (at-if2 .if2 .left) (at-plan-case .plan-case .ensures) (t .0) (t .1) (t .2)
 
 pub yadvorkhul-plan-case-spec : {M : Type 1} → statement M
 yadvorkhul-plan-case-spec =

@@ -28,9 +28,11 @@ same-length-4 c = search needs
 
 returns-2 : tie.Need-returns-2
 returns-2 c =
-    let p = c .before .before .before .before .before .before .before .before .before .see-tariff .ensures in
+    let at-see-tariff = c .before .before .before .before .before .before .before .before .before in
+    let at-if1 = at-see-tariff .before .before .before .before in
+    let p = at-see-tariff .see-tariff .ensures in
     let t = c .before .before .tell-verdict .ensures in
-    call-told _ _ _ _ _ _ _ (c .before .before .before .before .before .before .before .before .before .before .before .before .before .if1 .left) (p .answer) p (t .0) (t .1)
+    call-told _ _ _ _ _ _ _ (at-if1 .if1 .left) (p .answer) p (t .0) (t .1)
 
 pub yadvorkhul-see-tariff-spec : {M : Type 1} → statement M
 yadvorkhul-see-tariff-spec =

@@ -24,10 +24,12 @@ same-length-2 c = search needs
 
 returns-2 : tie.Need-returns-2
 returns-2 c =
-    let s = c .before .before .before .before .before .before .before .before .before .before .before in
-    let p = same-cost _ _ _ _ _ _ _ _ (toZ-ofZ w64 (s .args .value) (s .fits .value)) (c .before .before .before .before .before .before .edit-cost .ensures) in
+    let at-edit-cost = c .before .before .before .before .before .before in
+    let at-if1 = at-edit-cost .before .before in
+    let s = at-if1 .before .before .before in
+    let p = same-cost _ _ _ _ _ _ _ _ (toZ-ofZ w64 (s .args .value) (s .fits .value)) (at-edit-cost .edit-cost .ensures) in
     let t = c .before .before .tell-verdict .ensures in
-    call-told _ _ _ _ _ _ _ (c .before .before .before .before .before .before .before .before .if1 .left) (p .answer) p (t .0) (t .1)
+    call-told _ _ _ _ _ _ _ (at-if1 .if1 .left) (p .answer) p (t .0) (t .1)
 
 pub yadvorkhul-edit-cost-spec : {M : Type 1} → statement M
 yadvorkhul-edit-cost-spec =

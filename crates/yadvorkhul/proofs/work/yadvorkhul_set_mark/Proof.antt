@@ -22,9 +22,11 @@ same-length-2 c = search needs
 
 returns-2 : tie.Need-returns-2
 returns-2 c =
-    let p = c .before .before .before .before .before .before .set-mark .ensures in
+    let at-set-mark = c .before .before .before .before .before .before in
+    let at-if1 = at-set-mark .before .before in
+    let p = at-set-mark .set-mark .ensures in
     let t = c .before .before .tell-verdict .ensures in
-    call-told _ _ _ _ _ _ _ (c .before .before .before .before .before .before .before .before .if1 .left) (p .answer) p (t .0) (t .1)
+    call-told _ _ _ _ _ _ _ (at-if1 .if1 .left) (p .answer) p (t .0) (t .1)
 
 pub yadvorkhul-set-mark-spec : {M : Type 1} → statement M
 yadvorkhul-set-mark-spec =
