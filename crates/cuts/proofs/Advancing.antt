@@ -45,28 +45,30 @@ forgot {x} {s} i {j} hj o e = record {
     same a b y z = omega arith
 
 -- one cut, after an empty lane is no longer noted
-pub advance-cut : {m n : ℕ} {cost x s p s' p' : List ℕ} → Forgot x s s' → Shifted m n cost s' p p' → Advanced m n cost x s p s' p'
+pub advance-cut : {m n : ℕ} {cost table columns x s p s' p' : List ℕ} → Forgot x s s' → Shifted m n cost table columns x s' p p' → Advanced m n cost table columns x s p s' p'
 advance-cut {m} {n} {x = x} f q = record {
   long = q .long;
   floor = q .floor;
   high = q .high;
   covers = f .covers m n;
-  sound = λ cap c o. q .sound cap x (f .covers m n c) o;
+  sound = λ cap t c o. q .sound cap t (f .covers m n c) o;
 }
 
-pub advance-start : {m n : ℕ} {cost columns x s p : List ℕ} → CutReady m n cost columns p → Advanced m n cost x s p s p
-advance-start r = record { long = r .long; floor = λ v h. omega arith; high = r .high; covers = λ c. c; sound = λ cap c o. o }
+pub advance-start : {m n : ℕ} {cost table columns x s p : List ℕ} → CutReady m n table columns p → Advanced m n cost table columns x s p s p
+advance-start r = record { long = r .long; floor = λ v h. omega arith; high = r .high; covers = λ c. c; sound = λ cap t c o. o }
 
-pub advance-next : {m n : ℕ} {cost x s p s₁ p₁ s' p' : List ℕ} → Advanced m n cost x s p s₁ p₁ → Advanced m n cost x s₁ p₁ s' p' → Advanced m n cost x s p s' p'
+pub advance-next :
+    {m n : ℕ} {cost table columns x s p s₁ p₁ s' p' : List ℕ} → Advanced m n cost table columns x s p s₁ p₁ →
+    Advanced m n cost table columns x s₁ p₁ s' p' → Advanced m n cost table columns x s p s' p'
 advance-next a b = record {
   long = b .long;
   floor = λ v h. omega (arith, a .floor v h, b .floor v h);
   high = b .high;
   covers = λ c. b .covers (a .covers c);
-  sound = λ cap c o. b .sound cap (a .covers c) (a .sound cap c o);
+  sound = λ cap t c o. b .sound cap t (a .covers c) (a .sound cap t c o);
 }
 
 -- the next cut can be made
-pub advance-ready : {m n : ℕ} {cost columns x s p s' p' : List ℕ} → CutReady m n cost columns p → Advanced m n cost x s p s' p'
-    → CutReady m n cost columns p'
-advance-ready r a = record { sources = r .sources; terminals = r .terminals; costs = r .costs; transposed = r .transposed; high = a .high; long = a .long }
+pub advance-ready : {m n : ℕ} {cost table columns x s p s' p' : List ℕ} → CutReady m n table columns p → Advanced m n cost table columns x s p s' p'
+    → CutReady m n table columns p'
+advance-ready r a = record { sources = r .sources; terminals = r .terminals; costs = r .costs; columns-most = r .columns-most; high = a .high; long = a .long }

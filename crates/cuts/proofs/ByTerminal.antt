@@ -24,7 +24,7 @@ fill-start = record {
   here = λ i a. absurd (omega arith);
 }
 
-pub fill-next : {m : ℕ} {cost : List ℕ} {j k a : ℕ} {to : List ℕ} → m ≤ 32 → j < 64 → k < 32 → a ≡ cells cost k j → a ≤ 2000000 → Filled m cost j k to
+pub fill-next : {m : ℕ} {cost : List ℕ} {j k a : ℕ} {to : List ℕ} → m ≤ 32 → j < 64 → k < 32 → a ≡ cells cost k j → a ≤ 200000000 → Filled m cost j k to
     → Filled m cost j (k + 1) (set to (j * 32 + k) a)
 fill-next {m} {cost} {j} {k} {a} {to} hm hj hk e h q = record {
   long = length-set to (j * 32 + k) a ∙ q .long;
@@ -52,4 +52,4 @@ fill-column {j = j} h q = record {
 }
 
 pub fill-end : {m n : ℕ} {cost : List ℕ} {j : ℕ} {to : List ℕ} → n ≤ j → Filled m cost j 0 to → Transposed m n cost to
-fill-end h q = record { each = λ i t a b. q .each i t a (omega arith); most = q .most }
+fill-end h q = record { long = q .long; each = λ i t a b. q .each i t a (omega arith); most = q .most }

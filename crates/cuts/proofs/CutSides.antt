@@ -87,11 +87,11 @@ terminals-nearest {columns = columns} {w} a b = record {
 
 -- ---- either
 
-module _ {m n rows out : ℕ} {cost columns w : List ℕ} (r : NearReady m n cost columns w) (o : Others m rows out) where
+module _ {m n rows out : ℕ} {table columns w : List ℕ} (r : NearReady m n table columns w) (o : Others m rows out) where
   near-few : out < 2 ^ 32
   near-few = omega (arith, o .within, pow-mono (r .sources))
 
-  pub near-sources : {k : ℕ} → k ≤ n → SourcesReady out k cost w
+  pub near-sources : {k : ℕ} → k ≤ n → SourcesReady out k table w
   near-sources e = record {
     few = near-few;
     costs = λ i j u h. r .costs i j (bit-place m out i (o .within) u) (omega arith);
@@ -99,22 +99,24 @@ module _ {m n rows out : ℕ} {cost columns w : List ℕ} (r : NearReady m n cos
   }
 
   pub near-terminals : TerminalsReady out columns w
-  near-terminals = record { few = near-few; costs = r .transposed .most; most = r .most }
+  near-terminals = record { few = near-few; costs = r .columns-most; most = r .most }
 
-  pub near-by-sources : {cols key : ℕ} → Nearest out cols (cells cost) w key → Near m n rows cols cost w key
+  pub near-by-sources : {cols key : ℕ} → Nearest out cols (cells table) w key → Near m n rows cols table columns w key
   near-by-sources q = record {
-    each = λ i j a b e u. q .each i j (omega (arith, r .sources)) (omega (arith, r .terminals)) (o .out i a e) u;
+    each = λ i j c a b e u s t.
+        omega (arith, q .each i j (omega (arith, r .sources)) (omega (arith, r .terminals)) (o .out i a e) u);
   }
 
-  pub near-by-half : {cols key : ℕ} → cols ≤ 4294967295 → Nearest out (bitAnd cols 4294967295) (cells cost) w key → Near m n rows cols cost w key
+  pub near-by-half : {cols key : ℕ} → cols ≤ 4294967295 → Nearest out (bitAnd cols 4294967295) (cells table) w key
+      → Near m n rows cols table columns w key
   near-by-half {cols} few q = record {
-    each = λ i j a b e u.
+    each = λ i j c a b e u s t.
         let l = bit-place 32 cols j (omega arith) u in
-        q .each i j (omega (arith, r .sources)) (omega (arith, r .terminals)) (o .out i a e) (low-half cols j l ∙ u);
+        omega (arith, q .each i j (omega (arith, r .sources)) (omega (arith, r .terminals)) (o .out i a e) (low-half cols j l ∙ u));
   }
 
-  pub near-by-terminals : {cols key : ℕ} → Nearest out cols (byTerminal columns) w key → Near m n rows cols cost w key
+  pub near-by-terminals : {cols key : ℕ} → Nearest out cols (byTerminal columns) w key → Near m n rows cols table columns w key
   near-by-terminals q = record {
-    each = λ i j a b e u.
-        omega (arith, q .each i j (omega (arith, r .sources)) (omega (arith, r .terminals)) (o .out i a e) u, r .transposed .each i j a b);
+    each = λ i j c a b e u s t.
+        omega (arith, q .each i j (omega (arith, r .sources)) (omega (arith, r .terminals)) (o .out i a e) u);
   }

@@ -10,11 +10,12 @@ use lib.Seq.{getD-set-same, getD-set-other}
 use lib.Bits.{bitOr, bitAnd, and-le-l, and-le-r}
 use lib.Pow.{pow-mono}
 use lib.Count.{trailingZeros}
+use Rattle.residual.specs.inner.Cells.{cells}
 use Rattle.residual.specs.inner.Network.{get}
 use Rattle.residual.specs.inner.Bits.{bit}
 use Rattle.residual.proofs.Bits.{bit-or, or-above, bit-most, bit-none, bit-place, low-set, rest-same, rest-other}
-use Rattle.cuts.specs.inner.Cut.{has, share, Others, ChangeReady, Changed, Shut, Gathered, Folded, Weighed, Lows, Low, Top, Bottom, LiftReady, Rose, Lifted}
-use Rattle.cuts.proofs.PartBits.{apart, rest-done, own-low, own-next}
+use Rattle.cuts.specs.inner.Cut.{has, share, Others, ChangeReady, Changed, Shut, Gathered, Folded, Weighed, Lows, Low, Top, Bottom, LiftReady, Rose, Lifted, Nearer, OutTo, ExitTo}
+use Rattle.cuts.proofs.PartBits.{apart, bit-and, rest-done, own-low, own-next}
 use Rattle.cuts.proofs.CutSlack.{share-in, share-out, share-most}
 
 -- ---- the rise and the fall
@@ -316,3 +317,54 @@ bottom-next {p} {k} {least} q = record {
     | no z ↦ omega (arith, and-le-l least (get p k), q .each v (omega arith))
   ];
 }
+
+-- ---- the lanes in use that leave
+
+pub and-in : (a b i : ℕ) → bit (bitAnd a b) i ≡ 1 → bit b i ≡ 1
+and-in a b i e = omega (arith, bit-and a b i, bit-most b i)
+
+pub and-few : {k : ℕ} (a b : ℕ) → b < k → bitAnd a b < k
+and-few {k} a b h = omega (arith, and-le-r a b)
+
+pub out-start : {j from : ℕ} {cost x p : List ℕ} {before : ℕ} → OutTo j from cost x p before from before
+out-start = record { less = omega arith; own = λ i. omega arith; each = λ i e z o. absurd (omega arith) }
+
+module _ {j from : ℕ} {cost x p : List ℕ} {before r key : ℕ} (q : OutTo j from cost x p before r key) (o : 0 < r) (h : r < 2 ^ 64) where
+  pub out-in : has from (trailingZeros 64 r) ≡ 1
+  out-in = own-low 64 from (q .own) o h
+
+  pub out-next : {a key' : ℕ} → Nearer (get x (trailingZeros 64 r * 64 + j)) a key key'
+      → a + (cells cost (trailingZeros 64 r) j + get p (trailingZeros 64 r)) ≡ 1000000000 + get p (32 + j) → OutTo j from cost x p before (bitAnd r (r - 1)) key'
+  out-next {a} {key'} d e = record {
+    less = omega (arith, q .less, d .less);
+    own = own-next 64 from (q .own) o h;
+    each = λ i f z u. elim (ℕ-discrete i (trailingZeros 64 r)) [
+      | yes y ↦
+          let v : 0 < cells x (trailingZeros 64 r) j = subst (λ (w : ℕ). 0 < cells x w j) y u in
+          rw y (omega (arith, d .some v, e))
+      | no y ↦ omega (arith, q .each i f (rest-done 64 o h i z y) u, d .less)
+    ];
+  }
+
+pub out-end : {j from : ℕ} {cost x p : List ℕ} {before r key : ℕ} → OutTo j from cost x p before r key → r ≤ 0 → OutTo j from cost x p before 0 key
+out-end {j} {from} {cost} {x} {p} {before} {r} {key} q h = let z : r ≡ 0 = omega arith in subst (λ (y : ℕ). OutTo j from cost x p before y key) z q
+
+pub exit-start : {n inside cols : ℕ} {cost x serves p : List ℕ} {r key : ℕ} → Others n cols r → ExitTo n inside cols cost x serves p r key
+exit-start o = record { each = λ i j a b c z e u. absurd (omega (arith, o .out j b c)) }
+
+pub exit-next : {n inside cols : ℕ} {cost x serves p : List ℕ} {r key key' : ℕ} → ExitTo n inside cols cost x serves p r key → 0 < r → r < 2 ^ 64
+    → OutTo (trailingZeros 64 r) (bitAnd (get serves (trailingZeros 64 r)) inside) cost x p key 0 key' → ExitTo n inside cols cost x serves p (bitAnd r (r - 1)) key'
+exit-next {inside = inside} {cost = cost} {x} {serves} {p} {r} {key} {key'} q o h t = record {
+  each = λ i j a b c z e u. elim (ℕ-discrete j (trailingZeros 64 r)) [
+    | yes y ↦
+        let w = get serves (trailingZeros 64 r) in
+        let f : bit w i ≡ 1 = subst (λ (v : ℕ). bit (get serves v) i ≡ 1) y e in
+        let v : 0 < cells x i (trailingZeros 64 r) = subst (λ (v : ℕ). 0 < cells x i v) y u in
+        rw y (t .each i (omega (arith, bit-and w inside i, f, a)) (bit-none i) v)
+    | no y ↦ omega (arith, q .each i j a b c (rest-done 64 o h j z y) e u, t .less)
+  ];
+}
+
+pub exit-end : {n inside cols : ℕ} {cost x serves p : List ℕ} {r key : ℕ} → ExitTo n inside cols cost x serves p r key → r ≤ 0 → ExitTo n inside cols cost x serves p 0 key
+exit-end {n} {inside} {cols} {cost} {x} {serves} {p} {r} {key} q h =
+    let z : r ≡ 0 = omega arith in subst (λ (y : ℕ). ExitTo n inside cols cost x serves p y key) z q

@@ -4,3 +4,4 @@ pub mod CutSteps
 pub mod CutSides
 pub mod Advancing
 pub mod ByTerminal
+pub mod TablesKept

@@ -1,3 +1,4 @@
 pub mod Columns
 pub mod Cut
+pub mod Tables
 pub mod Advance

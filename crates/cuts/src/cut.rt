@@ -1,13 +1,16 @@
-// The cut: the potentials of a part of the nodes rise by the least reduced cost of the lanes into it, where no lane in use leaves it; or those of the
-// other nodes fall by it, where they are fewer. A part has a bit for each source and a bit for each terminal. The unit costs are given by source and by terminal.
+// The cut: the potentials of a part of the nodes rise by the least reduced cost of the lanes with room into it and of the lanes in use out of it; or those of
+// the other nodes fall by it, where they are fewer. A part has a bit for each source and a bit for each terminal. Tables by source and by terminal have
+// the unit costs of lanes with room.
 ghost use mathlib.Core.Path.{_≡_};
 ghost use mathlib.Core.Bool.{true};
-ghost use Prim.Native.Nat.{_≤_, _<_};
+ghost use Prim.Native.Nat.{_^_, _≤_, _<_};
 ghost use lib.Bits.{bitAnd};
 ghost use lib.ListN.{length};
 ghost use Rattle.residual.specs.inner.Cells.{cells};
 ghost use Rattle.cuts.specs.inner.Columns.{byTerminal};
-ghost use Rattle.cuts.specs.inner.Cut.{Others, ChangeReady, Changed, Shut, FoldReady, Folded, WeightsReady, Weighed, LowsReady, Lows, LeastReady, Low, SourcesReady, TerminalsReady, Nearest, NearReady, Near, Top, Bottom, CutReady, LiftReady, Lifted, Shifted};
+ghost use Rattle.cuts.specs.inner.Cut.{Nearer, OutReady, OutTo, ExitReady, ExitTo, Exit, Priced, Others, ChangeReady, Changed, Shut};
+ghost use Rattle.cuts.specs.inner.Cut.{FoldReady, Folded, WeightsReady, Weighed, LowsReady, Lows, LeastReady, Low, SourcesReady};
+ghost use Rattle.cuts.specs.inner.Cut.{TerminalsReady, Nearest, NearReady, Near, Top, Bottom, CutReady, LiftReady, Lifted, Shifted};
 
 // The bits below n that are not in the part.
 fn others(n: usize, part: u64) -> u64
@@ -112,6 +115,100 @@ fn less(node: usize, key: u32, far: Entry) -> Entry
     }
 }
 
+// The smaller of two keys, where an amount is not 0; else the second.
+fn nearer(amount: u32, node: usize, key: u32, far: Entry) -> Entry
+    ensures { λ r. ⌜ Nearer amount key (far .key) (r .key) ⌝ }
+{
+    if 0 < amount {
+        return less(node, key, far);
+    }
+    far
+}
+
+// The least of a key and of what the potential of terminal j is above that of a source of the part and the unit cost together, 1,000,000,000 more, over
+// the lanes in use; and the cell of a lane that has it.
+fn least_out(
+    j: usize,
+    from: u64,
+    cost: &[u32; 2048],
+    x: &[u32; 2048],
+    pot: &[u32; 96],
+    before: Entry,
+) -> Entry
+    requires { ⌜ OutReady j from (now cost) (now pot) ⌝ }
+    ensures { λ r. ⌜ OutTo j from (now (cost .entry)) (now (x .entry)) (now (pot .entry)) (before .key) 0 (r .key) ⌝ }
+{
+    let level = 1_000_000_000 + pot[32 + j];
+    let mut far = before;
+    let mut left = from;
+    while 0 < left {
+        let i = u64::trailing_zeros(left) as usize;
+        let k = i * 64 + j;
+        let reach = cost[k] + pot[i];
+        far = nearer(x[k], k, level - reach, far);
+        left = left & (left - 1);
+    }
+    far
+}
+
+// The same over all lanes in use from the sources inside to terminals outside cols.
+fn leaving(
+    m: usize,
+    n: usize,
+    inside: u32,
+    cols: u64,
+    cost: &[u32; 2048],
+    x: &[u32; 2048],
+    serves: &[u32; 64],
+    pot: &[u32; 96],
+) -> Entry
+    requires { ⌜ ExitReady m n (now cost) (now pot) ⌝ }
+    requires { ⌜ inside < 2 ^ m ⌝ }
+    ensures { λ r. ⌜ ExitTo n inside cols (now (cost .entry)) (now (x .entry)) (now (serves .entry)) (now (pot .entry)) 0 (r .key) ⌝ }
+{
+    let mut far = Entry {
+        key: 4_000_000_000,
+        node: 0,
+    };
+    let mut left = others(n, cols);
+    while 0 < left {
+        let j = u64::trailing_zeros(left) as usize;
+        let from = serves[j] & inside;
+        far = least_out(j, from as u64, cost, x, pot, far);
+        left = left & (left - 1);
+    }
+    far
+}
+
+// The least reduced cost of the lanes in use out of the part, and 1,000,000,000 more, and the cell of a lane that has it. Where ceilings are wide a part
+// is not to have such lanes: 0 where it has.
+fn way_out(
+    wide: bool,
+    m: usize,
+    n: usize,
+    rows: u32,
+    cols: u64,
+    cost: &[u32; 2048],
+    x: &[u32; 2048],
+    serves: &[u32; 64],
+    pot: &[u32; 96],
+) -> Entry
+    requires { ⌜ ExitReady m n (now cost) (now pot) ⌝ }
+    ensures { λ r. ⌜ Exit m n rows cols (now (cost .entry)) (now (x .entry)) (now (serves .entry)) (now (pot .entry)) (r .key) ⌝ }
+{
+    if wide {
+        if closed(n, rows, cols, serves) {
+            return Entry {
+                key: 4_000_000_000,
+                node: 0,
+            };
+        }
+        return Entry { key: 0, node: 0 };
+    }
+    let inside = rows & others(m, 0) as u32;
+    leaving(m, n, inside, cols, cost, x, serves, pot)
+}
+
 // The least of what low has and weight, over the nodes of a part: bit b of it is node at + b.
 fn least(part: u64, at: usize, low: &[u32; 32], weight: &[u32; 96], from: Entry) -> Entry
     requires { ⌜ LeastReady part at (now low) (now weight) ⌝ }
@@ -169,25 +266,25 @@ fn nearest(
     n: usize,
     rows: u32,
     cols: u64,
-    cost: &[u32; 2048],
+    table: &[u32; 2048],
     columns: &[u32; 2048],
     weight: &[u32; 96],
 ) -> Entry
-    requires { ⌜ NearReady m n (now cost) (now columns) (now weight) ⌝ }
-    ensures { λ r. ⌜ Near m n rows cols (now (cost .entry)) (now (weight .entry)) (r .key) ⌝ }
+    requires { ⌜ NearReady m n (now table) (now columns) (now weight) ⌝ }
+    ensures { λ r. ⌜ Near m n rows cols (now (table .entry)) (now (columns .entry)) (now (weight .entry)) (r .key) ⌝ }
 {
     let out = others(m, rows as u64);
     let lines = u64::count_ones(out);
     if 32 <= n {
         if cols <= 4_294_967_295 {
             if lines < u64::count_ones(cols) {
-                return by_half(out, cols, cost, weight);
+                return by_half(out, cols, table, weight);
             }
         }
     }
     if n == 64 {
         if 2 * lines < u64::count_ones(cols) {
-            return by_sources(out, cols, cost, weight);
+            return by_sources(out, cols, table, weight);
         }
     }
     by_terminals(out, cols, columns, weight)
@@ -228,9 +325,10 @@ fn change(part: u64, first: usize, up: u32, down: u32, pot: &mut [u32; 96])
     }
 }
 
-// Whether a cut was made, and one end of a lane that has the least.
+// Whether a cut was made, and whether the lane that has the least leads out of the part: its cell then, else one end of it.
 pub struct Outcome {
     pub done: bool,
+    pub out: bool,
     pub node: usize,
 }
 
@@ -284,35 +382,55 @@ fn lift(m: usize, n: usize, rows: u32, cols: u64, d: u32, pot: &mut [u32; 96]) -
     rise(rows, cols, d, pot)
 }
 
-// The cut of a part, whichever it is. Any cut will do: what was slack under the potentials before is slack under those after it.
+// The cut of a part, whichever it is. The tables have the unit costs of lanes with room, by source and by terminal; full lanes may have more. Whether
+// ceilings are wide only decides how lanes in use out of the part are looked for. Any cut will do: what was slack under the
+// potentials before is slack under those after it.
 pub fn cut(
+    wide: bool,
     m: usize,
     n: usize,
     rows: u32,
     cols: u64,
     cost: &[u32; 2048],
+    table: &[u32; 2048],
     columns: &[u32; 2048],
+    x: &[u32; 2048],
     serves: &[u32; 64],
     pot: &mut [u32; 96],
 ) -> Outcome
-    requires { ⌜ CutReady m n (now cost) (now columns) (now pot) ⌝ }
-    ensures { λ r. ⌜ Shifted m n (now (cost .entry)) (now (serves .entry)) (now (pot .entry)) (now (pot .exit)) ⌝ }
+    requires { ⌜ CutReady m n (now table) (now columns) (now pot) ⌝ }
+    requires { ⌜ Priced m n (now cost) ⌝ }
+    ensures { λ r. ⌜ Shifted m n (now (cost .entry)) (now (table .entry)) (now (columns .entry)) (now (x .entry)) (now (serves .entry))
+        (now (pot .entry)) (now (pot .exit)) ⌝ }
 {
     let none = Outcome {
         done: false,
+        out: false,
         node: 0,
     };
-    if !closed(n, rows, cols, serves) {
+    let exit = way_out(wide, m, n, rows, cols, cost, x, serves, pot);
+    if exit.key < 1_000_000_000 {
         return none;
     }
     let weight = weights(pot);
-    let far = nearest(m, n, rows, cols, cost, columns, &weight);
+    let far = nearest(m, n, rows, cols, table, columns, &weight);
     if far.key < 800_000_000 {
         return none;
     }
-    let done = lift(m, n, rows, cols, far.key - 800_000_000, pot);
+    let ahead = far.key - 800_000_000;
+    let back = exit.key - 1_000_000_000;
+    if back < ahead {
+        let done = lift(m, n, rows, cols, back, pot);
+        return Outcome {
+            done,
+            out: true,
+            node: exit.node,
+        };
+    }
+    let done = lift(m, n, rows, cols, ahead, pot);
     Outcome {
         done,
+        out: false,
         node: far.node,
     }
 }

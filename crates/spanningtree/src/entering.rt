@@ -1,4 +1,4 @@
-// The lane that may come into the tree: a tight one into a part from a source outside it.
+// The lane that may come into the tree: a tight one with room into a part from a source outside it. In the tables a full lane has more than 2^27.
 use crate::NONE;
 
 // The first terminal of the part to which source i has a tight lane; 64 where there is none.
@@ -9,7 +9,7 @@ fn enter(i: usize, cols: u64, columns: &[u32; 2048], pot: &[u32; 96]) -> u32 {
     while 0 < left {
         let j = u64::trailing_zeros(left) % 64;
         let k = j as usize;
-        if columns[k * 32 + s] % 2_097_152 + p == pot[32 + k] {
+        if columns[k * 32 + s] % 268_435_456 + p == pot[32 + k] {
             return j;
         }
         left = left & (left - 1);
@@ -24,7 +24,7 @@ fn host(m: usize, w: usize, rows: u32, cost: &[u32; 2048], pot: &[u32; 96]) -> u
     for i in 0..32 {
         if i < m {
             if (rows >> i) % 2 == 0 {
-                if cost[i * 64 + t] % 2_097_152 + pot[i] % 1_073_741_824 == q {
+                if cost[i * 64 + t] % 268_435_456 + pot[i] % 1_073_741_824 == q {
                     return i as u32;
                 }
             }

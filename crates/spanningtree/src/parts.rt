@@ -1,6 +1,6 @@
 // A tree without the drums on its lanes, as the climb has it: parts that hang over from one node to another.
 
-// A part is taken off the nodes from one on upwards, or put on them, as far as source stop hangs from none of them.
+// A part is taken off the nodes from one on upwards, or put on them, as far as node stop hangs from none of them.
 fn toggle_part(
     from: u32,
     stop: u32,
@@ -10,17 +10,23 @@ fn toggle_part(
     sources_below: &mut [u32; 128],
     terminals_below: &mut [u64; 128],
 ) {
-    let bit = 1u32 << stop % 32;
+    let source = if stop < 32 { 1u32 << stop } else { 0 };
+    let terminal = if stop < 32 {
+        0
+    } else {
+        1u64 << (stop % 128 + 32) % 64
+    };
     let mut a = from;
     let mut left: u32 = 96;
     while 0 < left {
         let v = (a % 128) as usize;
         let part = sources_below[v];
-        if part & bit != 0 {
+        let below = terminals_below[v];
+        if (part & source != 0) | (below & terminal != 0) {
             return;
         }
         sources_below[v] = part ^ r;
-        terminals_below[v] = terminals_below[v] ^ c;
+        terminals_below[v] = below ^ c;
         a = parent[v];
         left = left - 1;
     }
@@ -61,7 +67,7 @@ fn reverse_path(
     }
 }
 
-// The part below source v leaves the node above it and hangs from source host by its node e. Nodes above both v and host keep it.
+// The part below node v leaves the node above it and hangs from node host by its node e. Nodes above both v and host keep it.
 pub fn reattach(
     v: u32,
     e: u32,

@@ -5,25 +5,25 @@ use Prim.Native.Nat.{ℕ}
 use native.Mathlib.Omega.{arith}
 use Rattle.residual.specs.inner.Network.{Net, net, get}
 use Rattle.residual.specs.inner.LanesInUse.{Covers}
-use Rattle.cuts.specs.inner.Columns.{Transposed}
-use Rattle.cuts.specs.inner.Cut.{CutReady}
-use Rattle.cuts.specs.inner.Advance.{Advanced}
+use Rattle.cuts.specs.inner.Cut.{WeightsReady, Priced}
+use Rattle.cuts.specs.inner.Advance.{AdvancedUnder}
 use Rattle.lastsplit.specs.inner.PlantShift.{PlantSlack}
 use Rattle.incumbent.specs.declared.Incumbent.{Incumbent}
 use Rattle.stretch.specs.inner.Stretch.{ShiftReady, StretchReady}
 
-module _ (cap : List ℕ) {m n : ℕ} {cost x p : List ℕ} {limit : ℕ} (k : ShiftReady (net m n cost cap x) p x limit) where
-  pub cut-ready : {columns : List ℕ} → Transposed m n cost columns → CutReady m n cost columns p
-  cut-ready t =
-      let s = k .plant-slack in
-      record { sources = s .sound .sources; terminals = s .sound .terminals; costs = s .sound .costs; transposed = t; high = s .sound .high; long = s .long-p }
+pub cut-levels : {N : Net} {p x : List ℕ} {limit : ℕ} → ShiftReady N p x limit → WeightsReady p
+cut-levels k = record { high = k .plant-slack .sound .high; long = k .plant-slack .long-p }
 
-  plant-slack-on : {serves serves' p' : List ℕ} → Covers m n x serves → Advanced m n cost x serves p serves' p'
+module _ (cap : List ℕ) {m n : ℕ} {cost x p : List ℕ} {limit : ℕ} (k : ShiftReady (net m n cost cap x) p x limit) where
+  pub cut-priced : Priced m n cost
+  cut-priced = record { costs = k .plant-slack .sound .costs }
+
+  plant-slack-on : {serves serves' p' : List ℕ} → Covers m n x serves → AdvancedUnder m n cost cap x serves p serves' p'
       → PlantSlack (net m n cost cap x) (get p' 1) p' x
   plant-slack-on c a =
       let s = k .plant-slack in
       record {
-        sound = a .sound cap c (s .sound);
+        sound = a .sound c (s .sound);
         under = s .under;
         ceilings = s .ceilings;
         long-x = s .long-x;
@@ -34,7 +34,7 @@ module _ (cap : List ℕ) {m n : ℕ} {cost x p : List ℕ} {limit : ℕ} (k : S
         floor = λ v h. omega (arith, s .floor v h, a .floor v h);
       }
 
-  pub shift-on : {serves serves' p' : List ℕ} → Covers m n x serves → Advanced m n cost x serves p serves' p'
+  pub shift-on : {serves serves' p' : List ℕ} → Covers m n x serves → AdvancedUnder m n cost cap x serves p serves' p'
       → ShiftReady (net m n cost cap x) p' x limit
   shift-on c a = record { plant-slack = plant-slack-on c a; some = k .some; left = k .left; end = k .end }
 

@@ -5,3 +5,4 @@ pub mod HeldPlan
 pub mod StretchLine
 pub mod AfterCuts
 pub mod ShiftPath
+pub mod TableArcs

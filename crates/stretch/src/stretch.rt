@@ -3,13 +3,14 @@ ghost use Prim.Native.Nat.{_<_};
 ghost use Rattle.residual.specs.inner.Network.{net};
 ghost use Rattle.residual.specs.inner.LanesInUse.{Covers};
 ghost use Rattle.paths.specs.inner.Search.{Wanted};
-ghost use Rattle.cuts.specs.inner.Columns.{Transposed};
+ghost use Rattle.cuts.specs.inner.Tables.{Tables};
 ghost use Rattle.augment.specs.inner.Potentials.{LowerReady};
-ghost use Rattle.stretch.specs.inner.Stretch.{ShiftReady, Reached, PathAhead, LowerDone, KeepReady, KeepDone, HoldDone, heldAt, StretchReady, StretchDone};
+ghost use Rattle.stretch.specs.inner.Stretch.{ShiftReady, Reached, PathAhead, LowerDone, KeepReady, KeepDone, HoldDone, heldAt};
+ghost use Rattle.stretch.specs.inner.Stretch.{StretchReady, StretchDone};
+use super::shift::shift;
 use super::undo::undo;
 use augment::send::lower;
 use augment::send::measure;
-use augment::send::push;
 use cuts::advance::advance;
 use incumbent::Incumbent;
 use incumbent::scan::scan;
@@ -67,7 +68,8 @@ fn search_path(
     requires { ⌜ ShiftReady (net m n (now cost) (now cap) (now x)) (now pot) (now x) limit ⌝ }
     requires { ⌜ Wanted (net m n (now cost) (now cap) (now x)) (now demand) ⌝ }
     requires { ⌜ Covers m n (now x) (now serves) ⌝ }
-    ensures { λ r. ⌜ PathAhead (net m n (now (cost .entry)) (now (cap .entry)) (now (x .entry))) (now (pot .entry)) (now (x .entry)) limit (r .dist) (r .prev) (r .count) (r .gap) (r .delta) ⌝ }
+    ensures { λ r. ⌜ PathAhead (net m n (now (cost .entry)) (now (cap .entry)) (now (x .entry))) (now (pot .entry)) (now (x .entry)) limit
+        (r .dist) (r .prev) (r .count) (r .gap) (r .delta) ⌝ }
 {
     let found = reach(m, n, cost, cap, limit, demand, x, serves, pot, parent);
     let dist = found.dist;
@@ -87,14 +89,16 @@ fn search_path(
 // has room. The path is that of the tree, where it leads there over open and tight arcs: distances on it are those of the potentials. Else one is
 // searched for.
 fn find_path(
+    wide: bool,
     m: usize,
     n: usize,
     cost: &[u32; 2048],
-    columns: &[u32; 2048],
     cap: &[u32; 2048],
+    ahead: &[u32; 2048],
+    columns: &[u32; 2048],
     limit: u32,
     demand: &[u32; 96],
-    drained: u32,
+    told: u32,
     x: &[u32; 2048],
     serves: &mut [u32; 64],
     pot: &mut [u32; 96],
@@ -105,15 +109,19 @@ fn find_path(
     requires { ⌜ ShiftReady (net m n (now cost) (now cap) (now x)) (now pot) (now x) limit ⌝ }
     requires { ⌜ Wanted (net m n (now cost) (now cap) (now x)) (now demand) ⌝ }
     requires { ⌜ Covers m n (now x) (now serves) ⌝ }
-    requires { ⌜ Transposed m n (now cost) (now columns) ⌝ }
-    ensures { λ r. ⌜ PathAhead (net m n (now (cost .entry)) (now (cap .entry)) (now (x .entry))) (now (pot .exit)) (now (x .entry)) limit (r .dist) (r .prev) (r .count) (r .gap) (r .delta) ⌝ }
+    requires { ⌜ Tables wide m n (now cost) (now cap) (now x) (now ahead) (now columns) ⌝ }
+    ensures { λ r. ⌜ PathAhead (net m n (now (cost .entry)) (now (cap .entry)) (now (x .entry))) (now (pot .exit)) (now (x .entry)) limit
+        (r .dist) (r .prev) (r .count) (r .gap) (r .delta) ⌝ }
     ensures { λ r. ⌜ Covers m n (now (x .entry)) (now (serves .exit)) ⌝ }
 {
     advance(
+        wide,
         m,
         n,
-        drained,
+        told,
         cost,
+        cap,
+        ahead,
         columns,
         x,
         serves,
@@ -183,8 +191,8 @@ fn hold(split: u64, y: u64, next: u64, pot: &[u32; 96], prices: &mut [u32; 96])
     }
 }
 
-// What a stretch found: δ, the next split y + δ with f there, what each drum adds to f and takes off it, and the incumbent; and a source whose lane on
-// the path lost its last drums, of which nothing is promised.
+// What a stretch found: δ, the next split y + δ with f there, what each drum adds to f and takes off it, and the incumbent; and a node at which
+// the path can bear no more, of which nothing is promised.
 pub struct Moved {
     pub delta: u64,
     pub split: u64,
@@ -192,17 +200,18 @@ pub struct Moved {
     pub gain: u64,
     pub loss: u64,
     pub best: Incumbent,
-    pub drained: u32,
+    pub blocked: u32,
 }
 
 // One stretch from split y, whose plan x has the given freight, at most limit drums further, which are left to u. The incumbent's plan is x, where
-// its split is that of x; when the climb leaves it, it is kept, with its potentials. Nothing is asked of the tree in parent, sources_below and
-// terminals_below, nor of drained. Any slack plan at the next split will do: its freight is the least there.
+// its split is that of x; when the climb leaves it, it is kept, with its potentials. The tables of the cuts follow the plan. Nothing is asked of the
+// tree in parent, sources_below and terminals_below, nor of the node told. Any slack plan at the next split will do: its freight
+// is the least there.
 pub fn stretch(
+    wide: bool,
     m: usize,
     n: usize,
     cost: &[u32; 2048],
-    columns: &[u32; 2048],
     cap: &[u32; 2048],
     table: &[u64],
     y: u64,
@@ -210,7 +219,7 @@ pub fn stretch(
     limit: u32,
     best: Incumbent,
     demand: &[u32; 96],
-    drained: u32,
+    told: u32,
     x: &mut [u32; 2048],
     serves: &mut [u32; 64],
     pot: &mut [u32; 96],
@@ -219,25 +228,34 @@ pub fn stretch(
     parent: &mut [u32; 128],
     sources_below: &mut [u32; 128],
     terminals_below: &mut [u64; 128],
+    ahead: &mut [u32; 2048],
+    columns: &mut [u32; 2048],
 ) -> Moved
     requires { ⌜ StretchReady (net m n (now cost) (now cap) (now x)) (now pot) (now x) (now table) y freight limit best ⌝ }
     requires { ⌜ Wanted (net m n (now cost) (now cap) (now x)) (now demand) ⌝ }
     requires { ⌜ Covers m n (now x) (now serves) ⌝ }
-    requires { ⌜ Transposed m n (now cost) (now columns) ⌝ }
-    ensures { λ r. ⌜ StretchDone (net m n (now (cost .entry)) (now (cap .entry)) (now (x .entry))) (now (table .entry)) y freight limit best (heldAt (best .split) y (now (x .entry)) (now (kept .entry))) (heldAt (best .split) y (now (pot .exit)) (now (prices .entry))) (now (pot .exit)) (now (x .exit)) (heldAt (r .best .split) (r .split) (now (x .exit)) (now (kept .exit))) (heldAt (r .best .split) (r .split) (now (pot .exit)) (now (prices .exit))) (r .delta) (r .split) (r .freight) (r .gain) (r .loss) (r .best) ⌝ }
+    requires { ⌜ Tables wide m n (now cost) (now cap) (now x) (now ahead) (now columns) ⌝ }
+    ensures { λ r. ⌜ StretchDone (net m n (now (cost .entry)) (now (cap .entry)) (now (x .entry))) (now (table .entry)) y freight limit best
+        (heldAt (best .split) y (now (x .entry)) (now (kept .entry))) (heldAt (best .split) y (now (pot .exit)) (now (prices .entry)))
+        (now (pot .exit)) (now (x .exit)) (heldAt (r .best .split) (r .split) (now (x .exit)) (now (kept .exit)))
+        (heldAt (r .best .split) (r .split) (now (pot .exit)) (now (prices .exit))) (r .delta) (r .split) (r .freight) (r .gain) (r .loss)
+        (r .best) ⌝ }
     ensures { λ r. ⌜ Covers m n (now (x .exit)) (now (serves .exit)) ⌝ }
+    ensures { λ r. ⌜ Tables wide m n (now (cost .entry)) (now (cap .entry)) (now (x .exit)) (now (ahead .exit)) (now (columns .exit)) ⌝ }
 {
     // 1° A cheapest path from plant 1 to plant 2 in the residual network, and δ: the smallest ceiling on it, or what is left to u if that is less.
     // The potentials change until the path of the tree has room. The cost of the path is what they say then: gain less loss.
     let path = find_path(
+        wide,
         m,
         n,
         cost,
-        columns,
         cap,
+        ahead,
+        columns,
         limit,
         demand,
-        drained,
+        told,
         x,
         serves,
         pot,
@@ -253,7 +271,19 @@ pub fn stretch(
     // 2° The next split y + δ, the amounts after moving δ along the path, and f there: f + δ · (cost of the path).
     let drums = delta as u64;
     let next = y + drums;
-    let last = push(&path.prev, count, 1, delta, x, serves);
+    let last = shift(
+        wide,
+        &path.prev,
+        count,
+        1,
+        delta,
+        cost,
+        cap,
+        x,
+        serves,
+        ahead,
+        columns,
+    );
     let value = freight + gain * drums - loss * drums;
     // 3° The incumbent, revised where a total on the way is smaller: every split of the stretch is looked at. Its plan is that of the next split
     // with the drums beyond its own taken back; it is copied only where the climb leaves it.
@@ -271,6 +301,6 @@ pub fn stretch(
         gain,
         loss,
         best: held,
-        drained: last,
+        blocked: last,
     }
 }

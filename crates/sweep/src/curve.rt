@@ -6,7 +6,7 @@ ghost use Rattle.residual.specs.inner.Cells.{cells};
 ghost use Rattle.residual.specs.inner.Network.{net};
 ghost use Rattle.residual.specs.inner.LanesInUse.{Covers};
 ghost use Rattle.paths.specs.inner.Search.{Wanted};
-ghost use Rattle.cuts.specs.inner.Columns.{Transposed};
+ghost use Rattle.cuts.specs.inner.Tables.{Tables};
 ghost use Rattle.split_range.specs.inner.Begun.{Begun};
 ghost use Rattle.split_range.specs.inner.Range.{demandIn};
 ghost use Rattle.stretch.specs.inner.Stretch.{heldAt};
@@ -16,8 +16,9 @@ ghost use Rattle.sweep.specs.inner.Climb.{bothIn, ClimbReady};
 use super::freight::freight_of;
 use super::freight::lowered;
 use canonical::canon::canonize;
-use cuts::columns::by_terminal;
+use cuts::columns::tables;
 use incumbent::Incumbent;
+use lastsplit::reach::all_wide;
 use stretch::stretch::stretch;
 
 // Writes a stop and its freight, lowered, behind the count stops that stand in the slices; how many stand there then.
@@ -92,6 +93,7 @@ fn keep_last(
 
 // Step 3 of report 4.1: from a cheapest plan x at lo, with its potentials and its freight, stretch by stretch up to hi, on the tree as far as it goes.
 fn climb(
+    wide: bool,
     m: usize,
     n: usize,
     cost: &[u32; 2048],
@@ -111,12 +113,13 @@ fn climb(
     parent: &mut [u32; 128],
     sources_below: &mut [u32; 128],
     terminals_below: &mut [u64; 128],
-    columns: &[u32; 2048],
+    ahead: &mut [u32; 2048],
+    columns: &mut [u32; 2048],
 ) -> Curve
     requires { ⌜ ClimbReady m n (now cost) (now cap) (now x) (now pot) lo hi freight (now table) added (now splits) (now freights) ⌝ }
     requires { ⌜ Wanted (net m n (now cost) (now cap) (now x)) (now demand) ⌝ }
     requires { ⌜ Covers m n (now x) (now serves) ⌝ }
-    requires { ⌜ Transposed m n (now cost) (now columns) ⌝ }
+    requires { ⌜ Tables wide m n (now cost) (now cap) (now x) (now ahead) (now columns) ⌝ }
     ensures { λ r. ⌜ Swept m n (cells (now (cost .entry))) (cells (now (cap .entry))) (bothIn n (now (x .entry)))
         (row n (cells (now (x .entry)))) (col m (cells (now (x .entry)))) lo hi (now (table .entry)) added (now (splits .entry))
         (now (freights .entry)) (now (x .entry)) (now (splits .exit)) (now (freights .exit)) (now (x .exit)) (now (kept .exit)) (r .split)
@@ -135,15 +138,15 @@ fn climb(
     let mut count: usize = 0;
     let mut rise: u64 = 0;
     let mut fall: u64 = 0;
-    let mut drained: u32 = 96;
+    let mut blocked: u32 = 96;
     // Step 3, which ends where the split is hi.
     while y < hi {
         let left = (hi - y) as u32;
         let moved = stretch(
+            wide,
             m,
             n,
             cost,
-            columns,
             cap,
             table,
             y,
@@ -151,7 +154,7 @@ fn climb(
             left,
             best,
             demand,
-            drained,
+            blocked,
             x,
             serves,
             pot,
@@ -160,6 +163,8 @@ fn climb(
             parent,
             sources_below,
             terminals_below,
+            ahead,
+            columns,
         );
         let stop = turn(y, lo, moved.gain, moved.loss, rise, fall);
         count = mark(stop, count, y, value, added, splits, freights);
@@ -168,7 +173,7 @@ fn climb(
         value = moved.freight;
         y = moved.split;
         best = moved.best;
-        drained = moved.drained;
+        blocked = moved.blocked;
     }
     count = note(count, y, value, added, splits, freights);
     keep_last(best.split, y, x, pot, kept, &mut prices);
@@ -214,9 +219,12 @@ pub fn sweep(
         (now (x .exit)) (now (kept .exit)) (r .split) (r .total) (r .freight) (r .stops)) ⌝ }
 {
     let freight = freight_of(m, n, cost, x);
+    let wide = all_wide(m, cap, demand);
+    let mut ahead = [0u32; 2048];
     let mut columns = [0u32; 2048];
-    by_terminal(m, n, cost, &mut columns);
+    tables(wide, m, n, cost, cap, x, &mut ahead, &mut columns);
     climb(
+        wide,
         m,
         n,
         cost,
@@ -236,6 +244,7 @@ pub fn sweep(
         parent,
         sources_below,
         terminals_below,
-        &columns,
+        &mut ahead,
+        &mut columns,
     )
 }

@@ -10,7 +10,7 @@ use Rattle.residual.specs.inner.Network.{net, get}
 use Rattle.residual.specs.inner.Bits.{bit}
 use Rattle.residual.specs.inner.LanesInUse.{Covers}
 use Rattle.paths.specs.inner.Search.{Sound}
-use Rattle.cuts.specs.inner.Columns.{Transposed}
+use Rattle.cuts.specs.inner.Columns.{byTerminal}
 
 -- 1 where node k is in the part, else 0
 abbrev pub has : ℕ → ℕ → ℕ
@@ -51,7 +51,7 @@ pub record Gathered (n cols : ℕ) (serves : List ℕ) (left out : ℕ) : Type 0
 pub record FoldReady (k base : ℕ) (table acc : List ℕ) : Type 0 where
   pub within : k + 32 ≤ 2048
   pub base-most : base ≤ 800000000
-  pub costs : (i : ℕ) → i < 32 → get table (k + i) ≤ 2000000
+  pub costs : (i : ℕ) → i < 32 → get table (k + i) ≤ 200000000
   pub long : length acc ≡ 32
   pub most : (i : ℕ) → get acc i ≤ 1000000000
 
@@ -61,12 +61,12 @@ pub record Folded (k base : ℕ) (table acc : List ℕ) (c : ℕ) (acc' : List �
   pub low : (i : ℕ) → i < c → get acc' i ≤ get table (k + i) + base
   pub less : (i : ℕ) → get acc' i ≤ get acc i
 
--- unit costs, by source and by terminal, and potentials of the size that the engine admits
-pub record CutReady (m n : ℕ) (cost columns p : List ℕ) : Type 0 where
+-- tables, by source and by terminal, and potentials of the size that the engine admits
+pub record CutReady (m n : ℕ) (table columns p : List ℕ) : Type 0 where
   pub sources : m ≤ 32
   pub terminals : n ≤ 64
-  pub costs : (i j : ℕ) → i < m → j < n → cells cost i j ≤ 2000000
-  pub transposed : Transposed m n cost columns
+  pub costs : (i j : ℕ) → i < m → j < n → cells table i j ≤ 200000000
+  pub columns-most : (v : ℕ) → get columns v ≤ 200000000
   pub high : (v : ℕ) → v < 96 → get p v ≤ 800000000
   pub long : length p ≡ 96
 
@@ -83,7 +83,7 @@ pub record Weighed (p : List ℕ) (k : ℕ) (w : List ℕ) : Type 0 where
 pub record LowsReady (part at stride first : ℕ) (table w : List ℕ) : Type 0 where
   pub within : (b : ℕ) → has part b ≡ 1 → b * stride + first + 32 ≤ 2048
   pub nodes : (b : ℕ) → has part b ≡ 1 → at + b < 96
-  pub costs : (b i : ℕ) → has part b ≡ 1 → i < 32 → get table (b * stride + first + i) ≤ 2000000
+  pub costs : (b i : ℕ) → has part b ≡ 1 → i < 32 → get table (b * stride + first + i) ≤ 200000000
   pub most : (v : ℕ) → v < 96 → get w v ≤ 800000000
 
 -- acc is at most cell and weight of each node of the part, but for those that are left
@@ -106,28 +106,29 @@ pub record Low (part at : ℕ) (low w : List ℕ) (from left key : ℕ) : Type 0
 
 pub record SourcesReady (out n : ℕ) (cost w : List ℕ) : Type 0 where
   pub few : out < 2 ^ 32
-  pub costs : (i j : ℕ) → has out i ≡ 1 → j < n → cells cost i j ≤ 2000000
+  pub costs : (i j : ℕ) → has out i ≡ 1 → j < n → cells cost i j ≤ 200000000
   pub most : (v : ℕ) → v < 96 → get w v ≤ 800000000
 
 pub record TerminalsReady (out : ℕ) (columns w : List ℕ) : Type 0 where
   pub few : out < 2 ^ 32
-  pub costs : (v : ℕ) → get columns v ≤ 2000000
+  pub costs : (v : ℕ) → get columns v ≤ 200000000
   pub most : (v : ℕ) → v < 96 → get w v ≤ 800000000
 
 -- key is at most unit cost and weights of each lane from a source of out to a terminal of cols
 pub record Nearest (out cols : ℕ) (c : Table) (w : List ℕ) (key : ℕ) : Type 0 where
   pub each : (i j : ℕ) → i < 32 → j < 64 → has out i ≡ 1 → has cols j ≡ 1 → key ≤ c i j + get w i + get w (32 + j)
 
-pub record NearReady (m n : ℕ) (cost columns w : List ℕ) : Type 0 where
+pub record NearReady (m n : ℕ) (table columns w : List ℕ) : Type 0 where
   pub sources : m ≤ 32
   pub terminals : n ≤ 64
-  pub costs : (i j : ℕ) → i < m → j < n → cells cost i j ≤ 2000000
-  pub transposed : Transposed m n cost columns
+  pub costs : (i j : ℕ) → i < m → j < n → cells table i j ≤ 200000000
+  pub columns-most : (v : ℕ) → get columns v ≤ 200000000
   pub most : (v : ℕ) → v < 96 → get w v ≤ 800000000
 
--- key is at most unit cost and weights of each lane into the part
-pub record Near (m n rows cols : ℕ) (cost w : List ℕ) (key : ℕ) : Type 0 where
-  pub each : (i j : ℕ) → i < m → j < n → has rows i ≡ 0 → has cols j ≡ 1 → key ≤ cells cost i j + get w i + get w (32 + j)
+-- key is at most weights and what neither table is above, for each lane into the part
+pub record Near (m n rows cols : ℕ) (table columns w : List ℕ) (key : ℕ) : Type 0 where
+  pub each : (i j c : ℕ) → i < m → j < n → has rows i ≡ 0 → has cols j ≡ 1 → cells table i j ≤ c → byTerminal columns i j ≤ c
+      → key ≤ c + get w i + get w (32 + j)
 
 -- no potential of a node below k is above most
 pub record Top (p : List ℕ) (k most : ℕ) : Type 0 where
@@ -156,9 +157,53 @@ pub record Lifted (m n rows cols d : ℕ) (p p' : List ℕ) (r : Bool) : Type 0 
   pub rose : r ≡ true → (e : ℕ) × Rose m n rows cols d e p p'
   pub same : r ≡ false → p' ≡ p
 
--- the potentials p' in place of p: none came below 416,000,000, and every plan that was slack and whose lanes are noted in serves still is
-pub record Shifted (m n : ℕ) (cost serves p p' : List ℕ) : Type 0 where
+-- the smaller of two keys, where an amount is not 0; else the second
+pub record Nearer (amount key far r : ℕ) : Type 0 where
+  pub less : r ≤ far
+  pub some : 0 < amount → r ≤ key
+
+-- what is asked of the lanes to terminal j from the sources of a part
+pub record OutReady (j from : ℕ) (cost p : List ℕ) : Type 0 where
+  pub terminal : j < 64
+  pub few : from < 2 ^ 32
+  pub costs : (i : ℕ) → has from i ≡ 1 → cells cost i j ≤ 2000000
+  pub high : (v : ℕ) → v < 96 → get p v ≤ 800000000
+
+-- key is at most the key before, and for each lane in use what the terminal's potential is above, 1,000,000,000 more, but for the sources that are left
+pub record OutTo (j from : ℕ) (cost x p : List ℕ) (before left key : ℕ) : Type 0 where
+  pub less : key ≤ before
+  pub own : (i : ℕ) → bit left i ≤ has from i
+  pub each : (i : ℕ) → has from i ≡ 1 → bit left i ≡ 0 → 0 < cells x i j → key + (cells cost i j + get p i) ≤ 1000000000 + get p (32 + j)
+
+pub record ExitReady (m n : ℕ) (cost p : List ℕ) : Type 0 where
+  pub sources : m ≤ 32
+  pub terminals : n ≤ 64
+  pub costs : (i j : ℕ) → i < m → j < n → cells cost i j ≤ 2000000
+  pub high : (v : ℕ) → v < 96 → get p v ≤ 800000000
+
+-- the same of all lanes in use from the sources inside to terminals outside cols, but for the terminals that are left
+pub record ExitTo (n inside cols : ℕ) (cost x serves p : List ℕ) (left key : ℕ) : Type 0 where
+  pub each : (i j : ℕ) → has inside i ≡ 1 → j < n → has cols j ≡ 0 → bit left j ≡ 0 → bit (get serves j) i ≡ 1 → 0 < cells x i j
+      → key + (cells cost i j + get p i) ≤ 1000000000 + get p (32 + j)
+
+-- the same of all lanes in use out of the part that serves has noted
+pub record Exit (m n rows cols : ℕ) (cost x serves p : List ℕ) (key : ℕ) : Type 0 where
+  pub each : (i j : ℕ) → i < m → j < n → has rows i ≡ 1 → has cols j ≡ 0 → bit (get serves j) i ≡ 1 → 0 < cells x i j
+      → key + (cells cost i j + get p i) ≤ 1000000000 + get p (32 + j)
+
+-- unit costs of the size that the engine admits
+pub record Priced (m n : ℕ) (cost : List ℕ) : Type 0 where
+  pub costs : (i j : ℕ) → i < m → j < n → cells cost i j ≤ 2000000
+
+-- where a lane has room neither table has more than its unit cost
+pub record Ahead (m n : ℕ) (cost cap x table columns : List ℕ) : Type 0 where
+  pub by-source : (i j : ℕ) → i < m → j < n → cells x i j < cells cap i j → cells table i j ≤ cells cost i j
+  pub by-terminal : (i j : ℕ) → i < m → j < n → cells x i j < cells cap i j → byTerminal columns i j ≤ cells cost i j
+
+-- the potentials p' in place of p: none came below 416,000,000, and where x was slack, its lanes are noted in serves and those with room have no more
+-- than their unit costs in the tables, it still is
+pub record Shifted (m n : ℕ) (cost table columns x serves p p' : List ℕ) : Type 0 where
   pub long : length p' ≡ 96
   pub floor : (v : ℕ) → v < 96 → min (get p v) 416000000 ≤ get p' v
   pub high : (v : ℕ) → v < 96 → get p' v ≤ 800000000
-  pub sound : (cap x : List ℕ) → Covers m n x serves → Sound (net m n cost cap x) p → Sound (net m n cost cap x) p'
+  pub sound : (cap : List ℕ) → Ahead m n cost cap x table columns → Covers m n x serves → Sound (net m n cost cap x) p → Sound (net m n cost cap x) p'

@@ -1,65 +1,25 @@
 -- `cuts::advance::advance` meets its contract. Assumes nothing.
-use Prim.Native.Nat.{_≤_}
-use native.Mathlib.Omega.{arith}
-use Rattle.cuts.proofs.Advancing.{advance-start, advance-next, advance-ready}
-use borrow.Author.Needs.{needs}
-use Rattle.cuts.specs.inner.Advance.{Advanced}
+use Rattle.cuts.proofs.TablesKept.{cut-wide, cut-narrow, ahead-wide, ahead-narrow, advanced-under}
 use Rattle.cuts.proofs.advance.advance.Statement.{statement}
 use Rattle.cuts.proofs.advance.advance.Tie as tie
 
-abbrev Inv-loop : tie.InvT-loop
-Inv-loop m n drained cost columns x serves₀ pot₀ up₀ rows₀ cols₀ v₀ left₀ serves pot parent sources-below terminals-below v left = (left ≤ 200) × Advanced m n cost x serves₀ pot₀ serves pot
+cut-until-requires : tie.Need-cut-until-requires
+cut-until-requires c κs = let r = c .before .before .before .before .before .before .pre in (cut-wide (r .0) (r .1 .0) (r .1 .1), r .1 .1)
 
-abbrev μ-loop : tie.MeasureT-loop
-μ-loop m n drained cost columns x serves₀ pot₀ up₀ rows₀ cols₀ v₀ left₀ serves pot parent sources-below terminals-below v left = left
+returns : tie.Need-returns
+returns c =
+    let at-if1 = c .before .before .before .before .before .before in
+    let entry = at-if1 .before in
+    advanced-under (ahead-wide (entry .pre .0) (at-if1 .if1 .taken)) (c .cut-until .ensures)
 
-blocked-at-start-requires : tie.Need-blocked-at-start-requires Inv-loop μ-loop
-blocked-at-start-requires c κs = search needs
+cut-until-requires-2 : tie.Need-cut-until-requires-2
+cut-until-requires-2 c κs = let r = c .before .before .before .before .before .before .pre in (cut-narrow (r .0) (c .before .before .before .before .before .if1 .left) (r .1 .0), r .1 .1)
 
-loop-holds : tie.Need-loop-holds Inv-loop μ-loop
-loop-holds c = (omega arith, advance-start (c .before .before .pre))
-
-returns : tie.Need-returns Inv-loop μ-loop
-returns c = c .before .before .loop .inv .1
-
-step-requires : tie.Need-step-requires Inv-loop μ-loop
-step-requires c κs = advance-ready (c .before .before .before .before .before .before .before .before .before .before .pre) (c .before .before .before .before .before .before .before .loop .inv .1)
-
-element-write-parent : tie.Need-element-write-parent Inv-loop μ-loop
-element-write-parent c = search needs
-
-returns-2 : tie.Need-returns-2 Inv-loop μ-loop
-returns-2 c = advance-next (c .before .before .before .before .before .before .before .before .before .loop .inv .1) (c .before .step .ensures)
-
-blocked-requires : tie.Need-blocked-requires Inv-loop μ-loop
-blocked-requires c κs = search needs
-
-sub-left : tie.Need-sub-left Inv-loop μ-loop
-sub-left c = search needs
-
-loop-less : tie.Need-loop-less Inv-loop μ-loop
-loop-less c = search needs
-
-loop-again : tie.Need-loop-again Inv-loop μ-loop
-loop-again c = (omega (arith, c .before .before .before .before .before .before .before .before .before .before .before .loop .inv .0), advance-next (c .before .before .before .before .before .before .before .before .before .before .before .loop .inv .1) (c .before .before .before .step .ensures))
-
-returns-3 : tie.Need-returns-3 Inv-loop μ-loop
-returns-3 c = c .before .loop .inv .1
+returns-2 : tie.Need-returns-2
+returns-2 c =
+    let at-if1 = c .before .before .before .before .before .before in
+    let entry = at-if1 .before in
+    advanced-under (ahead-narrow (entry .pre .0) (at-if1 .if1 .left)) (c .cut-until2 .ensures)
 
 pub advance-spec : {M : Type 1} → statement M
-advance-spec =
-    tie.close
-    (tie.spec
-    Inv-loop
-    μ-loop
-    blocked-at-start-requires
-    loop-holds
-    returns
-    step-requires
-    element-write-parent
-    returns-2
-    blocked-requires
-    sub-left
-    loop-less
-    loop-again
-    returns-3)
+advance-spec = tie.close (tie.spec cut-until-requires returns cut-until-requires-2 returns-2)

@@ -39,7 +39,9 @@ shl-serves : tie.Need-shl-serves
 shl-serves c = search needs
 
 sub-serves : tie.Need-sub-serves
-sub-serves c = omega (arith, power-fits (c .before .before .before .before .args .i) (c .before .before .before .before .pre .0), bit-least (c .before .before .before .before .args .i) (get (c .before .before .before .before .args .serves .now) (c .before .before .before .before .args .j)) (bit-in _ _ (c .before .before .if1 .taken)))
+sub-serves c =
+    let entry = c .before .before .before .before in
+    omega (arith, power-fits (entry .args .i) (entry .pre .0), bit-least (entry .args .i) (get (entry .args .serves .now) (entry .args .j)) (bit-in _ _ (c .before .before .if1 .taken)))
 
 mul-serves : tie.Need-mul-serves
 mul-serves c = search needs
@@ -48,7 +50,9 @@ element-write-serves : tie.Need-element-write-serves
 element-write-serves c = search needs
 
 returns : tie.Need-returns
-returns c = rw (power-fits (c .before .before .before .before .args .i) (c .before .before .before .before .pre .0)) (forgot (c .before .before .before .before .args .i) (c .before .before .before .before .pre .1) (bit-in _ _ (c .before .before .if1 .taken)) (c .if2 .taken))
+returns c =
+    let entry = c .before .before .before .before in
+    rw (power-fits (entry .args .i) (entry .pre .0)) (forgot (entry .args .i) (entry .pre .1) (bit-in _ _ (c .before .before .if1 .taken)) (c .if2 .taken))
 
 returns-2 : tie.Need-returns-2
 returns-2 c = forgot-none

@@ -48,7 +48,10 @@ loop-less : tie.Need-loop-less Inv-loop μ-loop
 loop-less c = search needs
 
 loop-again : tie.Need-loop-again Inv-loop μ-loop
-loop-again c = let s = c .before .before .before .pre in let l = c .before .loop-test .taken in (omega arith, fill-next (s .0 .sources) (omega (arith, s .0 .terminals)) (omega (arith, s .0 .sources)) refl (s .0 .costs _ _ l (omega arith)) (c .before .before .loop .inv .1))
+loop-again c =
+    let s = c .before .before .before .pre in
+    let l = c .before .loop-test .taken in
+    (omega arith, fill-next (s .0 .sources) (omega (arith, s .0 .terminals)) (omega (arith, s .0 .sources)) refl (s .0 .costs _ _ l (omega arith)) (c .before .before .loop .inv .1))
 
 returns : tie.Need-returns Inv-loop μ-loop
 returns c = fill-column (c .loop-test .left) (c .before .loop .inv .1)

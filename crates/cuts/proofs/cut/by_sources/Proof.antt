@@ -12,7 +12,9 @@ lows-requires : tie.Need-lows-requires
 lows-requires c κs = source-lows-2 (c .before .pre)
 
 least-requires : tie.Need-least-requires
-least-requires c κs = let s = c .before .before .before in record { few = high-half-fits (s .args .cols) (omega (arith, s .fits .cols)); nodes = omega arith; most = c .before .lows .ensures .most; weights = s .pre .most }
+least-requires c κs =
+    let s = c .before .before .before in
+    record { few = high-half-fits (s .args .cols) (omega (arith, s .fits .cols)); nodes = omega arith; most = c .before .lows .ensures .most; weights = s .pre .most }
 
 returns : tie.Need-returns
 returns c = sources-nearest (c .before .before .before .by-half .ensures) (c .before .before .lows .ensures) (c .least .ensures)

@@ -42,7 +42,11 @@ element-copy-out-pot : tie.Need-element-copy-out-pot Inv-loop μ-loop
 element-copy-out-pot c = omega (arith, node c)
 
 add-pot : tie.Need-add-pot Inv-loop μ-loop
-add-pot c = let h = c .before in omega (arith, change-old (h .before .loop .inv .0) (h .loop-test .taken) (h .before .loop .inv .1), h .before .before .pre .top (h .before .before .args .first + trailingZeros 64 (h .before .loop .left)) (node h))
+add-pot c =
+    let h = c .before in
+    let at-loop = h .before in
+    let entry = at-loop .before in
+    omega (arith, change-old (at-loop .loop .inv .0) (h .loop-test .taken) (at-loop .loop .inv .1), entry .pre .top (entry .args .first + trailingZeros 64 (at-loop .loop .left)) (node h))
 
 sub-pot : tie.Need-sub-pot Inv-loop μ-loop
 sub-pot c = omega (arith, enough (c .before))
@@ -60,7 +64,10 @@ loop-less : tie.Need-loop-less Inv-loop μ-loop
 loop-less c = omega (arith, rest-less (c .before .loop-test .taken))
 
 loop-again : tie.Need-loop-again Inv-loop μ-loop
-loop-again c = let h = c .before in (change-next (h .before .loop .inv .0) (h .loop-test .taken) (h .before .loop .inv .1) _ (node h) (omega (arith, enough h)), omega (arith, rest-less (h .loop-test .taken), h .before .loop .inv .1))
+loop-again c =
+    let h = c .before in
+    let at-loop = h .before in
+    (change-next (at-loop .loop .inv .0) (h .loop-test .taken) (at-loop .loop .inv .1) _ (node h) (omega (arith, enough h)), omega (arith, rest-less (h .loop-test .taken), at-loop .loop .inv .1))
 
 returns : tie.Need-returns Inv-loop μ-loop
 returns c = change-end (c .before .loop .inv .0) (c .loop-test .left)

@@ -43,7 +43,10 @@ loop-less : tie.Need-loop-less Inv-loop μ-loop
 loop-less c = omega (arith, rest-less (c .before .loop-test .taken))
 
 loop-again : tie.Need-loop-again Inv-loop μ-loop
-loop-again c = (gather-next (c .before .before .loop .inv .0) (c .before .loop-test .taken) (c .before .before .loop .inv .1), omega (arith, rest-less (c .before .loop-test .taken), c .before .before .loop .inv .1))
+loop-again c = (
+  gather-next (c .before .before .loop .inv .0) (c .before .loop-test .taken) (c .before .before .loop .inv .1),
+  omega (arith, rest-less (c .before .loop-test .taken), c .before .before .loop .inv .1),
+)
 
 returns : tie.Need-returns Inv-loop μ-loop
 returns c = λ e. gather-end (c .before .before .loop .inv .0) (c .before .loop-test .left) (c .if1 .taken)

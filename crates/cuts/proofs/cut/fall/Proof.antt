@@ -23,16 +23,41 @@ others-requires-2 : tie.Need-others-requires-2
 others-requires-2 c κs = c .before .before .before .before .before .pre .terminals
 
 change-requires : tie.Need-change-requires
-change-requires c κs = fall-room _ (c .before .before .before .before .before .before .before .pre) (c .before .before .before .before .before .bottom .ensures) (omega (arith, c .before .before .before .before .if1 .left, c .before .before .before .if2 .left)) (c .before .before .others .ensures) (c .before .others2 .ensures)
+change-requires c κs =
+    let at-if2 = c .before .before .before in
+    let at-if1 = at-if2 .before in
+    let at-bottom = at-if1 .before in
+    let entry = at-bottom .before .before in
+    fall-room _ (entry .pre) (at-bottom .bottom .ensures) (omega (arith, at-if1 .if1 .left, at-if2 .if2 .left)) (c .before .before .others .ensures) (c .before .others2 .ensures)
 
 change-requires-2 : tie.Need-change-requires-2
-change-requires-2 c κs = fall-room-2 _ (c .before .before .before .before .before .before .before .before .before .pre) (c .before .before .before .before .before .before .before .bottom .ensures) (omega (arith, c .before .before .before .before .before .before .if1 .left, c .before .before .before .before .before .if2 .left)) (c .before .before .before .before .others .ensures) (c .before .before .before .others2 .ensures) (c .before .change .ensures)
+change-requires-2 c κs =
+    let at-others2 = c .before .before .before in
+    let at-others = at-others2 .before in
+    let at-if2 = at-others .before in
+    let at-if1 = at-if2 .before in
+    let at-bottom = at-if1 .before in
+    let entry = at-bottom .before .before in
+    fall-room-2 _ (entry .pre) (at-bottom .bottom .ensures) (omega (arith, at-if1 .if1 .left, at-if2 .if2 .left)) (at-others .others .ensures)
+    (at-others2 .others2 .ensures) (c .before .change .ensures)
 
 returns-3 : tie.Need-returns-3
-returns-3 c = record {
-  rose = λ e. (_, fell _ (c .before .before .before .before .before .before .before .before .before .before .pre) (c .before .before .before .before .before .before .before .before .bottom .ensures) (omega (arith, c .before .before .before .before .before .before .before .if1 .left, c .before .before .before .before .before .before .if2 .left)) (c .before .before .before .before .before .others .ensures) (c .before .before .before .before .others2 .ensures) (c .before .before .change .ensures) (c .change2 .ensures));
-  same = λ e. absurd (true≢false e);
-}
+returns-3 c =
+    let at-others2 = c .before .before .before .before in
+    let at-others = at-others2 .before in
+    let at-if2 = at-others .before in
+    let at-if1 = at-if2 .before in
+    let at-bottom = at-if1 .before in
+    let entry = at-bottom .before .before in
+    record {
+      rose =
+          λ e. (
+            _,
+            fell _ (entry .pre) (at-bottom .bottom .ensures) (omega (arith, at-if1 .if1 .left, at-if2 .if2 .left)) (at-others .others .ensures)
+                (at-others2 .others2 .ensures) (c .before .before .change .ensures) (c .change2 .ensures),
+          );
+      same = λ e. absurd (true≢false e);
+    }
 
 pub fall-spec : {M : Type 1} → statement M
 fall-spec =

@@ -36,7 +36,11 @@ element-copy-out-lower-2 : tie.Need-element-copy-out-lower-2 Inv-loop μ-loop
 element-copy-out-lower-2 c = search needs
 
 lower-requires : tie.Need-lower-requires Inv-loop μ-loop
-lower-requires c κs = let s = c .before .before .before .before .pre in (omega (arith, s .costs (c .before .before .before .loop .i) (c .before .before .loop-test .taken), s .base-most), omega (arith, c .before .before .before .loop .inv .1 .less (c .before .before .before .loop .i), s .most (c .before .before .before .loop .i)))
+lower-requires c κs =
+    let at-loop = c .before .before .before in
+    let entry = at-loop .before in
+    let s = entry .pre in
+    (omega (arith, s .costs (at-loop .loop .i) (c .before .before .loop-test .taken), s .base-most), omega (arith, at-loop .loop .inv .1 .less (at-loop .loop .i), s .most (at-loop .loop .i)))
 
 mul-acc : tie.Need-mul-acc Inv-loop μ-loop
 mul-acc c = search needs
@@ -51,7 +55,10 @@ loop-less : tie.Need-loop-less Inv-loop μ-loop
 loop-less c = search needs
 
 loop-again : tie.Need-loop-again Inv-loop μ-loop
-loop-again c = (omega (arith, c .before .before .before .loop-test .taken), fold-next (c .before .before .before .before .loop .inv .1) (c .before .before .before .loop-test .taken) (c .lower .ensures .0) (c .lower .ensures .1))
+loop-again c =
+    let at-loop-test = c .before .before .before in
+    let at-loop = at-loop-test .before in
+    (omega (arith, at-loop-test .loop-test .taken), fold-next (at-loop .loop .inv .1) (at-loop-test .loop-test .taken) (c .lower .ensures .0) (c .lower .ensures .1))
 
 returns : tie.Need-returns Inv-loop μ-loop
 returns c = let z : c .before .loop .i ≡ 32 = omega (arith, c .loop-test .left, c .before .loop .inv .0) in rw (← z) (c .before .loop .inv .1)

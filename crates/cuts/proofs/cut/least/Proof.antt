@@ -47,7 +47,11 @@ element-copy-out-less-2 : tie.Need-element-copy-out-less-2 Inv-loop μ-loop
 element-copy-out-less-2 c = omega (arith, place (c .before), c .before .before .before .pre .nodes)
 
 add-less-3 : tie.Need-add-less-3 Inv-loop μ-loop
-add-less-3 c = let h = c .before .before in let s = h .before .before .pre in let b = trailingZeros 64 (h .before .loop .left) in omega (arith, s .most b, s .weights (h .before .before .args .at + b) (omega (arith, place h, s .nodes)))
+add-less-3 c =
+    let h = c .before .before in
+    let at-loop = h .before in
+    let entry = at-loop .before in
+    let s = entry .pre in let b = trailingZeros 64 (at-loop .loop .left) in omega (arith, s .most b, s .weights (entry .args .at + b) (omega (arith, place h, s .nodes)))
 
 less-requires : tie.Need-less-requires Inv-loop μ-loop
 less-requires c κs = search needs
@@ -59,7 +63,10 @@ loop-less : tie.Need-loop-less Inv-loop μ-loop
 loop-less c = omega (arith, rest-less (c .before .before .before .loop-test .taken))
 
 loop-again : tie.Need-loop-again Inv-loop μ-loop
-loop-again c = let h = c .before .before .before in (low-next (h .before .loop .inv .0) (h .loop-test .taken) (fits h) (c .less .ensures .0) (c .less .ensures .1), omega (arith, rest-less (h .loop-test .taken), h .before .loop .inv .1))
+loop-again c =
+    let h = c .before .before .before in
+    let at-loop = h .before in
+    (low-next (at-loop .loop .inv .0) (h .loop-test .taken) (fits h) (c .less .ensures .0) (c .less .ensures .1), omega (arith, rest-less (h .loop-test .taken), at-loop .loop .inv .1))
 
 returns : tie.Need-returns Inv-loop μ-loop
 returns c = low-end (c .before .loop .inv .0) (c .loop-test .left)

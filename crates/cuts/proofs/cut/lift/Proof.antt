@@ -32,7 +32,10 @@ rise-requires-2 : tie.Need-rise-requires-2
 rise-requires-2 c κs = ap (λ (l : List ℕ). length l) (c .before .before .fall .ensures .same (c .before .if2 .left)) ∙ c .before .before .before .before .before .pre .long
 
 returns-3 : tie.Need-returns-3
-returns-3 c = lifted-after (c .before .before .before .before .before .before .pre .sources) (c .before .before .before .before .before .before .pre .terminals) (c .before .before .before .fall .ensures) (c .before .before .if2 .left) (c .rise2 .ensures)
+returns-3 c =
+    let at-fall = c .before .before .before in
+    let entry = at-fall .before .before .before in
+    lifted-after (entry .pre .sources) (entry .pre .terminals) (at-fall .fall .ensures) (c .before .before .if2 .left) (c .rise2 .ensures)
 
 pub lift-spec : {M : Type 1} → statement M
 lift-spec =

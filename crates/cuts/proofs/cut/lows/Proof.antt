@@ -48,7 +48,13 @@ element-copy-out-fold : tie.Need-element-copy-out-fold Inv-loop μ-loop
 element-copy-out-fold c = omega (arith, node c)
 
 fold-requires : tie.Need-fold-requires Inv-loop μ-loop
-fold-requires c κs = let h = c .before .before in let s = h .before .before .pre in let b = trailingZeros 64 (h .before .loop .left) in record { within = within h; base-most = s .most (h .before .before .args .at + b) (node h); costs = λ i l. s .costs b i (mine h) l; long = h .before .loop .inv .0 .long; most = h .before .loop .inv .0 .most }
+fold-requires c κs =
+    let h = c .before .before in
+    let at-loop = h .before in
+    let entry = at-loop .before in
+    let s = entry .pre in
+    let b = trailingZeros 64 (at-loop .loop .left) in
+    record { within = within h; base-most = s .most (entry .args .at + b) (node h); costs = λ i l. s .costs b i (mine h) l; long = at-loop .loop .inv .0 .long; most = at-loop .loop .inv .0 .most }
 
 sub-left : tie.Need-sub-left Inv-loop μ-loop
 sub-left c = omega (arith, c .before .before .before .loop-test .taken)
@@ -57,7 +63,10 @@ loop-less : tie.Need-loop-less Inv-loop μ-loop
 loop-less c = omega (arith, rest-less (c .before .before .before .loop-test .taken))
 
 loop-again : tie.Need-loop-again Inv-loop μ-loop
-loop-again c = let h = c .before .before .before in (lows-next (h .before .loop .inv .0) (h .loop-test .taken) (h .before .loop .inv .1) (c .fold .ensures), omega (arith, rest-less (h .loop-test .taken), h .before .loop .inv .1))
+loop-again c =
+    let h = c .before .before .before in
+    let at-loop = h .before in
+    (lows-next (at-loop .loop .inv .0) (h .loop-test .taken) (at-loop .loop .inv .1) (c .fold .ensures), omega (arith, rest-less (h .loop-test .taken), at-loop .loop .inv .1))
 
 returns : tie.Need-returns Inv-loop μ-loop
 returns c = lows-end (c .before .loop .inv .0) (c .loop-test .left)

@@ -14,7 +14,10 @@ by-half-requires : tie.Need-by-half-requires
 by-half-requires c κs = near-sources (c .before .before .before .before .pre) (c .before .before .before .others .ensures) (c .before .before .if1 .taken)
 
 returns : tie.Need-returns
-returns c = near-by-half (c .before .before .before .before .before .pre) (c .before .before .before .before .others .ensures) (c .before .before .if2 .taken) (c .by-half .ensures)
+returns c =
+    let at-others = c .before .before .before .before in
+    let entry = at-others .before in
+    near-by-half (entry .pre) (at-others .others .ensures) (c .before .before .if2 .taken) (c .by-half .ensures)
 
 mul-if5 : tie.Need-mul-if5
 mul-if5 c = omega (arith, ones-le 64 (c .before .before .others .result) (word-fits (omega (arith, c .before .before .before .pre .sources)) (c .before .before .others .ensures .within)))

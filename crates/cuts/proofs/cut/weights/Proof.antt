@@ -39,7 +39,12 @@ loop-less : tie.Need-loop-less Inv-loop μ-loop
 loop-less c = search needs
 
 loop-again : tie.Need-loop-again Inv-loop μ-loop
-loop-again c = let h = c .before in let i = h .before .loop .inv in (omega (arith, i .0), omega (arith, h .loop-test .taken), weigh-next (i .2) (i .0) (h .loop-test .taken) (h .before .before .before .pre .high (h .before .loop .v) (h .loop-test .taken)) refl)
+loop-again c =
+    let h = c .before in
+    let at-loop = h .before in
+    let entry = at-loop .before .before in
+    let i = at-loop .loop .inv in
+    (omega (arith, i .0), omega (arith, h .loop-test .taken), weigh-next (i .2) (i .0) (h .loop-test .taken) (entry .pre .high (at-loop .loop .v) (h .loop-test .taken)) refl)
 
 returns : tie.Need-returns Inv-loop μ-loop
 returns c = let z : c .before .loop .v ≡ 96 = omega (arith, c .loop-test .left, c .before .loop .inv .1) in rw (← z) (c .before .loop .inv .2)

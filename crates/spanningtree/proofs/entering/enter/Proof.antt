@@ -55,10 +55,16 @@ sub-left : tie.Need-sub-left Inv-loop μ-loop
 sub-left c = search needs
 
 loop-less : tie.Need-loop-less Inv-loop μ-loop
-loop-less c = omega (arith, and-le-r (c .before .before .before .before .loop .left) (c .before .before .before .before .loop .left - 1), c .before .before .before .loop-test .taken)
+loop-less c =
+    let at-loop-test = c .before .before .before in
+    let at-loop = at-loop-test .before in
+    omega (arith, and-le-r (at-loop .loop .left) (at-loop .loop .left - 1), at-loop-test .loop-test .taken)
 
 loop-again : tie.Need-loop-again Inv-loop μ-loop
-loop-again c = omega (arith, and-le-r (c .before .before .before .before .loop .left) (c .before .before .before .before .loop .left - 1), c .before .before .before .loop-test .taken, c .before .before .before .before .loop .inv)
+loop-again c =
+    let at-loop-test = c .before .before .before in
+    let at-loop = at-loop-test .before in
+    omega (arith, and-le-r (at-loop .loop .left) (at-loop .loop .left - 1), at-loop-test .loop-test .taken, at-loop .loop .inv)
 
 returns-2 : tie.Need-returns-2 Inv-loop μ-loop
 returns-2 c = search needs

@@ -5,10 +5,12 @@ use Rattle.spanningtree.proofs.flows.reverse_path.Statement.{statement}
 use Rattle.spanningtree.proofs.flows.reverse_path.Tie as tie
 
 abbrev Inv-loop : tie.InvT-loop
-Inv-loop v e host amount r c source terminal up₀ rows₀ cols₀ flow₀ a₀ above₀ moved₀ off-rows₀ off-cols₀ left₀ parent sources-below terminals-below flow a above moved off-sources off-terminals left = left ≤ 96
+Inv-loop v e host amount r c source terminal up₀ rows₀ cols₀ flow₀ a₀ above₀ moved₀ off-rows₀ off-cols₀ left₀ parent sources-below terminals-below flow a above moved off-sources off-terminals left =
+    left ≤ 96
 
 abbrev μ-loop : tie.MeasureT-loop
-μ-loop v e host amount r c source terminal up₀ rows₀ cols₀ flow₀ a₀ above₀ moved₀ off-rows₀ off-cols₀ left₀ parent sources-below terminals-below flow a above moved off-sources off-terminals left = left
+μ-loop v e host amount r c source terminal up₀ rows₀ cols₀ flow₀ a₀ above₀ moved₀ off-rows₀ off-cols₀ left₀ parent sources-below terminals-below flow a above moved off-sources off-terminals left =
+    left
 
 loop-holds : tie.Need-loop-holds Inv-loop μ-loop
 loop-holds c = search needs

@@ -5,10 +5,10 @@ use Rattle.spanningtree.proofs.leaving.blocked.Statement.{statement}
 use Rattle.spanningtree.proofs.leaving.blocked.Tie as tie
 
 abbrev Inv-loop : tie.InvT-loop
-Inv-loop parent x last₀ v₀ left₀ last v left = left ≤ 48
+Inv-loop wide up cap x last₀ v₀ left₀ last v left = left ≤ 48
 
 abbrev μ-loop : tie.MeasureT-loop
-μ-loop parent x last₀ v₀ left₀ last v left = left
+μ-loop wide up cap x last₀ v₀ left₀ last v left = left
 
 loop-holds : tie.Need-loop-holds Inv-loop μ-loop
 loop-holds c = search needs
@@ -52,6 +52,9 @@ mul-v c = search needs
 element-copy-out-v : tie.Need-element-copy-out-v Inv-loop μ-loop
 element-copy-out-v c = search needs
 
+full-requires : tie.Need-full-requires Inv-loop μ-loop
+full-requires c κs = search needs
+
 returns-2 : tie.Need-returns-2 Inv-loop μ-loop
 returns-2 c = search needs
 
@@ -87,6 +90,7 @@ blocked-spec =
     cast-v
     mul-v
     element-copy-out-v
+    full-requires
     returns-2
     sub-left
     loop-less

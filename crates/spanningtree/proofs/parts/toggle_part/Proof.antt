@@ -5,13 +5,22 @@ use Rattle.spanningtree.proofs.parts.toggle_part.Statement.{statement}
 use Rattle.spanningtree.proofs.parts.toggle_part.Tie as tie
 
 abbrev Inv-loop : tie.InvT-loop
-Inv-loop from stop r c parent rows₀ cols₀ bit a₀ left₀ sources-below terminals-below a left = left ≤ 96
+Inv-loop from stop r c parent sources-below₀ terminals-below₀ source terminal a₀ left₀ rows cols a left = left ≤ 96
 
 abbrev μ-loop : tie.MeasureT-loop
-μ-loop from stop r c parent rows₀ cols₀ bit a₀ left₀ sources-below terminals-below a left = left
+μ-loop from stop r c parent sources-below₀ terminals-below₀ source terminal a₀ left₀ rows cols a left = left
 
-shl-bit : tie.Need-shl-bit Inv-loop μ-loop
-shl-bit c = search needs
+shl-source : tie.Need-shl-source Inv-loop μ-loop
+shl-source c = search needs
+
+add-terminal : tie.Need-add-terminal Inv-loop μ-loop
+add-terminal c = search needs
+
+cast-terminal : tie.Need-cast-terminal Inv-loop μ-loop
+cast-terminal c = search needs
+
+shl-terminal : tie.Need-shl-terminal Inv-loop μ-loop
+shl-terminal c = search needs
 
 loop-holds : tie.Need-loop-holds Inv-loop μ-loop
 loop-holds c = search needs
@@ -25,6 +34,12 @@ mul-part c = search needs
 element-copy-out-part : tie.Need-element-copy-out-part Inv-loop μ-loop
 element-copy-out-part c = search needs
 
+mul-below : tie.Need-mul-below Inv-loop μ-loop
+mul-below c = search needs
+
+element-copy-out-below : tie.Need-element-copy-out-below Inv-loop μ-loop
+element-copy-out-below c = search needs
+
 returns : tie.Need-returns Inv-loop μ-loop
 returns c = search needs
 
@@ -36,12 +51,6 @@ element-write-sources-below c = search needs
 
 mul-terminals-below : tie.Need-mul-terminals-below Inv-loop μ-loop
 mul-terminals-below c = search needs
-
-element-copy-out-terminals-below : tie.Need-element-copy-out-terminals-below Inv-loop μ-loop
-element-copy-out-terminals-below c = search needs
-
-mul-terminals-below-2 : tie.Need-mul-terminals-below-2 Inv-loop μ-loop
-mul-terminals-below-2 c = search needs
 
 element-write-terminals-below : tie.Need-element-write-terminals-below Inv-loop μ-loop
 element-write-terminals-below c = search needs
@@ -70,17 +79,20 @@ toggle-part-spec =
     (tie.spec
     Inv-loop
     μ-loop
-    shl-bit
+    shl-source
+    add-terminal
+    cast-terminal
+    shl-terminal
     loop-holds
     cast-v
     mul-part
     element-copy-out-part
+    mul-below
+    element-copy-out-below
     returns
     mul-sources-below
     element-write-sources-below
     mul-terminals-below
-    element-copy-out-terminals-below
-    mul-terminals-below-2
     element-write-terminals-below
     mul-a
     element-copy-out-a

@@ -12,7 +12,8 @@ array-write-room : tie.Need-array-write-room
 array-write-room c = search needs
 
 search-requires : tie.Need-search-requires
-search-requires c κs = let r = c .before .pre in (record { sound = r .0 .plant-slack .sound; ceilings = r .0 .plant-slack .ceilings; start = omega (arith, r .0 .plant-slack .plants) }, (r .1 .0, r .1 .1))
+search-requires c κs =
+    let r = c .before .pre in (record { sound = r .0 .plant-slack .sound; ceilings = r .0 .plant-slack .ceilings; start = omega (arith, r .0 .plant-slack .plants) }, (r .1 .0, r .1 .1))
 
 returns : tie.Need-returns
 returns c = let r = c .before .before .pre .0 in reached-by r (c .search .ensures _ (r .some))

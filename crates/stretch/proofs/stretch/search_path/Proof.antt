@@ -13,8 +13,9 @@ reach-requires c κs = c .before .pre
 
 measure-requires : tie.Need-measure-requires
 measure-requires c κs =
-    let s = c .before .before .before .before .before in
-    route (s .args .m) (s .args .n) (s .args .cost .now) (s .pre .0 .plant-slack .sound .sources) (omega arith) (c .before .before .before .reach .ensures .searched)
+    let at-reach = c .before .before .before in
+    let s = at-reach .before .before in
+    route (s .args .m) (s .args .n) (s .args .cost .now) (s .pre .0 .plant-slack .sound .sources) (omega arith) (at-reach .reach .ensures .searched)
 
 array-read-gap : tie.Need-array-read-gap
 array-read-gap c = search needs
@@ -23,12 +24,16 @@ element-copy-out-gap : tie.Need-element-copy-out-gap
 element-copy-out-gap c = search needs
 
 sub-gap : tie.Need-sub-gap
-sub-gap c = let s = c .before .before .before .before .before .before .before in path-low (s .pre .0) (only (s .args .limit)) (c .before .before .before .before .before .reach .ensures .searched)
+sub-gap c =
+    let at-reach = c .before .before .before .before .before in
+    let s = at-reach .before .before in
+    path-low (s .pre .0) (only (s .args .limit)) (at-reach .reach .ensures .searched)
 
 returns : tie.Need-returns
 returns c =
-    let s = c .before .before .before .before .before .before .before in
-    let q = c .before .before .before .before .before .reach .ensures .searched in
+    let at-reach = c .before .before .before .before .before in
+    let s = at-reach .before .before in
+    let q = at-reach .reach .ensures .searched in
     let w = c .before .measure .ensures in
     let r = route (s .args .m) (s .args .n) (s .args .cost .now) (s .pre .0 .plant-slack .sound .sources) (omega arith) q in
     search-found (s .pre .0) q refl refl (w .arcs r) (w .width r)

@@ -9,32 +9,37 @@ use borrow.Author.Needs.{needs}
 use Rattle.sweep.specs.inner.StopsPassed.{Climbing}
 use Rattle.sweep.specs.inner.Climb.{curveFrom, StretchedTo, Standing}
 use Rattle.residual.specs.inner.LanesInUse.{Covers}
+use Rattle.cuts.specs.inner.Tables.{Tables}
 use Rattle.sweep.proofs.curve.climb.Statement.{statement}
 use Rattle.sweep.proofs.curve.climb.Tie as tie
 
 abbrev Inv-loop : tie.InvT-loop
-Inv-loop m n cost cap lo hi freight demand table added splits₀ freights₀ x₀ serves₀ pot₀ kept₀ up₀ rows₀ cols₀ columns at best₀ prices₀ y₀ value₀
-    count₀ rise₀ fall₀ drained₀ splits freights x serves pot kept parent sources-below terminals-below best prices y value count rise fall drained =
+Inv-loop wide m n cost cap lo hi freight demand table added splits₀ freights₀ x₀ serves₀ pot₀ kept₀ parent₀ sources-below₀ terminals-below₀ ahead₀
+    columns₀ at best₀ prices₀ y₀ value₀ count₀ rise₀ fall₀ blocked₀ splits freights x serves pot kept parent sources-below terminals-below ahead columns
+    best prices y value count rise fall blocked =
     Standing m n cost cap x₀ x pot kept prices y value best ×
     Climbing (curveFrom m n cost cap x₀) table added splits₀ freights₀ lo hi splits freights y value count rise fall best × (rise ≤ 800000000) ×
-    (fall ≤ 800000000) × Covers m n x serves × StretchedTo m n cost cap x₀ lo hi y x
+    (fall ≤ 800000000) × Covers m n x serves × StretchedTo m n cost cap x₀ lo hi y x × Tables wide m n cost cap x ahead columns
 
 abbrev μ-loop : tie.MeasureT-loop
-μ-loop m n cost cap lo hi freight demand table added splits₀ freights₀ x₀ serves₀ pot₀ kept₀ up₀ rows₀ cols₀ columns at best₀ prices₀ y₀ value₀ count₀
-    rise₀ fall₀ drained₀ splits freights x serves pot kept parent sources-below terminals-below best prices y value count rise fall drained =
+μ-loop wide m n cost cap lo hi freight demand table added splits₀ freights₀ x₀ serves₀ pot₀ kept₀ parent₀ sources-below₀ terminals-below₀ ahead₀
+    columns₀ at best₀ prices₀ y₀ value₀ count₀ rise₀ fall₀ blocked₀ splits freights x serves pot kept parent sources-below terminals-below ahead columns
+    best prices y value count rise fall blocked =
     hi - y
 
-mul-t33 : tie.Need-mul-t33 Inv-loop μ-loop
-mul-t33 c = omega (arith, c .before .before .pre .0 .entries, c .before .before .pre .0 .order, c .before .before .good)
+mul-t35 : tie.Need-mul-t35 Inv-loop μ-loop
+mul-t35 c = omega (arith, c .before .before .pre .0 .entries, c .before .before .pre .0 .order, c .before .before .good)
 
-shared-slice-read-t35 : tie.Need-shared-slice-read-t35 Inv-loop μ-loop
-shared-slice-read-t35 c = omega (arith, c .before .before .before .pre .0 .entries, c .before .before .before .pre .0 .order)
+shared-slice-read-t37 : tie.Need-shared-slice-read-t37 Inv-loop μ-loop
+shared-slice-read-t37 c = omega (arith, c .before .before .before .pre .0 .entries, c .before .before .before .pre .0 .order)
 
-add-t36 : tie.Need-add-t36 Inv-loop μ-loop
-add-t36 c = let r = c .before .before .before .pre .0 in omega (arith, start-most r, r .small (c .before .before .before .args .lo) (omega arith) (r .order))
+add-t38 : tie.Need-add-t38 Inv-loop μ-loop
+add-t38 c = let r = c .before .before .before .pre .0 in omega (arith, start-most r, r .small (c .before .before .before .args .lo) (omega arith) (r .order))
 
 loop-holds : tie.Need-loop-holds Inv-loop μ-loop
-loop-holds c = let r = c .before .before .before .before .pre .0 in (stand-start r _ _, ascend-start r, omega arith, omega arith, c .before .before .before .before .pre .1 .1 .0, stretched-start r)
+loop-holds c =
+    let entry = c .before .before .before .before in
+    let r = entry .pre .0 in (stand-start r _ _, ascend-start r, omega arith, omega arith, entry .pre .1 .1 .0, stretched-start r, entry .pre .1 .1 .1)
 
 sub-left : tie.Need-sub-left Inv-loop μ-loop
 sub-left c = omega (arith, c .loop-test .taken)
@@ -44,16 +49,16 @@ cast-left c = omega (arith, c .before .before .before .before .before .before .p
 
 stretch-requires : tie.Need-stretch-requires Inv-loop μ-loop
 stretch-requires c κs =
-    let at-loop-test = c .before .before .before .before .before .before .before .before in
+    let at-loop-test = c .before .before .before .before .before .before .before .before .before .before in
     let at-loop = at-loop-test .before in
     let entry = at-loop .before .before .before .before .before in
     let i = at-loop .loop .inv in
     let r = entry .pre .0 in
-    (stretch-ready r (i .0) (i .1 .low) (at-loop-test .loop-test .taken), (λ j h. omega (arith, i .0 .at .demands j (omega arith) h, entry .pre .1 .0 j h), (i .4, entry .pre .1 .1 .1)))
+    (stretch-ready r (i .0) (i .1 .low) (at-loop-test .loop-test .taken), (λ j h. omega (arith, i .0 .at .demands j (omega arith) h, entry .pre .1 .0 j h), (i .4, i .6)))
 
 turn-requires : tie.Need-turn-requires Inv-loop μ-loop
 turn-requires c κs =
-    let at-loop-test = c .before .before .before .before .before .before .before .before .before in
+    let at-loop-test = c .before .before .before .before .before .before .before .before .before .before .before in
     let at-loop = at-loop-test .before in
     let entry = at-loop .before .before .before .before .before in
     let i = at-loop .loop .inv in
@@ -63,14 +68,14 @@ turn-requires c κs =
 
 mark-requires : tie.Need-mark-requires Inv-loop μ-loop
 mark-requires c κs =
-    let at-loop = c .before .before .before .before .before .before .before .before .before .before .before .before .before in
+    let at-loop = c .before .before .before .before .before .before .before .before .before .before .before .before .before .before .before in
     let entry = at-loop .before .before .before .before .before in
     let i = at-loop .loop .inv in let r = entry .pre .0 in ascend-room r (i .0) (i .1)
 
 loop-less : tie.Need-loop-less Inv-loop μ-loop
 loop-less c =
     let at-stretch = c .before .before .before .before .before .before .before .before in
-    let at-loop-test = at-stretch .before .before .before .before .before .before .before .before .before in
+    let at-loop-test = at-stretch .before .before .before .before .before .before .before .before .before .before .before in
     let at-loop = at-loop-test .before in
     let entry = at-loop .before .before .before .before .before in
     let i = at-loop .loop .inv in
@@ -83,7 +88,7 @@ loop-again c =
     let at-mark = c .before .before .before .before in
     let at-turn = at-mark .before .before .before in
     let at-stretch = at-turn .before in
-    let at-loop-test = at-stretch .before .before .before .before .before .before .before .before .before in
+    let at-loop-test = at-stretch .before .before .before .before .before .before .before .before .before .before .before in
     let at-loop = at-loop-test .before in
     let entry = at-loop .before .before .before .before .before in
     let i = at-loop .loop .inv in
@@ -94,8 +99,9 @@ loop-again c =
       ascend-next r (i .0) (i .1) l q (at-turn .turn .ensures) (at-mark .mark .ensures),
       gain-most r (i .0) (i .1 .low) l q,
       loss-most r (i .0) (i .1 .low) l q,
-      at-stretch .stretch .ensures .1,
+      at-stretch .stretch .ensures .1 .0,
       stretched-next r (i .0) (i .1 .low) l q (i .5),
+      at-stretch .stretch .ensures .1 .1,
     )
 
 note-requires : tie.Need-note-requires Inv-loop μ-loop
@@ -139,9 +145,9 @@ climb-spec =
     (tie.spec
     Inv-loop
     μ-loop
-    mul-t33
-    shared-slice-read-t35
-    add-t36
+    mul-t35
+    shared-slice-read-t37
+    add-t38
     loop-holds
     sub-left
     cast-left
