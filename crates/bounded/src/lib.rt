@@ -5,6 +5,7 @@
 // for each. A lane is in the tree, or empty, or full: a bit of full, by source, tells the latter. Where a source has no other way a lane goes above its
 // ceiling, at a fine for each drum: price[k] is the unit cost of lane k, with the fine where the lane is full or closed.
 mod exchange;
+mod fits;
 mod leaving;
 mod potentials;
 mod prices;

@@ -4,6 +4,7 @@ ghost use mathlib.Core.Path.{_≡_};
 ghost use Prim.Native.Nat.{_≤_, _<_};
 ghost use lib.ListN.{length};
 use super::exchange::pivot;
+use super::fits::fits;
 use super::potentials::source_potentials;
 use super::potentials::terminal_potentials;
 use super::prices::close_lanes;
@@ -387,7 +388,7 @@ fn best_tree(
 }
 
 // A cheapest plan at these amounts into x, where there is one, its potentials, and the tree that it is on. x is lent cleared; what it holds on lanes that
-// are neither the tree's nor full stays.
+// are neither the tree's nor full stays. Where a source or a terminal has not lanes enough nothing is tried.
 pub fn solve(
     m: usize,
     n: usize,
@@ -409,9 +410,16 @@ pub fn solve(
     let mut residual = [0u64; 128];
     let mut potential = [0u32; 32];
     let mut key = [0u32; 64];
+    places(x);
+    let sources = at_most(m, 32);
+    let terminals = at_most(n, 64);
+    if !fits(sources, terminals, cap, amounts, demand) {
+        *pot = [0u32; 96];
+        return;
+    }
     best_tree(
-        at_most(m, 32),
-        at_most(n, 64),
+        sources,
+        terminals,
         cost,
         cap,
         amounts,
@@ -424,7 +432,6 @@ pub fn solve(
         &mut potential,
         &mut key,
     );
-    places(x);
     carried(parent, &residual, cap, x);
     full_lanes(&full, cap, x);
     *pot = [600_000_000u32; 96];
