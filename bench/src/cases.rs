@@ -1,6 +1,6 @@
 //! Random cases of a given shape, repeatable.
 
-/// How the unit costs are drawn; of the last kind they are uniform, and the lanes narrow.
+/// How the unit costs are drawn, and from `Ceilings` on how narrow the lanes are.
 #[derive(Clone, Copy, PartialEq, Eq)]
 pub enum Kind {
     Uniform,
@@ -9,10 +9,55 @@ pub enum Kind {
     Plane,
     Rebates,
     Ceilings,
+    HalfClosed,
+    OneInFour,
+    FewNarrow,
+    TwoNarrow,
+    PlaneNarrow,
+}
+
+/// Which lanes have ceilings that bind.
+enum Narrow {
+    None,
+    All,
+    Half,
+    Fourth,
 }
 
 impl Kind {
-    pub const ALL: [Kind; 6] = [Kind::Uniform, Kind::Few, Kind::Two, Kind::Plane, Kind::Rebates, Kind::Ceilings];
+    pub const ALL: [Kind; 11] = [
+        Kind::Uniform,
+        Kind::Few,
+        Kind::Two,
+        Kind::Plane,
+        Kind::Rebates,
+        Kind::Ceilings,
+        Kind::HalfClosed,
+        Kind::OneInFour,
+        Kind::FewNarrow,
+        Kind::TwoNarrow,
+        Kind::PlaneNarrow,
+    ];
+
+    /// The kind that the costs and the table are drawn as.
+    fn costs(self) -> Kind {
+        match self {
+            Kind::Ceilings | Kind::HalfClosed | Kind::OneInFour => Kind::Uniform,
+            Kind::FewNarrow => Kind::Few,
+            Kind::TwoNarrow => Kind::Two,
+            Kind::PlaneNarrow => Kind::Plane,
+            other => other,
+        }
+    }
+
+    fn narrow(self) -> Narrow {
+        match self {
+            Kind::Ceilings | Kind::FewNarrow | Kind::TwoNarrow | Kind::PlaneNarrow => Narrow::All,
+            Kind::HalfClosed => Narrow::Half,
+            Kind::OneInFour => Narrow::Fourth,
+            _ => Narrow::None,
+        }
+    }
 
     /// Is it one of the kinds that the goals are about?
     pub fn in_goals(self) -> bool {
@@ -27,6 +72,11 @@ impl Kind {
             Kind::Plane => "plane",
             Kind::Rebates => "rebates",
             Kind::Ceilings => "ceilings",
+            Kind::HalfClosed => "half closed",
+            Kind::OneInFour => "one in four",
+            Kind::FewNarrow => "few, ceilings",
+            Kind::TwoNarrow => "two, ceilings",
+            Kind::PlaneNarrow => "plane, ceilings",
         }
     }
 }
@@ -73,7 +123,7 @@ impl Random {
 pub fn case(shape: Shape, seed: u64) -> Case {
     let Shape { m, n, kind, steps } = shape;
     let mut random = Random(seed);
-    let costs = costs(&mut random, m, n, kind);
+    let costs = costs(&mut random, m, n, kind.costs());
     let made = 4_000;
     let first = 2_000 + steps / 2;
     let second = 2_000 + steps - steps / 2;
@@ -83,19 +133,30 @@ pub fn case(shape: Shape, seed: u64) -> Case {
     let drums = supplies[2..].iter().sum::<u64>() + made;
     let demands = shares(&mut random, drums, n);
     let least = made - second;
-    let table = table(&mut random, first, steps, least, kind);
-    let ceilings = match kind {
-        Kind::Ceilings => narrow(&mut random, made, &supplies, &demands),
-        _ => vec![4_000; m * n],
-    };
+    let table = table(&mut random, first, steps, least, kind.costs());
+    let ceilings = ceilings(&mut random, kind.narrow(), made, &supplies, &demands);
     Case { m, n, costs, supplies, demands, ceilings, table, least, greatest: first }
 }
 
-/// Ceilings of up to 200 drums above some plan at the first split and some plan at the last, so that all splits keep a plan.
-fn narrow(random: &mut Random, made: u64, supplies: &[u64], demands: &[u64]) -> Vec<u64> {
+/// Ceilings that bind leave some plan at the first split and some plan at the last, so that all splits keep a plan: the
+/// greater of both amounts and up to 200 drums, on all lanes or on one in four; or that amount itself on every other lane,
+/// most of which are then closed.
+fn ceilings(random: &mut Random, narrow: Narrow, made: u64, supplies: &[u64], demands: &[u64]) -> Vec<u64> {
+    if matches!(narrow, Narrow::None) {
+        return vec![4_000; supplies.len() * demands.len()];
+    }
     let first = some_plan(random, made - supplies[1], made, supplies, demands);
     let last = some_plan(random, supplies[0], made, supplies, demands);
-    first.iter().zip(&last).map(|(&x, &z)| (x.max(z) + random.within(0, 200)).min(4_000)).collect()
+    let ceiling = |(&x, &z): (&u64, &u64)| {
+        let amount = x.max(z);
+        match narrow {
+            Narrow::All => (amount + random.within(0, 200)).min(4_000),
+            Narrow::Fourth if random.within(0, 3) == 0 => (amount + random.within(0, 200)).min(4_000),
+            Narrow::Half if random.within(0, 1) == 0 => amount,
+            _ => 4_000,
+        }
+    };
+    first.iter().zip(&last).map(ceiling).collect()
 }
 
 /// A plan at split y: the lanes in a random order, each with all that it can still take.
@@ -120,7 +181,7 @@ fn some_plan(random: &mut Random, y: u64, made: u64, supplies: &[u64], demands: 
 fn costs(random: &mut Random, m: usize, n: usize, kind: Kind) -> Vec<i64> {
     let mut each = |low: u64, high: u64| (0..m * n).map(|_| random.within(low, high) as i64).collect();
     match kind {
-        Kind::Uniform | Kind::Ceilings => each(0, 1_000_000),
+        Kind::Uniform => each(0, 1_000_000),
         Kind::Few => each(1, 5),
         Kind::Two => each(0, 1),
         Kind::Rebates => {
@@ -137,6 +198,7 @@ fn costs(random: &mut Random, m: usize, n: usize, kind: Kind) -> Vec<i64> {
             let away = |s: (f64, f64), t: (f64, f64)| (s.0 - t.0).hypot(s.1 - t.1).round() as i64;
             (0..m * n).map(|k| away(sources[k / n], terminals[k % n])).collect()
         }
+        other => unreachable!("{} are drawn as another kind", other.name()),
     }
 }
 
@@ -158,9 +220,9 @@ fn shares(random: &mut Random, drums: u64, n: usize) -> Vec<u64> {
 /// A concave table whose slopes are of the size of the costs' differences.
 fn table(random: &mut Random, first: u64, steps: u64, least: u64, kind: Kind) -> Vec<u64> {
     let most = match kind {
-        Kind::Uniform | Kind::Rebates | Kind::Ceilings => 100_000,
+        Kind::Uniform | Kind::Rebates => 100_000,
         Kind::Few | Kind::Two => 2,
-        Kind::Plane => 2_000,
+        _ => 2_000,
     };
     let mut slopes: Vec<i64> = (0..steps).map(|_| random.within(0, 2 * most) as i64 - most as i64).collect();
     slopes.sort_unstable_by(|a, b| b.cmp(a));

@@ -65,7 +65,7 @@ fn preface(cases: u64, repeats: u32) -> String {
 
 fn heading() -> String {
     format!(
-        "{:>8} {:>10} {:>6} {:>6} {:>10} {:>8} {:>8} {:>8}",
+        "{:>8} {:>15} {:>6} {:>6} {:>10} {:>8} {:>8} {:>8}",
         "m x n", "costs", "u - l", "stops", "a, µs", "a / b", "a / c", "d / a"
     )
 }
@@ -73,7 +73,7 @@ fn heading() -> String {
 fn row(line: &Line) -> String {
     let (s, t) = (&line.shape, &line.times);
     format!(
-        "{:>8} {:>10} {:>6} {:>6.0} {:>10.1} {:>8.2} {:>8.2} {:>8.1}",
+        "{:>8} {:>15} {:>6} {:>6.0} {:>10.1} {:>8.2} {:>8.2} {:>8.1}",
         format!("{}x{}", s.m, s.n),
         s.kind.name(),
         s.steps,
