@@ -81,7 +81,9 @@ fn rows_good(
     requires { ⌜ CheckReady m n (cells (now cost)) ⌝ }
     requires { ⌜ split ≤ made ⌝ }
     requires { ⌜ Levels (now pot) ⌝ }
-    ensures { λ r. ⌜ (r ≡ true → RowsChecked n (cells (now (cost .entry))) (cells (now (cap .entry))) (cells (now (x .entry))) (now (pot .entry)) (amountsAt made (λ k. get (now (supply .entry)) k) split) m) ⌝ }
+    ensures { λ r. ⌜ (r ≡ true →
+        RowsChecked n (cells (now (cost .entry))) (cells (now (cap .entry))) (cells (now (x .entry))) (now (pot .entry))
+        (amountsAt made (λ k. get (now (supply .entry)) k) split) m) ⌝ }
 {
     for i in 0..m {
         let amount = amount_at(i, split, made, supply);
@@ -159,7 +161,8 @@ pub fn good(
 ) -> bool
     requires { ⌜ CheckReady m n (cells (now cost)) ⌝ }
     requires { ⌜ split ≤ made ⌝ }
-    ensures { λ r. ⌜ (r ≡ true → Checked m n (now (cost .entry)) (now (cap .entry)) (now (supply .entry)) (now (demand .entry)) made split (now (x .entry)) (now (pot .entry))) ⌝ }
+    ensures { λ r. ⌜ (r ≡ true →
+        Checked m n (now (cost .entry)) (now (cap .entry)) (now (supply .entry)) (now (demand .entry)) made split (now (x .entry)) (now (pot .entry))) ⌝ }
 {
     if !levels_good(pot) {
         return false;

@@ -15,7 +15,8 @@ fn served(amount: u32, bit: u32) -> u32
 // The terminals that source i serves: its bit in the word of each.
 fn serve_row(n: usize, i: usize, x: &[u32; 2048], serves: &mut [u32; 64])
     requires { ⌜ (i < 32) × (n ≤ 64) ⌝ }
-    ensures { λ _. ⌜ ((m : ℕ) → i < m → ServersTo m n (now (x .entry)) i (now (serves .entry)) → ServersTo m n (now (x .entry)) (i + 1) (now (serves .exit))) ⌝ }
+    ensures { λ _. ⌜ ((m : ℕ) → i < m → ServersTo m n (now (x .entry)) i (now (serves .entry)) →
+        ServersTo m n (now (x .entry)) (i + 1) (now (serves .exit))) ⌝ }
 {
     let bit = 1u32 << i;
     for j in 0..n {

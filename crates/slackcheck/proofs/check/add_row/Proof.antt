@@ -35,7 +35,10 @@ element-copy-out-got-2 : tie.Need-element-copy-out-got-2 Inv-loop μ-loop
 element-copy-out-got-2 c = search needs
 
 add-got-2 : tie.Need-add-got-2 Inv-loop μ-loop
-add-got-2 c = let s = c .before .before .before .before in omega (arith, add-fits (s .pre .0) (omega arith) (c .before .before .before .loop .inv) (c .before .before .loop-test .taken))
+add-got-2 c =
+    let at-loop = c .before .before .before in
+    let s = at-loop .before in
+    omega (arith, add-fits (s .pre .0) (omega arith) (at-loop .loop .inv) (c .before .before .loop-test .taken))
 
 mul-got-4 : tie.Need-mul-got-4 Inv-loop μ-loop
 mul-got-4 c = search needs

@@ -19,10 +19,19 @@ returns-2 : tie.Need-returns-2
 returns-2 c = λ e. absurd (true≢false (sym e))
 
 columns-good-requires : tie.Need-columns-good-requires
-columns-good-requires c κs = let r = c .before .before .before .before .pre .0 in record { sources = r .sources; terminals = r .terminals; few = λ i j hi hj. c .before .rows-good .ensures (not-false _ (c .if2 .left)) i hi .lanes j hj .few }
+columns-good-requires c κs =
+    let r = c .before .before .before .before .pre .0 in
+    record { sources = r .sources; terminals = r .terminals; few = λ i j hi hj. c .before .rows-good .ensures (not-false _ (c .if2 .left)) i hi .lanes j hj .few }
 
 returns-3 : tie.Need-returns-3
-returns-3 c = λ e. record { levels = c .before .before .before .before .levels-good .ensures (not-false _ (c .before .before .before .if1 .left)); rows = c .before .before .rows-good .ensures (not-false _ (c .before .if2 .left)); columns = c .columns-good .ensures e }
+returns-3 c =
+    let at-if1 = c .before .before .before in
+    let at-levels-good = at-if1 .before in
+    λ e. record {
+      levels = at-levels-good .levels-good .ensures (not-false _ (at-if1 .if1 .left));
+      rows = c .before .before .rows-good .ensures (not-false _ (c .before .if2 .left));
+      columns = c .columns-good .ensures e;
+    }
 
 pub good-spec : {M : Type 1} → statement M
 good-spec =

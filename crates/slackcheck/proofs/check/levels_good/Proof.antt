@@ -44,7 +44,10 @@ loop-less : tie.Need-loop-less Inv-loop μ-loop
 loop-less c = search needs
 
 loop-again : tie.Need-loop-again Inv-loop μ-loop
-loop-again c = (omega (arith, c .before .before .before .before .loop-test .taken), below-more _ _ (c .before .before .before .before .before .loop .inv .1) (c .before .before .if1 .left, c .if2 .left))
+loop-again c =
+    let at-loop-test = c .before .before .before .before in
+    let at-loop = at-loop-test .before in
+    (omega (arith, at-loop-test .loop-test .taken), below-more _ _ (at-loop .loop .inv .1) (c .before .before .if1 .left, c .if2 .left))
 
 returns-3 : tie.Need-returns-3 Inv-loop μ-loop
 returns-3 c = λ e. record { low = λ v h. c .before .loop .inv .1 v (omega (arith, c .loop-test .left)) .0; high = λ v h. c .before .loop .inv .1 v (omega (arith, c .loop-test .left)) .1 }

@@ -42,8 +42,9 @@ element-copy-out-reach c = search needs
 
 add-reach : tie.Need-add-reach Inv-loop μ-loop
 add-reach c =
-    let s = c .before .before .before .before .before in
-    omega (arith, s .pre .costs (c .before .before .before .loop .j) (c .before .before .loop-test .taken), s .pre .high)
+    let at-loop = c .before .before .before in
+    let s = at-loop .before .before in
+    omega (arith, s .pre .costs (at-loop .loop .j) (c .before .before .loop-test .taken), s .pre .high)
 
 add-level : tie.Need-add-level Inv-loop μ-loop
 add-level c = search needs
@@ -80,20 +81,23 @@ loop-less c = search needs
 
 loop-again : tie.Need-loop-again Inv-loop μ-loop
 loop-again c =
-    let l = c .before .before .before .before .before .before .before in
-    let s = l .before .before .before .pre in
-    let j = l .before .loop .j in
+    let at-wrapping-sub-u32 = c .before .before in
+    let l = at-wrapping-sub-u32 .before .before .before .before .before in
+    let at-loop = l .before in
+    let entry = at-loop .before .before in
+    let s = entry .pre in
+    let j = at-loop .loop .j in
     row-next
     (c .before .where-some .result)
     (c .where-some2 .result)
-    (c .before .before .wrapping-sub-u32 .result)
-    (l .before .loop .inv)
+    (at-wrapping-sub-u32 .wrapping-sub-u32 .result)
+    (at-loop .loop .inv)
     (l .loop-test .taken)
     (s .ends j (l .loop-test .taken))
     (omega (arith, s .costs j (l .loop-test .taken), s .high))
     (c .before .where-some .ensures)
     (c .where-some2 .ensures)
-    (c .before .before .wrapping-sub-u32 .ensures)
+    (at-wrapping-sub-u32 .wrapping-sub-u32 .ensures)
 
 returns : tie.Need-returns Inv-loop μ-loop
 returns c = row-end (c .before .loop .inv) (c .loop-test .left)

@@ -26,7 +26,17 @@ amount-at-requires : tie.Need-amount-at-requires Inv-loop μ-loop
 amount-at-requires c κs = (omega (arith, c .before .before .pre .0 .sources, c .loop-test .taken), c .before .before .pre .1 .0)
 
 row-good-requires : tie.Need-row-good-requires Inv-loop μ-loop
-row-good-requires c κs = let r = c .before .before .before .pre in record { source = omega (arith, r .0 .sources, c .before .loop-test .taken); terminals = r .0 .terminals; costs = λ j h. r .0 .costs (c .before .before .loop .i) j (c .before .loop-test .taken) h; high = r .1 .1 .high (c .before .before .loop .i) (omega (arith, r .0 .sources, c .before .loop-test .taken)); ends = λ j h. r .1 .1 .high (32 + j) (omega (arith, r .0 .terminals)) }
+row-good-requires c κs =
+    let at-loop = c .before .before in
+    let entry = at-loop .before in
+    let r = entry .pre in
+    record {
+      source = omega (arith, r .0 .sources, c .before .loop-test .taken);
+      terminals = r .0 .terminals;
+      costs = λ j h. r .0 .costs (at-loop .loop .i) j (c .before .loop-test .taken) h;
+      high = r .1 .1 .high (at-loop .loop .i) (omega (arith, r .0 .sources, c .before .loop-test .taken));
+      ends = λ j h. r .1 .1 .high (32 + j) (omega (arith, r .0 .terminals));
+    }
 
 returns : tie.Need-returns Inv-loop μ-loop
 returns c = λ e. absurd (true≢false (sym e))
@@ -38,7 +48,10 @@ loop-less : tie.Need-loop-less Inv-loop μ-loop
 loop-less c = search needs
 
 loop-again : tie.Need-loop-again Inv-loop μ-loop
-loop-again c = (omega (arith, c .before .before .before .loop-test .taken), below-more _ _ (c .before .before .before .before .loop .inv .1) (rw (c .before .before .amount-at .ensures) at (c .before .row-good .ensures (not-false _ (c .if1 .left)))))
+loop-again c =
+    let at-loop-test = c .before .before .before in
+    let at-loop = at-loop-test .before in
+    (omega (arith, at-loop-test .loop-test .taken), below-more _ _ (at-loop .loop .inv .1) (rw (c .before .before .amount-at .ensures) at (c .before .row-good .ensures (not-false _ (c .if1 .left)))))
 
 returns-2 : tie.Need-returns-2 Inv-loop μ-loop
 returns-2 c = λ e i h. c .before .loop .inv .1 i (omega (arith, c .loop-test .left))

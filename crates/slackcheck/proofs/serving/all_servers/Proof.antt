@@ -17,7 +17,9 @@ loop-holds : tie.Need-loop-holds Inv-loop μ-loop
 loop-holds c = servers-start (c .before .pre .1)
 
 serve-row-requires : tie.Need-serve-row-requires Inv-loop μ-loop
-serve-row-requires c κs = let s = c .before .before .before .before in (omega (arith, c .before .loop-test .taken, s .pre .0), s .pre .1)
+serve-row-requires c κs =
+    let s = c .before .before .before .before in
+    (omega (arith, c .before .loop-test .taken, s .pre .0), s .pre .1)
 
 add-i : tie.Need-add-i Inv-loop μ-loop
 add-i c = search needs

@@ -56,7 +56,11 @@ loop-less : tie.Need-loop-less Inv-loop μ-loop
 loop-less c = search needs
 
 loop-again : tie.Need-loop-again Inv-loop μ-loop
-loop-again c m h q = let s = c .before .before .before .before .before in serve-next h (s .pre .1) (c .before .before .before .before .loop .inv m h q) (c .before .before .before .loop-test .taken) (rw (power-fits (s .args .i) (s .pre .0)) at (c .served .ensures))
+loop-again c m h q =
+    let at-loop-test = c .before .before .before in
+    let at-loop = at-loop-test .before in
+    let s = at-loop .before in
+    serve-next h (s .pre .1) (at-loop .loop .inv m h q) (at-loop-test .loop-test .taken) (rw (power-fits (s .args .i) (s .pre .0)) at (c .served .ensures))
 
 returns : tie.Need-returns Inv-loop μ-loop
 returns c m h q = serve-end (c .before .loop .inv m h q) (c .loop-test .left)

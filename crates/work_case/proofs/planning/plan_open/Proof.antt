@@ -27,166 +27,43 @@ entries-requires c κs =
 
 add-e : tie.Need-add-e
 add-e c =
-    let at-costs-at = c .before .before .before in
-    let at-demands-at = at-costs-at .before in
-    let entry = at-demands-at .before .before .before .before in
-    omega (
-      arith,
-      front-room _ _ _ (entry .pre),
-      front-lanes _ _ _ (entry .pre),
-      entry .pre .few,
-      entry .pre .many,
-      few-entries (now (entry .args .store)),
-      at-demands-at .demands-at .ensures,
-      at-costs-at .costs-at .ensures,
-      c .before .before .ceilings-at .ensures,
-      c .before .table-at .ensures,
-      c .entries .ensures,
-    )
+    let entry = c .before .before .before .before .before .before .before .before in
+    omega (arith, front-room _ _ _ (entry .pre), front-lanes _ _ _ (entry .pre), few-entries (now (entry .args .store)))
 
 mul-lanes : tie.Need-mul-lanes
 mul-lanes c =
-    let at-costs-at = c .before .before .before in
-    let at-demands-at = at-costs-at .before in
-    let entry = at-demands-at .before .before .before .before in
-    omega (
-      arith,
-      front-room _ _ _ (entry .pre),
-      front-lanes _ _ _ (entry .pre),
-      entry .pre .few,
-      entry .pre .many,
-      few-entries (now (entry .args .store)),
-      at-demands-at .demands-at .ensures,
-      at-costs-at .costs-at .ensures,
-      c .before .before .ceilings-at .ensures,
-      c .before .table-at .ensures,
-      c .entries .ensures,
-    )
+    let entry = c .before .before .before .before .before .before .before .before in
+    omega (arith, front-room _ _ _ (entry .pre), front-lanes _ _ _ (entry .pre), few-entries (now (entry .args .store)))
 
 shared-slice-read-run1 : tie.Need-shared-slice-read-run1
 shared-slice-read-run1 c =
-    let at-ceilings-at = c .before .before .before in
-    let at-costs-at = at-ceilings-at .before in
-    let at-demands-at = at-costs-at .before in
-    let entry = at-demands-at .before .before .before .before in
-    omega (
-      arith,
-      front-room _ _ _ (entry .pre),
-      front-lanes _ _ _ (entry .pre),
-      entry .pre .few,
-      entry .pre .many,
-      few-entries (now (entry .args .store)),
-      at-demands-at .demands-at .ensures,
-      at-costs-at .costs-at .ensures,
-      at-ceilings-at .ceilings-at .ensures,
-      c .before .before .table-at .ensures,
-      c .before .entries .ensures,
-    )
+    let entry = c .before .before .before .before .before .before .before .before .before in
+    omega (arith, front-room _ _ _ (entry .pre), front-lanes _ _ _ (entry .pre), few-entries (now (entry .args .store)), c .before)
 
 shared-slice-read-run2 : tie.Need-shared-slice-read-run2
 shared-slice-read-run2 c =
-    let at-table-at = c .before .before .before in
-    let at-ceilings-at = at-table-at .before in
-    let at-costs-at = at-ceilings-at .before in
-    let at-demands-at = at-costs-at .before in
-    let entry = at-demands-at .before .before .before .before in
-    omega (
-      arith,
-      front-room _ _ _ (entry .pre),
-      front-lanes _ _ _ (entry .pre),
-      entry .pre .few,
-      entry .pre .many,
-      few-entries (now (entry .args .store)),
-      at-demands-at .demands-at .ensures,
-      at-costs-at .costs-at .ensures,
-      at-ceilings-at .ceilings-at .ensures,
-      at-table-at .table-at .ensures,
-      c .before .before .entries .ensures,
-    )
+    let entry = c .before .before .before .before .before .before .before .before .before .before in
+    omega (arith, front-room _ _ _ (entry .pre), front-lanes _ _ _ (entry .pre), few-entries (now (entry .args .store)), c .before .before)
 
 mul-costs-of : tie.Need-mul-costs-of
 mul-costs-of c =
-    let at-table-at = c .before .before .before in
-    let at-ceilings-at = at-table-at .before in
-    let at-costs-at = at-ceilings-at .before in
-    let at-demands-at = at-costs-at .before in
-    let entry = at-demands-at .before .before .before .before in
-    omega (
-      arith,
-      front-room _ _ _ (entry .pre),
-      front-lanes _ _ _ (entry .pre),
-      entry .pre .few,
-      entry .pre .many,
-      few-entries (now (entry .args .store)),
-      at-demands-at .demands-at .ensures,
-      at-costs-at .costs-at .ensures,
-      at-ceilings-at .ceilings-at .ensures,
-      at-table-at .table-at .ensures,
-      c .before .before .entries .ensures,
-    )
+    let entry = c .before .before .before .before .before .before .before .before .before .before in
+    omega (arith, front-room _ _ _ (entry .pre), front-lanes _ _ _ (entry .pre), few-entries (now (entry .args .store)), c .before .before)
 
 sub-costs-of : tie.Need-sub-costs-of
 sub-costs-of c =
-    let at-table-at = c .before .before .before in
-    let at-ceilings-at = at-table-at .before in
-    let at-costs-at = at-ceilings-at .before in
-    let at-demands-at = at-costs-at .before in
-    let entry = at-demands-at .before .before .before .before in
-    omega (
-      arith,
-      front-room _ _ _ (entry .pre),
-      front-lanes _ _ _ (entry .pre),
-      entry .pre .few,
-      entry .pre .many,
-      few-entries (now (entry .args .store)),
-      at-demands-at .demands-at .ensures,
-      at-costs-at .costs-at .ensures,
-      at-ceilings-at .ceilings-at .ensures,
-      at-table-at .table-at .ensures,
-      c .before .before .entries .ensures,
-    )
+    let entry = c .before .before .before .before .before .before .before .before .before .before in
+    omega (arith, front-room _ _ _ (entry .pre), front-lanes _ _ _ (entry .pre), few-entries (now (entry .args .store)), c .before .before)
 
 part-costs-of-start : tie.Need-part-costs-of-start
 part-costs-of-start c =
-    let at-table-at = c .before .before .before in
-    let at-ceilings-at = at-table-at .before in
-    let at-costs-at = at-ceilings-at .before in
-    let at-demands-at = at-costs-at .before in
-    let entry = at-demands-at .before .before .before .before in
-    omega (
-      arith,
-      front-room _ _ _ (entry .pre),
-      front-lanes _ _ _ (entry .pre),
-      entry .pre .few,
-      entry .pre .many,
-      few-entries (now (entry .args .store)),
-      at-demands-at .demands-at .ensures,
-      at-costs-at .costs-at .ensures,
-      at-ceilings-at .ceilings-at .ensures,
-      at-table-at .table-at .ensures,
-      c .before .before .entries .ensures,
-    )
+    let entry = c .before .before .before .before .before .before .before .before .before .before in
+    omega (arith, front-room _ _ _ (entry .pre), front-lanes _ _ _ (entry .pre), few-entries (now (entry .args .store)), c .before .before)
 
 part-costs-of-end : tie.Need-part-costs-of-end
 part-costs-of-end c =
-    let at-table-at = c .before .before .before in
-    let at-ceilings-at = at-table-at .before in
-    let at-costs-at = at-ceilings-at .before in
-    let at-demands-at = at-costs-at .before in
-    let entry = at-demands-at .before .before .before .before in
-    omega (
-      arith,
-      front-room _ _ _ (entry .pre),
-      front-lanes _ _ _ (entry .pre),
-      entry .pre .few,
-      entry .pre .many,
-      few-entries (now (entry .args .store)),
-      at-demands-at .demands-at .ensures,
-      at-costs-at .costs-at .ensures,
-      at-ceilings-at .ceilings-at .ensures,
-      at-table-at .table-at .ensures,
-      c .before .before .entries .ensures,
-    )
+    let entry = c .before .before .before .before .before .before .before .before .before .before in
+    omega (arith, front-room _ _ _ (entry .pre), front-lanes _ _ _ (entry .pre), few-entries (now (entry .args .store)), c .before .before)
 
 costs-of-requires : tie.Need-costs-of-requires
 costs-of-requires c κs =
@@ -209,452 +86,110 @@ costs-of-requires c κs =
 
 sub-plan : tie.Need-sub-plan
 sub-plan c =
-    let at-entries = c .before .before .before .before in
-    let at-table-at = at-entries .before in
-    let at-ceilings-at = at-table-at .before in
-    let at-costs-at = at-ceilings-at .before in
-    let at-demands-at = at-costs-at .before in
-    let entry = at-demands-at .before .before .before .before in
-    omega (
-      arith,
-      front-room _ _ _ (entry .pre),
-      front-lanes _ _ _ (entry .pre),
-      entry .pre .few,
-      entry .pre .many,
-      few-entries (now (entry .args .store)),
-      at-demands-at .demands-at .ensures,
-      at-costs-at .costs-at .ensures,
-      at-ceilings-at .ceilings-at .ensures,
-      at-table-at .table-at .ensures,
-      at-entries .entries .ensures,
-      c .costs-of .ensures .0,
-    )
+    let entry = c .before .before .before .before .before .before .before .before .before .before .before .before in
+    omega (arith, front-room _ _ _ (entry .pre), front-lanes _ _ _ (entry .pre), few-entries (now (entry .args .store)))
 
 part-plan-start : tie.Need-part-plan-start
 part-plan-start c =
-    let at-entries = c .before .before .before .before .before in
-    let at-table-at = at-entries .before in
-    let at-ceilings-at = at-table-at .before in
-    let at-costs-at = at-ceilings-at .before in
-    let at-demands-at = at-costs-at .before in
-    let entry = at-demands-at .before .before .before .before in
-    omega (
-      arith,
-      front-room _ _ _ (entry .pre),
-      front-lanes _ _ _ (entry .pre),
-      entry .pre .few,
-      entry .pre .many,
-      few-entries (now (entry .args .store)),
-      at-demands-at .demands-at .ensures,
-      at-costs-at .costs-at .ensures,
-      at-ceilings-at .ceilings-at .ensures,
-      at-table-at .table-at .ensures,
-      at-entries .entries .ensures,
-      c .before .costs-of .ensures .0,
-    )
+    let entry = c .before .before .before .before .before .before .before .before .before .before .before .before .before in
+    omega (arith, front-room _ _ _ (entry .pre), front-lanes _ _ _ (entry .pre), few-entries (now (entry .args .store)), c .before)
 
 part-plan-end : tie.Need-part-plan-end
 part-plan-end c =
-    let at-entries = c .before .before .before .before .before in
-    let at-table-at = at-entries .before in
-    let at-ceilings-at = at-table-at .before in
-    let at-costs-at = at-ceilings-at .before in
-    let at-demands-at = at-costs-at .before in
-    let entry = at-demands-at .before .before .before .before in
-    omega (
-      arith,
-      front-room _ _ _ (entry .pre),
-      front-lanes _ _ _ (entry .pre),
-      entry .pre .few,
-      entry .pre .many,
-      few-entries (now (entry .args .store)),
-      at-demands-at .demands-at .ensures,
-      at-costs-at .costs-at .ensures,
-      at-ceilings-at .ceilings-at .ensures,
-      at-table-at .table-at .ensures,
-      at-entries .entries .ensures,
-      c .before .costs-of .ensures .0,
-    )
+    let entry = c .before .before .before .before .before .before .before .before .before .before .before .before .before in
+    omega (arith, front-room _ _ _ (entry .pre), front-lanes _ _ _ (entry .pre), few-entries (now (entry .args .store)), c .before)
 
 mul-plan : tie.Need-mul-plan
 mul-plan c =
-    let at-entries = c .before .before .before .before .before .before in
-    let at-table-at = at-entries .before in
-    let at-ceilings-at = at-table-at .before in
-    let at-costs-at = at-ceilings-at .before in
-    let at-demands-at = at-costs-at .before in
-    let entry = at-demands-at .before .before .before .before in
-    omega (
-      arith,
-      front-room _ _ _ (entry .pre),
-      front-lanes _ _ _ (entry .pre),
-      entry .pre .few,
-      entry .pre .many,
-      few-entries (now (entry .args .store)),
-      at-demands-at .demands-at .ensures,
-      at-costs-at .costs-at .ensures,
-      at-ceilings-at .ceilings-at .ensures,
-      at-table-at .table-at .ensures,
-      at-entries .entries .ensures,
-      c .before .before .costs-of .ensures .0,
-    )
+    let entry = c .before .before .before .before .before .before .before .before .before .before .before .before .before .before in
+    omega (arith, front-room _ _ _ (entry .pre), front-lanes _ _ _ (entry .pre), few-entries (now (entry .args .store)), c .before .before)
 
 sub-plan-2 : tie.Need-sub-plan-2
 sub-plan-2 c =
-    let at-entries = c .before .before .before .before .before .before in
-    let at-table-at = at-entries .before in
-    let at-ceilings-at = at-table-at .before in
-    let at-costs-at = at-ceilings-at .before in
-    let at-demands-at = at-costs-at .before in
-    let entry = at-demands-at .before .before .before .before in
-    omega (
-      arith,
-      front-room _ _ _ (entry .pre),
-      front-lanes _ _ _ (entry .pre),
-      entry .pre .few,
-      entry .pre .many,
-      few-entries (now (entry .args .store)),
-      at-demands-at .demands-at .ensures,
-      at-costs-at .costs-at .ensures,
-      at-ceilings-at .ceilings-at .ensures,
-      at-table-at .table-at .ensures,
-      at-entries .entries .ensures,
-      c .before .before .costs-of .ensures .0,
-    )
+    let entry = c .before .before .before .before .before .before .before .before .before .before .before .before .before .before in
+    omega (arith, front-room _ _ _ (entry .pre), front-lanes _ _ _ (entry .pre), few-entries (now (entry .args .store)), c .before .before)
 
 part-plan-start-2 : tie.Need-part-plan-start-2
 part-plan-start-2 c =
-    let at-entries = c .before .before .before .before .before .before in
-    let at-table-at = at-entries .before in
-    let at-ceilings-at = at-table-at .before in
-    let at-costs-at = at-ceilings-at .before in
-    let at-demands-at = at-costs-at .before in
-    let entry = at-demands-at .before .before .before .before in
-    omega (
-      arith,
-      front-room _ _ _ (entry .pre),
-      front-lanes _ _ _ (entry .pre),
-      entry .pre .few,
-      entry .pre .many,
-      few-entries (now (entry .args .store)),
-      at-demands-at .demands-at .ensures,
-      at-costs-at .costs-at .ensures,
-      at-ceilings-at .ceilings-at .ensures,
-      at-table-at .table-at .ensures,
-      at-entries .entries .ensures,
-      c .before .before .costs-of .ensures .0,
-    )
+    let entry = c .before .before .before .before .before .before .before .before .before .before .before .before .before .before in
+    omega (arith, front-room _ _ _ (entry .pre), front-lanes _ _ _ (entry .pre), few-entries (now (entry .args .store)), c .before .before)
 
 part-plan-end-2 : tie.Need-part-plan-end-2
 part-plan-end-2 c =
-    let at-entries = c .before .before .before .before .before .before in
-    let at-table-at = at-entries .before in
-    let at-ceilings-at = at-table-at .before in
-    let at-costs-at = at-ceilings-at .before in
-    let at-demands-at = at-costs-at .before in
-    let entry = at-demands-at .before .before .before .before in
-    omega (
-      arith,
-      front-room _ _ _ (entry .pre),
-      front-lanes _ _ _ (entry .pre),
-      entry .pre .few,
-      entry .pre .many,
-      few-entries (now (entry .args .store)),
-      at-demands-at .demands-at .ensures,
-      at-costs-at .costs-at .ensures,
-      at-ceilings-at .ceilings-at .ensures,
-      at-table-at .table-at .ensures,
-      at-entries .entries .ensures,
-      c .before .before .costs-of .ensures .0,
-    )
+    let entry = c .before .before .before .before .before .before .before .before .before .before .before .before .before .before in
+    omega (arith, front-room _ _ _ (entry .pre), front-lanes _ _ _ (entry .pre), few-entries (now (entry .args .store)), c .before .before)
 
 mul-plan-2 : tie.Need-mul-plan-2
 mul-plan-2 c =
     let at-costs-of = c .before .before .before in
-    let at-entries = at-costs-of .before .before .before .before in
-    let at-table-at = at-entries .before in
-    let at-ceilings-at = at-table-at .before in
-    let at-costs-at = at-ceilings-at .before in
-    let at-demands-at = at-costs-at .before in
-    let entry = at-demands-at .before .before .before .before in
-    omega (
-      arith,
-      front-room _ _ _ (entry .pre),
-      front-lanes _ _ _ (entry .pre),
-      entry .pre .few,
-      entry .pre .many,
-      few-entries (now (entry .args .store)),
-      at-demands-at .demands-at .ensures,
-      at-costs-at .costs-at .ensures,
-      at-ceilings-at .ceilings-at .ensures,
-      at-table-at .table-at .ensures,
-      at-entries .entries .ensures,
-      at-costs-of .costs-of .ensures .0,
-    )
+    let entry = at-costs-of .before .before .before .before .before .before .before .before .before .before .before .before in
+    omega (arith, front-room _ _ _ (entry .pre), front-lanes _ _ _ (entry .pre), few-entries (now (entry .args .store)), at-costs-of)
 
 sub-plan-3 : tie.Need-sub-plan-3
 sub-plan-3 c =
     let at-costs-of = c .before .before .before in
-    let at-entries = at-costs-of .before .before .before .before in
-    let at-table-at = at-entries .before in
-    let at-ceilings-at = at-table-at .before in
-    let at-costs-at = at-ceilings-at .before in
-    let at-demands-at = at-costs-at .before in
-    let entry = at-demands-at .before .before .before .before in
-    omega (
-      arith,
-      front-room _ _ _ (entry .pre),
-      front-lanes _ _ _ (entry .pre),
-      entry .pre .few,
-      entry .pre .many,
-      few-entries (now (entry .args .store)),
-      at-demands-at .demands-at .ensures,
-      at-costs-at .costs-at .ensures,
-      at-ceilings-at .ceilings-at .ensures,
-      at-table-at .table-at .ensures,
-      at-entries .entries .ensures,
-      at-costs-of .costs-of .ensures .0,
-    )
+    let entry = at-costs-of .before .before .before .before .before .before .before .before .before .before .before .before in
+    omega (arith, front-room _ _ _ (entry .pre), front-lanes _ _ _ (entry .pre), few-entries (now (entry .args .store)), at-costs-of)
 
 part-plan-start-3 : tie.Need-part-plan-start-3
 part-plan-start-3 c =
     let at-costs-of = c .before .before .before in
-    let at-entries = at-costs-of .before .before .before .before in
-    let at-table-at = at-entries .before in
-    let at-ceilings-at = at-table-at .before in
-    let at-costs-at = at-ceilings-at .before in
-    let at-demands-at = at-costs-at .before in
-    let entry = at-demands-at .before .before .before .before in
-    omega (
-      arith,
-      front-room _ _ _ (entry .pre),
-      front-lanes _ _ _ (entry .pre),
-      entry .pre .few,
-      entry .pre .many,
-      few-entries (now (entry .args .store)),
-      at-demands-at .demands-at .ensures,
-      at-costs-at .costs-at .ensures,
-      at-ceilings-at .ceilings-at .ensures,
-      at-table-at .table-at .ensures,
-      at-entries .entries .ensures,
-      at-costs-of .costs-of .ensures .0,
-    )
+    let entry = at-costs-of .before .before .before .before .before .before .before .before .before .before .before .before in
+    omega (arith, front-room _ _ _ (entry .pre), front-lanes _ _ _ (entry .pre), few-entries (now (entry .args .store)), at-costs-of)
 
 part-plan-end-3 : tie.Need-part-plan-end-3
 part-plan-end-3 c =
     let at-costs-of = c .before .before .before in
-    let at-entries = at-costs-of .before .before .before .before in
-    let at-table-at = at-entries .before in
-    let at-ceilings-at = at-table-at .before in
-    let at-costs-at = at-ceilings-at .before in
-    let at-demands-at = at-costs-at .before in
-    let entry = at-demands-at .before .before .before .before in
-    omega (
-      arith,
-      front-room _ _ _ (entry .pre),
-      front-lanes _ _ _ (entry .pre),
-      entry .pre .few,
-      entry .pre .many,
-      few-entries (now (entry .args .store)),
-      at-demands-at .demands-at .ensures,
-      at-costs-at .costs-at .ensures,
-      at-ceilings-at .ceilings-at .ensures,
-      at-table-at .table-at .ensures,
-      at-entries .entries .ensures,
-      at-costs-of .costs-of .ensures .0,
-    )
+    let entry = at-costs-of .before .before .before .before .before .before .before .before .before .before .before .before in
+    omega (arith, front-room _ _ _ (entry .pre), front-lanes _ _ _ (entry .pre), few-entries (now (entry .args .store)), at-costs-of)
 
 mul-plan-3 : tie.Need-mul-plan-3
 mul-plan-3 c =
     let at-costs-of = c .before .before .before .before in
-    let at-entries = at-costs-of .before .before .before .before in
-    let at-table-at = at-entries .before in
-    let at-ceilings-at = at-table-at .before in
-    let at-costs-at = at-ceilings-at .before in
-    let at-demands-at = at-costs-at .before in
-    let entry = at-demands-at .before .before .before .before in
-    omega (
-      arith,
-      front-room _ _ _ (entry .pre),
-      front-lanes _ _ _ (entry .pre),
-      entry .pre .few,
-      entry .pre .many,
-      few-entries (now (entry .args .store)),
-      at-demands-at .demands-at .ensures,
-      at-costs-at .costs-at .ensures,
-      at-ceilings-at .ceilings-at .ensures,
-      at-table-at .table-at .ensures,
-      at-entries .entries .ensures,
-      at-costs-of .costs-of .ensures .0,
-    )
+    let entry = at-costs-of .before .before .before .before .before .before .before .before .before .before .before .before in
+    omega (arith, front-room _ _ _ (entry .pre), front-lanes _ _ _ (entry .pre), few-entries (now (entry .args .store)), at-costs-of)
 
 sub-plan-4 : tie.Need-sub-plan-4
 sub-plan-4 c =
     let at-costs-of = c .before .before .before .before in
-    let at-entries = at-costs-of .before .before .before .before in
-    let at-table-at = at-entries .before in
-    let at-ceilings-at = at-table-at .before in
-    let at-costs-at = at-ceilings-at .before in
-    let at-demands-at = at-costs-at .before in
-    let entry = at-demands-at .before .before .before .before in
-    omega (
-      arith,
-      front-room _ _ _ (entry .pre),
-      front-lanes _ _ _ (entry .pre),
-      entry .pre .few,
-      entry .pre .many,
-      few-entries (now (entry .args .store)),
-      at-demands-at .demands-at .ensures,
-      at-costs-at .costs-at .ensures,
-      at-ceilings-at .ceilings-at .ensures,
-      at-table-at .table-at .ensures,
-      at-entries .entries .ensures,
-      at-costs-of .costs-of .ensures .0,
-    )
+    let entry = at-costs-of .before .before .before .before .before .before .before .before .before .before .before .before in
+    omega (arith, front-room _ _ _ (entry .pre), front-lanes _ _ _ (entry .pre), few-entries (now (entry .args .store)), at-costs-of)
 
 part-plan-start-4 : tie.Need-part-plan-start-4
 part-plan-start-4 c =
     let at-costs-of = c .before .before .before .before in
-    let at-entries = at-costs-of .before .before .before .before in
-    let at-table-at = at-entries .before in
-    let at-ceilings-at = at-table-at .before in
-    let at-costs-at = at-ceilings-at .before in
-    let at-demands-at = at-costs-at .before in
-    let entry = at-demands-at .before .before .before .before in
-    omega (
-      arith,
-      front-room _ _ _ (entry .pre),
-      front-lanes _ _ _ (entry .pre),
-      entry .pre .few,
-      entry .pre .many,
-      few-entries (now (entry .args .store)),
-      at-demands-at .demands-at .ensures,
-      at-costs-at .costs-at .ensures,
-      at-ceilings-at .ceilings-at .ensures,
-      at-table-at .table-at .ensures,
-      at-entries .entries .ensures,
-      at-costs-of .costs-of .ensures .0,
-    )
+    let entry = at-costs-of .before .before .before .before .before .before .before .before .before .before .before .before in
+    omega (arith, front-room _ _ _ (entry .pre), front-lanes _ _ _ (entry .pre), few-entries (now (entry .args .store)), at-costs-of)
 
 part-plan-end-4 : tie.Need-part-plan-end-4
 part-plan-end-4 c =
     let at-costs-of = c .before .before .before .before in
-    let at-entries = at-costs-of .before .before .before .before in
-    let at-table-at = at-entries .before in
-    let at-ceilings-at = at-table-at .before in
-    let at-costs-at = at-ceilings-at .before in
-    let at-demands-at = at-costs-at .before in
-    let entry = at-demands-at .before .before .before .before in
-    omega (
-      arith,
-      front-room _ _ _ (entry .pre),
-      front-lanes _ _ _ (entry .pre),
-      entry .pre .few,
-      entry .pre .many,
-      few-entries (now (entry .args .store)),
-      at-demands-at .demands-at .ensures,
-      at-costs-at .costs-at .ensures,
-      at-ceilings-at .ceilings-at .ensures,
-      at-table-at .table-at .ensures,
-      at-entries .entries .ensures,
-      at-costs-of .costs-of .ensures .0,
-    )
+    let entry = at-costs-of .before .before .before .before .before .before .before .before .before .before .before .before in
+    omega (arith, front-room _ _ _ (entry .pre), front-lanes _ _ _ (entry .pre), few-entries (now (entry .args .store)), at-costs-of)
 
 mul-plan-4 : tie.Need-mul-plan-4
 mul-plan-4 c =
     let at-costs-of = c .before .before .before .before .before in
-    let at-entries = at-costs-of .before .before .before .before in
-    let at-table-at = at-entries .before in
-    let at-ceilings-at = at-table-at .before in
-    let at-costs-at = at-ceilings-at .before in
-    let at-demands-at = at-costs-at .before in
-    let entry = at-demands-at .before .before .before .before in
-    omega (
-      arith,
-      front-room _ _ _ (entry .pre),
-      front-lanes _ _ _ (entry .pre),
-      entry .pre .few,
-      entry .pre .many,
-      few-entries (now (entry .args .store)),
-      at-demands-at .demands-at .ensures,
-      at-costs-at .costs-at .ensures,
-      at-ceilings-at .ceilings-at .ensures,
-      at-table-at .table-at .ensures,
-      at-entries .entries .ensures,
-      at-costs-of .costs-of .ensures .0,
-    )
+    let entry = at-costs-of .before .before .before .before .before .before .before .before .before .before .before .before in
+    omega (arith, front-room _ _ _ (entry .pre), front-lanes _ _ _ (entry .pre), few-entries (now (entry .args .store)), at-costs-of)
 
 sub-plan-5 : tie.Need-sub-plan-5
 sub-plan-5 c =
     let at-costs-of = c .before .before .before .before .before in
-    let at-entries = at-costs-of .before .before .before .before in
-    let at-table-at = at-entries .before in
-    let at-ceilings-at = at-table-at .before in
-    let at-costs-at = at-ceilings-at .before in
-    let at-demands-at = at-costs-at .before in
-    let entry = at-demands-at .before .before .before .before in
-    omega (
-      arith,
-      front-room _ _ _ (entry .pre),
-      front-lanes _ _ _ (entry .pre),
-      entry .pre .few,
-      entry .pre .many,
-      few-entries (now (entry .args .store)),
-      at-demands-at .demands-at .ensures,
-      at-costs-at .costs-at .ensures,
-      at-ceilings-at .ceilings-at .ensures,
-      at-table-at .table-at .ensures,
-      at-entries .entries .ensures,
-      at-costs-of .costs-of .ensures .0,
-    )
+    let entry = at-costs-of .before .before .before .before .before .before .before .before .before .before .before .before in
+    omega (arith, front-room _ _ _ (entry .pre), front-lanes _ _ _ (entry .pre), few-entries (now (entry .args .store)), at-costs-of)
 
 part-plan-start-5 : tie.Need-part-plan-start-5
 part-plan-start-5 c =
     let at-costs-of = c .before .before .before .before .before in
-    let at-entries = at-costs-of .before .before .before .before in
-    let at-table-at = at-entries .before in
-    let at-ceilings-at = at-table-at .before in
-    let at-costs-at = at-ceilings-at .before in
-    let at-demands-at = at-costs-at .before in
-    let entry = at-demands-at .before .before .before .before in
-    omega (
-      arith,
-      front-room _ _ _ (entry .pre),
-      front-lanes _ _ _ (entry .pre),
-      entry .pre .few,
-      entry .pre .many,
-      few-entries (now (entry .args .store)),
-      at-demands-at .demands-at .ensures,
-      at-costs-at .costs-at .ensures,
-      at-ceilings-at .ceilings-at .ensures,
-      at-table-at .table-at .ensures,
-      at-entries .entries .ensures,
-      at-costs-of .costs-of .ensures .0,
-    )
+    let entry = at-costs-of .before .before .before .before .before .before .before .before .before .before .before .before in
+    omega (arith, front-room _ _ _ (entry .pre), front-lanes _ _ _ (entry .pre), few-entries (now (entry .args .store)), at-costs-of)
 
 part-plan-end-5 : tie.Need-part-plan-end-5
 part-plan-end-5 c =
     let at-costs-of = c .before .before .before .before .before in
-    let at-entries = at-costs-of .before .before .before .before in
-    let at-table-at = at-entries .before in
-    let at-ceilings-at = at-table-at .before in
-    let at-costs-at = at-ceilings-at .before in
-    let at-demands-at = at-costs-at .before in
-    let entry = at-demands-at .before .before .before .before in
-    omega (
-      arith,
-      front-room _ _ _ (entry .pre),
-      front-lanes _ _ _ (entry .pre),
-      entry .pre .few,
-      entry .pre .many,
-      few-entries (now (entry .args .store)),
-      at-demands-at .demands-at .ensures,
-      at-costs-at .costs-at .ensures,
-      at-ceilings-at .ceilings-at .ensures,
-      at-table-at .table-at .ensures,
-      at-entries .entries .ensures,
-      at-costs-of .costs-of .ensures .0,
-    )
+    let entry = at-costs-of .before .before .before .before .before .before .before .before .before .before .before .before in
+    omega (arith, front-room _ _ _ (entry .pre), front-lanes _ _ _ (entry .pre), few-entries (now (entry .args .store)), at-costs-of)
 
 plan-requires : tie.Need-plan-requires
 plan-requires c κs = search needs

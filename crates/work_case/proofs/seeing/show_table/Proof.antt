@@ -19,7 +19,7 @@ table-at-requires c κs = search needs
 add-e : tie.Need-add-e
 add-e c =
     let entry = c .before .before .before .before in
-    omega (arith, room-0 _ _ _ (entry .pre), lanes-few _ _ _ (entry .pre), entry .pre .few, entry .pre .many, few-entries (now (entry .args .store)), c .table-at .ensures, c .before .entries .ensures)
+    omega (arith, room-0 _ _ _ (entry .pre), lanes-few _ _ _ (entry .pre), few-entries (now (entry .args .store)))
 
 returns : tie.Need-returns
 returns c =
@@ -29,62 +29,22 @@ returns c =
 mul-put-cells : tie.Need-mul-put-cells
 mul-put-cells c =
     let entry = c .before .before .before .before .before in
-    omega (
-      arith,
-      room-0 _ _ _ (entry .pre),
-      lanes-few _ _ _ (entry .pre),
-      entry .pre .few,
-      entry .pre .many,
-      few-entries (now (entry .args .store)),
-      c .before .table-at .ensures,
-      c .before .before .entries .ensures,
-      c .if1 .left,
-    )
+    omega (arith, room-0 _ _ _ (entry .pre), lanes-few _ _ _ (entry .pre), few-entries (now (entry .args .store)))
 
 sub-put-cells : tie.Need-sub-put-cells
 sub-put-cells c =
     let entry = c .before .before .before .before .before in
-    omega (
-      arith,
-      room-0 _ _ _ (entry .pre),
-      lanes-few _ _ _ (entry .pre),
-      entry .pre .few,
-      entry .pre .many,
-      few-entries (now (entry .args .store)),
-      c .before .table-at .ensures,
-      c .before .before .entries .ensures,
-      c .if1 .left,
-    )
+    omega (arith, room-0 _ _ _ (entry .pre), lanes-few _ _ _ (entry .pre), few-entries (now (entry .args .store)))
 
 part-put-cells-start : tie.Need-part-put-cells-start
 part-put-cells-start c =
     let entry = c .before .before .before .before .before in
-    omega (
-      arith,
-      room-0 _ _ _ (entry .pre),
-      lanes-few _ _ _ (entry .pre),
-      entry .pre .few,
-      entry .pre .many,
-      few-entries (now (entry .args .store)),
-      c .before .table-at .ensures,
-      c .before .before .entries .ensures,
-      c .if1 .left,
-    )
+    omega (arith, room-0 _ _ _ (entry .pre), lanes-few _ _ _ (entry .pre), few-entries (now (entry .args .store)))
 
 part-put-cells-end : tie.Need-part-put-cells-end
 part-put-cells-end c =
     let entry = c .before .before .before .before .before in
-    omega (
-      arith,
-      room-0 _ _ _ (entry .pre),
-      lanes-few _ _ _ (entry .pre),
-      entry .pre .few,
-      entry .pre .many,
-      few-entries (now (entry .args .store)),
-      c .before .table-at .ensures,
-      c .before .before .entries .ensures,
-      c .if1 .left,
-    )
+    omega (arith, room-0 _ _ _ (entry .pre), lanes-few _ _ _ (entry .pre), few-entries (now (entry .args .store)))
 
 put-cells-requires : tie.Need-put-cells-requires
 put-cells-requires c κs =
@@ -95,12 +55,7 @@ put-cells-requires c κs =
       arith,
       room-0 _ _ _ (entry .pre),
       lanes-few _ _ _ (entry .pre),
-      entry .pre .few,
-      entry .pre .many,
       few-entries (now (entry .args .store)),
-      c .before .before .if1 .left,
-      at-entries .entries .ensures,
-      at-table-at .table-at .ensures,
       part-length (at-table-at .table-at .result + at-entries .entries .result - at-table-at .table-at .result) (at-table-at .table-at .result)
           (now (entry .args .store))
           (omega (
@@ -113,6 +68,7 @@ put-cells-requires c κs =
             at-entries .entries .ensures,
             at-table-at .table-at .ensures,
           )),
+      c .before .before,
     )
 
 same-length : tie.Need-same-length

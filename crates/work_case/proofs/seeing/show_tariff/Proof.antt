@@ -22,16 +22,7 @@ ceilings-at-requires c κs = search needs
 mul-if1 : tie.Need-mul-if1
 mul-if1 c =
     let entry = c .before .before .before .before .before .before in
-    omega (
-      arith,
-      room-0 _ _ _ (entry .pre),
-      lanes-few _ _ _ (entry .pre),
-      entry .pre .few,
-      entry .pre .many,
-      c .before .before .demands-at .ensures,
-      c .before .costs-at .ensures,
-      c .ceilings-at .ensures,
-    )
+    omega (arith, room-0 _ _ _ (entry .pre), lanes-few _ _ _ (entry .pre))
 
 returns : tie.Need-returns
 returns c =
@@ -50,196 +41,62 @@ returns-3 c =
 
 mul-lower-cells : tie.Need-mul-lower-cells
 mul-lower-cells c =
-    let at-ceilings-at = c .before .before .before in
-    let at-costs-at = at-ceilings-at .before in
-    let at-demands-at = at-costs-at .before in
-    let entry = at-demands-at .before .before .before .before in
-    omega (
-      arith,
-      room-0 _ _ _ (entry .pre),
-      lanes-few _ _ _ (entry .pre),
-      entry .pre .few,
-      entry .pre .many,
-      at-demands-at .demands-at .ensures,
-      at-costs-at .costs-at .ensures,
-      at-ceilings-at .ceilings-at .ensures,
-      c .before .before .if1 .left,
-      c .before .if2 .left,
-      c .if3 .left,
-    )
+    let entry = c .before .before .before .before .before .before .before .before .before in
+    omega (arith, room-0 _ _ _ (entry .pre), lanes-few _ _ _ (entry .pre))
 
 sub-lower-cells : tie.Need-sub-lower-cells
 sub-lower-cells c =
-    let at-ceilings-at = c .before .before .before in
-    let at-costs-at = at-ceilings-at .before in
-    let at-demands-at = at-costs-at .before in
-    let entry = at-demands-at .before .before .before .before in
-    omega (
-      arith,
-      room-0 _ _ _ (entry .pre),
-      lanes-few _ _ _ (entry .pre),
-      entry .pre .few,
-      entry .pre .many,
-      at-demands-at .demands-at .ensures,
-      at-costs-at .costs-at .ensures,
-      at-ceilings-at .ceilings-at .ensures,
-      c .before .before .if1 .left,
-      c .before .if2 .left,
-      c .if3 .left,
-    )
+    let entry = c .before .before .before .before .before .before .before .before .before in
+    omega (arith, room-0 _ _ _ (entry .pre), lanes-few _ _ _ (entry .pre))
 
 part-lower-cells-start : tie.Need-part-lower-cells-start
 part-lower-cells-start c =
-    let at-ceilings-at = c .before .before .before in
-    let at-costs-at = at-ceilings-at .before in
-    let at-demands-at = at-costs-at .before in
-    let entry = at-demands-at .before .before .before .before in
-    omega (
-      arith,
-      room-0 _ _ _ (entry .pre),
-      lanes-few _ _ _ (entry .pre),
-      entry .pre .few,
-      entry .pre .many,
-      at-demands-at .demands-at .ensures,
-      at-costs-at .costs-at .ensures,
-      at-ceilings-at .ceilings-at .ensures,
-      c .before .before .if1 .left,
-      c .before .if2 .left,
-      c .if3 .left,
-    )
+    let entry = c .before .before .before .before .before .before .before .before .before in
+    omega (arith, room-0 _ _ _ (entry .pre), lanes-few _ _ _ (entry .pre))
 
 part-lower-cells-end : tie.Need-part-lower-cells-end
 part-lower-cells-end c =
-    let at-ceilings-at = c .before .before .before in
-    let at-costs-at = at-ceilings-at .before in
-    let at-demands-at = at-costs-at .before in
-    let entry = at-demands-at .before .before .before .before in
-    omega (
-      arith,
-      room-0 _ _ _ (entry .pre),
-      lanes-few _ _ _ (entry .pre),
-      entry .pre .few,
-      entry .pre .many,
-      at-demands-at .demands-at .ensures,
-      at-costs-at .costs-at .ensures,
-      at-ceilings-at .ceilings-at .ensures,
-      c .before .before .if1 .left,
-      c .before .if2 .left,
-      c .if3 .left,
-    )
+    let entry = c .before .before .before .before .before .before .before .before .before in
+    omega (arith, room-0 _ _ _ (entry .pre), lanes-few _ _ _ (entry .pre))
 
 lower-cells-requires : tie.Need-lower-cells-requires
 lower-cells-requires c κs =
     let at-if1 = c .before .before .before .before in
     let at-ceilings-at = at-if1 .before in
     let at-costs-at = at-ceilings-at .before in
-    let at-demands-at = at-costs-at .before in
-    let entry = at-demands-at .before .before .before .before in
+    let entry = at-costs-at .before .before .before .before .before in
     omega (
       arith,
       room-0 _ _ _ (entry .pre),
       lanes-few _ _ _ (entry .pre),
-      entry .pre .few,
-      entry .pre .many,
-      at-if1 .if1 .left,
-      at-demands-at .demands-at .ensures,
-      at-costs-at .costs-at .ensures,
-      at-ceilings-at .ceilings-at .ensures,
       part-length (at-ceilings-at .ceilings-at .result - at-costs-at .costs-at .result) (at-costs-at .costs-at .result) (now (entry .args .store))
           (omega (arith, room-0 _ _ _ (entry .pre), lanes-few _ _ _ (entry .pre), entry .pre .few, entry .pre .many, at-costs-at .costs-at .ensures, at-ceilings-at .ceilings-at .ensures)),
+      at-if1,
     )
 
 mul-put-cells : tie.Need-mul-put-cells
 mul-put-cells c =
     let at-if3 = c .before .before .before .before in
-    let at-if2 = at-if3 .before in
-    let at-if1 = at-if2 .before in
-    let at-ceilings-at = at-if1 .before in
-    let at-costs-at = at-ceilings-at .before in
-    let at-demands-at = at-costs-at .before in
-    let entry = at-demands-at .before .before .before .before in
-    omega (
-      arith,
-      room-0 _ _ _ (entry .pre),
-      lanes-few _ _ _ (entry .pre),
-      entry .pre .few,
-      entry .pre .many,
-      at-demands-at .demands-at .ensures,
-      at-costs-at .costs-at .ensures,
-      at-ceilings-at .ceilings-at .ensures,
-      at-if1 .if1 .left,
-      at-if2 .if2 .left,
-      at-if3 .if3 .left,
-    )
+    let entry = at-if3 .before .before .before .before .before .before .before .before .before in
+    omega (arith, room-0 _ _ _ (entry .pre), lanes-few _ _ _ (entry .pre), at-if3)
 
 sub-put-cells : tie.Need-sub-put-cells
 sub-put-cells c =
     let at-if3 = c .before .before .before .before in
-    let at-if2 = at-if3 .before in
-    let at-if1 = at-if2 .before in
-    let at-ceilings-at = at-if1 .before in
-    let at-costs-at = at-ceilings-at .before in
-    let at-demands-at = at-costs-at .before in
-    let entry = at-demands-at .before .before .before .before in
-    omega (
-      arith,
-      room-0 _ _ _ (entry .pre),
-      lanes-few _ _ _ (entry .pre),
-      entry .pre .few,
-      entry .pre .many,
-      at-demands-at .demands-at .ensures,
-      at-costs-at .costs-at .ensures,
-      at-ceilings-at .ceilings-at .ensures,
-      at-if1 .if1 .left,
-      at-if2 .if2 .left,
-      at-if3 .if3 .left,
-    )
+    let entry = at-if3 .before .before .before .before .before .before .before .before .before in
+    omega (arith, room-0 _ _ _ (entry .pre), lanes-few _ _ _ (entry .pre), at-if3)
 
 part-put-cells-start : tie.Need-part-put-cells-start
 part-put-cells-start c =
     let at-if3 = c .before .before .before .before in
-    let at-if2 = at-if3 .before in
-    let at-if1 = at-if2 .before in
-    let at-ceilings-at = at-if1 .before in
-    let at-costs-at = at-ceilings-at .before in
-    let at-demands-at = at-costs-at .before in
-    let entry = at-demands-at .before .before .before .before in
-    omega (
-      arith,
-      room-0 _ _ _ (entry .pre),
-      lanes-few _ _ _ (entry .pre),
-      entry .pre .few,
-      entry .pre .many,
-      at-demands-at .demands-at .ensures,
-      at-costs-at .costs-at .ensures,
-      at-ceilings-at .ceilings-at .ensures,
-      at-if1 .if1 .left,
-      at-if2 .if2 .left,
-      at-if3 .if3 .left,
-    )
+    let entry = at-if3 .before .before .before .before .before .before .before .before .before in
+    omega (arith, room-0 _ _ _ (entry .pre), lanes-few _ _ _ (entry .pre), at-if3)
 
 part-put-cells-end : tie.Need-part-put-cells-end
 part-put-cells-end c =
     let at-if3 = c .before .before .before .before in
-    let at-if2 = at-if3 .before in
-    let at-if1 = at-if2 .before in
-    let at-ceilings-at = at-if1 .before in
-    let at-costs-at = at-ceilings-at .before in
-    let at-demands-at = at-costs-at .before in
-    let entry = at-demands-at .before .before .before .before in
-    omega (
-      arith,
-      room-0 _ _ _ (entry .pre),
-      lanes-few _ _ _ (entry .pre),
-      entry .pre .few,
-      entry .pre .many,
-      at-demands-at .demands-at .ensures,
-      at-costs-at .costs-at .ensures,
-      at-ceilings-at .ceilings-at .ensures,
-      at-if1 .if1 .left,
-      at-if2 .if2 .left,
-      at-if3 .if3 .left,
-    )
+    let entry = at-if3 .before .before .before .before .before .before .before .before .before in
+    omega (arith, room-0 _ _ _ (entry .pre), lanes-few _ _ _ (entry .pre), at-if3)
 
 put-cells-requires : tie.Need-put-cells-requires
 put-cells-requires c κs =
@@ -250,105 +107,34 @@ put-cells-requires c κs =
       arith,
       room-0 _ _ _ (entry .pre),
       lanes-few _ _ _ (entry .pre),
-      entry .pre .few,
-      entry .pre .many,
-      at-if2 .if2 .left,
-      at-demands-at .demands-at .ensures,
       part-length (at-demands-at .demands-at .result - 12) 12 (now (entry .args .store))
           (omega (arith, room-0 _ _ _ (entry .pre), lanes-few _ _ _ (entry .pre), entry .pre .few, entry .pre .many, at-demands-at .demands-at .ensures)),
+      at-if2,
     )
 
 mul-put-cells-2 : tie.Need-mul-put-cells-2
 mul-put-cells-2 c =
     let at-if3 = c .before .before .before .before .before .before .before .before .before in
-    let at-if2 = at-if3 .before in
-    let at-if1 = at-if2 .before in
-    let at-ceilings-at = at-if1 .before in
-    let at-costs-at = at-ceilings-at .before in
-    let at-demands-at = at-costs-at .before in
-    let entry = at-demands-at .before .before .before .before in
-    omega (
-      arith,
-      room-0 _ _ _ (entry .pre),
-      lanes-few _ _ _ (entry .pre),
-      entry .pre .few,
-      entry .pre .many,
-      at-demands-at .demands-at .ensures,
-      at-costs-at .costs-at .ensures,
-      at-ceilings-at .ceilings-at .ensures,
-      at-if1 .if1 .left,
-      at-if2 .if2 .left,
-      at-if3 .if3 .left,
-    )
+    let entry = at-if3 .before .before .before .before .before .before .before .before .before in
+    omega (arith, room-0 _ _ _ (entry .pre), lanes-few _ _ _ (entry .pre), at-if3)
 
 sub-put-cells-2 : tie.Need-sub-put-cells-2
 sub-put-cells-2 c =
     let at-if3 = c .before .before .before .before .before .before .before .before .before in
-    let at-if2 = at-if3 .before in
-    let at-if1 = at-if2 .before in
-    let at-ceilings-at = at-if1 .before in
-    let at-costs-at = at-ceilings-at .before in
-    let at-demands-at = at-costs-at .before in
-    let entry = at-demands-at .before .before .before .before in
-    omega (
-      arith,
-      room-0 _ _ _ (entry .pre),
-      lanes-few _ _ _ (entry .pre),
-      entry .pre .few,
-      entry .pre .many,
-      at-demands-at .demands-at .ensures,
-      at-costs-at .costs-at .ensures,
-      at-ceilings-at .ceilings-at .ensures,
-      at-if1 .if1 .left,
-      at-if2 .if2 .left,
-      at-if3 .if3 .left,
-    )
+    let entry = at-if3 .before .before .before .before .before .before .before .before .before in
+    omega (arith, room-0 _ _ _ (entry .pre), lanes-few _ _ _ (entry .pre), at-if3)
 
 part-put-cells-start-2 : tie.Need-part-put-cells-start-2
 part-put-cells-start-2 c =
     let at-if3 = c .before .before .before .before .before .before .before .before .before in
-    let at-if2 = at-if3 .before in
-    let at-if1 = at-if2 .before in
-    let at-ceilings-at = at-if1 .before in
-    let at-costs-at = at-ceilings-at .before in
-    let at-demands-at = at-costs-at .before in
-    let entry = at-demands-at .before .before .before .before in
-    omega (
-      arith,
-      room-0 _ _ _ (entry .pre),
-      lanes-few _ _ _ (entry .pre),
-      entry .pre .few,
-      entry .pre .many,
-      at-demands-at .demands-at .ensures,
-      at-costs-at .costs-at .ensures,
-      at-ceilings-at .ceilings-at .ensures,
-      at-if1 .if1 .left,
-      at-if2 .if2 .left,
-      at-if3 .if3 .left,
-    )
+    let entry = at-if3 .before .before .before .before .before .before .before .before .before in
+    omega (arith, room-0 _ _ _ (entry .pre), lanes-few _ _ _ (entry .pre), at-if3)
 
 part-put-cells-end-2 : tie.Need-part-put-cells-end-2
 part-put-cells-end-2 c =
     let at-if3 = c .before .before .before .before .before .before .before .before .before in
-    let at-if2 = at-if3 .before in
-    let at-if1 = at-if2 .before in
-    let at-ceilings-at = at-if1 .before in
-    let at-costs-at = at-ceilings-at .before in
-    let at-demands-at = at-costs-at .before in
-    let entry = at-demands-at .before .before .before .before in
-    omega (
-      arith,
-      room-0 _ _ _ (entry .pre),
-      lanes-few _ _ _ (entry .pre),
-      entry .pre .few,
-      entry .pre .many,
-      at-demands-at .demands-at .ensures,
-      at-costs-at .costs-at .ensures,
-      at-ceilings-at .ceilings-at .ensures,
-      at-if1 .if1 .left,
-      at-if2 .if2 .left,
-      at-if3 .if3 .left,
-    )
+    let entry = at-if3 .before .before .before .before .before .before .before .before .before in
+    omega (arith, room-0 _ _ _ (entry .pre), lanes-few _ _ _ (entry .pre), at-if3)
 
 put-cells-requires-2 : tie.Need-put-cells-requires-2
 put-cells-requires-2 c κs =
@@ -360,13 +146,9 @@ put-cells-requires-2 c κs =
       arith,
       room-0 _ _ _ (entry .pre),
       lanes-few _ _ _ (entry .pre),
-      entry .pre .few,
-      entry .pre .many,
-      at-if3 .if3 .left,
-      at-demands-at .demands-at .ensures,
-      at-costs-at .costs-at .ensures,
       part-length (at-costs-at .costs-at .result - at-demands-at .demands-at .result) (at-demands-at .demands-at .result) (now (entry .args .store))
           (omega (arith, room-0 _ _ _ (entry .pre), lanes-few _ _ _ (entry .pre), entry .pre .few, entry .pre .many, at-demands-at .demands-at .ensures, at-costs-at .costs-at .ensures)),
+      at-if3,
     )
 
 same-length : tie.Need-same-length
