@@ -34,7 +34,8 @@ pub fn begin(
     terminals_below: &mut [u64; 128],
 ) -> Range
     requires { ⌜ BeginReady m n (now cost) (now cap) (now supply) (now demand) run0 run1 made ⌝ }
-    ensures { λ r. ⌜ Ranged m n (now (cost .entry)) (now (cap .entry)) (now (supply .entry)) (now (demand .entry)) run0 run1 made (now (x .exit)) (now (serves .exit)) (now (pot .exit)) (r .found) (r .lo) (r .hi) ⌝ }
+    ensures { λ r. ⌜ Ranged m n (now (cost .entry)) (now (cap .entry)) (now (supply .entry)) (now (demand .entry)) run0 run1 made
+        (now (x .exit)) (now (serves .exit)) (now (pot .exit)) (r .found) (r .lo) (r .hi) ⌝ }
 {
     let wide = all_wide(m, cap, demand);
     let first = cheapest_first(

@@ -102,7 +102,8 @@ fn quick_plan(
 ) -> First
     requires { ⌜ CheckReady m n (cells (now cost)) ⌝ }
     requires { ⌜ run0 ≤ made ⌝ }
-    ensures { λ r. ⌜ Quick m n (now (cost .entry)) (now (cap .entry)) (now (x .entry)) (now (supply .entry)) (now (demand .entry)) run0 made (now (pot .exit)) (now (x .exit)) (now (serves .exit)) (r .found) (r .split) ⌝ }
+    ensures { λ r. ⌜ Quick m n (now (cost .entry)) (now (cap .entry)) (now (x .entry)) (now (supply .entry)) (now (demand .entry)) run0 made
+        (now (pot .exit)) (now (x .exit)) (now (serves .exit)) (r .found) (r .split) ⌝ }
 {
     let split = first_split(run0, supply[1], made);
     simplex_at(
@@ -154,7 +155,8 @@ pub fn cheapest_first(
     terminals_below: &mut [u64; 128],
 ) -> First
     requires { ⌜ BeginReady m n (now cost) (now cap) (now supply) (now demand) run0 run1 made ⌝ }
-    ensures { λ r. ⌜ FirstPlan (net m n (now (cost .entry)) (now (cap .entry)) (now (x .entry))) (λ i. get (now (supply .entry)) i) (now (demand .entry)) run0 run1 made (now (pot .exit)) (now (x .exit)) (r .found) (r .split) ⌝ }
+    ensures { λ r. ⌜ FirstPlan (net m n (now (cost .entry)) (now (cap .entry)) (now (x .entry))) (λ i. get (now (supply .entry)) i)
+        (now (demand .entry)) run0 run1 made (now (pot .exit)) (now (x .exit)) (r .found) (r .split) ⌝ }
     ensures { λ r. ⌜ Covers m n (now (x .exit)) (now (serves .exit)) ⌝ }
 {
     if quick {

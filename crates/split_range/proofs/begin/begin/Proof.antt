@@ -24,13 +24,21 @@ smaller-requires c κs = search needs
 
 sub-last : tie.Need-sub-last
 sub-last c =
-    let f = rw (c .before .before .if1 .taken) at (c .before .before .before .cheapest-first .ensures .0 .done) in omega (arith, split-within (c .before .before .before .before .before .before .before .before .before .before .before .pre) f, c .smaller .ensures)
+    let at-cheapest-first = c .before .before .before in
+    let entry = at-cheapest-first .before .before .before .before .before .before .before .before in
+    let f = rw (c .before .before .if1 .taken) at (at-cheapest-first .cheapest-first .ensures .0 .done) in omega (arith, split-within (entry .pre) f, c .smaller .ensures)
 
 last-requires : tie.Need-last-requires
 last-requires c κs =
-    let r = c .before .before .before .before .before .before .before .before .before .before .before .before .before .pre in
-    let f = rw (c .before .before .before .before .if1 .taken) at (c .before .before .before .before .before .cheapest-first .ensures .0 .done) in
-    (c .before .before .before .before .before .before .before .before .before .before .before .before .all-wide .ensures, (last-ready r f (ap (λ v. v - c .before .before .before .before .before .cheapest-first .result .split) (c .before .before .smaller .ensures)), (wanted r f, c .before .before .before .before .before .cheapest-first .ensures .1)))
+    let at-if1 = c .before .before .before .before in
+    let at-cheapest-first = at-if1 .before in
+    let at-all-wide = at-cheapest-first .before .before .before .before .before .before .before in
+    let entry = at-all-wide .before in
+    let r = entry .pre in
+    let f = rw (at-if1 .if1 .taken) at (at-cheapest-first .cheapest-first .ensures .0 .done) in (
+      at-all-wide .all-wide .ensures,
+      (last-ready r f (ap (λ v. v - at-cheapest-first .cheapest-first .result .split) (c .before .before .smaller .ensures)), (wanted r f, at-cheapest-first .cheapest-first .ensures .1)),
+    )
 
 cast-lo : tie.Need-cast-lo
 cast-lo c = search needs
@@ -43,9 +51,13 @@ cast-hi c = search needs
 
 returns : tie.Need-returns
 returns c =
-    let r = c .before .before .before .before .before .before .before .before .before .before .before .before .before .before .pre in
-    let f = rw (c .before .before .before .before .before .if1 .taken) at (c .before .before .before .before .before .before .cheapest-first .ensures .0 .done) in
-    ranged r f (ap (λ v. v - c .before .before .before .before .before .before .cheapest-first .result .split) (c .before .before .before .smaller .ensures)) (c .last .ensures) (c .before .before .before .before .before .before .cheapest-first .ensures .1)
+    let at-smaller = c .before .before .before in
+    let at-if1 = at-smaller .before .before in
+    let at-cheapest-first = at-if1 .before in
+    let entry = at-cheapest-first .before .before .before .before .before .before .before .before in
+    let r = entry .pre in
+    let f = rw (at-if1 .if1 .taken) at (at-cheapest-first .cheapest-first .ensures .0 .done) in
+    ranged r f (ap (λ v. v - at-cheapest-first .cheapest-first .result .split) (at-smaller .smaller .ensures)) (c .last .ensures) (at-cheapest-first .cheapest-first .ensures .1)
 
 returns-2 : tie.Need-returns-2
 returns-2 c =

@@ -26,7 +26,17 @@ all-servers-requires : tie.Need-all-servers-requires
 all-servers-requires c κs = search needs
 
 returns-2 : tie.Need-returns-2
-returns-2 c = record { plan = λ e run1 r. checked-first r (c .before .before .before .before .before .before .before .before .before .before .before .before .before .before .first-split .ensures) (c .before .before .before .before .before .before .before .before .simplex-at .ensures .0) (c .before .before .before .before .before .before .before .before .simplex-at .ensures .1) (c .before .before .before .before .before .good2 .ensures (not-false _ (c .before .before .before .before .if1 .left))) _; covers = λ e. c .all-servers .ensures }
+returns-2 c =
+    let at-if1 = c .before .before .before .before in
+    let at-good2 = at-if1 .before in
+    let at-simplex-at = at-good2 .before .before .before in
+    let at-first-split = at-simplex-at .before .before .before .before .before .before in
+    record {
+      plan =
+          λ e run1 r. checked-first r (at-first-split .first-split .ensures) (at-simplex-at .simplex-at .ensures .0)
+          (at-simplex-at .simplex-at .ensures .1) (at-good2 .good2 .ensures (not-false _ (at-if1 .if1 .left))) _;
+      covers = λ e. c .all-servers .ensures;
+    }
 
 pub quick-plan-spec : {M : Type 1} → statement M
 quick-plan-spec =
