@@ -151,7 +151,7 @@ class Command(unittest.TestCase):
         odd = "no\x1b[31m\u202efile\nRefusal"
         status, printed, said = run("plan", odd, "b")
         self.assertEqual((status, printed), (1, "refusal,place\r\n20,0\r\n"))
-        self.assertIn("no\\x1b[31m\\u202efile\\nRefusal", said)
+        self.assertIn("no\\x1b[31m\\xe2\\x80\\xaefile\\x0aRefusal", said)
         self.assertEqual(said.count("\n"), 1)
         status, printed, said = run("plan", "a", "b", "--\x1b[31m")
         self.assertEqual((status, printed), (2, ""))

@@ -14,9 +14,21 @@ class Broken(Exception):
     """Something outside the case went wrong, as an output that cannot be written. Status 4."""
 
 
+# Characters that are not shown, by their numbers: controls, marks that turn the direction of writing or part lines, those without a width,
+# and halves of pairs, which stand for bytes that are no text. The programs have the same (crates/file_io, definition `hidden`).
+_HIDDEN = [(0, 31), (127, 159), (173, 173), (1564, 1564), (8203, 8207), (8232, 8238), (8288, 8303), (55296, 57343), (65279, 65279)]
+_HIDDEN += [(65529, 65531), (917504, 921599)]
+
+
+def _escape(c: str) -> str:
+    """The bytes of a character, each as \\xNN."""
+    lone = 0xDC80 <= ord(c) <= 0xDCFF
+    return "".join(f"\\x{byte:02x}" for byte in c.encode("utf-8", "surrogateescape" if lone else "surrogatepass"))
+
+
 def escaped(text: str) -> str:
     """Text with control characters, marks that turn the direction of writing, and bytes that are no text made visible."""
-    return "".join(c if c.isprintable() else c.encode("unicode_escape").decode() for c in text)
+    return "".join(_escape(c) if any(low <= ord(c) <= high for low, high in _HIDDEN) else c for c in text)
 
 
 def say(sentence: str):

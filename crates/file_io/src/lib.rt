@@ -3,3 +3,5 @@ pub mod about;
 pub mod file;
 pub mod message;
 pub mod place;
+pub mod shown;
+pub mod text;
