@@ -4,6 +4,8 @@ use bounds_files::bounds_files;
 use bounds_files::low_stands;
 use check::same;
 use csv_table::table::tariff_stands;
+use file_causes::amounts::say_high;
+use file_causes::refusal::explain_file;
 use file_io::about::told_version;
 use file_io::file::file_room;
 use file_io::file::first;
@@ -11,7 +13,6 @@ use file_io::file::read_file;
 use file_io::message::say;
 use file_io::message::say_with;
 use plan_command::refusal::explain;
-use plan_command::refusal::explain_file;
 use plan_command::refusal::explain_table;
 use plan_files::planned::Printed;
 ghost use mathlib.Core.Path.{_≡_};
@@ -38,18 +39,6 @@ fn usage() {
     );
 }
 
-// Refusal 28, by its place.
-fn explain_high(place: u64, path: &[u8]) {
-    say(b"Refusal 28: the high file ");
-    say(path);
-    say(b" does not have one entry for each output of plant 1 from 0 to its supply,\n");
-    say_with(
-        b"or its entry of split ",
-        place,
-        b" is below the low one or above 1,000,000,000.\n",
-    );
-}
-
 // Refusals 20 to 22 of the low or the high file.
 fn explain_entries(
     number: u64,
@@ -62,10 +51,10 @@ fn explain_entries(
 ) {
     say_with(b"Refusal ", number, b": ");
     if low_good {
-        explain_file(number, place, b"the high file ", high_path, high, 1);
+        explain_file(number, place, false, b"the high file ", high_path, high, 1);
         return;
     }
-    explain_file(number, place, b"the low file ", low_path, low, 1);
+    explain_file(number, place, false, b"the low file ", low_path, low, 1);
 }
 
 // Says what a refusal means; nothing of an answer. The low file's entries are those of the case.
@@ -83,9 +72,20 @@ fn explain_three(
     match number {
         6 | 9 => {
             say_with(b"Refusal ", number, b": ");
-            explain_table(number, place, b"the low file ", low_path);
+            explain_table(
+                number,
+                place,
+                b"the low file ",
+                low_path,
+                low,
+                tariff,
+                printed.terminals as u64,
+            );
         }
-        28 => explain_high(place, high_path),
+        28 => {
+            say(b"Refusal 28: ");
+            say_high(place, high_path, low, high);
+        }
         20..=22 => {
             if tariff_stands(tariff) {
                 explain_entries(

@@ -1,24 +1,20 @@
 // The command `flow`: reads a DIMACS network file and the table of the arc that is named, writes the cheapest flow, or the refusal, to standard
 // output, and says what a refusal means on standard error.
-use crate::form::say_line_cause;
-use crate::limits::say_limits_cause;
 use check::same;
+use file_causes::form::say_line_cause;
+use file_causes::limits::say_limits_cause;
+use file_causes::refusal::explain_file;
 use file_io::about::told_version;
 use file_io::file::file_room;
 use file_io::file::first;
 use file_io::file::read_file;
 use file_io::message::say;
+use file_io::message::say_name;
 use file_io::message::say_with;
 use flow_files::flow_files;
-use plan_command::refusal::explain_file;
 use plan_files::planned::Printed;
 ghost use mathlib.Core.Path.{_≡_};
 ghost use lib.ListN.{length};
-
-mod bytes;
-mod form;
-mod limits;
-mod lines;
 
 // Room for the longest text: two headers, the total and 64 arcs.
 fn text_room() -> [u8; 5662]
@@ -44,7 +40,7 @@ fn usage() {
 // Refusal 30: what is out of the limits.
 fn explain_limits(network: &[u8], arc: &[u8], table: &[u8], path: &[u8]) {
     say(b"Refusal 30: the network file ");
-    say(path);
+    say_name(path);
     say(b", the named arc or the table is outside the limits: there is ");
     say_limits_cause(network, arc, table);
     say(b".\n");
@@ -53,7 +49,7 @@ fn explain_limits(network: &[u8], arc: &[u8], table: &[u8], path: &[u8]) {
 // Refusal 29: the line, and what is wrong with it.
 fn explain_line(line: u64, network: &[u8], path: &[u8]) {
     say_with(b"Refusal 29: line ", line, b" of the network file ");
-    say(path);
+    say_name(path);
     say(b" is not of the form: ");
     say_line_cause(network, line);
     say(b".\n");
@@ -73,6 +69,7 @@ fn explain_table(
         explain_file(
             number,
             place,
+            false,
             b"the network file ",
             network_path,
             network,
@@ -80,7 +77,15 @@ fn explain_table(
         );
         return;
     }
-    explain_file(number, place, b"the table file ", table_path, table, 1);
+    explain_file(
+        number,
+        place,
+        false,
+        b"the table file ",
+        table_path,
+        table,
+        1,
+    );
 }
 
 // Says what a refusal means; nothing of a flow.

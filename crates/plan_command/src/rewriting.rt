@@ -5,6 +5,7 @@ use file_io::file::file_room;
 use file_io::file::first;
 use file_io::file::read_file;
 use file_io::message::say;
+use file_io::message::say_name;
 use write_case::Texts;
 use write_case::rewrite::rewrite_files;
 
@@ -32,7 +33,7 @@ fn write_new(path: &[u8], text: &[u8]) -> bool {
 
 // Says that a file was not written.
 fn not_written(path: &[u8]) {
-    say(path);
+    say_name(path);
     say(b" was not written: there is a file of that name, or it cannot be made.\n");
 }
 

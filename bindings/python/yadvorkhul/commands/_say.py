@@ -18,7 +18,8 @@ def _pointed(found: Explained):
 
 def told(found: Explained) -> int:
     """The sentence with the place, its usual cause and what to do; then the line with a caret."""
-    cause = f" Here stands {found.spot.cause}." if found.spot and found.spot.cause else ""
+    stands = found.spot and (found.spot.cause or found.number == 21 and found.spot.byte)
+    cause = f" Here stands {stands}." if stands else ""
     say(f"Refusal {found.number}: {found.sentence}{cause} {found.advice}")
     _pointed(found)
     return REFUSED

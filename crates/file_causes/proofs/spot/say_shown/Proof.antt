@@ -1,0 +1,48 @@
+-- `file_causes::spot::say_shown` is safe and ends: one loop over its range. Assumes nothing.
+use mathlib.Core.Path.{_≡_}
+use Prim.Native.Nat.{_-_}
+use lib.ListN.{length}
+use borrow.Author.Needs.{needs}
+use Rattle.file_causes.proofs.spot.say_shown.Statement.{statement}
+use Rattle.file_causes.proofs.spot.say_shown.Tie as tie
+
+abbrev Inv-loop : tie.InvT-loop
+Inv-loop text i₀ i-end i = i-end ≡ length text
+
+abbrev μ-loop : tie.MeasureT-loop
+μ-loop text i₀ i-end i = i-end - i
+
+loop-holds : tie.Need-loop-holds Inv-loop μ-loop
+loop-holds c = search needs
+
+shared-slice-read-say-shown-byte : tie.Need-shared-slice-read-say-shown-byte Inv-loop μ-loop
+shared-slice-read-say-shown-byte c = search needs
+
+say-shown-byte-requires : tie.Need-say-shown-byte-requires Inv-loop μ-loop
+say-shown-byte-requires c κs = search needs
+
+add-i : tie.Need-add-i Inv-loop μ-loop
+add-i c = search needs
+
+loop-less : tie.Need-loop-less Inv-loop μ-loop
+loop-less c = search needs
+
+loop-again : tie.Need-loop-again Inv-loop μ-loop
+loop-again c = search needs
+
+returns : tie.Need-returns Inv-loop μ-loop
+returns c = search needs
+
+pub say-shown-spec : {M : Type 1} → statement M
+say-shown-spec =
+    tie.close
+    (tie.spec
+    Inv-loop
+    μ-loop
+    loop-holds
+    shared-slice-read-say-shown-byte
+    say-shown-byte-requires
+    add-i
+    loop-less
+    loop-again
+    returns)

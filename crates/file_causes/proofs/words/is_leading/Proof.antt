@@ -1,0 +1,12 @@
+-- `file_causes::words::is_leading` meets its contract. Assumes nothing.
+use Rattle.file_causes.specs.inner.Words.{leading}
+use borrow.Author.Needs.{needs}
+use Rattle.file_causes.proofs.words.is_leading.Statement.{statement}
+use Rattle.file_causes.proofs.words.is_leading.Tie as tie
+
+returns : tie.Need-returns
+unfolding leading
+returns c = search needs
+
+pub is-leading-spec : {M : Type 1} → statement M
+is-leading-spec = tie.close (tie.spec returns)

@@ -1,0 +1,12 @@
+-- `file_causes::words::is_minus` meets its contract. Assumes nothing.
+use Rattle.file_causes.specs.inner.Words.{signing}
+use borrow.Author.Needs.{needs}
+use Rattle.file_causes.proofs.words.is_minus.Statement.{statement}
+use Rattle.file_causes.proofs.words.is_minus.Tie as tie
+
+returns : tie.Need-returns
+unfolding signing
+returns c = search needs
+
+pub is-minus-spec : {M : Type 1} → statement M
+is-minus-spec = tie.close (tie.spec returns)
