@@ -44,8 +44,7 @@ mul-most c =
     let entry = c .before .before .before .before .before .before .before .before .before .before .before in
     omega (
       arith,
-      w-in (now (entry .args .gives)) (now (entry .args .takes)) (now (entry .args .haves)) (now (entry .args .starts)) (now (entry .args .ends))
-          (now (entry .args .ceilings)) (now (entry .args .costs)) (entry .args .named) (now (entry .args .table)) (entry .pre .0) (entry .pre .1 .0)
+      w-in _ _ _ _ _ _ _ (entry .args .named) (now (entry .args .table)) (entry .pre .0) (entry .pre .1 .0)
           (entry .pre .1 .1 .0),
       entry .pre .1 .0 .few,
     )
@@ -55,8 +54,7 @@ shared-slice-read-most c =
     let entry = c .before .before .before .before .before .before .before .before .before .before .before .before in
     omega (
       arith,
-      w-in (now (entry .args .gives)) (now (entry .args .takes)) (now (entry .args .haves)) (now (entry .args .starts)) (now (entry .args .ends))
-          (now (entry .args .ceilings)) (now (entry .args .costs)) (entry .args .named) (now (entry .args .table)) (entry .pre .0) (entry .pre .1 .0)
+      w-in _ _ _ _ _ _ _ (entry .args .named) (now (entry .args .table)) (entry .pre .0) (entry .pre .1 .0)
           (entry .pre .1 .1 .0),
       entry .pre .1 .0 .haves-long,
     )
@@ -66,8 +64,7 @@ mul-most-2 c =
     let entry = c .before .before .before .before .before .before .before .before .before .before .before .before in
     omega (
       arith,
-      w-in (now (entry .args .gives)) (now (entry .args .takes)) (now (entry .args .haves)) (now (entry .args .starts)) (now (entry .args .ends))
-          (now (entry .args .ceilings)) (now (entry .args .costs)) (entry .args .named) (now (entry .args .table)) (entry .pre .0) (entry .pre .1 .0)
+      w-in _ _ _ _ _ _ _ (entry .args .named) (now (entry .args .table)) (entry .pre .0) (entry .pre .1 .0)
           (entry .pre .1 .1 .0),
       entry .pre .1 .0 .few,
     )
@@ -77,8 +74,7 @@ shared-slice-read-most-2 c =
     let entry = c .before .before .before .before .before .before .before .before .before .before .before .before .before in
     omega (
       arith,
-      w-in (now (entry .args .gives)) (now (entry .args .takes)) (now (entry .args .haves)) (now (entry .args .starts)) (now (entry .args .ends))
-          (now (entry .args .ceilings)) (now (entry .args .costs)) (entry .args .named) (now (entry .args .table)) (entry .pre .0) (entry .pre .1 .0)
+      w-in _ _ _ _ _ _ _ (entry .args .named) (now (entry .args .table)) (entry .pre .0) (entry .pre .1 .0)
           (entry .pre .1 .1 .0),
       entry .pre .1 .0 .takes-long,
     )
@@ -87,8 +83,7 @@ sub-most : tie.Need-sub-most
 sub-most c =
     let entry = c .before .before .before .before .before .before .before .before .before .before .before .before .before in
     entry .pre .1 .0 .enough _
-    (w-in (now (entry .args .gives)) (now (entry .args .takes)) (now (entry .args .haves)) (now (entry .args .starts)) (now (entry .args .ends))
-    (now (entry .args .ceilings)) (now (entry .args .costs)) (entry .args .named) (now (entry .args .table)) (entry .pre .0) (entry .pre .1 .0)
+    (w-in _ _ _ _ _ _ _ (entry .args .named) (now (entry .args .table)) (entry .pre .0) (entry .pre .1 .0)
     (entry .pre .1 .1 .0))
 
 slice-aggregate-fill-supplies : tie.Need-slice-aggregate-fill-supplies
@@ -98,8 +93,7 @@ fill-supplies-requires : tie.Need-fill-supplies-requires
 fill-supplies-requires c κs =
     let entry = c .before .before .before .before .before .before .before .before .before .before .before .before .before .before in (
       (entry .pre .1 .0 .haves-long ∙ sym (entry .pre .1 .0 .takes-long), omega (arith, entry .pre .1 .0 .haves-long, entry .pre .1 .0 .few)),
-      λ s l. let q = nodes-in (now (entry .args .gives)) (now (entry .args .takes)) (now (entry .args .haves)) (now (entry .args .starts))
-          (now (entry .args .ends)) (now (entry .args .ceilings)) (now (entry .args .costs)) (entry .args .named) (now (entry .args .table)) (entry .pre .0)
+      λ s l. let q = nodes-in _ _ _ _ _ _ _ (entry .args .named) (now (entry .args .table)) (entry .pre .0)
           (entry .pre .1 .0) (entry .pre .1 .1 .0) s (omega (arith, l, entry .pre .1 .0 .haves-long)) in
           (omega (arith, q, entry .pre .1 .0 .haves-long), entry .pre .1 .0 .enough _ q),
     )
@@ -118,8 +112,7 @@ lane-rows-requires c κs =
     let back-10 = c .before .before .before .before .before .before .before .before .before .before in
     let entry = back-10 .before .before .before .before .before .before .before .before .before .before in (
       (entry .pre .1 .0 .few, entry .pre .0 .few, sym (entry .pre .0 .ends-long), length-replicate {A = ℕ} 2048 0),
-      nodes-in (now (entry .args .gives)) (now (entry .args .takes)) (now (entry .args .haves)) (now (entry .args .starts)) (now (entry .args .ends))
-          (now (entry .args .ceilings)) (now (entry .args .costs)) (entry .args .named) (now (entry .args .table)) (entry .pre .0) (entry .pre .1 .0)
+      nodes-in _ _ _ _ _ _ _ (entry .args .named) (now (entry .args .table)) (entry .pre .0) (entry .pre .1 .0)
           (entry .pre .1 .1 .0),
     )
 
@@ -128,8 +121,7 @@ cost-rows-requires c κs =
     let back-11 = c .before .before .before .before .before .before .before .before .before .before .before in
     let entry = back-11 .before .before .before .before .before .before .before .before .before .before .before in (
       (entry .pre .1 .0 .few, entry .pre .0 .few, sym (entry .pre .0 .costs-long), length-replicate {A = ℤ} 2048 (pos 0)),
-      nodes-in (now (entry .args .gives)) (now (entry .args .takes)) (now (entry .args .haves)) (now (entry .args .starts)) (now (entry .args .ends))
-          (now (entry .args .ceilings)) (now (entry .args .costs)) (entry .args .named) (now (entry .args .table)) (entry .pre .0) (entry .pre .1 .0)
+      nodes-in _ _ _ _ _ _ _ (entry .args .named) (now (entry .args .table)) (entry .pre .0) (entry .pre .1 .0)
           (entry .pre .1 .1 .0),
     )
 
@@ -143,8 +135,7 @@ fill-table-requires c κs =
       omega (
         arith,
         entry .pre .1 .0 .most _
-            (w-in (now (entry .args .gives)) (now (entry .args .takes)) (now (entry .args .haves)) (now (entry .args .starts))
-            (now (entry .args .ends)) (now (entry .args .ceilings)) (now (entry .args .costs)) (entry .args .named) (now (entry .args .table)) (entry .pre .0)
+            (w-in _ _ _ _ _ _ _ (entry .args .named) (now (entry .args .table)) (entry .pre .0)
             (entry .pre .1 .0) (entry .pre .1 .1 .0)),
         length-replicate {A = ℕ} 4001 0,
       ),
@@ -152,8 +143,7 @@ fill-table-requires c κs =
         omega (
           arith,
           entry .pre .1 .0 .most _
-              (w-in (now (entry .args .gives)) (now (entry .args .takes)) (now (entry .args .haves)) (now (entry .args .starts))
-              (now (entry .args .ends)) (now (entry .args .ceilings)) (now (entry .args .costs)) (entry .args .named) (now (entry .args .table)) (entry .pre .0)
+              (w-in _ _ _ _ _ _ _ (entry .args .named) (now (entry .args .table)) (entry .pre .0)
               (entry .pre .1 .0) (entry .pre .1 .1 .0)),
         ),
         entry .pre .0 .ceiling-most (entry .args .named) (entry .pre .1 .1 .0 .place),
@@ -173,8 +163,7 @@ add-last c =
     omega (
       arith,
       entry .pre .1 .0 .most _
-          (w-in (now (entry .args .gives)) (now (entry .args .takes)) (now (entry .args .haves)) (now (entry .args .starts)) (now (entry .args .ends))
-          (now (entry .args .ceilings)) (now (entry .args .costs)) (entry .args .named) (now (entry .args .table)) (entry .pre .0) (entry .pre .1 .0)
+          (w-in _ _ _ _ _ _ _ (entry .args .named) (now (entry .args .table)) (entry .pre .0) (entry .pre .1 .0)
           (entry .pre .1 .1 .0)),
     )
 
@@ -246,8 +235,7 @@ part-plan-case-end-5 c =
     omega (
       arith,
       entry .pre .1 .0 .most _
-          (w-in (now (entry .args .gives)) (now (entry .args .takes)) (now (entry .args .haves)) (now (entry .args .starts)) (now (entry .args .ends))
-          (now (entry .args .ceilings)) (now (entry .args .costs)) (entry .args .named) (now (entry .args .table)) (entry .pre .0) (entry .pre .1 .0)
+          (w-in _ _ _ _ _ _ _ (entry .args .named) (now (entry .args .table)) (entry .pre .0) (entry .pre .1 .0)
           (entry .pre .1 .1 .0)),
       at-fill-table .fill-table .ensures .long,
       length-replicate {A = ℕ} 4001 0,
@@ -276,20 +264,17 @@ add-fill-flow c =
     let at-fill-supplies = at-fill-demands .before .before .before in
     let entry = at-fill-supplies .before .before .before .before .before .before .before .before .before .before .before .before .before .before .before in
     let h = found-split
-    (case-is (now (entry .args .gives)) (now (entry .args .takes)) (now (entry .args .haves)) (now (entry .args .starts)) (now (entry .args .ends))
-    (now (entry .args .ceilings)) (now (entry .args .costs)) (entry .args .named) (now (entry .args .table)) (entry .pre .0) (entry .pre .1 .0)
+    (case-is _ _ _ _ _ _ _ (entry .args .named) (now (entry .args .table)) (entry .pre .0) (entry .pre .1 .0)
     (entry .pre .1 .1 .0) _ _ _ _ _ _ _ _ _ (at-excess .excess .ensures) (at-cost-rows .cost-rows .ensures .0) (at-cost-rows .cost-rows .ensures .1)
     (at-fill-supplies .fill-supplies .ensures) (length-replicate {A = ℕ} 32 0) (at-fill-demands .fill-demands .ensures) (length-replicate {A = ℕ} 64 0)
     (at-lane-rows .lane-rows .ensures .0) (at-lane-rows .lane-rows .ensures .1) (at-fill-table .fill-table .ensures) (length-replicate {A = ℕ} 4001 0))
     (at-plan-case .plan-case .ensures) (c .before .before .found .given .1) in
     omega (
       arith,
-      split-fits (now (entry .args .gives)) (now (entry .args .takes)) (now (entry .args .haves)) (now (entry .args .starts))
-          (now (entry .args .ends)) (now (entry .args .ceilings)) (now (entry .args .costs)) (entry .args .named) (now (entry .args .table)) (entry .pre .0)
+      split-fits _ _ _ _ _ _ _ (entry .args .named) (now (entry .args .table)) (entry .pre .0)
           (entry .pre .1 .0) (entry .pre .1 .1 .0) _ _ (h .0) .1,
       entry .pre .1 .0 .most _
-          (w-in (now (entry .args .gives)) (now (entry .args .takes)) (now (entry .args .haves)) (now (entry .args .starts)) (now (entry .args .ends))
-          (now (entry .args .ceilings)) (now (entry .args .costs)) (entry .args .named) (now (entry .args .table)) (entry .pre .0) (entry .pre .1 .0)
+          (w-in _ _ _ _ _ _ _ (entry .args .named) (now (entry .args .table)) (entry .pre .0) (entry .pre .1 .0)
           (entry .pre .1 .1 .0)),
       entry .pre .0 .ceiling-most (entry .args .named) (entry .pre .1 .1 .0 .place),
     )
@@ -305,16 +290,14 @@ sub-fill-flow c =
     let at-fill-supplies = at-fill-demands .before .before .before in
     let entry = at-fill-supplies .before .before .before .before .before .before .before .before .before .before .before .before .before .before .before in
     let h = found-split
-    (case-is (now (entry .args .gives)) (now (entry .args .takes)) (now (entry .args .haves)) (now (entry .args .starts)) (now (entry .args .ends))
-    (now (entry .args .ceilings)) (now (entry .args .costs)) (entry .args .named) (now (entry .args .table)) (entry .pre .0) (entry .pre .1 .0)
+    (case-is _ _ _ _ _ _ _ (entry .args .named) (now (entry .args .table)) (entry .pre .0) (entry .pre .1 .0)
     (entry .pre .1 .1 .0) _ _ _ _ _ _ _ _ _ (at-excess .excess .ensures) (at-cost-rows .cost-rows .ensures .0) (at-cost-rows .cost-rows .ensures .1)
     (at-fill-supplies .fill-supplies .ensures) (length-replicate {A = ℕ} 32 0) (at-fill-demands .fill-demands .ensures) (length-replicate {A = ℕ} 64 0)
     (at-lane-rows .lane-rows .ensures .0) (at-lane-rows .lane-rows .ensures .1) (at-fill-table .fill-table .ensures) (length-replicate {A = ℕ} 4001 0))
     (at-plan-case .plan-case .ensures) (c .before .before .found .given .1) in
     omega (
       arith,
-      split-fits (now (entry .args .gives)) (now (entry .args .takes)) (now (entry .args .haves)) (now (entry .args .starts))
-          (now (entry .args .ends)) (now (entry .args .ceilings)) (now (entry .args .costs)) (entry .args .named) (now (entry .args .table)) (entry .pre .0)
+      split-fits _ _ _ _ _ _ _ (entry .args .named) (now (entry .args .table)) (entry .pre .0)
           (entry .pre .1 .0) (entry .pre .1 .1 .0) _ _ (h .0) .0,
     )
 
@@ -329,8 +312,7 @@ fill-flow-requires c κs =
         entry .pre .0 .start-low j l,
         omega (
           arith,
-          sources-in (now (entry .args .gives)) (now (entry .args .takes)) (now (entry .args .haves)) (now (entry .args .starts))
-              (now (entry .args .ends)) (now (entry .args .ceilings)) (now (entry .args .costs)) (entry .args .named) (now (entry .args .table)) (entry .pre .0)
+          sources-in _ _ _ _ _ _ _ (entry .args .named) (now (entry .args .table)) (entry .pre .0)
               (entry .pre .1 .0) (entry .pre .1 .1 .0) j l,
           entry .pre .1 .0 .few,
         ),
@@ -355,16 +337,14 @@ returns c =
     let at-fill-supplies = at-fill-demands .before .before .before in
     let entry = at-fill-supplies .before .before .before .before .before .before .before .before .before .before .before .before .before .before .before in
     let h = found-split
-    (case-is (now (entry .args .gives)) (now (entry .args .takes)) (now (entry .args .haves)) (now (entry .args .starts)) (now (entry .args .ends))
-    (now (entry .args .ceilings)) (now (entry .args .costs)) (entry .args .named) (now (entry .args .table)) (entry .pre .0) (entry .pre .1 .0)
+    (case-is _ _ _ _ _ _ _ (entry .args .named) (now (entry .args .table)) (entry .pre .0) (entry .pre .1 .0)
     (entry .pre .1 .1 .0) _ _ _ _ _ _ _ _ _ (at-excess .excess .ensures) (at-cost-rows .cost-rows .ensures .0) (at-cost-rows .cost-rows .ensures .1)
     (at-fill-supplies .fill-supplies .ensures) (length-replicate {A = ℕ} 32 0) (at-fill-demands .fill-demands .ensures) (length-replicate {A = ℕ} 64 0)
     (at-lane-rows .lane-rows .ensures .0) (at-lane-rows .lane-rows .ensures .1) (at-fill-table .fill-table .ensures) (length-replicate {A = ℕ} 4001 0))
     (at-plan-case .plan-case .ensures) (at-found .found .given .1) in
     record {
       told = flow-total _ _ _ _ _ _ (h .2)
-          (flow-told (now (entry .args .gives)) (now (entry .args .takes)) (now (entry .args .haves)) (now (entry .args .starts))
-          (now (entry .args .ends)) (now (entry .args .ceilings)) (now (entry .args .costs)) (entry .args .named) (now (entry .args .table)) (entry .pre .0)
+          (flow-told _ _ _ _ _ _ _ (entry .args .named) (now (entry .args .table)) (entry .pre .0)
           (entry .pre .1 .0) (entry .pre .1 .1 .0) _ _ _ _ (h .0) (h .1) _ _ (entry .pre .1 .1 .1) (c .before .before .fill-flow .ensures) (h .2));
     }
 
@@ -380,12 +360,10 @@ returns-2 c =
     let entry = at-fill-supplies .before .before .before .before .before .before .before .before .before .before .before .before .before .before .before in
     record {
       told = (
-        nothing-told (now (entry .args .gives)) (now (entry .args .takes)) (now (entry .args .haves)) (now (entry .args .starts))
-            (now (entry .args .ends)) (now (entry .args .ceilings)) (now (entry .args .costs)) (entry .args .named) (now (entry .args .table)) (entry .pre .0)
+        nothing-told _ _ _ _ _ _ _ (entry .args .named) (now (entry .args .table)) (entry .pre .0)
             (entry .pre .1 .0) (entry .pre .1 .1 .0) _ _
             (found-nothing
-            (case-is (now (entry .args .gives)) (now (entry .args .takes)) (now (entry .args .haves)) (now (entry .args .starts))
-            (now (entry .args .ends)) (now (entry .args .ceilings)) (now (entry .args .costs)) (entry .args .named) (now (entry .args .table)) (entry .pre .0)
+            (case-is _ _ _ _ _ _ _ (entry .args .named) (now (entry .args .table)) (entry .pre .0)
             (entry .pre .1 .0) (entry .pre .1 .1 .0) _ _ _ _ _ _ _ _ _ (at-excess .excess .ensures) (at-cost-rows .cost-rows .ensures .0)
             (at-cost-rows .cost-rows .ensures .1) (at-fill-supplies .fill-supplies .ensures) (length-replicate {A = ℕ} 32 0)
             (at-fill-demands .fill-demands .ensures) (length-replicate {A = ℕ} 64 0) (at-lane-rows .lane-rows .ensures .0) (at-lane-rows .lane-rows .ensures .1)

@@ -24,8 +24,7 @@ returns : tie.Need-returns
 returns c =
     let entry = c .before .before .before .before .before .before .before .before .before .before .before .before .before .before in
     rw (c .refused .ensures) (
-      by-over (now (entry .args .gives)) (now (entry .args .takes)) (now (entry .args .haves)) (now (entry .args .tails)) (now (entry .args .heads))
-          (now (entry .args .capacities)) (now (entry .args .prices)) (entry .args .place) (now (entry .args .table)) (entry .pre .0) (entry .pre .1 .0)
+      by-over _ _ _ _ _ _ _ (entry .args .place) (now (entry .args .table)) (entry .pre .0) (entry .pre .1 .0)
           (entry .pre .1 .1)
           (slicesOf (now (entry .args .flow)) (now (entry .args .starts)) (now (entry .args .ends)) (now (entry .args .ceilings)) (now (entry .args .costs)))
           (sym (c .before .if1 .taken) ∙ c .before .before .over .ensures),
@@ -44,8 +43,7 @@ returns-2 : tie.Need-returns-2
 returns-2 c =
     let entry = c .before .before .before .before .before .before .before .before .before .before .before .before .before .before .before .before in
     rw (c .refused2 .ensures) (
-      by-name (now (entry .args .gives)) (now (entry .args .takes)) (now (entry .args .haves)) (now (entry .args .tails)) (now (entry .args .heads))
-          (now (entry .args .capacities)) (now (entry .args .prices)) (entry .args .place) (now (entry .args .table)) (entry .pre .0) (entry .pre .1 .0)
+      by-name _ _ _ _ _ _ _ (entry .args .place) (now (entry .args .table)) (entry .pre .0) (entry .pre .1 .0)
           (entry .pre .1 .1)
           (slicesOf (now (entry .args .flow)) (now (entry .args .starts)) (now (entry .args .ends)) (now (entry .args .ceilings)) (now (entry .args .costs)))
           (sym (c .before .if2 .taken) ∙ c .before .before .bad-name .ensures),
@@ -63,8 +61,7 @@ returns-3 c =
     let back-9 = c .before .before .before .before .before .before .before .before .before in
     let entry = back-9 .before .before .before .before .before .before .before .before .before in
     rw (c .refused3 .ensures) (
-      by-room (now (entry .args .gives)) (now (entry .args .takes)) (now (entry .args .haves)) (now (entry .args .tails)) (now (entry .args .heads))
-          (now (entry .args .capacities)) (now (entry .args .prices)) (entry .args .place) (now (entry .args .table)) (entry .pre .0) (entry .pre .1 .0)
+      by-room _ _ _ _ _ _ _ (entry .args .place) (now (entry .args .table)) (entry .pre .0) (entry .pre .1 .0)
           (entry .pre .1 .1)
           (slicesOf (now (entry .args .flow)) (now (entry .args .starts)) (now (entry .args .ends)) (now (entry .args .ceilings)) (now (entry .args .costs)))
           (sym (c .before .if3 .taken) ∙ c .before .before .too-short .ensures),
@@ -90,8 +87,7 @@ returns-4 c =
     let at-over = at-if1 .before in
     let entry = at-over .before .before .before .before .before .before .before .before .before .before .before .before in
     rw (c .refused4 .ensures) (
-      by-uneven (now (entry .args .gives)) (now (entry .args .takes)) (now (entry .args .haves)) (now (entry .args .tails)) (now (entry .args .heads))
-          (now (entry .args .capacities)) (now (entry .args .prices)) (entry .args .place) (now (entry .args .table)) (entry .pre .0) (entry .pre .1 .0)
+      by-uneven _ _ _ _ _ _ _ (entry .args .place) (now (entry .args .table)) (entry .pre .0) (entry .pre .1 .0)
           (entry .pre .1 .1)
           (slicesOf (now (entry .args .flow)) (now (entry .args .starts)) (now (entry .args .ends)) (now (entry .args .ceilings)) (now (entry .args .costs)))
           (sym (at-if1 .if1 .left) ∙ at-over .over .ensures) (sym (at-if2 .if2 .left) ∙ at-bad-name .bad-name .ensures)
@@ -107,8 +103,7 @@ sub-carry c =
     let at-if1 = at-bad-name .before in
     let at-over = at-if1 .before in
     let entry = at-over .before .before .before .before .before .before .before .before .before .before .before .before in
-    place-low (now (entry .args .gives)) (now (entry .args .takes)) (now (entry .args .haves)) (now (entry .args .tails)) (now (entry .args .heads))
-    (now (entry .args .capacities)) (now (entry .args .prices)) (entry .args .place) (now (entry .args .table)) (entry .pre .0) (entry .pre .1 .0)
+    place-low _ _ _ _ _ _ _ (entry .args .place) (now (entry .args .table)) (entry .pre .0) (entry .pre .1 .0)
     (entry .pre .1 .1)
     (slicesOf (now (entry .args .flow)) (now (entry .args .starts)) (now (entry .args .ends)) (now (entry .args .ceilings)) (now (entry .args .costs)))
     (sym (at-if1 .if1 .left) ∙ at-over .over .ensures) (sym (at-if2 .if2 .left) ∙ at-bad-name .bad-name .ensures)
@@ -125,21 +120,18 @@ carry-requires c κs =
     let entry = at-over .before .before .before .before .before .before .before .before .before .before .before .before in (
       entry .pre .0,
       (
-        amounts-there (now (entry .args .gives)) (now (entry .args .takes)) (now (entry .args .haves)) (now (entry .args .tails))
-            (now (entry .args .heads)) (now (entry .args .capacities)) (now (entry .args .prices)) (entry .args .place) (now (entry .args .table))
+        amounts-there _ _ _ _ _ _ _ (entry .args .place) (now (entry .args .table))
             (entry .pre .0) (entry .pre .1 .0) (entry .pre .1 .1)
             (slicesOf (now (entry .args .flow)) (now (entry .args .starts)) (now (entry .args .ends)) (now (entry .args .ceilings)) (now (entry .args .costs)))
             (sym (at-if1 .if1 .left) ∙ at-over .over .ensures) (sym (at-if2 .if2 .left) ∙ at-bad-name .bad-name .ensures)
             (sym (at-if3 .if3 .left) ∙ at-too-short .too-short .ensures) (sym (c .before .if4 .left) ∙ c .before .before .uneven .ensures),
         (
-          named-there (now (entry .args .gives)) (now (entry .args .takes)) (now (entry .args .haves)) (now (entry .args .tails))
-              (now (entry .args .heads)) (now (entry .args .capacities)) (now (entry .args .prices)) (entry .args .place) (now (entry .args .table))
+          named-there _ _ _ _ _ _ _ (entry .args .place) (now (entry .args .table))
               (entry .pre .0) (entry .pre .1 .0) (entry .pre .1 .1)
               (slicesOf (now (entry .args .flow)) (now (entry .args .starts)) (now (entry .args .ends)) (now (entry .args .ceilings)) (now (entry .args .costs)))
               (sym (at-if1 .if1 .left) ∙ at-over .over .ensures) (sym (at-if2 .if2 .left) ∙ at-bad-name .bad-name .ensures)
               (sym (at-if3 .if3 .left) ∙ at-too-short .too-short .ensures),
-          flow-room (now (entry .args .gives)) (now (entry .args .takes)) (now (entry .args .haves)) (now (entry .args .tails))
-              (now (entry .args .heads)) (now (entry .args .capacities)) (now (entry .args .prices)) (entry .args .place) (now (entry .args .table))
+          flow-room _ _ _ _ _ _ _ (entry .args .place) (now (entry .args .table))
               (entry .pre .0) (entry .pre .1 .0) (entry .pre .1 .1)
               (slicesOf (now (entry .args .flow)) (now (entry .args .starts)) (now (entry .args .ends)) (now (entry .args .ceilings)) (now (entry .args .costs)))
               (sym (at-if1 .if1 .left) ∙ at-over .over .ensures) (sym (at-if2 .if2 .left) ∙ at-bad-name .bad-name .ensures)
@@ -172,8 +164,7 @@ returns-5 c =
     let entry = at-over .before .before .before .before .before .before .before .before .before .before .before .before in
     let h = carried-nothing (at-carry .carry .ensures) (c .before .enum-told .given .1) in
     rw (c .refused5 .ensures) (
-      by-nothing (now (entry .args .gives)) (now (entry .args .takes)) (now (entry .args .haves)) (now (entry .args .tails))
-          (now (entry .args .heads)) (now (entry .args .capacities)) (now (entry .args .prices)) (entry .args .place) (now (entry .args .table))
+      by-nothing _ _ _ _ _ _ _ (entry .args .place) (now (entry .args .table))
           (entry .pre .0) (entry .pre .1 .0) (entry .pre .1 .1)
           (slicesOf (now (entry .args .flow)) (now (entry .args .starts)) (now (entry .args .ends)) (now (entry .args .ceilings)) (now (entry .args .costs)))
           (sym (at-if1 .if1 .left) ∙ at-over .over .ensures) (sym (at-if2 .if2 .left) ∙ at-bad-name .bad-name .ensures)
@@ -194,8 +185,7 @@ copy-numbers-requires c κs =
     let entry = at-over .before .before .before .before .before .before .before .before .before .before .before .before in
     omega (
       arith,
-      starts-room (now (entry .args .gives)) (now (entry .args .takes)) (now (entry .args .haves)) (now (entry .args .tails))
-          (now (entry .args .heads)) (now (entry .args .capacities)) (now (entry .args .prices)) (entry .args .place) (now (entry .args .table))
+      starts-room _ _ _ _ _ _ _ (entry .args .place) (now (entry .args .table))
           (entry .pre .0) (entry .pre .1 .0) (entry .pre .1 .1)
           (slicesOf (now (entry .args .flow)) (now (entry .args .starts)) (now (entry .args .ends)) (now (entry .args .ceilings)) (now (entry .args .costs)))
           (sym (at-if1 .if1 .left) ∙ at-over .over .ensures) (sym (at-if2 .if2 .left) ∙ at-bad-name .bad-name .ensures)
@@ -212,8 +202,7 @@ copy-numbers-requires-2 c κs =
     let at-if1 = at-bad-name .before in
     let at-over = at-if1 .before in
     let entry = at-over .before .before .before .before .before .before .before .before .before .before .before .before in
-    ends-room (now (entry .args .gives)) (now (entry .args .takes)) (now (entry .args .haves)) (now (entry .args .tails)) (now (entry .args .heads))
-    (now (entry .args .capacities)) (now (entry .args .prices)) (entry .args .place) (now (entry .args .table)) (entry .pre .0) (entry .pre .1 .0)
+    ends-room _ _ _ _ _ _ _ (entry .args .place) (now (entry .args .table)) (entry .pre .0) (entry .pre .1 .0)
     (entry .pre .1 .1)
     (slicesOf (now (entry .args .flow)) (now (entry .args .starts)) (now (entry .args .ends)) (now (entry .args .ceilings)) (now (entry .args .costs)))
     (sym (at-if1 .if1 .left) ∙ at-over .over .ensures) (sym (at-if2 .if2 .left) ∙ at-bad-name .bad-name .ensures)
@@ -229,8 +218,7 @@ copy-numbers-requires-3 c κs =
     let at-if1 = at-bad-name .before in
     let at-over = at-if1 .before in
     let entry = at-over .before .before .before .before .before .before .before .before .before .before .before .before in
-    ceilings-room (now (entry .args .gives)) (now (entry .args .takes)) (now (entry .args .haves)) (now (entry .args .tails))
-    (now (entry .args .heads)) (now (entry .args .capacities)) (now (entry .args .prices)) (entry .args .place) (now (entry .args .table))
+    ceilings-room _ _ _ _ _ _ _ (entry .args .place) (now (entry .args .table))
     (entry .pre .0) (entry .pre .1 .0) (entry .pre .1 .1)
     (slicesOf (now (entry .args .flow)) (now (entry .args .starts)) (now (entry .args .ends)) (now (entry .args .ceilings)) (now (entry .args .costs)))
     (sym (at-if1 .if1 .left) ∙ at-over .over .ensures) (sym (at-if2 .if2 .left) ∙ at-bad-name .bad-name .ensures)
@@ -246,8 +234,7 @@ copy-costs-requires c κs =
     let at-if1 = at-bad-name .before in
     let at-over = at-if1 .before in
     let entry = at-over .before .before .before .before .before .before .before .before .before .before .before .before in
-    costs-room (now (entry .args .gives)) (now (entry .args .takes)) (now (entry .args .haves)) (now (entry .args .tails)) (now (entry .args .heads))
-    (now (entry .args .capacities)) (now (entry .args .prices)) (entry .args .place) (now (entry .args .table)) (entry .pre .0) (entry .pre .1 .0)
+    costs-room _ _ _ _ _ _ _ (entry .args .place) (now (entry .args .table)) (entry .pre .0) (entry .pre .1 .0)
     (entry .pre .1 .1)
     (slicesOf (now (entry .args .flow)) (now (entry .args .starts)) (now (entry .args .ends)) (now (entry .args .ceilings)) (now (entry .args .costs)))
     (sym (at-if1 .if1 .left) ∙ at-over .over .ensures) (sym (at-if2 .if2 .left) ∙ at-bad-name .bad-name .ensures)
@@ -283,14 +270,12 @@ returns-6 c =
     let at-over = at-if1 .before in
     let entry = at-over .before .before .before .before .before .before .before .before .before .before .before .before in
     let h = carried-flow (at-carry .carry .ensures) (at-c .c .given .1) in (
-      by-flow (now (entry .args .gives)) (now (entry .args .takes)) (now (entry .args .haves)) (now (entry .args .tails)) (now (entry .args .heads))
-          (now (entry .args .capacities)) (now (entry .args .prices)) (entry .args .place) (now (entry .args .table)) (entry .pre .0) (entry .pre .1 .0)
+      by-flow _ _ _ _ _ _ _ (entry .args .place) (now (entry .args .table)) (entry .pre .0) (entry .pre .1 .0)
           (entry .pre .1 .1)
           (slicesOf (now (entry .args .flow)) (now (entry .args .starts)) (now (entry .args .ends)) (now (entry .args .ceilings)) (now (entry .args .costs)))
           (sym (at-if1 .if1 .left) ∙ at-over .over .ensures) (sym (at-if2 .if2 .left) ∙ at-bad-name .bad-name .ensures)
           (sym (at-if3 .if3 .left) ∙ at-too-short .too-short .ensures) _ _
-          (told-there (now (entry .args .gives)) (now (entry .args .takes)) (now (entry .args .haves)) (now (entry .args .tails))
-          (now (entry .args .heads)) (now (entry .args .capacities)) (now (entry .args .prices)) (entry .args .place) (now (entry .args .table))
+          (told-there _ _ _ _ _ _ _ (entry .args .place) (now (entry .args .table))
           (entry .pre .0) (entry .pre .1 .0) (entry .pre .1 .1)
           (slicesOf (now (entry .args .flow)) (now (entry .args .starts)) (now (entry .args .ends)) (now (entry .args .ceilings)) (now (entry .args .costs)))
           (sym (at-if1 .if1 .left) ∙ at-over .over .ensures) (sym (at-if2 .if2 .left) ∙ at-bad-name .bad-name .ensures)
