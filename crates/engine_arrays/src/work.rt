@@ -54,7 +54,8 @@ fn raise_into(source: &[i64], at: usize, to: &mut [u32])
 // Writes the m rows of n unit costs, raised, into rows of 64; other cells are left as they are.
 pub fn raise_rows(m: usize, n: usize, costs: &[i64], to: &mut [u32; 2048])
     requires { ⌜ (m ≤ 32) × (n ≤ 64) × (length (now costs) ≡ m * n) × (length (now to) ≡ 2048) × AllInside (now costs) ⌝ }
-    ensures { λ _. ⌜ RowsMoved m n n 64 (map raisedOf (now (costs .entry))) (now (to .exit)) × (length (now (to .exit)) ≡ 2048) × RowsKept m n 64 (now (to .entry)) (now (to .exit)) ⌝ }
+    ensures { λ _. ⌜ RowsMoved m n n 64 (map raisedOf (now (costs .entry))) (now (to .exit)) × (length (now (to .exit)) ≡ 2048) ×
+        RowsKept m n 64 (now (to .entry)) (now (to .exit)) ⌝ }
 {
     let mut start: usize = 0;
     for i in 0..m {
@@ -83,7 +84,8 @@ pub fn gather_rows(m: usize, n: usize, cells: &[u32; 2048], to: &mut [u64])
 // Copies the m rows of n ceilings into rows of 64; other cells are left as they are.
 pub fn copy_rows(m: usize, n: usize, ceilings: &[u64], to: &mut [u32; 2048])
     requires { ⌜ (m ≤ 32) × (n ≤ 64) × (length (now ceilings) ≡ m * n) × (length (now to) ≡ 2048) × Narrow (now ceilings) ⌝ }
-    ensures { λ _. ⌜ RowsMoved m n n 64 (now (ceilings .entry)) (now (to .exit)) × (length (now (to .exit)) ≡ 2048) × RowsKept m n 64 (now (to .entry)) (now (to .exit)) ⌝ }
+    ensures { λ _. ⌜ RowsMoved m n n 64 (now (ceilings .entry)) (now (to .exit)) × (length (now (to .exit)) ≡ 2048) ×
+        RowsKept m n 64 (now (to .entry)) (now (to .exit)) ⌝ }
 {
     let mut start: usize = 0;
     for i in 0..m {
