@@ -55,7 +55,8 @@ pub fn lower_cells(source: &[u64], to: &mut [i64])
 // The unit costs of at most 2,048 cells, and 0 after them.
 pub fn costs_of(source: &[u64]) -> [i64; 2048]
     requires { ⌜ length (now source) ≤ 2048 ⌝ }
-    ensures { λ r. ⌜ (length r ≡ 2048) × (take (length (now (source .entry))) r ≡ map costIn (now (source .entry))) × (r ≡ written (map costIn (now (source .entry))) (replicate 2048 (pos 0))) ⌝ }
+    ensures { λ r. ⌜ (length r ≡ 2048) × (take (length (now (source .entry))) r ≡ map costIn (now (source .entry))) ×
+        (r ≡ written (map costIn (now (source .entry))) (replicate 2048 (pos 0))) ⌝ }
 {
     let mut costs = [0i64; 2048];
     lower_cells(source, &mut costs);

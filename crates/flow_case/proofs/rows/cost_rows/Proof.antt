@@ -15,7 +15,8 @@ use Rattle.flow_case.proofs.rows.cost_rows.Statement.{statement}
 use Rattle.flow_case.proofs.rows.cost_rows.Tie as tie
 
 abbrev Inv-loop : tie.InvT-loop
-Inv-loop m w v starts costs to₀ at₀ s₀ to at s = RowsAre (pos 0) (λ s j. costIn starts costs (nodeOf w v s + 1) j) s (length starts) to × (length to ≡ 2048) × (s ≤ m) × (at ≡ s * length starts) × RowsAfter (pos 0) s (length starts) to₀ to
+Inv-loop m w v starts costs to₀ at₀ s₀ to at s =
+    RowsAre (pos 0) (λ s j. costIn starts costs (nodeOf w v s + 1) j) s (length starts) to × (length to ≡ 2048) × (s ≤ m) × (at ≡ s * length starts) × RowsAfter (pos 0) s (length starts) to₀ to
 
 abbrev μ-loop : tie.MeasureT-loop
 μ-loop m w v starts costs to₀ at₀ s₀ to at s = m - s

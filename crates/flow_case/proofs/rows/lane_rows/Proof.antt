@@ -14,7 +14,8 @@ use Rattle.flow_case.proofs.rows.lane_rows.Statement.{statement}
 use Rattle.flow_case.proofs.rows.lane_rows.Tie as tie
 
 abbrev Inv-loop : tie.InvT-loop
-Inv-loop m w v starts ends to₀ at₀ s₀ to at s = RowsAre 0 (λ s j. laneIn starts ends (nodeOf w v s + 1) j) s (length starts) to × (length to ≡ 2048) × (s ≤ m) × (at ≡ s * length starts) × RowsAfter 0 s (length starts) to₀ to
+Inv-loop m w v starts ends to₀ at₀ s₀ to at s =
+    RowsAre 0 (λ s j. laneIn starts ends (nodeOf w v s + 1) j) s (length starts) to × (length to ≡ 2048) × (s ≤ m) × (at ≡ s * length starts) × RowsAfter 0 s (length starts) to₀ to
 
 abbrev μ-loop : tie.MeasureT-loop
 μ-loop m w v starts ends to₀ at₀ s₀ to at s = m - s
