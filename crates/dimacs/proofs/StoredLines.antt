@@ -132,7 +132,9 @@ module _ (nodes : ℕ) (sup : List NodeLine) (v : NodeLine) (odd : Bool) (gives 
     -- the node has a line already
     pub node-again : 0 < getD marks i 0 → NodesRead nodes (sup ++ (v ∷ [])) true gives takes marks
     node-again h = record {
-      flag = or-next (anyOf (noCell nodes) sup || noCell nodes v) (twice sup || listedNode sup (v .id)) (or-next (twice sup) (listedNode sup (v .id)) (sym (ap (listedNode sup) e ∙ there))) ∙ sym flags-next;
+      flag =
+          or-next (anyOf (noCell nodes) sup || noCell nodes v) (twice sup || listedNode sup (v .id)) (or-next (twice sup) (listedNode sup (v .id)) (sym (ap (listedNode sup) e ∙ there))) ∙
+          sym flags-next;
       mark = λ k q. r .mark k q ∙ same-mark k;
       mark-one = r .mark-one;
       supply = λ k q. r .supply k q ∙ same-supply k;
