@@ -7,10 +7,14 @@ use Rattle.bounded.proofs.residuals.reverse_path.Tie as tie
 -- `bounded::residuals::reverse_path` is safe and ends. Assumes nothing.
 
 abbrev Inv-loop : tie.InvT-loop
-Inv-loop v e host own r c source terminal parent₀ sources-below₀ terminals-below₀ residual₀ a₀ upper₀ moved₀ off-sources₀ off-terminals₀ left₀ parent sources-below terminals-below residual a upper moved off-sources off-terminals left = left ≤ 96
+Inv-loop v e host own r c source terminal parent₀ sources-below₀ terminals-below₀ residual₀ a₀ upper₀ moved₀ off-sources₀ off-terminals₀ left₀ parent
+    sources-below terminals-below residual a upper moved off-sources off-terminals left =
+    left ≤ 96
 
 abbrev μ-loop : tie.MeasureT-loop
-μ-loop v e host own r c source terminal parent₀ sources-below₀ terminals-below₀ residual₀ a₀ upper₀ moved₀ off-sources₀ off-terminals₀ left₀ parent sources-below terminals-below residual a upper moved off-sources off-terminals left = left
+μ-loop v e host own r c source terminal parent₀ sources-below₀ terminals-below₀ residual₀ a₀ upper₀ moved₀ off-sources₀ off-terminals₀ left₀ parent
+    sources-below terminals-below residual a upper moved off-sources off-terminals left =
+    left
 
 loop-holds : tie.Need-loop-holds Inv-loop μ-loop
 loop-holds c = search needs

@@ -5,10 +5,14 @@ use Rattle.bounded.proofs.solve.simplex.Statement.{statement}
 use Rattle.bounded.proofs.solve.simplex.Tie as tie
 
 abbrev Inv-loop : tie.InvT-loop
-Inv-loop m n turns fine cost cap price₀ full₀ parent₀ sources-below₀ terminals-below₀ residual₀ potential₀ key₀ now₀ left₀ price full parent sources-below terminals-below residual potential key now left = left ≤ turns
+Inv-loop m n turns fine cost cap price₀ full₀ parent₀ sources-below₀ terminals-below₀ residual₀ potential₀ key₀ now₀ left₀ price full parent
+    sources-below terminals-below residual potential key now left =
+    left ≤ turns
 
 abbrev μ-loop : tie.MeasureT-loop
-μ-loop m n turns fine cost cap price₀ full₀ parent₀ sources-below₀ terminals-below₀ residual₀ potential₀ key₀ now₀ left₀ price full parent sources-below terminals-below residual potential key now left = left
+μ-loop m n turns fine cost cap price₀ full₀ parent₀ sources-below₀ terminals-below₀ residual₀ potential₀ key₀ now₀ left₀ price full parent
+    sources-below terminals-below residual potential key now left =
+    left
 
 loop-holds : tie.Need-loop-holds Inv-loop μ-loop
 loop-holds c = search needs
