@@ -105,7 +105,8 @@ record Bounds (s y : ℕ) : Type 0 where
 
 bounds : (x : List ℕ) → Lanes x → Bounds (spent x) (split x)
 bounds x p =
-    let made = both-plants (lane x 0) (lane x 1) (lane x 2) (lane x 3) (lane x 4) (lane x 5) (lane x 6) (lane x 7) (lane x 8) (lane x 9) (lane x 10) (lane x 11) (p .depot) (p .t1) (p .t2) (p .t3) (p .t4) in
+    let made = both-plants (lane x 0) (lane x 1) (lane x 2) (lane x 3) (lane x 4) (lane x 5) (lane x 6) (lane x 7) (lane x 8) (lane x 9) (lane x 10)
+    (lane x 11) (p .depot) (p .t1) (p .t2) (p .t3) (p .t4) in
     let s7 = slope7 (lane x 0) (lane x 1) (lane x 2) (lane x 3) (lane x 4) (lane x 5) (lane x 6) (lane x 7) (lane x 8) (lane x 9) (lane x 10) (lane x 11) (p .depot) (p .t1) (p .t2) (p .t3) (p .t4) in
     let s1 = slope1 (lane x 0) (lane x 1) (lane x 2) (lane x 3) (lane x 4) (lane x 5) (lane x 6) (lane x 7) (lane x 8) (lane x 9) (lane x 10) (lane x 11) (p .depot) (p .t1) (p .t2) (p .t3) (p .t4) in
     go (spent x) (split x) (second x) _ _ (p .first) (p .last) made s7 s1

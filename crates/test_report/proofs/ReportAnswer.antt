@@ -11,7 +11,8 @@ use Rattle.transport.specs.Sum.{sum}
 use Rattle.problem.specs.Range.{outside}
 use Rattle.problem.specs.Case.{allDemand, depotStock, made, entry, leastSplit, steps, hasSplit}
 use Rattle.problem.specs.Plans.{leastFreightAt, totalAt, bestSplit, stops}
-use Rattle.problem.specs.Outcome.{planned, refuseIf, refuseAt, firstFrom, firstOver, _orElse_, formRefusal, refusalOf, planOf, outcomeOf, test1, test2, test3, test4, test23, test5, test26, test6, test7, test8, test27, test9, test11}
+use Rattle.problem.specs.Outcome.{planned, refuseIf, refuseAt, firstFrom, firstOver, _orElse_, formRefusal, refusalOf, planOf, outcomeOf, test1, test2}
+use Rattle.problem.specs.Outcome.{test3, test4, test23, test5, test26, test6, test7, test8, test27, test9, test11}
 use Rattle.problem.proofs.FirstFailing.{first-none}
 use Rattle.problem.proofs.TestParts.{unmet, no-place}
 use Rattle.problem.proofs.TestsPassed.{Formed, formed, balanced, second-decides}

@@ -47,8 +47,10 @@ plan-requires c κs = search needs
 returns : tie.Need-returns
 unfolding report
 returns c =
-    c .before .before .before .plan2 .ensures .answer
-    ∙ ap (λ (t : List ℕ). outcomeOf (reportWith t)) (c .before .before .before .before .before .before .before .before .before .before .before .before .before .fill .ensures .1 ∙ fills-whole 200 _ (lit≤ tt) refl)
+    let at-plan2 = c .before .before .before in
+    let at-fill = at-plan2 .before .before .before .before .before .before .before .before .before .before in
+    at-plan2 .plan2 .ensures .answer
+    ∙ ap (λ (t : List ℕ). outcomeOf (reportWith t)) (at-fill .fill .ensures .1 ∙ fills-whole 200 _ (lit≤ tt) refl)
     ∙ given
 
 pub answer-spec : {M : Type 1} → statement M
