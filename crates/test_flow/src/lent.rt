@@ -101,7 +101,7 @@ fn carried_too(b: Answer, total: i64, arcs: u64) -> bool {
 }
 
 // Is it this refusal?
-fn refused_too(b: Answer, number: u64, place: usize) -> bool {
+fn refused_too(b: Answer, number: u64, place: u64) -> bool {
     match b {
         Answer::Carried { total: _, arcs: _ } => false,
         Answer::Refused {
