@@ -31,7 +31,7 @@ extern "C" {
 #define YADVORKHUL_STORED_ENTRIES 4002 /* of a production file */
 #define YADVORKHUL_READ_CELLS 3      /* of the report of yadvorkhul_read_case */
 #define YADVORKHUL_PLAN_TEXT 174265
-#define YADVORKHUL_BOUNDS_TEXT 172120
+#define YADVORKHUL_BOUNDS_TEXT 172286
 #define YADVORKHUL_FLOW_TEXT 5662
 #define YADVORKHUL_MOST_STORE 73908 /* the cells of the largest store, of 32 sources and 64 terminals */
 

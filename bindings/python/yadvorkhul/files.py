@@ -17,7 +17,7 @@ from . import MOST_SOURCES, MOST_TERMINALS, Case, Plan, Refusal, _cells, _lanes,
 LONGEST = 65_536  # bytes of a file that is read
 STORED = 4_002  # entries of a table that are stored: one more than any case has
 TARIFF, PRODUCTION, NETWORK = "tariff", "production", "network"
-_PLAN_ROOM, _BOUNDS_ROOM, _FLOW_ROOM = 174_265, 172_120, 5_662  # bytes of the longest texts, as the programs have them
+_PLAN_ROOM, _BOUNDS_ROOM, _FLOW_ROOM = 174_265, 172_286, 5_662  # bytes of the longest texts, as the programs have them
 
 _UNSIGNED, _SIGNED, _SIZE = ctypes.c_uint64, ctypes.c_int64, ctypes.c_size_t
 _BYTES = [ctypes.c_char_p, _SIZE]  # a file

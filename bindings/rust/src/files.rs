@@ -25,7 +25,7 @@ pub const STORED_ENTRIES: usize = 4_002;
 pub const READ_CELLS: usize = 3;
 /// Bytes of the longest plan, bounds and flow that are printed.
 pub const PLAN_TEXT: usize = 174_265;
-pub const BOUNDS_TEXT: usize = 172_120;
+pub const BOUNDS_TEXT: usize = 172_286;
 pub const FLOW_TEXT: usize = 5_662;
 
 extern "C" {
