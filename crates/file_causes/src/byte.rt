@@ -1,4 +1,5 @@
 // The usual cause of refusal 21, where the byte at its place and those beside it tell it.
+use crate::fields::said_entry;
 use crate::number::said_number;
 use crate::whole::said_whole;
 use file_io::message::say;
@@ -131,6 +132,17 @@ fn say_byte(byte: u8) {
     say_with(b" (byte ", byte as u64, b")");
 }
 
+// A number with 0 in front in a production file may be the end of one with a comma: 99,00.
+fn said_comma(tariff: bool, bytes: &[u8], at: usize) -> bool {
+    if tariff {
+        return false;
+    }
+    if byte_at(bytes, at) != 48 {
+        return false;
+    }
+    said_entry(bytes, record_at(bytes, at))
+}
+
 // Says what stands at the place of refusal 21, of a tariff or a production file.
 pub fn say_cause(tariff: bool, bytes: &[u8], at: usize) {
     if said_whole(tariff, bytes, at) {
@@ -143,6 +155,9 @@ pub fn say_cause(tariff: bool, bytes: &[u8], at: usize) {
         return;
     }
     let byte = byte_at(bytes, at);
+    if said_comma(tariff, bytes, at) {
+        return;
+    }
     if said_number(bytes, at) || said_place(bytes, at) {
         return;
     }

@@ -3,7 +3,6 @@ use crate::whole::said_whole;
 use file_io::file::first;
 use file_io::message::say;
 use file_io::message::say_name;
-use file_io::place::byte_at;
 use file_io::place::field_start;
 use file_io::place::is_digit;
 use file_io::place::record_end;
@@ -17,47 +16,62 @@ fn record_text(bytes: &[u8], record: u64) -> &[u8] {
     )
 }
 
-// The bytes after the first comma of a record.
-fn after_comma(bytes: &[u8], record: u64) -> &[u8] {
-    rest(
-        first(bytes, record_end(bytes, record)),
-        field_start(bytes, record, 2),
-    )
+// How many bytes stand before the first comma; all where there is none.
+fn head_length(text: &[u8]) -> usize {
+    for i in 0..text.len() {
+        if text[i] == 44 {
+            return i;
+        }
+    }
+    text.len()
 }
 
-// Is it one digit or two, and nothing else?
-fn is_decimal(text: &[u8]) -> bool {
-    let second = (text.len() == 1) | is_digit(byte_at(text, 1));
-    (0 < text.len()) & (text.len() < 3) & is_digit(byte_at(text, 0)) & second
+// Are all bytes digits?
+fn are_digits(text: &[u8]) -> bool {
+    for i in 0..text.len() {
+        if !is_digit(text[i]) {
+            return false;
+        }
+    }
+    true
 }
 
-// Does it begin with three digits, and then end or go on after a comma?
-fn is_group(text: &[u8]) -> bool {
-    let digits = is_digit(byte_at(text, 0))
-        & is_digit(byte_at(text, 1))
-        & is_digit(byte_at(text, 2));
-    digits & ((text.len() == 3) | (byte_at(text, 3) == 44))
+// Is it one digit or two after the comma, and nothing else?
+fn is_decimal(after: &[u8]) -> bool {
+    let many = (after.len() == 1) | (after.len() == 2);
+    many & are_digits(after)
 }
 
-// Does a number of one to three digits stand before the first comma?
-fn is_head(text: &[u8]) -> bool {
-    let one = byte_at(text, 1) == 44;
-    let two = is_digit(byte_at(text, 1)) & (byte_at(text, 2) == 44);
-    let three = is_digit(byte_at(text, 1)) & is_digit(byte_at(text, 2)) & (byte_at(text, 3) == 44);
-    is_digit(byte_at(text, 0)) & (one | two | three)
+// Are groups of three digits all that stands after a comma?
+fn are_groups(after: &[u8]) -> bool {
+    for i in 0..after.len() {
+        let comma = after[i] == 44;
+        if comma != (i % 4 == 3) {
+            return false;
+        }
+        if !comma & !is_digit(after[i]) {
+            return false;
+        }
+    }
+    after.len() % 4 == 3
 }
 
-// An entry with a comma in it; false where the record is no such entry.
-fn said_entry(bytes: &[u8], record: u64) -> bool {
+// Says that an entry has a comma in it; false where the record is no such entry.
+pub fn said_entry(bytes: &[u8], record: u64) -> bool {
     let text = record_text(bytes, record);
-    let after = after_comma(bytes, record);
-    if is_digit(byte_at(text, 0)) & is_decimal(after) {
+    let length = head_length(text);
+    let head = first(text, length);
+    let after = rest(rest(text, length), 1);
+    if !are_digits(head) | (length == 0) {
+        return false;
+    }
+    if is_decimal(after) {
         say(b"a decimal comma in ");
         say_name(text);
         say(b"; numbers are whole");
         return true;
     }
-    if is_head(text) & is_group(after) {
+    if (length < 4) & are_groups(after) {
         say(b"a comma in ");
         say_name(text);
         say(b", between thousands or of a decimal; a number has digits alone");
