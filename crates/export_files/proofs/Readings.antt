@@ -10,10 +10,10 @@ use lib.ListN.{length, set, take}
 use lib.Seq.{sets}
 use borrow.Author.Tests.{lt-ltb, le-ltb}
 use Rattle.transport.specs.Curve.{written}
-use Rattle.validation.specs.declared.limits.Size.{Size}
-use Rattle.validation.specs.declared.limits.Checked.{Checked}
-use Rattle.validation.specs.declared.limits.Checked.the-variants as checks
-use Rattle.validation.specs.Size.{checkedOf}
+use Rattle.size.specs.declared.limits.Size.{Size}
+use Rattle.size.specs.declared.limits.Checked.{Checked}
+use Rattle.size.specs.declared.limits.Checked.the-variants as checks
+use Rattle.size.specs.Size.{checkedOf}
 use Rattle.validation.proofs.FormTests.{Limits, in-limits}
 use Rattle.csv_form.specs.declared.Kind.the-variants.{Production}
 use Rattle.csv_table.specs.Files.{tableOf, stands}

@@ -9,9 +9,9 @@ use lib.IntN.{ℤ}
 use lib.ListN.{length, take}
 use lib.Seq.{sets}
 use Rattle.transport.specs.Curve.{written}
-use Rattle.validation.specs.declared.limits.Checked.{Checked}
-use Rattle.validation.specs.declared.limits.Checked.the-variants as checks
-use Rattle.validation.specs.Size.{checkedOf}
+use Rattle.size.specs.declared.limits.Checked.{Checked}
+use Rattle.size.specs.declared.limits.Checked.the-variants as checks
+use Rattle.size.specs.Size.{checkedOf}
 use Rattle.csv_form.specs.declared.Kind.the-variants.{Tariff, Production}
 use Rattle.csv_form.specs.Records.{formOf}
 use Rattle.csv_table.specs.Files.{tableOf, stands}

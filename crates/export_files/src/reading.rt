@@ -13,8 +13,8 @@ use csv_case::case::read_case;
 use csv_case::case::read_entries;
 use csv_table::store::smaller;
 use csv_table::table::tariff_stands;
-use validation::limits::Checked;
-use validation::limits::Size;
+use size::limits::Checked;
+use size::limits::Size;
 
 // The counts of sources, terminals and entries, or a refusal with the file that it is about: 1 the tariff, 2 the production file, 0 neither.
 pub enum Reading {

@@ -11,9 +11,9 @@ use lib.Seq.{sets, sets-eq, take-at, take-all, length-sets, length-take-le}
 use Rattle.csv_print.specs.Text.{refusalText}
 use Rattle.problem.specs.Case.{Case}
 use Rattle.problem.specs.Outcome.{refused, outcomeOf}
-use Rattle.validation.specs.Size.{checkedOf}
-use Rattle.validation.specs.declared.limits.Checked.{Checked}
-use Rattle.validation.specs.declared.limits.Checked.the-variants as checks
+use Rattle.size.specs.Size.{checkedOf}
+use Rattle.size.specs.declared.limits.Checked.{Checked}
+use Rattle.size.specs.declared.limits.Checked.the-variants as checks
 use Rattle.validation.proofs.FormTests.{Limits, lanes, in-limits, by-size}
 use Rattle.planner.proofs.Judging.{cut-ceilings}
 use Rattle.csv_case.specs.declared.case.CaseAnswer.{CaseAnswer}

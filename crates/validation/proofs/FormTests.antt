@@ -10,9 +10,9 @@ use lib.ListN.{length, getD}
 use borrow.Author.Tests.{le-ltb, eq-eqb, ne-eqb, ltb-false}
 use Rattle.problem.specs.Case.{Case, supply}
 use Rattle.problem.specs.Outcome.{Outcome, refused, firstFrom, _orElse_, formRefusal, test1, test2, test3, test4, test23, test5, test26, test6}
-use Rattle.validation.specs.Size.{checkedOf}
-use Rattle.validation.specs.declared.limits.Size.{Size}
-use Rattle.validation.specs.declared.limits.Checked.the-variants.{Fits, Refused}
+use Rattle.size.specs.Size.{checkedOf}
+use Rattle.size.specs.declared.limits.Size.{Size}
+use Rattle.size.specs.declared.limits.Checked.the-variants.{Fits, Refused}
 use Rattle.problem.specs.inner.LentTests.{firstOutside, amountsRefusal, runsRefusal, ceilingsRefusal}
 use Rattle.problem.specs.Range.{outside}
 use lib.IntN.{pos}

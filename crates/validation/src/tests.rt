@@ -11,8 +11,8 @@ ghost use Rattle.problem.specs.inner.LentTests.{firstAbove, firstOutside, amoun
 ghost use Rattle.problem.specs.inner.LentTests.{splitsRefusal, AtMost, Amounts, Within};
 ghost use Rattle.validation.specs.inner.Above.{NoneAbove};
 ghost use Rattle.validation.specs.Verdict.{found, verdict, madeOf};
-use crate::limits::Checked;
-use crate::limits::Size;
+use size::limits::Checked;
+use size::limits::Size;
 
 // What a test says of a case: it passes, or the refusal's number and place.
 pub enum Verdict {

@@ -10,9 +10,9 @@ use lib.IntN.{ℤ}
 use lib.ListN.{length, take}
 use Rattle.problem.specs.Case.{Case}
 use Rattle.problem.specs.Outcome.{Outcome, refused, formRefusal}
-use Rattle.validation.specs.Size.{checkedOf}
-use Rattle.validation.specs.declared.limits.Checked.{Checked}
-use Rattle.validation.specs.declared.limits.Checked.the-variants as checks
+use Rattle.size.specs.Size.{checkedOf}
+use Rattle.size.specs.declared.limits.Checked.{Checked}
+use Rattle.size.specs.declared.limits.Checked.the-variants as checks
 use Rattle.planner.specs.Judge.{freeCase}
 use Rattle.validation.proofs.FormTests.{Limits, in-limits, by-size}
 use Rattle.planner.proofs.Judging.{case-form}

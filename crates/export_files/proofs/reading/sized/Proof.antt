@@ -7,7 +7,7 @@ use Rattle.export_files.proofs.reading.sized.Tie as tie
 use Rattle.export_files.proofs.reading.sized.Reads as reads
 use Rattle.export_files.proofs.reading.sized.Lts as lts
 use Rattle.export_files.proofs.reading.roomy.Reads as roomy-reads
-use Rattle.validation.proofs.limits.Size.checked.Reads as checked-reads
+use Rattle.size.proofs.limits.Size.checked.Reads as checked-reads
 
 -- src/reading.rt:92:9
 checked-requires : tie.Need-checked-requires

@@ -2,8 +2,8 @@
 use mathlib.Core.Bool.{cond, _||_}
 use Prim.Native.Nat.{ℕ}
 use lib.Dec.{ltb}
-use Rattle.validation.specs.declared.limits.Checked.{Checked}
-use Rattle.validation.specs.declared.limits.Checked.the-variants.{Fits, Refused}
+use Rattle.size.specs.declared.limits.Checked.{Checked}
+use Rattle.size.specs.declared.limits.Checked.the-variants.{Fits, Refused}
 
 -- sources 2 to 32, terminals 1 to 64; else the number of the first refusal
 unfoldable pub checkedOf : ℕ → ℕ → Checked

@@ -1,6 +1,6 @@
 // The size of a case, and its limits.
 ghost use mathlib.Core.Path.{_≡_};
-ghost use Rattle.validation.specs.Size.{checkedOf};
+ghost use Rattle.size.specs.Size.{checkedOf};
 
 pub struct Size {
     pub sources: usize,

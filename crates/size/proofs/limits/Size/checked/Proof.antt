@@ -1,7 +1,7 @@
 use borrow.Author.Tests.{lt-ltb, le-ltb}
-use Rattle.validation.specs.Size.{checkedOf}
-use Rattle.validation.proofs.limits.Size.checked.Statement.{statement}
-use Rattle.validation.proofs.limits.Size.checked.Tie as tie
+use Rattle.size.specs.Size.{checkedOf}
+use Rattle.size.proofs.limits.Size.checked.Statement.{statement}
+use Rattle.size.proofs.limits.Size.checked.Tie as tie
 
 -- src/limits.rt:26:13
 returns : tie.Need-returns

@@ -1,0 +1,2 @@
+// The size of a case within its limits.
+pub mod limits;
