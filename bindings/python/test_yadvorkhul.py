@@ -193,6 +193,20 @@ class Cases(unittest.TestCase):
                 with self.assertRaisesRegex(TypeError, "^not a whole number from "):
                     plan(**{**A, **given})
 
+    def test_lists(self):
+        """What is no list is named in a sentence; bytes are no entries, though Python goes through them as numbers."""
+        for name in ("supplies", "demands", "table"):
+            for odd, kind in ((b"abcd", "bytes"), (bytearray(b"abcd"), "bytearray"), ("abcd", "str"), (None, "None"), (4, "int")):
+                with self.assertRaisesRegex(TypeError, f"^a list of numbers is wanted, not {kind}$"):
+                    plan(**{**A, name: odd})
+        for odd, kind in ((None, "None"), ([2, 6], "int"), ([[2, 6], [5, 3], None], "None"), ([[2, 6], [5, 3], b"ab"], "bytes"), ("ab", "str")):
+            for name in ("costs", "ceilings"):
+                if (name, odd) != ("ceilings", None):
+                    with self.assertRaisesRegex(TypeError, f"^a row of numbers for each source is wanted, not {kind}$"):
+                        plan(**{**A, name: odd})
+        with self.assertRaisesRegex(TypeError, "^a list of numbers is wanted, not bytes$"):
+            yadvorkhul.flow(b"p min 2 1\na 1 2 0 3 1\n", 1, b"abcd")
+
     def test_runs_are_two(self):
         for odd in ((), (1,), (1, 1, 1)):
             with self.assertRaisesRegex(TypeError, "^the least runs are two numbers, one for each plant, not "):

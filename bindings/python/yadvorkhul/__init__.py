@@ -241,9 +241,12 @@ def _number(kind, number) -> int:
     return whole
 
 
-def _listed(numbers) -> list:
-    """The items as a list; of an array as Python's own numbers."""
-    return numbers.tolist() if hasattr(numbers, "tolist") else list(numbers)
+def _listed(numbers, wanted: str = "a list of numbers") -> list:
+    """The items as a list; of an array as Python's own numbers. Text and bytes are no numbers, though Python goes through them too."""
+    items = numbers.tolist() if hasattr(numbers, "tolist") else numbers
+    if isinstance(items, (str, bytes, bytearray)) or not (hasattr(items, "__iter__") or hasattr(items, "__getitem__")):
+        raise TypeError(f"{wanted} is wanted, not {'None' if numbers is None else type(numbers).__name__}")
+    return list(items)
 
 
 def _cells(kind, numbers):
@@ -320,7 +323,8 @@ def bounds_into(
 
 def _lanes(rows, m, n):
     """The numbers of m rows of n, one row after the other; rows of other lengths must not pass for a table of the right size."""
-    rows = [row if type(row) is list else list(row) for row in _listed(rows)]
+    wanted = "a row of numbers for each source"
+    rows = [row if type(row) is list else _listed(row, wanted) for row in _listed(rows, wanted)]
     even = len(rows) == m and all(len(row) == n for row in rows)
     return list(itertools.chain.from_iterable(rows)) if even else []
 
