@@ -1,5 +1,5 @@
 -- What is read at an offset of a line, by the byte found there (LF past the end). Assumes nothing.
-use mathlib.Core.Path.{_≡_, refl, sym, ap, ap₂, _∙_}
+use mathlib.Core.Path.{_≡_, refl, sym, ap, ap₂, _∙_, subst}
 use mathlib.Core.Bool.{Bool, true, false, _&&_, and-false}
 use mathlib.Core.Option.{Option, none, some}
 use mathlib.Core.List.{List, [], _∷_}
@@ -8,7 +8,7 @@ use native.Mathlib.Nat.{not-suc-le-zero, le-of-suc-le-suc, pow-suc, pow-le-pow-r
 use native.Mathlib.Numerals.{add-one}
 use native.Mathlib.Decide.{decLt}
 use native.Mathlib.Omega.{arith}
-use lib.Dec.{leb}
+use lib.Dec.{T, leb, leb→le}
 use lib.ListN.{length, getD, drop, List·getD-eq-default}
 use lib.Seq.{drop-cons}
 use borrow.Author.Tests.{le-leb, lt-leb, eq-eqb, ne-eqb}
@@ -17,7 +17,7 @@ use Rattle.dimacs.specs.declared.bytes.Number.{Number}
 use Rattle.dimacs.specs.declared.bytes.Number.the-variants as numbers
 use Rattle.dimacs.specs.declared.bytes.Signed.{Signed}
 use Rattle.dimacs.specs.declared.bytes.Signed.the-variants as signeds
-use Rattle.dimacs.specs.inner.Reader.{DigitsRead, SpacesRead, onNumber, numberEnds, NumberRead, onSigned, signedEnds, SignedRead, signedAnswer}
+use Rattle.dimacs.specs.inner.Reader.{DigitsRead, SpacesRead, onNumber, numberEnds, NumberRead, onSigned, signedEnds, signIn, SignedRead, signedAnswer}
 
 -- an element that is there does not depend on the default
 pub at-any : (s : List ℕ) (at d e : ℕ) → at < length s → getD s at d ≡ getD s at e
@@ -180,6 +180,38 @@ signed-ends : (s : List ℕ) (minus : Bool) (a : Number) → numberEnds s a → 
 signed-ends s minus (numbers.Value v next) h = h
 signed-ends s minus numbers.Wrong h = h
 
+-- a number without a 0 in front is above 0
+digits-least : (left v : ℕ) (l : List ℕ) → v ≤ digits left v l .value
+unfolding digits
+digits-least left v [] = omega arith
+digits-least zero v (b ∷ l) = omega arith
+digits-least (suc left) v (b ∷ l) = by (isDigit b) (digits-least left (v * 10 + (b - 48)) l)
+  where
+    by : (x : Bool) → v * 10 + (b - 48) ≤ digits left (v * 10 + (b - 48)) l .value →
+        (let g : Got ℕ = elim x [ true ↦ digits left (v * 10 + (b - 48)) l | false ↦ got v (b ∷ l) ] in v ≤ g .value)
+    by true h = omega arith
+    by false h = omega arith
+
+counting-above : (l : List ℕ) (v : ℕ) (rest : List ℕ) → counting l ≡ some (got v rest) → 0 < v
+unfolding counting
+counting-above [] v rest e = absurd (let z : _≡_ {A = ℕ} 0 1 = cc in omega arith)
+counting-above (b ∷ l) v rest e = by (leb 49 b) (leb b 57) (λ q. leb→le 49 b (subst T (sym q) tt)) e
+  where
+    by : (x y : Bool) → (x ≡ true → 49 ≤ b) → elim (x && y) [ true ↦ some (digits 9 (b - 48) l) | false ↦ none ] ≡ some (got v rest) → 0 < v
+    by true true h e =
+        let q : digits 9 (b - 48) l ≡ got v rest = cc in
+        omega (arith, h refl, digits-least 9 (b - 48) l, ap (λ (g : Got ℕ). g .value) q)
+    by true false h e = absurd (let z : _≡_ {A = ℕ} 0 1 = cc in omega arith)
+    by false y h e = absurd (let z : _≡_ {A = ℕ} 0 1 = cc in omega arith)
+
+minus-told : (s : List ℕ) (at : ℕ) (a : Number) → NumberRead counting s at a → signIn (signedAnswer true a)
+minus-told s at (numbers.Value v next) r = λ e. counting-above (drop at s) v (drop next s) (r .meaning)
+minus-told s at numbers.Wrong r = tt
+
+plain-told : (a : Number) → signIn (signedAnswer false a)
+plain-told (numbers.Value v next) = λ e. absurd (let z : false ≡ true = e in let w : _≡_ {A = ℕ} 0 1 = cc in omega arith)
+plain-told numbers.Wrong = tt
+
 minus-is : (s : List ℕ) (a : Number) → (onNumber s a >>= negative) ≡ onSigned s (signedAnswer true a)
 unfolding _>>=_
 minus-is s (numbers.Value v next) = refl
@@ -199,6 +231,7 @@ module _ (s : List ℕ) (at b : ℕ) (e : b ≡ getD s at 10) where
   unfolding signed
   signed-minus h a r = record {
     ends = signed-ends s true a (r .ends);
+    sign = minus-told s (at + 1) a r;
     meaning =
         ap signed (front s at b e (there s at b e (λ q. omega arith)))
         ∙ rw (eq-eqb b 45 h, signed) (ap (λ (o : Option (Got ℕ)). o >>= negative) (r .meaning) ∙ minus-is s a);
@@ -208,6 +241,7 @@ module _ (s : List ℕ) (at b : ℕ) (e : b ≡ getD s at 10) where
   unfolding signed
   signed-plain h a r = record {
     ends = signed-ends s false a (r .ends);
+    sign = plain-told a;
     meaning = elim (decLt at (length s)) [
       | yes l ↦
           ap signed (front s at b e l)
@@ -258,8 +292,8 @@ module _ (s : List ℕ) (at b : ℕ) (e : b ≡ getD s at 10) where
 
   pub signed-field-none : (b ≡ 32 → ⊥) → SignedRead signedField s at signeds.Wrong
   unfolding signedField _>>=_
-  signed-field-none h = record { ends = tt; meaning = ap (λ (o : Option (List ℕ)). o >>= signed) (gap-none h) }
+  signed-field-none h = record { ends = tt; sign = tt; meaning = ap (λ (o : Option (List ℕ)). o >>= signed) (gap-none h) }
 
   pub signed-field-some : b ≡ 32 → (next : ℕ) → SpacesRead s (at + 1) next → (a : Signed) → SignedRead signed s next a → SignedRead signedField s at a
   unfolding signedField _>>=_
-  signed-field-some h next r a n = record { ends = n .ends; meaning = ap (λ (o : Option (List ℕ)). o >>= signed) (gap-some h next r) ∙ n .meaning }
+  signed-field-some h next r a n = record { ends = n .ends; sign = n .sign; meaning = ap (λ (o : Option (List ℕ)). o >>= signed) (gap-some h next r) ∙ n .meaning }

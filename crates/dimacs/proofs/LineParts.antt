@@ -21,7 +21,7 @@ use Rattle.dimacs.specs.Arc.{arc}
 use Rattle.dimacs.specs.Bytes.{got, _>>=_, gap, word, field, signedField}
 use Rattle.dimacs.specs.Form.{Line, problem, node, arcLine, ending, problemLine, nodeLine, arcOf, lineOf}
 use Rattle.csv_form.specs.Records.{signed as withSign}
-use Rattle.dimacs.specs.inner.Reader.{SpacesRead, onNumber, numberEnds, NumberRead, onSigned, signedEnds, SignedRead}
+use Rattle.dimacs.specs.inner.Reader.{SpacesRead, onNumber, numberEnds, NumberRead, onSigned, signedEnds, SignTold, signIn, SignedRead}
 use Rattle.dimacs.specs.inner.LineReader.{minWord, onOffset, offsetEnds, MinRead, LineRead, WholeLine}
 use Rattle.dimacs.proofs.LineOffsets.{there, front, nothing, gap-none, gap-some}
 
@@ -125,8 +125,11 @@ module _ {s : List ℕ} {at : ℕ} {n : Signed} (r : SignedRead signedField s at
   signed-small : (m : Bool) (v next : ℕ) → n ≡ signeds.Value m v next → v < 10 ^ 10
   signed-small m v next e = subst (signedEnds s) e (r .ends) .1
 
+  sign-told : (m : Bool) (v next : ℕ) → n ≡ signeds.Value m v next → SignTold m v
+  sign-told m v next e = subst signIn e (r .sign)
+
 wrong : {read : List ℕ → Option Line} {s : List ℕ} {at : ℕ} → read (drop at s) ≡ none → LineRead read s at lines.Wrong
-wrong e = record { small = tt; meaning = e }
+wrong e = record { small = tt; sign = tt; meaning = e }
 
 -- ---- the p line
 
@@ -175,6 +178,7 @@ module _ {s : List ℕ} {at : ℕ} {w : Offset} (r : MinRead s at w) where
         pub problem-read : length s ≤ end → LineRead problemLine s at (lines.Problem nodes arcs)
         problem-read l = record {
           small = (field-small q nodes second d, field-small p arcs end h);
+          sign = tt;
           meaning = to-end ∙ ends-here (problem nodes arcs) s end l;
         }
 
@@ -210,6 +214,7 @@ module _ {s : List ℕ} {at : ℕ} {n : Number} (r : NumberRead field s at n) wh
       pub node-read : length s ≤ end → LineRead nodeLine s at (lines.Node i m u)
       node-read l = record {
         small = (field-small r i first e, signed-small q m u end d);
+        sign = sign-told q m u end d;
         meaning = to-node-end ∙ ends-here (node (record { id = i; supply = withSign m u })) s end l;
       }
 
@@ -285,6 +290,7 @@ module _ {s : List ℕ} {at : ℕ} {n1 : Number} (r1 : NumberRead field s at n1)
             unfolding arcWith
             arc-read l = record {
               small = (field-small r1 v1 p1 e1, field-small r2 v2 p2 e2, field-small r3 v3 p3 e3, field-small r4 v4 p4 e4, signed-small r5 m v5 p5 e5);
+              sign = sign-told r5 m v5 p5 e5;
               meaning = to-6 ∙ ends-here (arcWith v1 v2 v3 v4 (withSign m v5)) s p5 l;
             }
 
@@ -299,13 +305,14 @@ module _ (s : List ℕ) (b : ℕ) (e : b ≡ getD s 0 10) where
 
   pub line-comment : b ≡ 99 → WholeLine s lines.Comment
   unfolding lineOf
-  line-comment h = record { small = tt; meaning = ap lineOf (begins (λ q. omega arith)) ∙ rw (eq-eqb b 99 h, lineOf) }
+  line-comment h = record { small = tt; sign = tt; meaning = ap lineOf (begins (λ q. omega arith)) ∙ rw (eq-eqb b 99 h, lineOf) }
 
   module _ (a : line-answer.Line) where
     pub line-problem : b ≡ 112 → LineRead problemLine s 1 a → WholeLine s a
     unfolding lineOf
     line-problem h r = record {
       small = r .small;
+      sign = r .sign;
       meaning = ap lineOf (begins (λ q. omega arith)) ∙ rw (ne-eqb b 99 (λ q. omega arith), eq-eqb b 112 h, lineOf) (r .meaning);
     }
 
@@ -313,6 +320,7 @@ module _ (s : List ℕ) (b : ℕ) (e : b ≡ getD s 0 10) where
     unfolding lineOf
     line-node h r = record {
       small = r .small;
+      sign = r .sign;
       meaning = ap lineOf (begins (λ q. omega arith)) ∙ rw (ne-eqb b 99 (λ q. omega arith), ne-eqb b 112 (λ q. omega arith), eq-eqb b 110 h, lineOf) (r .meaning);
     }
 
@@ -320,6 +328,7 @@ module _ (s : List ℕ) (b : ℕ) (e : b ≡ getD s 0 10) where
     unfolding lineOf
     line-arc h r = record {
       small = r .small;
+      sign = r .sign;
       meaning = ap lineOf (begins (λ q. omega arith)) ∙ rw (ne-eqb b 99 (λ q. omega arith), ne-eqb b 112 (λ q. omega arith), ne-eqb b 110 (λ q. omega arith), eq-eqb b 97 h, lineOf) (r .meaning);
     }
 
@@ -327,6 +336,7 @@ module _ (s : List ℕ) (b : ℕ) (e : b ≡ getD s 0 10) where
   unfolding lineOf
   line-wrong c p n a = record {
     small = tt;
+    sign = tt;
     meaning = elim (decLt 0 (length s)) [
       | yes l ↦ ap lineOf (front s 0 b e l) ∙ rw (ne-eqb b 99 c, ne-eqb b 112 p, ne-eqb b 110 n, ne-eqb b 97 a, lineOf)
       | no l ↦ ap lineOf (nothing s 0 (omega arith))

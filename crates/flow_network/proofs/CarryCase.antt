@@ -280,7 +280,7 @@ module _ (gives takes haves starts ends ceilings : List ℕ) (costs : List ℤ) 
       no-flow g named table so
       (no-plan-there (caseOf g named table) (case-formed g named table ok so (M .few) (omega (arith, count, A .few)) small-stock (N .small))
       (case-entries g named table ok so (M .few) (omega (arith, count, A .few)) small-stock (N .small)) (omega arith) (omega arith) (omega arith)
-      (h .found .0) (h .found .1) (h .found .2) (h .found .3))
+      (h .found .1) (h .found .2) (h .found .3) (h .found .4))
 
 -- the planner's answer to the slices is that to the case
 pub found-split : {c d : Case} {x y : List ℕ} {r : Found} {s : ℕ} {t : ℤ} → c ≡ d → FoundIs c x y r → r ≡ founds.Split s t → Cheapest d (planFor d s) s t × (y ≡ written (planFor d s) x) × Bounded t

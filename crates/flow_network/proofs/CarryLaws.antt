@@ -93,5 +93,10 @@ module _ (m n run : ℕ) (rates : List ℤ) (supplies demands ceilings entries :
 
   pub found-none : (k p : ℕ) → r ≡ Refused k p → FoundAs (lent m n run 0 rates supplies demands ceilings entries 2048 4001 4001) (before .plan) (after .plan) founds.Nothing
   found-none k p e =
-      here founds.Nothing
-      (k, p, sym (a .answer) ∙ ap outcome e, subst (BalanceRule (lent m n run 0 rates supplies demands ceilings entries pc sc fc)) (ap outcome e) (a .balance))
+      here founds.Nothing (
+        ap (λ (s : Slices). s .plan) (a .kept k p (ap outcome e)),
+        k,
+        p,
+        sym (a .answer) ∙ ap outcome e,
+        subst (BalanceRule (lent m n run 0 rates supplies demands ceilings entries pc sc fc)) (ap outcome e) (a .balance),
+      )

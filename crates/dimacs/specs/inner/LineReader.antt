@@ -12,6 +12,7 @@ use Rattle.dimacs.specs.Arc.{arc}
 use Rattle.dimacs.specs.Bytes.{_>>=_, gap, word}
 use Rattle.dimacs.specs.Form.{Line, comment, problem, node, arcLine, lineOf}
 use Rattle.csv_form.specs.Records.{signed as withSign}
+use Rattle.dimacs.specs.inner.Reader.{SignTold}
 
 -- the word min
 abbrev pub minWord : List ℕ
@@ -45,10 +46,20 @@ Small (lines.Node i m v) = (i < 10 ^ 10) × (v < 10 ^ 10)
 Small (lines.Arc s e low cap m c) = (s < 10 ^ 10) × (e < 10 ^ 10) × (low < 10 ^ 10) × (cap < 10 ^ 10) × (c < 10 ^ 10)
 Small lines.Wrong = Unit {0}
 
+-- a minus stands before a number above 0
+abbrev pub lineSign : line-answer.Line → Type 0
+lineSign lines.Comment = Unit {0}
+lineSign (lines.Problem n a) = Unit {0}
+lineSign (lines.Node i m v) = SignTold m v
+lineSign (lines.Arc s e low cap m c) = SignTold m c
+lineSign lines.Wrong = Unit {0}
+
 pub record LineRead (read : List ℕ → Option Line) (s : List ℕ) (at : ℕ) (answer : line-answer.Line) : Type 0 where
   pub small : Small answer
+  pub sign : lineSign answer
   pub meaning : read (drop at s) ≡ onLine answer
 
 pub record WholeLine (s : List ℕ) (answer : line-answer.Line) : Type 0 where
   pub small : Small answer
+  pub sign : lineSign answer
   pub meaning : lineOf s ≡ onLine answer

@@ -1,6 +1,6 @@
 -- What the parts of the reader answer, by what it means for the bytes of the line: contracts of inner functions. Assumes nothing.
 use mathlib.Core.Path.{_≡_}
-use mathlib.Core.Bool.{Bool}
+use mathlib.Core.Bool.{Bool, true}
 use mathlib.Core.Option.{Option, none, some}
 use mathlib.Core.List.{List}
 use Prim.Native.Nat.{ℕ, _-_, _≤_, _<_, _^_}
@@ -46,8 +46,17 @@ abbrev pub signedEnds : List ℕ → signed-answer.Signed → Type 0
 signedEnds s (signeds.Value minus v next) = (next ≤ length s) × (v < 10 ^ 10)
 signedEnds s signeds.Wrong = Unit {0}
 
+-- a minus is told of a number above 0 alone
+abbrev pub SignTold : Bool → ℕ → Type 0
+SignTold minus v = minus ≡ true → 0 < v
+
+abbrev pub signIn : signed-answer.Signed → Type 0
+signIn (signeds.Value minus v next) = SignTold minus v
+signIn signeds.Wrong = Unit {0}
+
 pub record SignedRead (read : List ℕ → Option (Got ℤ)) (s : List ℕ) (at : ℕ) (answer : signed-answer.Signed) : Type 0 where
   pub ends : signedEnds s answer
+  pub sign : signIn answer
   pub meaning : read (drop at s) ≡ onSigned s answer
 
 abbrev pub signedAnswer : Bool → number-answer.Number → signed-answer.Signed
