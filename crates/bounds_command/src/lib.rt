@@ -16,13 +16,21 @@ use plan_command::refusal::explain;
 use plan_command::refusal::explain_table;
 use plan_files::planned::Printed;
 ghost use mathlib.Core.Path.{_≡_};
+ghost use Prim.Native.Nat.{_≤_};
 ghost use lib.ListN.{length};
 
-// Room for the longest text: two headers, the totals and 4,001 records.
+// Room for the longest text: no text is longer (`bounds_files/TextRoom.text-fits`).
 fn text_room() -> [u8; 172286]
     ensures { λ r. ⌜ 172286 ≡ length r ⌝ }
 {
     [0; 172286]
+}
+
+// The text in the room, whole: callers show that it fits.
+fn whole(room: &[u8], end: usize) -> &[u8]
+    requires { ⌜ end ≤ length (now room) ⌝ }
+{
+    &room[0..end]
 }
 
 // Writes the usage text to standard error.
@@ -117,7 +125,7 @@ fn answer(
     let mut text = text_room();
     let printed = bounds_files(tariff, low, high, &mut text);
     let length = printed.length;
-    if !io::write_all(libc::STDOUT_FILENO, first(&text, length)) {
+    if !io::write_all(libc::STDOUT_FILENO, whole(&text, length)) {
         say(b"Standard output could not be written.\n");
     }
     explain_three(printed, tariff, low, high, tariff_path, low_path, high_path);

@@ -72,36 +72,38 @@ printed-known c high o i n s l {sources} {terminals} {out} {out′} {answer} e t
 
 -- ---- what a case that is answered has
 
-record Splits (c : Case) (i n : ℕ) : Type 0 where
-  ends : Ready c
-  first : leastSplit c ≡ i
-  count : after c + 1 ≡ n
+pub record Splits (c : Case) (high : List ℕ) (i n : ℕ) (s l : ℤ) : Type 0 where
+  pub ends : Ready c
+  pub good : place28 c high ≡ none
+  pub first : leastSplit c ≡ i
+  pub count : after c + 1 ≡ n
+  pub smallest : leastTotal c (c .table) ≡ s
+  pub largest : leastTotal c high ≡ l
 
-split-count : (c : Case) (high : List ℕ) (cells i n : ℕ) (s l : ℤ) → outcomeOf c high cells ≡ known i n s l → Splits c i n
+pub split-count : (c : Case) (high : List ℕ) (cells i n : ℕ) (s l : ℤ) → outcomeOf c high cells ≡ known i n s l → Splits c high i n s l
 unfolding outcomeOf laterOf
 split-count c high cells i n s l e = step (planner.outcomeOf c) refl e
   where
-    later : (o : Option ℕ) (b : Bool)
+    later : (o : Option ℕ) → place28 c high ≡ o → (b : Bool) → Ready c
         → (let r : Outcome = elim o [ some p ↦ refused 28 p | none ↦ cond b (refused 11 0) (known (leastSplit c) (after c + 1) (leastTotal c (c .table)) (leastTotal c high)) ] in r) ≡ known i n s l
-        → (leastSplit c ≡ i) × (after c + 1 ≡ n)
-    later (some p) b e = absurd (let z : _≡_ {A = ℕ} 0 1 = cc in omega arith)
-    later none true e = absurd (let z : _≡_ {A = ℕ} 0 1 = cc in omega arith)
-    later none false e = let a : leastSplit c ≡ i = cc in let b : after c + 1 ≡ n = cc in (a, b)
+        → Splits c high i n s l
+    later (some p) q b r e = absurd (let z : _≡_ {A = ℕ} 0 1 = cc in omega arith)
+    later none q true r e = absurd (let z : _≡_ {A = ℕ} 0 1 = cc in omega arith)
+    later none q false r e = record { ends = r; good = q; first = cc; count = cc; smallest = cc; largest = cc }
 
     step : (o : planner.Outcome) → planner.outcomeOf c ≡ o
-        → (let r : Outcome = elim o [ planner.refused k p ↦ refused k p | planner.planned s t f k ↦ laterOf c high cells ] in r) ≡ known i n s l → Splits c i n
+        → (let r : Outcome = elim o [ planner.refused k p ↦ refused k p | planner.planned s t f k ↦ laterOf c high cells ] in r) ≡ known i n s l → Splits c high i n s l
     step (planner.refused k p) q e = absurd (let z : _≡_ {A = ℕ} 0 1 = cc in omega arith)
-    step (planner.planned y t f k) q e =
-        let p = later (place28 c high) (ltb cells (after c + 1)) e in record { ends = ready c y t f k q; first = p .0; count = p .1 }
+    step (planner.planned y t f k) q e = later (place28 c high) refl (ltb cells (after c + 1)) (ready c y t f k q) e
 
-marks-long : (c : Case) (high : List ℕ) → length (marks c high) ≡ after c + 1
+pub marks-long : (c : Case) (high : List ℕ) → length (marks c high) ≡ after c + 1
 unfolding marks
 marks-long c high = length-map (upFrom (leastSplit c) (after c + 1)) (mark c high) ∙ upFrom-length (leastSplit c) (after c + 1)
 
 -- the answer on a case
 module _ {c : Case} {high before cells : List ℕ} {o : Outcome} (a : Answered c high o before cells) where
   module _ {i n : ℕ} {s l : ℤ} (e : o ≡ known i n s l) where
-    told : Splits c i n
+    told : Splits c high i n s l
     told = split-count c high (length before) i n s l (sym (a .answer) ∙ e)
 
     -- the first cells are the marks

@@ -1,1 +1,2 @@
 pub mod BoundsPrinting
+pub mod TextRoom

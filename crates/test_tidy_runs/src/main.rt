@@ -71,10 +71,11 @@ fn quoted() {
     );
 }
 
-// The one argument asks both commands for help: they write nothing to standard output.
+// The arguments: a case, a new file, and the word for help beside them. Both commands write nothing to standard output, and no file is made.
 fn main() {
     plan_command::run();
     plan_command::tidy();
+    show_path(b"help_tariff.csv");
     refused();
     taken();
     shown();

@@ -1,10 +1,10 @@
 // The working case and its marks planned from the store, and the model's copies planned by themselves.
-use crate::model::Copy;
-use crate::model::times;
-use crate::refusals::mark_refusal;
 use planner::Answer;
 use test_compare::answers_agreed;
 use test_compare::same_slices;
+use test_history::model::Copy;
+use test_history::model::times;
+use test_history::refusals::mark_refusal;
 use validation::tests::Verdict;
 
 // How many entries the model's table has.

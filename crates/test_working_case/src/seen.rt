@@ -1,10 +1,10 @@
 // What the working case shows, held to the model: 0 where all is as it should be, else 100.
-use crate::model::Copy;
-use crate::model::cut;
 use test_compare::agreed;
 use test_compare::same_cells;
 use test_compare::same_freights;
 use test_compare::same_slices;
+use test_history::model::Copy;
+use test_history::model::cut;
 use validation::tests::Verdict;
 
 // The verdict of a call, and whether its cells are as they should be.
