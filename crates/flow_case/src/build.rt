@@ -61,10 +61,11 @@ pub fn ceilings_into(ends: &[u64], ceilings: &[u64], id: u64) -> u64
     sum
 }
 
-fn want(j: usize, named: usize, ceiling: u64) -> u64
-    ensures { λ r. ⌜ r ≡ cond (eqb j named) 0 ceiling ⌝ }
+// The first value for the named arc, the second for another.
+pub fn at_named(j: usize, named: usize, value: u64, other: u64) -> u64
+    ensures { λ r. ⌜ r ≡ cond (eqb j named) value other ⌝ }
 {
-    if j == named { 0 } else { ceiling }
+    if j == named { value } else { other }
 }
 
 // The terminals' demands: the arcs' ceilings, and 0 for the named arc.
@@ -74,7 +75,7 @@ pub fn fill_demands(ceilings: &[u64], named: usize, demands: &mut [u64])
 {
     let mut j = 0;
     while j < ceilings.len() {
-        demands[j] = want(j, named, ceilings[j]);
+        demands[j] = at_named(j, named, 0, ceilings[j]);
         j += 1;
     }
 }

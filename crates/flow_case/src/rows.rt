@@ -1,5 +1,7 @@
 // The slices of the case, from the network's.
+use crate::build::at_named;
 use crate::build::ceilings_into;
+use crate::build::lane;
 use crate::build::node_of;
 use crate::build::source_of;
 ghost use mathlib.Core.Path.{_≡_};
@@ -10,7 +12,6 @@ ghost use lib.IntN.{pos};
 ghost use lib.ListN.{length, getD};
 ghost use Rattle.flow_problem.specs.inner.Reduce.{nodeOf, sourceOf};
 ghost use Rattle.flow_case.specs.inner.Build.{Moderate, Put, RowsAre, RowsAfter, laneIn, costIn, haveIn, stockIn, flowIn, AtMostAll, cellOf};
-use crate::build::lane;
 
 // What each node has.
 pub fn fill_haves(ends: &[u64], ceilings: &[u64], gives: &[u64], haves: &mut [u64])
@@ -108,12 +109,6 @@ pub fn cost_rows(m: usize, w: usize, v: usize, starts: &[u64], costs: &[i64], to
     }
 }
 
-fn flow_at(j: usize, named: usize, carried: u64, other: u64) -> u64
-    ensures { λ r. ⌜ r ≡ cond (eqb j named) carried other ⌝ }
-{
-    if j == named { carried } else { other }
-}
-
 // The flow that the plan stands for.
 pub fn fill_flow(
     plan: &[u64],
@@ -133,7 +128,7 @@ pub fn fill_flow(
     while j < starts.len() {
         let s = source_of(w, v, (starts[j] - 1) as usize);
         let at = s * starts.len() + j;
-        flow[j] = flow_at(j, named, carried, plan[at]);
+        flow[j] = at_named(j, named, carried, plan[at]);
         j += 1;
     }
 }

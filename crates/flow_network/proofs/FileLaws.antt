@@ -126,7 +126,9 @@ module _ (f : File) (nodes arcs : ℕ) (odd bad : Bool) (tails heads caps : List
         | yes l ↦ ap (λ (b : Bool). b || (ltb 64 (length (f .arcs)) || (odd || bad))) (lt-ltb 32 (f .nodes) l)
             ∙ sym (ap (λ (b : Bool). b || (ltb 64 (length (f .arcs)) || (none-named || (twice (f .supplies) || anyOf (badArc (f .nodes)) (f .arcs))))) (lt-ltb 32 (f .nodes) l))
         | no l ↦
-            ap₂ (λ (o b : Bool). ltb 32 (f .nodes) || (ltb 64 (length (f .arcs)) || (o || b))) (R .node-lines .flag ∙ ap (λ (k : ℕ). anyOf (λ (v : NodeLine). noNode k (v .id)) (f .supplies) || twice (f .supplies)) (let e : min (f .nodes) 32 ≡ f .nodes = omega arith in e)) (R .arc-lines .flag)
+            ap₂ (λ (o b : Bool). ltb 32 (f .nodes) || (ltb 64 (length (f .arcs)) || (o || b)))
+            (R .node-lines .flag ∙ ap (λ (k : ℕ). anyOf (λ (v : NodeLine). noNode k (v .id)) (f .supplies) || twice (f .supplies)) (let e : min (f .nodes) 32 ≡ f .nodes = omega arith in e))
+            (R .arc-lines .flag)
             ∙ ap (λ (b : Bool). ltb 32 (f .nodes) || (ltb 64 (length (f .arcs)) || b)) (or-regroup none-named (twice (f .supplies)) (anyOf (badArc (f .nodes)) (f .arcs)))
       ]
 

@@ -34,7 +34,8 @@ fn sevens() -> [Arc; 6]
 
 // Asks for the flow of a file, and lends six arcs of sevens.
 pub fn lend(bytes: &[u8], place: usize, table: &[u64], flow: &mut [u64]) -> Lent
-    ensures { λ r. ⌜ ArcsAnswered (now (bytes .entry)) place (now (table .entry)) (outcome (r .answer)) (now (flow .entry)) (now (flow .exit)) sevenArcs (r .arcs) ⌝ }
+    ensures { λ r. ⌜ ArcsAnswered (now (bytes .entry)) place (now (table .entry)) (outcome (r .answer)) (now (flow .entry))
+        (now (flow .exit)) sevenArcs (r .arcs) ⌝ }
 {
     let mut arcs = sevens();
     let answer = cheapest_flow(bytes, place, table, flow, &mut arcs);

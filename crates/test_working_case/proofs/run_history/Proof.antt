@@ -92,13 +92,23 @@ count-requires-5 : tie.Need-count-requires-5 Inv-loop μ-loop
 count-requires-5 c κs = search needs
 
 add-k : tie.Need-add-k Inv-loop μ-loop
-add-k c = omega (arith, c .before .before .before .before .before .before .before .before .before .before .before .before .before .before .before .before .before .before .before .before .before .before .before .before .before .before .loop-test .taken)
+add-k c =
+    let back-13 = c .before .before .before .before .before .before .before .before .before .before .before .before .before in
+    let at-loop-test = back-13 .before .before .before .before .before .before .before .before .before .before .before .before .before in
+    omega (arith, at-loop-test .loop-test .taken)
 
 loop-less : tie.Need-loop-less Inv-loop μ-loop
-loop-less c = omega (arith, c .before .before .before .before .before .before .before .before .before .before .before .before .before .before .before .before .before .before .before .before .before .before .before .before .before .before .loop-test .taken)
+loop-less c =
+    let back-13 = c .before .before .before .before .before .before .before .before .before .before .before .before .before in
+    let at-loop-test = back-13 .before .before .before .before .before .before .before .before .before .before .before .before .before in
+    omega (arith, at-loop-test .loop-test .taken)
 
 loop-again : tie.Need-loop-again Inv-loop μ-loop
-loop-again c = omega (arith, c .before .before .before .before .before .before .before .before .before .before .before .before .before .before .before .before .before .before .before .before .before .before .before .before .before .before .before .loop .inv, c .before .before .before .before .before .before .before .before .before .before .before .before .before .before .before .before .before .before .before .before .before .before .call .kept)
+loop-again c =
+    let back-11 = c .before .before .before .before .before .before .before .before .before .before .before in
+    let at-call = back-11 .before .before .before .before .before .before .before .before .before .before .before in
+    let at-loop = at-call .before .before .before .before .before in
+    omega (arith, at-loop .loop .inv, at-call .call .kept)
 
 spoilt-heads-requires : tie.Need-spoilt-heads-requires Inv-loop μ-loop
 spoilt-heads-requires c κs = search needs

@@ -19,14 +19,14 @@ abbrev μ-loop : tie.MeasureT-loop
 loop-holds : tie.Need-loop-holds Inv-loop μ-loop
 loop-holds c = let a = c .before .before .args in (filled-none (wantIn (now (a .ceilings)) (a .named)) (now (a .demands)), omega arith)
 
-mul-want : tie.Need-mul-want Inv-loop μ-loop
-mul-want c = omega arith
+mul-at-named : tie.Need-mul-at-named Inv-loop μ-loop
+mul-at-named c = omega arith
 
-shared-slice-read-want : tie.Need-shared-slice-read-want Inv-loop μ-loop
-shared-slice-read-want c = omega arith
+shared-slice-read-at-named : tie.Need-shared-slice-read-at-named Inv-loop μ-loop
+shared-slice-read-at-named c = omega arith
 
-want-requires : tie.Need-want-requires Inv-loop μ-loop
-want-requires c κs = search needs
+at-named-requires : tie.Need-at-named-requires Inv-loop μ-loop
+at-named-requires c κs = search needs
 
 mul-demands : tie.Need-mul-demands Inv-loop μ-loop
 mul-demands c = omega (arith, c .before .before .loop-test .taken)
@@ -47,7 +47,7 @@ loop-again c =
     let entry = at-loop .before .before .before in
     let a = entry .args in (
       filled-next (wantIn (now (a .ceilings)) (a .named)) (now (a .demands)) (at-loop .loop .j) _ _
-          (omega (arith, entry .pre, at-loop-test .loop-test .taken)) (c .want .ensures) (at-loop .loop .inv .0),
+          (omega (arith, entry .pre, at-loop-test .loop-test .taken)) (c .at-named .ensures) (at-loop .loop .inv .0),
       omega (arith, at-loop-test .loop-test .taken),
     )
 
@@ -66,9 +66,9 @@ fill-demands-spec =
     Inv-loop
     μ-loop
     loop-holds
-    mul-want
-    shared-slice-read-want
-    want-requires
+    mul-at-named
+    shared-slice-read-at-named
+    at-named-requires
     mul-demands
     slice-write-demands
     add-j

@@ -49,15 +49,15 @@ add-at c =
     let entry = at-loop .before .before .before .before in
     omega (arith, at-cell _ _ _ (c .source-of .ensures) (entry .pre .1 (at-loop .loop .j) (at-loop-test .loop-test .taken) .1) (at-loop-test .loop-test .taken) (entry .pre .0 .0))
 
-mul-flow-at : tie.Need-mul-flow-at Inv-loop μ-loop
-mul-flow-at c =
+mul-at-named : tie.Need-mul-at-named Inv-loop μ-loop
+mul-at-named c =
     let at-loop-test = c .before .before in
     let at-loop = at-loop-test .before in
     let entry = at-loop .before .before .before .before in
     omega (arith, at-cell _ _ _ (c .source-of .ensures) (entry .pre .1 (at-loop .loop .j) (at-loop-test .loop-test .taken) .1) (at-loop-test .loop-test .taken) (entry .pre .0 .0))
 
-shared-slice-read-flow-at : tie.Need-shared-slice-read-flow-at Inv-loop μ-loop
-shared-slice-read-flow-at c =
+shared-slice-read-at-named : tie.Need-shared-slice-read-at-named Inv-loop μ-loop
+shared-slice-read-at-named c =
     let at-loop-test = c .before .before .before in
     let at-loop = at-loop-test .before in
     let entry = at-loop .before .before .before .before in
@@ -67,8 +67,8 @@ shared-slice-read-flow-at c =
       at-cell _ _ _ (c .before .source-of .ensures) (entry .pre .1 (at-loop .loop .j) (at-loop-test .loop-test .taken) .1) (at-loop-test .loop-test .taken) (entry .pre .0 .0),
     )
 
-flow-at-requires : tie.Need-flow-at-requires Inv-loop μ-loop
-flow-at-requires c κs = search needs
+at-named-requires : tie.Need-at-named-requires Inv-loop μ-loop
+at-named-requires c κs = search needs
 
 mul-flow : tie.Need-mul-flow Inv-loop μ-loop
 mul-flow c = omega (arith, c .before .before .before .before .loop-test .taken)
@@ -95,7 +95,7 @@ loop-again c =
       put-next 0
           (flowIn (now (entry .args .plan)) (now (entry .args .starts)) (entry .args .w) (entry .args .v) (entry .args .named) (entry .args .carried)) 0
           (now (a .flow)) (at-loop .loop .j) (at-loop .loop .j) _ _ (omega arith) (omega (arith, at-loop-test .loop-test .taken, entry .pre .0 .1))
-          (c .flow-at .ensures ∙
+          (c .at-named .ensures ∙
           ap (λ (s : ℕ). cond (eqb (at-loop .loop .j) (a .named)) (a .carried) (getD (now (a .plan)) (s * length (now (a .starts)) + at-loop .loop .j) 0)) (c .before .before .source-of .ensures))
           (at-loop .loop .inv .0),
       omega (arith, at-loop-test .loop-test .taken),
@@ -123,9 +123,9 @@ fill-flow-spec =
     source-of-requires
     mul-at
     add-at
-    mul-flow-at
-    shared-slice-read-flow-at
-    flow-at-requires
+    mul-at-named
+    shared-slice-read-at-named
+    at-named-requires
     mul-flow
     slice-write-flow
     add-j

@@ -21,7 +21,8 @@ use ghost.Atoms.{Atoms, sem}
 use contract.Lifetimes.{Lfts, Shares}
 use contract.Monad.{Fun, fact}
 use contract.Running.{givenOf, tables, tablesOf}
-use types.Kit.{Given, Item, ‵, raw, _⊛_, some, later, ⋆, atRet, _$_, _∵_, !, qed, by, move, drop, use1, use2, use3, split, join, pick, rewrite, fsplit, fjoin, fpick, fpack, feqL, feqI, suffices, frame, await, done}
+use types.Kit.{Given, Item, ‵, raw, _⊛_, some, later, ⋆, atRet, _$_, _∵_, !, qed, by, move, drop, use1, use2, use3, split, join, pick, rewrite, fsplit}
+use types.Kit.{fjoin, fpick, fpack, feqL, feqI, suffices, frame, await, done}
 use types.Tokens.{lft-new, lft-end}
 use types.Part.{agg, whole, sub, look-in}
 use types.SemTy.{Arr, cells}
@@ -220,12 +221,15 @@ module _ {M : Type 1} (𝓤 : URA M) (H : Heap 𝓤) (A : Atoms 𝓤) (W : Given
     Tokens = ‵ (flft κ₀ q₀) ⊛ ‵ (flft κ₁ q₁) ⊛ ‵ (flft κ₂ q₂) ⊛ ‵ (flft (α ∷ []) fullShare) ⊛ ‵ ftrue
 
     asked : ent 𝓤 (onEntry 𝓤 H A flows.signature κs₄ qs₄ fa fvals) (Flows 𝓤 H A mem run .pre to-flows)
-    asked = qed W (Tokens ∷ ‵ (owns (ShrSlice (named 0) κ₀ u8 ∷ usize ∷ ShrSlice (named 1) κ₁ u64 ∷ MutSlice (named 2) κ₂ u64 ∷ MutSlice (named 3) (α ∷ []) R ∷ []) fa fvals) ∷ []) ∵ join ! $ frame ! $ done !
+    asked =
+        qed W (Tokens ∷ ‵ (owns (ShrSlice (named 0) κ₀ u8 ∷ usize ∷ ShrSlice (named 1) κ₁ u64 ∷ MutSlice (named 2) κ₂ u64 ∷ MutSlice (named 3) (α ∷ []) R ∷ []) fa fvals) ∷ []) ∵
+        join ! $ frame ! $ done !
 
     -- what is had at entry, with the arcs lent, gives what `cheapest_flow` asks; of bytes and table a copy is kept
     asks : ent 𝓤 (⋆ 𝓤 H A (raw (onEntry 𝓤 H A top.signature κs qs a vals) ∷ ‵ Oy ∷ ‵ (flft (α ∷ []) fullShare) ∷ [])) (⋆ 𝓤 H A (raw (Flows 𝓤 H A mem run .pre to-flows) ∷ ‵ Ot ∷ ‵ Ob ∷ []))
     asks =
-        qed W (((‵ (flft κ₀ q₀) ⊛ ‵ (flft κ₁ q₁) ⊛ ‵ (flft κ₂ q₂) ⊛ ‵ ftrue) ⊛ ‵ (owns (ShrSlice (named 0) κ₀ u8 ∷ usize ∷ ShrSlice (named 1) κ₁ u64 ∷ MutSlice (named 2) κ₂ u64 ∷ []) a vals)) ∷ ‵ Oy ∷ ‵ (flft (α ∷ []) fullShare) ∷ []) ∵
+        qed W (((‵ (flft κ₀ q₀) ⊛ ‵ (flft κ₁ q₁) ⊛ ‵ (flft κ₂ q₂) ⊛ ‵ ftrue) ⊛ ‵ (owns (ShrSlice (named 0) κ₀ u8 ∷ usize ∷ ShrSlice (named 1) κ₁ u64 ∷ MutSlice (named 2) κ₂ u64 ∷ []) a vals)) ∷
+        ‵ Oy ∷ ‵ (flft (α ∷ []) fullShare) ∷ []) ∵
         split ! $ split ! $ move ! (1 ∷ []) $ split ! $ move ! (1 ∷ []) $ split ! $
         -- [κ₂'s token; true; κ₁'s; κ₀'s; what is owned; arcs; α's token]
         move ! (6 ∷ 1 ∷ []) $ join ! $ move ! (1 ∷ 0 ∷ []) $ join ! $ move ! (1 ∷ 0 ∷ []) $ join ! $ move ! (1 ∷ 0 ∷ []) $ join ! $
@@ -271,11 +275,15 @@ module _ {M : Type 1} (𝓤 : URA M) (H : Heap 𝓤) (A : Atoms 𝓤) (W : Given
   module _ (C : Calls 𝓤 H) (Λ : Loops 𝓤 H) (fm : FmC 𝓤 H (W .laws) C) (known-sevens : Triple 𝓤 (C #sevens) (Sevens 𝓤 H A mem run)) (known-flows : Triple 𝓤 (C #flows) (Flows 𝓤 H A mem run))
       (l₀ l₁ l₂ l₃ l₄ l₅ l₆ l₇ l₈ l₉ l₁₀ l₁₁ : ℕ) where
     abbrev En : Env 𝓤 H
-    En = (lent′, l₀) ∷ (bytes′, l₁) ∷ (word, l₂) ∷ (table′, l₃) ∷ (flow′ (named 2), l₄) ∷ (six′, l₅) ∷ (answer′, l₆) ∷ (six′, l₇) ∷ (flow-ref, l₈) ∷ (flow′ erased, l₉) ∷ (six-ref, l₁₀) ∷ (arcs′, l₁₁) ∷ []
+    En =
+        (lent′, l₀) ∷ (bytes′, l₁) ∷ (word, l₂) ∷ (table′, l₃) ∷ (flow′ (named 2), l₄) ∷ (six′, l₅) ∷ (answer′, l₆) ∷ (six′, l₇) ∷ (flow-ref, l₈) ∷
+        (flow′ erased, l₉) ∷ (six-ref, l₁₀) ∷ (arcs′, l₁₁) ∷ []
 
     -- the parameters' locals and the result's
     abbrev Passed : List (Item 𝓤)
-    Passed = ‵ (fat fullShare (flow′ (named 2)) l₄ 0 vx) ∷ ‵ (fdies (flow′ (named 2)) l₄) ∷ ‵ (fat fullShare table′ l₃ 0 vt) ∷ ‵ (fdies table′ l₃) ∷ ‵ (fat fullShare word l₂ 0 (vint w64 p)) ∷ ‵ (fdies word l₂)
+    Passed =
+        ‵ (fat fullShare (flow′ (named 2)) l₄ 0 vx) ∷ ‵ (fdies (flow′ (named 2)) l₄) ∷ ‵ (fat fullShare table′ l₃ 0 vt) ∷ ‵ (fdies table′ l₃) ∷ ‵
+        (fat fullShare word l₂ 0 (vint w64 p)) ∷ ‵ (fdies word l₂)
         ∷ ‵ (fat fullShare bytes′ l₁ 0 vb) ∷ ‵ (fdies bytes′ l₁) ∷ ‵ (froom lent′ l₀ 0) ∷ ‵ (fdies lent′ l₀) ∷ []
 
     -- the locals of the loans, once they are written
@@ -284,7 +292,8 @@ module _ {M : Type 1} (𝓤 : URA M) (H : Heap 𝓤) (A : Atoms 𝓤) (W : Given
         ∷ ‵ (fat fullShare (flow′ erased) l₉ 0 vx) ∷ ‵ (fdies (flow′ erased) l₉) ∷ ‵ (fat fullShare flow-ref l₈ 0 (vptr fb fo)) ∷ ‵ (fdies flow-ref l₈) ∷ Γ
 
     -- the array has come back
-    module _ (w : Val) (z : Answer) (v : Val) (z-is : Is N.the-row z (v ∷ [])) (ws : List Arc) (zs : List ℕ) (z-long : length zs ≡ length fs) (said : ArcsAnswered (b .now) p (t .now) (outcome z) fs zs sevenArcs ws) where
+    module _ (w : Val) (z : Answer) (v : Val) (z-is : Is N.the-row z (v ∷ [])) (ws : List Arc) (zs : List ℕ) (z-long : length zs ≡ length fs)
+        (said : ArcsAnswered (b .now) p (t .now) (outcome z) fs zs sevenArcs ws) where
       abbrev Back : Val → List (Item 𝓤)
       Back u = ‵ (fat fullShare six′ l₅ 0 u) ∷ ‵ (flft κ₀ q₀) ∷ ‵ (flft κ₁ q₁) ∷ ‵ (flft κ₂ q₂) ∷ ‵ (finally u64 fγ zs) ∷ ‵ Ot ∷ ‵ Ob
           ∷ Loans (‵ (fat fullShare six′ l₇ 0 w) ∷ ‵ (fdies six′ l₇) ∷ ‵ (fat fullShare answer′ l₆ 0 v) ∷ ‵ (fdies answer′ l₆) ∷ ‵ (fdies six′ l₅) ∷ Passed)
@@ -295,14 +304,17 @@ module _ {M : Type 1} (𝓤 : URA M) (H : Heap 𝓤) (A : Atoms 𝓤) (W : Given
           assigns ! (of-opd ! (load ! (from ! (stop !)) (look ! 0 refl))) (from ! (stop !)) (store ! 15 refl (six-typed 𝓤 H A W ws u w-is)) $
           assigns ! (agg ! (and-then ! (load ! (from ! (stop !)) (look ! 17 refl)) (and-then ! (load ! (from ! (stop !)) (look ! 15 refl)) (no-more !)))) (from ! (stop !))
           (init ! 28 refl (LL.lawful L.the-type L′.the-laws 𝓤 H A W .typed (h z v z-is ws u w-is zs z-long said) _ (made z v z-is ws u w-is zs z-long said) .0)) $
-          returns ! (look ! 28 refl) $ forget ! 0 refl $ forget ! 7 refl $ forget ! 9 refl $ forget ! 11 refl $ forget ! 13 refl $ forget ! 15 refl $ forget ! 17 refl $ forget ! 20 refl $ forget ! 22 refl $ forget ! 24 refl $ forget ! 26 refl $ forget ! 28 refl $
+          returns ! (look ! 28 refl) $ forget ! 0 refl $ forget ! 7 refl $ forget ! 9 refl $ forget ! 11 refl $ forget ! 13 refl $ forget ! 15 refl $
+          forget ! 17 refl $ forget ! 20 refl $ forget ! 22 refl $ forget ! 24 refl $ forget ! 26 refl $ forget ! 28 refl $
           move ! (28 ∷ 29 ∷ []) $ free1 ! $ move ! (26 ∷ 27 ∷ []) $ free1 ! $ move ! (24 ∷ 25 ∷ []) $ free1 ! $ move ! (22 ∷ 23 ∷ []) $ free1 ! $ move ! (20 ∷ 21 ∷ []) $ free1 ! $
           move ! (0 ∷ 19 ∷ []) $ free1 ! $ move ! (16 ∷ 17 ∷ []) $ free1 ! $ move ! (14 ∷ 15 ∷ []) $ free1 ! $ move ! (12 ∷ 13 ∷ []) $ free1 ! $ move ! (10 ∷ 11 ∷ []) $ free1 ! $
           move ! (8 ∷ 9 ∷ []) $ free1 ! $ move ! (6 ∷ 7 ∷ []) $ free1 ! $ free0 ! $ by ! (exits z v z-is ws u w-is zs z-long said)
 
     -- the locals once the parameters are passed
     abbrev Entered : List (Item 𝓤)
-    Entered = ‵ (froom arcs′ l₁₁ 0) ∷ ‵ (fdies arcs′ l₁₁) ∷ ‵ (froom six-ref l₁₀ 0) ∷ ‵ (fdies six-ref l₁₀) ∷ ‵ (froom (flow′ erased) l₉ 0) ∷ ‵ (fdies (flow′ erased) l₉) ∷ ‵ (froom flow-ref l₈ 0) ∷ ‵ (fdies flow-ref l₈)
+    Entered =
+        ‵ (froom arcs′ l₁₁ 0) ∷ ‵ (fdies arcs′ l₁₁) ∷ ‵ (froom six-ref l₁₀ 0) ∷ ‵ (fdies six-ref l₁₀) ∷ ‵ (froom (flow′ erased) l₉ 0) ∷ ‵
+        (fdies (flow′ erased) l₉) ∷ ‵ (froom flow-ref l₈ 0) ∷ ‵ (fdies flow-ref l₈)
         ∷ ‵ (froom six′ l₇ 0) ∷ ‵ (fdies six′ l₇) ∷ ‵ (froom answer′ l₆ 0) ∷ ‵ (fdies answer′ l₆) ∷ ‵ (froom six′ l₅ 0) ∷ ‵ (fdies six′ l₅) ∷ Passed
 
     begins : ent 𝓤 (⋆ 𝓤 H A (raw (onEntry 𝓤 H A top.signature κs qs a vals) ∷ Entered)) (Wp 𝓤 H C Λ En (code.function .body) (atReturn 𝓤 H En Post))
@@ -311,32 +323,50 @@ module _ {M : Type 1} (𝓤 : URA M) (H : Heap 𝓤) (A : Atoms 𝓤) (W : Given
         -- `sevens`
         nothing ! $ use1 W (raw (Sevens 𝓤 H A mem run .pre to-sevens)) goes-sevens $
         calls-at ! fm (Sevens 𝓤 H A mem run) known-sevens to-sevens (no-more !) (λ w.
-        use1 W (later (some (λ (xs : List Arc). (‵ ftrue ⊛ ‵ (Six .own xs (w ∷ []))) ⊛ raw (ensured 𝓤 H A sevens.ended (sevens.clauses 𝓤 H A mem run) tt tt tt xs)))) (id⊢ 𝓤 _) $ await ! tt $ pick ! (λ xs.
+        use1 W (later (some (λ (xs : List Arc). (‵ ftrue ⊛ ‵ (Six .own xs (w ∷ []))) ⊛ raw (ensured 𝓤 H A sevens.ended (sevens.clauses 𝓤 H A mem run) tt tt tt xs)))) (id⊢ 𝓤 _) $
+        await ! tt $ pick ! (λ xs.
         split ! $ move ! (1 ∷ []) $ use1 W (raw (fact 𝓤 (xs ≡ sevenArcs))) (sevens-said xs) $ heard ! (xs ≡ sevenArcs) (λ x-is. split ! $ drop ! $
         rewrite ! 0 (λ (u : List Arc). ‵ (Six .own u (w ∷ []))) x-is refl $
         peeks ! Six (Is Six) (shows 𝓤 H A Six) sevenArcs (w ∷ []) (λ is. land ! (from ! (stop !)) (init ! 10 refl (six-typed 𝓤 H A W sevenArcs w is)) $
         -- [the array; what is had at entry; _11; …]
         assigns ! (of-opd ! (load ! (from ! (stop !)) (look ! 10 refl))) (from ! (stop !)) (init ! 14 refl (six-typed 𝓤 H A W sevenArcs w is)) $
         assigns ! (addr ! (from ! (fld ! refl (hop ! (look-in ! 16 (sub ! 0 refl (whole !))) (stop !))))) (from ! (stop !)) (init ! 8 refl (tt, tt)) $
-        assigns ! (agg ! (and-then ! (load ! (from ! (stop !)) (look ! 8 refl)) (and-then ! (load ! (from ! (fld ! refl (stop !))) (look-in ! 16 (sub ! 1 refl (whole !)))) (no-more !)))) (from ! (stop !)) (init ! 6 refl (tt, (tt, (record { fits = f-space .0 }, tt)))) $
+        assigns !
+        (agg ! (and-then ! (load ! (from ! (stop !)) (look ! 8 refl)) (and-then ! (load ! (from ! (fld ! refl (stop !))) (look-in ! 16 (sub ! 1 refl (whole !)))) (no-more !))))
+        (from ! (stop !)) (init ! 6 refl (tt, (tt, (record { fits = f-space .0 }, tt)))) $
         assigns ! (addr ! (from ! (stop !))) (from ! (stop !)) (init ! 4 refl (tt, tt)) $
         assigns ! (agg ! (and-then ! (load ! (from ! (stop !)) (look ! 4 refl)) (and-then ! (lit ! tt) (no-more !)))) (from ! (stop !)) (init ! 2 refl (tt, (tt, (record { fits = lit< tt }, tt)))) $
         -- the array is lent as a slice, for a lifetime that is made here
         move ! (14 ∷ 0 ∷ []) $ use2 W (‵ (cells (memOf R) sevenArcs l₅ 0)) (array-in 𝓤 H A W R tt 6 sevenArcs w l₅ 0) $
         lft-new ! tt (λ α. move ! (1 ∷ []) $
-        use1 W (later (some (λ (γ : GName). ‵ (Oy l₅ α γ) ⊛ ‵ (flent (α ∷ []) (Held R 6 l₅ 0 γ))))) (lends-slice 𝓤 H A W R (named 3) (α ∷ []) sevenArcs l₅ 0 six-room) $ await ! tt $ pick ! (λ γ. split ! $
+        use1 W (later (some (λ (γ : GName). ‵ (Oy l₅ α γ) ⊛ ‵ (flent (α ∷ []) (Held R 6 l₅ 0 γ))))) (lends-slice 𝓤 H A W R (named 3) (α ∷ []) sevenArcs l₅ 0 six-room) $
+        await ! tt $ pick ! (λ γ. split ! $
         -- [arcs; the lender's part; α's token; what is had at entry; _11; …]
         move ! (3 ∷ 0 ∷ 2 ∷ []) $ use3 W (raw (Flows 𝓤 H A mem run .pre (to-flows l₅ α γ)) ⊛ ‵ Ot ⊛ ‵ Ob) (asks l₅ α γ) $ split ! $ move ! (1 ∷ []) $ split ! $ move ! (2 ∷ []) $
         -- `cheapest_flow`
         calls-at ! fm (Flows 𝓤 H A mem run) known-flows (to-flows l₅ α γ)
-        (and-then ! (load ! (from ! (stop !)) (look ! 23 refl)) (and-then ! (load ! (from ! (stop !)) (look ! 21 refl)) (and-then ! (load ! (from ! (stop !)) (look ! 19 refl)) (and-then ! (load ! (from ! (stop !)) (look ! 8 refl)) (and-then ! (load ! (from ! (stop !)) (look ! 4 refl)) (no-more !)))))) (λ v.
-        use1 W (later (some (λ (z : Answer). (Tokens l₅ α γ ⊛ ‵ (N.the-row .own z (v ∷ []))) ⊛ raw (ensured 𝓤 H A flows.ended (flows.clauses 𝓤 H A mem run) (κs₄ l₅ α γ) (fa l₅ α γ) tt z)))) (id⊢ 𝓤 _) $ await ! tt $ pick ! (λ z.
+        (and-then !
+        (load ! (from ! (stop !)) (look ! 23 refl))
+        (and-then !
+        (load ! (from ! (stop !)) (look ! 21 refl))
+        (and-then ! (load ! (from ! (stop !)) (look ! 19 refl)) (and-then ! (load ! (from ! (stop !)) (look ! 8 refl)) (and-then ! (load ! (from ! (stop !)) (look ! 4 refl)) (no-more !))))))
+        (λ v.
+        use1 W (later (some (λ (z : Answer). (Tokens l₅ α γ ⊛ ‵ (N.the-row .own z (v ∷ []))) ⊛ raw (ensured 𝓤 H A flows.ended (flows.clauses 𝓤 H A mem run) (κs₄ l₅ α γ) (fa l₅ α γ) tt z))))
+        (id⊢ 𝓤 _) $
+        await ! tt $ pick ! (λ z.
         split ! $ move ! (1 ∷ []) $
-        use1 W (some (λ (zs : Unit {0} × (Unit {0} × (Unit {0} × (List ℕ × (List Arc × Unit {0}))))). ‵ (lasts flows.ended (κs₄ l₅ α γ) (fa l₅ α γ) zs) ⊛ raw (fact 𝓤 (ArcsAnswered (b .now) p (t .now) (outcome z) fs (zs .1 .1 .1 .0) sevenArcs (zs .1 .1 .1 .1 .0))))) (id⊢ 𝓤 _) $ pick ! (λ zs.
-        split ! $ move ! (1 ∷ []) $ heard ! (ArcsAnswered (b .now) p (t .now) (outcome z) fs (zs .1 .1 .1 .0) sevenArcs (zs .1 .1 .1 .1 .0)) (λ said. fsplit ! $ drop ! $ fsplit ! $ drop ! $ fsplit ! $ drop ! $ fsplit ! $ fsplit ! $ move ! (1 ∷ []) $ feqL ! (λ z-long.
+        use1 W (some
+        (λ (zs : Unit {0} × (Unit {0} × (Unit {0} × (List ℕ × (List Arc × Unit {0}))))). ‵ (lasts flows.ended (κs₄ l₅ α γ) (fa l₅ α γ) zs) ⊛
+        raw (fact 𝓤 (ArcsAnswered (b .now) p (t .now) (outcome z) fs (zs .1 .1 .1 .0) sevenArcs (zs .1 .1 .1 .1 .0)))))
+        (id⊢ 𝓤 _) $
+        pick ! (λ zs.
+        split ! $ move ! (1 ∷ []) $ heard !
+        (ArcsAnswered (b .now) p (t .now) (outcome z) fs (zs .1 .1 .1 .0) sevenArcs (zs .1 .1 .1 .1 .0))
+        (λ said. fsplit ! $ drop ! $ fsplit ! $ drop ! $ fsplit ! $ drop ! $ fsplit ! $ fsplit ! $ move ! (1 ∷ []) $ feqL ! (λ z-long.
         -- [the last flow; the last arcs; the tokens and the answer; table; bytes; the lender's part; _11; …]
         move ! (1 ∷ []) $ fsplit ! $ fsplit ! $ move ! (1 ∷ []) $ feqL ! (λ w-long. move ! (3 ∷ []) $ split ! $ move ! (1 ∷ []) $
-        peeks ! N.the-row (Is N.the-row) (shows 𝓤 H A N.the-row) z (v ∷ []) (λ z-is. land ! (from ! (stop !)) (init ! 18 refl (EL.lawful N.the-type N′.the-laws 𝓤 H A W tt .typed z _ z-is .0)) $ drop ! $
+        peeks ! N.the-row (Is N.the-row) (shows 𝓤 H A N.the-row) z (v ∷ [])
+        (λ z-is. land ! (from ! (stop !)) (init ! 18 refl (EL.lawful N.the-type N′.the-laws 𝓤 H A W tt .typed z _ z-is .0)) $ drop ! $
         -- [the tokens; the last arcs; true; the last flow; table; bytes; the lender's part; _11; …]
         split ! $ move ! (1 ∷ []) $ split ! $ move ! (1 ∷ []) $ split ! $ move ! (1 ∷ []) $ split ! $
         -- [α's token; true; κ₂'s; κ₁'s; κ₀'s; the last arcs; true; the last flow; table; bytes; the lender's part; _11; …]
@@ -352,7 +382,8 @@ module _ {M : Type 1} (𝓤 : URA M) (H : Heap 𝓤) (A : Atoms 𝓤) (W : Given
       → ent 𝓤 (onEntry 𝓤 H A top.signature κs qs a vals) (WpFn 𝓤 H C Λ code.function (vb ∷ vint w64 p ∷ vt ∷ vx ∷ []) Post)
   walk C Λ fm known-sevens known-flows =
       qed W (raw (onEntry 𝓤 H A top.signature κs qs a vals) ∷ []) ∵ enter ! C Λ code.function (vb ∷ vint w64 p ∷ vt ∷ vx ∷ []) _ $
-      alloc1 ! (λ l₀. alloc1 ! (λ l₁. alloc1 ! (λ l₂. alloc1 ! (λ l₃. alloc1 ! (λ l₄. alloc1 ! (λ l₅. alloc1 ! (λ l₆. alloc1 ! (λ l₇. alloc1 ! (λ l₈. alloc1 ! (λ l₉. alloc1 ! (λ l₁₀. alloc1 ! (λ l₁₁. alloc0 ! $ params1 ! $
+      alloc1 ! (λ l₀. alloc1 !
+      (λ l₁. alloc1 ! (λ l₂. alloc1 ! (λ l₃. alloc1 ! (λ l₄. alloc1 ! (λ l₅. alloc1 ! (λ l₆. alloc1 ! (λ l₇. alloc1 ! (λ l₈. alloc1 ! (λ l₉. alloc1 ! (λ l₁₀. alloc1 ! (λ l₁₁. alloc0 ! $ params1 ! $
       pass1 ! (init ! 20 refl (shr-slice-lawful 𝓤 H A W (named 0) κ₀ u8 .typed b (vb ∷ []) b-is .0)) $ pass1 ! (init ! 18 refl (tt, record { fits = p-fits })) $
       pass1 ! (init ! 16 refl (shr-slice-lawful 𝓤 H A W (named 1) κ₁ u64 .typed t (vt ∷ []) t-is .0)) $ pass1 ! (init ! 14 refl (tt, (tt, (record { fits = f-space .0 }, tt)))) $ pass0 ! $
       move ! (24 ∷ []) $ by ! (begins C Λ fm known-sevens known-flows l₀ l₁ l₂ l₃ l₄ l₅ l₆ l₇ l₈ l₉ l₁₀ l₁₁)))))))))))))
@@ -364,7 +395,8 @@ module _ {M : Type 1} (𝓤 : URA M) (H : Heap 𝓤) (A : Atoms 𝓤) (W : Given
       (λ κs. (slice-vals, (uint-vals w64, (slice-vals, (slice-vals, tt)))))
       (λ κs. (shr-slice-tells (named 0) (κs .0) u8, (uint-tells w64, (shr-slice-tells (named 1) (κs .1 .0) u64, (mut-slice-tells (named 2) (κs .1 .1 .0) u64, tt)))))
       (λ κs qs bounds a g are. via 𝓤 _ (fst∗ 𝓤 _ (emp 𝓤))
-      (walk 𝓤 H A W mem run (κs .0) (κs .1 .0) (κs .1 .1 .0) (qs .0) (qs .1 .0) (qs .1 .1 .0) (a .0) (a .1 .1 .0) (a .1 .0) (a .1 .1 .1 .0 .ptr .0) (a .1 .1 .1 .0 .ptr .1) (a .1 .1 .1 .0 .name) (a .1 .1 .1 .0 .now)
+      (walk 𝓤 H A W mem run (κs .0) (κs .1 .0) (κs .1 .1 .0) (qs .0) (qs .1 .0) (qs .1 .1 .0) (a .0) (a .1 .1 .0) (a .1 .0) (a .1 .1 .1 .0 .ptr .0)
+      (a .1 .1 .1 .0 .ptr .1) (a .1 .1 .1 .0 .name) (a .1 .1 .1 .0 .now)
       (are .0) (are .1 .1 .0) (are .1 .0 .1) (are .1 .1 .1 .0 .0 .1) (𝓣 .C) (𝓣 .Λ) (fmOf 𝓤 H (W .laws) 𝓣) known-sevens known-flows))
 
   top-meets : Meets 𝓤 H A top.signature (WpFn 𝓤 H (𝓣 .C) (𝓣 .Λ) code.function) (top.spec 𝓤 H A mem run)
