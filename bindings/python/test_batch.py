@@ -7,9 +7,11 @@ import json
 import os
 import random
 import shutil
+import signal
 import subprocess
 import sys
 import tempfile
+import time
 import unittest
 
 from yadvorkhul import Case, Refusal, command
@@ -160,6 +162,70 @@ class Files(unittest.TestCase):
         unfinished = os.path.exists(self.output + ".state")  # else it was too quick for us
         status, _ = told("batch", self.source, "--case", SEASON, "-o", self.output, "--cores", "1")
         self.assertEqual((status, self.got()), (0 if unfinished else 2, self.due))
+
+    def many(self):
+        """Lines that take a while."""
+        with open(self.source, "w", encoding="utf-8") as out:
+            out.write("\n".join(self.lines * 40) + "\n")
+        return self.due * 40
+
+    def begun(self, cores="2"):
+        """The command, once it has written something more."""
+        size = lambda: os.path.getsize(self.output) if os.path.exists(self.output) else 0
+        before = size()
+        words = [sys.executable, "-m", "yadvorkhul", "batch", self.source, "--case", SEASON, "-o", self.output, "--cores", cores, "--plans"]
+        first = subprocess.Popen(words, cwd=HERE, stderr=subprocess.PIPE, start_new_session=True)
+        while first.poll() is None and size() <= before:
+            time.sleep(0.002)
+        return first
+
+    def test_stopped(self):
+        """By TERM or INT, to it alone or to all its processes: one sentence, whole answers; started again it goes on."""
+        self.many()
+        for number, send in ((signal.SIGTERM, os.kill), (signal.SIGINT, os.killpg), (signal.SIGTERM, os.killpg)):
+            first = self.begun()
+            send(first.pid, number)
+            said = first.communicate(timeout=60)[1].decode()
+            with open(self.output, "rb") as stream:
+                written = stream.read()
+            lines = written.count(b"\n")
+            self.assertTrue(written.endswith(b"\n"))
+            self.assertEqual(first.returncode, 128 + number, said)
+            self.assertEqual([line for line in said.splitlines() if "going on" not in line],
+                             [f"yadvorkhul: stopped: {self.output} has {lines:,} answers, each whole; the same command goes on from there"])
+            self.assertRaises(ProcessLookupError, os.killpg, first.pid, 0)
+        status, said = told("batch", self.source, "--case", SEASON, "-o", self.output, "--cores", "2", "--plans")
+        self.assertEqual(status, 0, said)
+        self.assertIn(f"has {lines:,} answers; going on from there", said)
+        self.assertEqual([(one.get("split"), one.get("refusal")) for one in map(json.loads, self.got())],
+                         [(one.get("split"), one.get("refusal")) for one in map(json.loads, self.due * 40)])
+
+    def test_worker_killed(self):
+        """A worker that is killed from outside: one sentence, status 4; nothing hangs, and it can go on."""
+        self.many()
+        first = self.begun()
+        workers = subprocess.run(["ps", "-o", "pid=", "--ppid", str(first.pid)], capture_output=True, check=True).stdout.split()
+        os.kill(int(workers[0]), signal.SIGKILL)
+        said = first.communicate(timeout=60)[1].decode()
+        self.assertEqual(first.returncode, 4, said)
+        self.assertEqual(len(said.splitlines()), 1, said)
+        self.assertIn("a worker was ended from outside", said)
+        self.assertTrue(os.path.exists(self.output + ".state"))
+
+    def test_parent_killed(self):
+        """No worker outlives its parent."""
+        self.many()
+        first = self.begun()
+        os.kill(first.pid, signal.SIGKILL)
+        first.communicate(timeout=60)
+        end = time.monotonic() + 20
+        while time.monotonic() < end:
+            try:
+                os.killpg(first.pid, 0)
+                time.sleep(0.05)
+            except ProcessLookupError:
+                return
+        self.fail("a worker is left")
 
     @unittest.skipUnless(shutil.which("python3"), "python3 is not there")
     def test_dask(self):

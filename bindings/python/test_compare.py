@@ -11,6 +11,7 @@ import unittest
 from yadvorkhul import Case, Refusal, Role, command
 from yadvorkhul.again import Again, NotAChange, as_json, one_more
 from yadvorkhul.cases import read_case
+from yadvorkhul.commands.compare import text_of
 from yadvorkhul.compare import case_named, compare, side
 from yadvorkhul.forms import case_json
 
@@ -189,6 +190,23 @@ class Compared(unittest.TestCase):
         self.assertEqual((found.alike, found.lanes, found.sides[1].plan), (False, [], None))
         self.assertIn("refusal 8", found.sides[1].refused)
         self.assertEqual([(row.name, row.one, row.other) for row in found.inputs], [("sources", 3, 2), ("terminals", 2, 1)])
+
+    def test_no_fingerprint(self):
+        """A side without a plan has no fingerprint of one, and that is said."""
+        refused = A._replace(demands=[9, 9])
+        for one, other, due in ((A, refused, " / none"), (refused, A, "none / "), (refused, refused, "fingerprint of the plan: none; neither has one\n")):
+            found = compare(side("a", one), side("b", other))
+            self.assertIn(due, text_of(found))
+            self.assertNotRegex(text_of(found), "the same, *\n")
+
+    def test_cause_of_a_file(self):
+        with tempfile.TemporaryDirectory() as folder:
+            for name, data in (("tariff.csv", b"2;6;3\r\n"), ("production.csv", b"99\r\n")):
+                with open(os.path.join(folder, name), "wb") as out:
+                    out.write(data)
+            status, _, said = self.told(folder, folder)
+            self.assertEqual(status, 2)
+            self.assertIn("Here stands a semicolon; fields are parted by commas", said)
 
     def told(self, *words):
         out, errors = io.BytesIO(), io.StringIO()

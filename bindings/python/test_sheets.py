@@ -123,7 +123,9 @@ class Files(Folder):
             ("12345678901", "more than ten digits"),
             ("12 EUR", "is not a whole number"),
             ("1 23", "is not a whole number"),
-            ("#N/A", "is not a whole number"),
+            ("#N/A", "is an error of the program that wrote it"),
+            ("#VALUE!", "is an error of the program that wrote it"),
+            ("\u20135", "a sign that is not a plain minus"),
             ("1e3", "is not a whole number"),
             ("\u0665", "is not a whole number"),
             ("", "tariff!C3 is empty"),
@@ -142,6 +144,56 @@ class Files(Folder):
         self.refused("is a workbook, whatever its name says", b"PK\x03\x04" + b"0" * 50)
         self.refused("is empty", "\n\n")
         self.refused("unexpected end of data", LABELLED.replace("Lyon", '"Lyon'))
+
+    def test_parted_numbers(self):
+        """A comma within a number parts it in a file of commas: it is named with its cell, and never taken as two columns."""
+        for table, words in (
+            ("cost\n0,50\n1,50\n2,50\n3,50\n", "production!B2: row 1 has 1 field, this row 2; perhaps a name is missing there; or a comma parted a number of '0,50'"),
+            ("cost\n99\n24,00\n24\n20\n", "production!B3: row 1 has 1 field, this row 2"),
+            ("output,cost\n0,99\n1,20,5\n2,24\n3,20\n", "production!C3: row 1 has 2 fields, this row 3"),
+            ("99\n24,00\n24\n20\n", "production!A2: '24,00' is parted by its comma, perhaps a decimal; numbers are whole"),
+            ("99\n1,024\n24\n20\n", "production!A2: '1,024' is parted by its comma; write 1024, unless it is a decimal, or put it in quotes and say --thousands ','"),
+            ("99\n1,024,000\n24\n20\n", "production!A2: '1,024,000' is parted by its comma; write 1024000, or put it in quotes"),
+        ):
+            self.refused(words, LABELLED, table)
+        self.assertEqual(self.read(LABELLED, 'cost\n"1,024"\n20\n24\n20\n', thousands=",").case.table[0], 1024)
+        bare = "2,6,3\n5,3,3\n1,4,1\n3,2,\n"
+        for old, new, words in (
+            ("5,3,3", "5,50,3,3", "tariff!D2: this row has 4 fields, another 3; perhaps a comma parted a number of '5,50,3,3'"),
+            ("2,6,3", "1,234,6,3", "tariff!D1: this row has 4 fields, another 3; perhaps a comma parted a number of '1,234,6,3'"),
+        ):
+            self.refused(words, bare.replace(old, new))
+        every = "Paris,Rome,supply\n2,50,6,3\n5,50,3,3\n1,50,4,1\n3,50,2,\n"
+        self.refused("tariff!D2: row 1 has 3 fields, this row 4", every)
+        self.refused("tariff!D2: row 1 has 3 fields, this row 4; perhaps a name is missing there", LABELLED.replace(";Paris", "Paris"))
+        self.assertEqual(self.read(LABELLED.replace(";supply", ";")).case, NAMED)
+        self.assertEqual(self.read(LABELLED.replace(";supply", ";").replace(";", ",")).case, NAMED)
+
+    def test_parted_limits(self):
+        """Nor in the runs or the ceilings: a number is no name."""
+        for runs in ("1,500\n2,500\n", "1,500,0\n", "run\n1,500\n2,500\n"):
+            self.refused("runs", LABELLED, runs=runs)
+        bare = "2,6,3\n5,3,3\n1,4,1\n3,2,\n"
+        self.refused("3 sources and 2 terminals", bare, ceilings="1,234,5\n1,234,5\n1,234,5\n")
+        self.refused("3 sources and 2 terminals", bare, ceilings="1,2\n3,4\n5,6\n7,8\n")
+
+    def test_separators(self):
+        """A sign within a name is no separator where another stands as often in each line."""
+        for name in ("Paris; Nord", "Paris, Nord", 'Depot ""Nord""'):
+            for sign in ";\t,":
+                text = LABELLED.replace(";", sign).replace("Paris", f'"{name}"')
+                self.assertEqual(self.read(text).case.terminals[0], name.replace('""', '"'))
+        self.assertEqual(self.read(LABELLED.replace(";", ",").replace("Paris", "Paris; Nord")).case.terminals[0], "Paris; Nord")
+        self.assertEqual(self.read(LABELLED.replace(";", "\t").replace("Paris", "Paris; Nord")).case.terminals[0], "Paris; Nord")
+        self.refused("tariff!D5 is empty", ("sep=;\n" + LABELLED).replace("Lyon;1;4;1", "Lyon;1;4"))
+
+    def test_no_text(self):
+        """What is no text is named: NUL, an old workbook."""
+        self.refused("t.csv holds a NUL character (byte 0) in line 3; no text has one", LABELLED.replace("5;3", "5\0;3"))
+        self.refused("p.csv holds a NUL character (byte 0) in line 1", LABELLED, "9\x009\n20\n24\n20\n")
+        self.refused("is an old workbook (.xls)", b"\xd0\xcf\x11\xe0\xa1\xb1\x1a\xe1" + b"\0" * 600)
+        with self.assertRaisesRegex(BadSheet, "is an old workbook \\(.xls\\), whatever its name says; save it as .xlsx"):
+            import_book(self.path("old.xlsx", b"\xd0\xcf\x11\xe0\xa1\xb1\x1a\xe1" + b"\0" * 600))
 
     def test_runs_and_ceilings(self):
         for runs in ("1;2\n", "plant;run\nGrasse;1\nHolzminden;2\n", "1\n2\n"):
@@ -162,7 +214,7 @@ class Files(Folder):
         self.path("p.csv", "99,00\n20,00\n")
         status, said = run("import", tariff, table, "-o", self.path("other.json"))
         self.assertEqual((status, os.path.exists(self.path("other.json"))), (2, False))
-        self.assertIn("production!B1", said)
+        self.assertIn("production!A1: '99,00' is parted by its comma, perhaps a decimal", said)
         self.assertEqual(run("import", tariff, table, "-o", tariff)[0], 2)
         self.assertEqual(run("import", tariff, table, table, "-o", out)[0], 2)
         self.assertEqual(run("import", self.path("none.csv"), table, "-o", out)[0], 2)
@@ -279,6 +331,40 @@ class Books(Folder):
         found = import_book(self.spoiled("B2", "7"))
         self.assertEqual((found.case.costs[0][0], "numbers stored as text (tariff!B2)" in found.notes), (7, True))
         self.assertEqual(import_book(self.spoiled("B2", 7.0, "#,##0.00")).case.costs[0][0], 7)
+
+    def test_odd_books(self):
+        """Merged cells, a hidden sheet, two sheets of one name, a name by a formula, an error."""
+        book = openpyxl.load_workbook(self.path("t.xlsx", template()))
+        book["tariff"].merge_cells("B2:C2")
+        book.save(self.path("s.xlsx"))
+        with self.assertRaisesRegex(BadSheet, r"tariff!C2 has no number of its own: it is merged with others \(B2:C2\)"):
+            import_book(self.path("s.xlsx"))
+        book = openpyxl.load_workbook(self.path("t.xlsx"))
+        book["production"].sheet_state = "hidden"
+        book.save(self.path("s.xlsx"))
+        self.assertIn("sheet production is hidden, and read like others", import_book(self.path("s.xlsx")).notes)
+        book.create_sheet("Tariff ")
+        book.save(self.path("s.xlsx"))
+        with self.assertRaisesRegex(BadSheet, "two sheets are named tariff"):
+            import_book(self.path("s.xlsx"))
+        for cell, value, words in (("B1", "=A1", "tariff!B1 has a formula without a stored value"), ("B2", "#DIV/0!", "is an error of the program")):
+            with self.assertRaisesRegex(BadSheet, words):
+                import_book(self.spoiled(cell, value))
+        book = openpyxl.load_workbook(self.path("t.xlsx"))
+        book["production"].delete_cols(2)
+        book["production"]["B3"].value = 7
+        book.save(self.path("s.xlsx"))
+        with self.assertRaisesRegex(BadSheet, "production!B3: row 1 has 1 field, this row 2; perhaps a name is missing there$"):
+            import_book(self.path("s.xlsx"))
+
+    def test_book_as_a_case(self):
+        """A workbook where a case in JSON is wanted is named, and so is the way to make a case of it."""
+        self.path("t.xlsx", template())
+        for name in ("plan", "page", "export"):
+            status, said = run(name, self.path("t.xlsx"))
+            self.assertEqual(status, 2)
+            self.assertIn("t.xlsx is not a case in JSON: it is a workbook; `yadvorkhul import BOOK.xlsx -o CASE.json` makes a case of one", said)
+        self.assertIn("saved as .xlsx", run("plan", self.path("t.xls", b"\xd0\xcf\x11\xe0" + b"\0" * 600))[1])
 
     def test_hostile(self):
         """What is no workbook, or would fill the memory, is one sentence."""

@@ -171,9 +171,13 @@ _worker: Dict = {}  # of this process: the case in its arrays
 
 
 def _start(case: Optional[Case], plans: bool):
+    import ctypes
     import signal
 
     signal.signal(signal.SIGINT, signal.SIG_IGN)  # the parent ends its workers
+    signal.signal(signal.SIGTERM, signal.SIG_DFL)
+    if hasattr(ctypes, "CDLL") and os.uname().sysname == "Linux":
+        ctypes.CDLL(None).prctl(1, signal.SIGKILL)  # PR_SET_PDEATHSIG: none outlives its parent
     _worker.update(again=None if case is None else Again(case), plans=plans)
 
 
@@ -181,32 +185,70 @@ def _work(lines: List[str]) -> str:
     return "".join(answer + "\n" for answer in _answers(lines, _worker["again"], _worker["plans"]))
 
 
-def _in_order(pool, parts: Iterator[List[str]], ahead: int):
+class Stopped(Exception):
+    """The work was stopped; what is written is whole. It says how many answers that is."""
+
+    def __init__(self, done: int, why: str = ""):
+        super().__init__(done)
+        self.done, self.why = done, why
+
+
+def _waited(one, stopped: Callable[[], bool]) -> Optional[str]:
+    """The answers of a part; None where all was stopped meanwhile."""
+    from concurrent.futures import TimeoutError as NotYet
+
+    while not stopped():
+        try:
+            return one.result(timeout=0.2)
+        except NotYet:
+            pass
+    return None
+
+
+def _in_order(pool, parts: Iterator[List[str]], ahead: int, stopped: Callable[[], bool]):
     """The answers of each part, in the order of the parts; no more are read than are soon worked on."""
     under_way = collections.deque()
     for part in parts:
-        under_way.append((len(part), pool.apply_async(_work, (part,))))
+        under_way.append((len(part), pool.submit(_work, part)))
         if len(under_way) >= ahead:
             count, one = under_way.popleft()
-            yield count, one.get()
+            yield count, _waited(one, stopped)
     for count, one in under_way:
-        yield count, one.get()
+        yield count, _waited(one, stopped)
 
 
-def run(batch: Batch, done: int, cores: int, progress: Optional[Callable[[int], object]] = None) -> int:
-    """Answers the lines that are left, and says by `progress` how many at a time. Gives the count of all."""
-    import itertools
-    import multiprocessing
+def _written(batch: Batch, done: int, found, progress: Optional[Callable[[int], object]]) -> int:
+    """Writes each part's answers at once; gives the count of all."""
+    from concurrent.futures.process import BrokenProcessPool
 
-    parts = chunks(itertools.islice(_lines(batch.source), done, None))
-    with multiprocessing.get_context("fork").Pool(cores, _start, (batch.case, batch.plans)) as pool:
-        with open(batch.output, "ab") as out:
-            for count, text in _in_order(pool, parts, cores * AHEAD):
+    with open(batch.output, "ab") as out:
+        try:
+            for count, text in found:
+                if text is None:
+                    raise Stopped(done)
                 out.write(text.encode())
                 out.flush()
                 done += count
                 if progress:
                     progress(count)
+        except BrokenProcessPool as error:
+            raise Stopped(done, "a worker was ended from outside") from error
+    return done
+
+
+def run(batch: Batch, done: int, cores: int, progress: Optional[Callable[[int], object]] = None, stopped: Callable[[], bool] = lambda: False) -> int:
+    """Answers the lines that are left, and says by `progress` how many at a time. Gives the count of all; where `stopped` says so, or a
+    worker is ended, a `Stopped`."""
+    import itertools
+    import multiprocessing
+    from concurrent.futures import ProcessPoolExecutor
+
+    parts = chunks(itertools.islice(_lines(batch.source), done, None))
+    pool = ProcessPoolExecutor(cores, multiprocessing.get_context("fork"), _start, (batch.case, batch.plans))
+    try:
+        done = _written(batch, done, _in_order(pool, parts, cores * AHEAD, stopped), progress)
+    finally:
+        pool.shutdown(wait=True, cancel_futures=True)
     os.unlink(batch.state)
     return done
 

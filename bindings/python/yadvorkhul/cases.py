@@ -225,6 +225,8 @@ def _depth(text: str) -> int:
 
 def parse_case(data: bytes) -> Case:
     """The case of a JSON text, or a `NotACase`."""
+    if data.startswith((b"PK\x03\x04", b"\xd0\xcf\x11\xe0")):
+        raise NotACase("it is a workbook; `yadvorkhul import BOOK.xlsx -o CASE.json` makes a case of one" + ("" if data[:2] == b"PK" else " that is saved as .xlsx"))
     if len(data) > LONGEST_JSON:
         raise NotACase(f"it is longer than {LONGEST_JSON:,} bytes")
     if data.startswith((b"\xef\xbb\xbf", b"\xff\xfe", b"\xfe\xff")):

@@ -75,7 +75,9 @@ def _of_files(tariff: str, production: str) -> Case:
     try:
         return read_case(*files)
     except Refusal as refusal:
-        raise CannotCompare(f"Refusal {refusal.number}: {explain(refusal, None, *files).sentence}") from refusal
+        found = explain(refusal, None, *files)
+        cause = f" Here stands {found.spot.cause}." if found.spot and found.spot.cause else ""
+        raise CannotCompare(f"Refusal {refusal.number}: {found.sentence}{cause}") from refusal
 
 
 def case_named(text: str) -> Case:

@@ -60,8 +60,8 @@ def fingerprints(case: Case, plan: Plan) -> Dict[str, str]:
 
 
 def spoken(print_: str) -> str:
-    """The first letters in groups, as they are read over the telephone."""
-    return " ".join(print_[k * GROUP : (k + 1) * GROUP] for k in range(SAID))
+    """The first letters in groups, as they are read over the telephone; empty where there is none."""
+    return " ".join(print_[k * GROUP : (k + 1) * GROUP] for k in range(SAID)).rstrip()
 
 
 def case_fields(case: Case) -> Dict:

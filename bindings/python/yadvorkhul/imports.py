@@ -11,7 +11,8 @@ from typing import Dict, List, NamedTuple, Optional, Tuple
 from . import MOST_AMOUNT, Case
 from .cases import check_names
 from .forms import read_again
-from .sheets import BadSheet, Cell, Notes, Sheet, book_sheets, gather_thousands, is_number, label, text_sheet, whole
+from .sheets import BadSheet, Cell, Notes, Sheet, book_sheets, gather_thousands, is_number, label, text_sheet, whole, why_parted
+from .words import counted
 
 
 class Imported(NamedTuple):
@@ -34,10 +35,14 @@ def _names(names: List[str]) -> Optional[List[str]]:
     return names or None
 
 
+def _say_row(sheet: Sheet, notes: Notes):
+    notes.say(f"{sheet.name}: row {re.sub('.*[^0-9]', '', sheet.rows[0][0].where)} taken as names")
+
+
 def _labelled(sheet: Sheet, notes: Notes, top: bool, left: bool) -> _Labelled:
     """Takes the labels off a sheet: of the first row, of the first column."""
     if top:
-        notes.say(f"{sheet.name}: row {re.sub('.*[^0-9]', '', sheet.rows[0][0].where)} taken as names")
+        _say_row(sheet, notes)
     if left:
         notes.say(f"{sheet.name}: column A taken as names")
     rows = sheet.rows[1:] if top else sheet.rows
@@ -45,8 +50,43 @@ def _labelled(sheet: Sheet, notes: Notes, top: bool, left: bool) -> _Labelled:
     return _Labelled([row[1 if left else 0 :] for row in rows], [label(row[0]) for row in rows] if left else None, columns)
 
 
+def _named(row: List[Cell]) -> bool:
+    """Whether a row holds a name, and not numbers alone."""
+    return any(cell.value is not None and not is_number(cell) for cell in row)
+
+
+def _length(row: List[Cell]) -> int:
+    """The length of a row without the empty cells at its end."""
+    return max((j for j, cell in enumerate(row, 1) if cell.value is not None), default=0)
+
+
+def _joined(sheet: Sheet, row: List[Cell]) -> str:
+    """A row of a text file as it was before its fields were parted."""
+    return sheet.sign.join(str(cell.value) for cell in row if cell.value is not None)
+
+
+def _covered(sheet: Sheet, names: int):
+    """The first row, where it holds names, is as long as the others: a row that is longer may have a number that its comma parted."""
+    for row in sheet.rows[1:]:
+        if _length(row) > names:
+            comma = f"; or a comma parted a number of {_joined(sheet, row)[:40]!r}" if sheet.sign == "," else ""
+            raise BadSheet(f"{row[names].where}: row 1 has {counted(names, 'field')}, this row {_length(row)}; perhaps a name is missing there{comma}")
+
+
+def _even(sheet: Sheet, rows: List[List[Cell]]):
+    """The sources of a tariff in commas have as many fields each: one more may be a number that its comma parted."""
+    least = min(map(_length, rows), default=0)
+    for row in rows if sheet.sign == "," else []:
+        if _length(row) > least:
+            raise BadSheet(f"{row[least].where}: this row has {counted(_length(row), 'field')}, another {least}; perhaps a comma parted a number of "
+                           f"{_joined(sheet, row)[:40]!r}")
+
+
 def _tariff(sheet: Sheet, notes: Notes) -> Case:
     """Costs, supplies and demands with their names; the table is still to come."""
+    if _named(sheet.rows[0][1:]):
+        _covered(sheet, sheet.fields[0] if sheet.fields else len(sheet.rows[0]))
+    _even(sheet, sheet.rows[1 if _named(sheet.rows[0][1:]) else 0 : -1])
     top, left = not is_number(sheet.rows[0][-1]), not is_number(sheet.rows[-1][0])
     if top and is_number(sheet.rows[0][0]) and all(is_number(cell) for cell in sheet.rows[0][:-1]):
         raise BadSheet(f"{sheet.rows[0][-1].where}: the supply is missing; each source has its unit costs, then its supply")
@@ -63,17 +103,33 @@ def _tariff(sheet: Sheet, notes: Notes) -> Case:
     return Case(costs, supplies, [whole(cell, notes) for cell in demands[:-1]], [], sources=rows, terminals=columns)
 
 
+def _counts(rows: List[List[Cell]]) -> bool:
+    """Whether the first column counts 0, 1, 2, ..."""
+    return all(str(row[0].value).strip() == str(output) for output, row in enumerate(rows))
+
+
+def _one_column(sheet: Sheet):
+    """A production table without names has one column; in commas a longer row is a number that its comma parted."""
+    odd = next((row for row in sheet.rows if _length(row) > 1), None)
+    if odd is None:
+        return
+    if sheet.sign == "," and not _counts(sheet.rows):
+        text = _joined(sheet, odd)
+        raise BadSheet(f"{odd[0].where}: {text[:40]!r} {why_parted(text)}")
+    raise BadSheet(f"{odd[1].where}: a second column without a name in row 1; perhaps a decimal comma or a thousands separator parted a number")
+
+
 def _column(sheet: Sheet, notes: Notes) -> List[Cell]:
     """The column of entries; one before it counts the outputs 0, 1, 2, ..."""
-    top = not is_number(sheet.rows[0][-1])
-    if top:
-        notes.say(f"{sheet.name}: row 1 taken as names")
-    rows = sheet.rows[1:] if top else sheet.rows
+    if not _named(sheet.rows[0]):
+        _one_column(sheet)
+        return [row[0] for row in sheet.rows]
+    _say_row(sheet, notes)
+    _covered(sheet, _length(sheet.rows[0]))
     if len(sheet.rows[0]) > 2:
         raise BadSheet(f"{sheet.name} has {len(sheet.rows[0])} columns; one of entries is wanted, or one of outputs and one of entries")
+    rows = sheet.rows[1:]
     if len(sheet.rows[0]) == 2:
-        if not top:
-            raise BadSheet(f"{rows[0][1].where}: a second column without a name in row 1; perhaps a decimal comma or a thousands separator parted a number")
         for output, row in enumerate(rows):
             if whole(row[0], notes) != output:
                 raise BadSheet(f"{row[0].where}: output {output} is wanted; the first column counts 0, 1, 2, ...")
@@ -83,11 +139,13 @@ def _column(sheet: Sheet, notes: Notes) -> List[Cell]:
 
 def _runs(sheet: Sheet, notes: Notes) -> Tuple[int, int]:
     """Two least runs, below or beside each other, with or without names."""
-    rows = sheet.rows[1:] if not is_number(sheet.rows[0][-1]) else sheet.rows
-    if len(rows) == 2 and len(rows[0]) <= 2:
-        return whole(rows[0][-1], notes), whole(rows[1][-1], notes)
-    if len(rows) == 1 and 2 <= len(rows[0]) <= 3:
-        return whole(rows[0][-2], notes), whole(rows[0][-1], notes)
+    top = not is_number(sheet.rows[0][-1])
+    if top:
+        _covered(sheet, _length(sheet.rows[0]))
+    rows = sheet.rows[1:] if top else sheet.rows
+    before = [row[0] for row in rows if len(row) > (2 if len(rows) == 1 else 1)]  # what is read as a name
+    if (len(rows), len(rows[0]) if rows else 0) in ((2, 1), (2, 2), (1, 2), (1, 3)) and (top or not any(map(is_number, before))):
+        return (whole(rows[0][-1], notes), whole(rows[1][-1], notes)) if len(rows) == 2 else (whole(rows[0][-2], notes), whole(rows[0][-1], notes))
     raise BadSheet(f"{sheet.name}: two numbers are wanted, the least run of each plant, each with its name before it or without names")
 
 
@@ -101,7 +159,9 @@ def _same(names: Optional[List[str]], due: Optional[List[str]], sheet: str, what
 def _ceilings(sheet: Sheet, case: Case, notes: Notes) -> List[List[int]]:
     m, n = len(case.supplies), len(case.demands)
     top, left = len(sheet.rows) == m + 1, len(sheet.rows[0]) == n + 1
-    if not top and len(sheet.rows) > m or not left and len(sheet.rows[0]) > n:
+    names = (sheet.rows[0][1 if left else 0 :] if top and not case.terminals else []), ([row[0] for row in sheet.rows] if left and not top else [])
+    numbers = any(part and all(map(is_number, part)) for part in names)  # numbers where names are wanted: a row too many, or a parted number
+    if numbers or not top and len(sheet.rows) > m or not left and len(sheet.rows[0]) > n:
         raise BadSheet(f"{sheet.name} has {len(sheet.rows)} rows and {len(sheet.rows[0])} columns; {m} sources and {n} terminals, perhaps with names, are wanted")
     found = _labelled(sheet, notes, top, left)
     _same(found.rows, case.sources, sheet.name, "source")

@@ -331,7 +331,7 @@ def compare_page(found: "Compared") -> str:
     name = _names(found.sides[0].case.sources, 1, lambda _: "plant 1")[0]
     letters = [letter for letter, side in zip("AB", found.sides) if side.plan]
     drawn = two_curves([curve_of(side.plan, side.case.table) for side in planned], letters, plant=name) if planned else ""
-    prints = [(what, spoken(one), spoken(other), one == other) for what, one, other in found.prints]
+    prints = [(what, spoken(one), spoken(other), one == other != "") for what, one, other in found.prints]
     return environment.get_template("compare.html").render(
         title="Two plans beside each other", found=found, picture=drawn, prints=prints, version=__version__, script_source="'none'"
     )

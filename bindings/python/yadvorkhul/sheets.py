@@ -9,7 +9,7 @@ import io
 import os
 import re
 import zipfile
-from typing import Any, Dict, Iterable, List, NamedTuple, Optional, Tuple
+from typing import Any, Dict, Iterable, List, NamedTuple, Optional, Sequence, Tuple
 
 INSTALL = "apt-get install -y python3-openpyxl python3-defusedxml"
 MOST_ROWS, MOST_COLUMNS = 20_000, 500
@@ -28,11 +28,14 @@ class Cell(NamedTuple):
     where: str  # as tariff!B2
     shape: str = ""  # the number format of a workbook's cell
     formula: bool = False
+    merged: str = ""  # the cells of a workbook that this one is merged with
 
 
 class Sheet(NamedTuple):
     name: str
     rows: List[List[Cell]]  # all of one length; no row or column at the end is empty
+    sign: str = ""  # what parts the fields of a text file
+    fields: Sequence[int] = ()  # how many fields each row of a text file has as it is written
 
 
 class Notes:
@@ -60,7 +63,7 @@ def column_name(j: int) -> str:
     return (column_name(j // 26 - 1) if j >= 26 else "") + chr(65 + j % 26)
 
 
-def _sheet(name: str, rows: List[List[Cell]]) -> Sheet:
+def _sheet(name: str, rows: List[List[Cell]], first: int = 1) -> Sheet:
     """Without the empty rows and columns at the end, and with empty cells where a row is short."""
     empty = lambda cell: cell.value is None or isinstance(cell.value, str) and not cell.value.strip()
     rows = [[cell._replace(value=None) if empty(cell) else cell for cell in row] for row in rows]
@@ -70,7 +73,7 @@ def _sheet(name: str, rows: List[List[Cell]]) -> Sheet:
     if not wide:
         raise BadSheet(f"{name} is empty")
     full = lambda i, row: row[:wide] + [Cell(None, f"{name}!{column_name(j)}{i}") for j in range(len(row), wide)]
-    return Sheet(name, [full(i, row) for i, row in enumerate(rows, 1)])
+    return Sheet(name, [full(i, row) for i, row in enumerate(rows, first)])
 
 
 # workbooks -----------------------------------------------------------------------------------------------------------------------
@@ -92,8 +95,14 @@ def load(path: str, values: bool) -> Any:
         raise BadSheet(f"{path} cannot be read as a workbook: {type(error).__name__}: {error}") from error
 
 
+OLD_BOOK = b"\xd0\xcf\x11\xe0"  # how a workbook of the form before .xlsx begins
+
+
 def _small(path: str):
     """Stops at what is no workbook, or would fill the memory."""
+    with open(path, "rb") as stream:
+        if stream.read(4) == OLD_BOOK:
+            raise BadSheet(f"{path} is an old workbook (.xls), whatever its name says; save it as .xlsx")
     try:
         with zipfile.ZipFile(path) as packed:
             size = sum(part.file_size for part in packed.infolist())
@@ -108,12 +117,15 @@ def _book_sheet(name: str, shown, written, notes: Notes) -> Sheet:
         raise BadSheet(f"sheet {name} goes to row {shown.max_row:,} and column {shown.max_column:,}; delete what is not meant")
     if any(part.hidden for part in list(shown.row_dimensions.values()) + list(shown.column_dimensions.values())):
         notes.say(f"hidden rows or columns of sheet {name} are read like others")
+    if shown.sheet_state != "visible":
+        notes.say(f"sheet {name} is hidden, and read like others")
+    merged = {(row, column): area.coord for area in shown.merged_cells.ranges for row, column in area.cells}
     rows = []
-    for shown_row, written_row in zip(shown.iter_rows(), written.iter_rows()):
+    for i, (shown_row, written_row) in enumerate(zip(shown.iter_rows(), written.iter_rows()), 1):
         row = []
-        for cell, source in zip(shown_row, written_row):
+        for j, (cell, source) in enumerate(zip(shown_row, written_row), 1):
             formula = source.data_type == "f"
-            row.append(Cell(cell.value, f"{name}!{cell.coordinate}", cell.number_format or "", formula))
+            row.append(Cell(cell.value, f"{name}!{cell.coordinate}", getattr(cell, "number_format", "") or "", formula, merged.get((i, j), "")))
         rows.append(row)
     return _sheet(name, rows)
 
@@ -125,6 +137,8 @@ def book_sheets(path: str, notes: Notes) -> Dict[str, Sheet]:
     found: Dict[str, Sheet] = {}
     for page in shown.worksheets:
         name = page.title.strip().lower()
+        if name in found:
+            raise BadSheet(f"two sheets are named {name}; delete one or name it otherwise")
         if name in OPTIONAL and all(cell.value is None for row in page.iter_rows() for cell in row):
             notes.say(f"sheet {name} is empty: there is none")
         elif name in SHEETS:
@@ -138,7 +152,16 @@ def book_sheets(path: str, notes: Notes) -> Dict[str, Sheet]:
 # text files with separators ------------------------------------------------------------------------------------------------------
 
 _MARKS = ((b"\xef\xbb\xbf", "utf-8-sig", "UTF-8 with a byte order mark"), (b"\xff\xfe", "utf-16", "UTF-16"), (b"\xfe\xff", "utf-16", "UTF-16"))
-_SEPARATORS = {";": "semicolon", "\t": "tab", ",": "comma"}
+_SEPARATORS = {"\t": "tab", ";": "semicolon", ",": "comma"}
+
+
+def _without_mark(data: bytes) -> str:
+    """The encoding of a text without a byte order mark: UTF-16 where every other byte is 0, half of them at least and none of those between."""
+    head = data[:200]
+    even, odd = head[::2].count(0), head[1::2].count(0)
+    if odd > 1 and not even and odd >= len(head) // 4:
+        return "utf-16-le"
+    return "utf-16-be" if even > 1 and not odd and even >= len(head) // 4 else "utf-8"
 
 
 def decoded(data: bytes, name: str, notes: Notes) -> str:
@@ -148,10 +171,9 @@ def decoded(data: bytes, name: str, notes: Notes) -> str:
             notes.say(f"{name}: {words}")
             break
     else:
-        even, odd = data[0:200:2].count(0), data[1:200:2].count(0)
-        codec, words = ("utf-16-le", "UTF-16 without its mark") if odd > even else ("utf-16-be", "UTF-16 without its mark") if even else ("utf-8", "")
-        if words:
-            notes.say(f"{name}: {words}")
+        codec = _without_mark(data)
+        if codec != "utf-8":
+            notes.say(f"{name}: UTF-16 without its mark")
     try:
         return data.decode(codec)
     except UnicodeDecodeError as error:
@@ -162,9 +184,14 @@ def decoded(data: bytes, name: str, notes: Notes) -> str:
 
 
 def separator(text: str) -> str:
-    """The sign between the fields: the first of ; tab , that stands outside quotes in the first line, else in the text."""
+    """The sign between the fields, outside quotes: of tab ; , the first that stands as often in each line, else the first of the first line,
+    else of the text."""
     bare = re.sub(r'"[^"]*"', "", text)
-    for part in (bare.split("\n", 1)[0], bare):
+    lines = [line for line in re.split("\r\n|\r|\n", bare) if line.strip()]
+    for sign in _SEPARATORS:
+        if len({line.count(sign) for line in lines}) == 1 and sign in bare:
+            return sign
+    for part in lines[:1] + [bare]:
         for sign in _SEPARATORS:
             if sign in part:
                 return sign
@@ -177,6 +204,11 @@ def _line_ends(text: str, name: str, notes: Notes):
         notes.say(f"{name}: lines end in {'LF' if chr(10) in bare else 'CR'}")
 
 
+def _line_of(text: str) -> int:
+    """The line of the first NUL."""
+    return len(re.findall("\r\n|\r|\n", text[: text.index("\0")])) + 1
+
+
 def text_sheet(name: str, path: str, notes: Notes) -> Sheet:
     """The cells of a text file; `name` is how its cells are called."""
     with open(path, "rb") as stream:
@@ -185,10 +217,12 @@ def text_sheet(name: str, path: str, notes: Notes) -> Sheet:
         raise BadSheet(f"{path} is longer than {MOST_TEXT:,} bytes")
     if data.startswith(b"PK"):
         raise BadSheet(f"{path} is a workbook, whatever its name says; give it alone, as BOOK.xlsx")
+    if data.startswith(OLD_BOOK):
+        raise BadSheet(f"{path} is an old workbook (.xls), whatever its name says; save it as .xlsx and give it alone")
     file = os.path.basename(path)
     text = decoded(data, file, notes)
     if "\0" in text:
-        raise BadSheet(f"{path} holds NUL characters; it is no text")
+        raise BadSheet(f"{path} holds a NUL character (byte 0) in line {_line_of(text)}; no text has one")
     _line_ends(text, file, notes)
     hint = re.match(r"sep=(.)\r?\n", text)
     sign = hint.group(1) if hint else separator(text)
@@ -202,7 +236,8 @@ def text_sheet(name: str, path: str, notes: Notes) -> Sheet:
     if len(rows) > MOST_ROWS or max(map(len, rows), default=0) > MOST_COLUMNS:
         raise BadSheet(f"{path} has more rows or columns than any case")
     address = lambda i, j: f"{name}!{column_name(j)}{i}"
-    return _sheet(name, [[Cell(value, address(i, j)) for j, value in enumerate(row)] for i, row in enumerate(rows, 1 + start)])
+    found = _sheet(name, [[Cell(value, address(i, j)) for j, value in enumerate(row)] for i, row in enumerate(rows, 1 + start)], 1 + start)
+    return found._replace(sign=sign or ",", fields=list(map(len, rows)))
 
 
 # numbers -------------------------------------------------------------------------------------------------------------------------
@@ -225,6 +260,8 @@ def gather_thousands(sheets: Iterable[Sheet], notes: Notes) -> None:
 def _why_not(text: str) -> str:
     """Why a text is no number that can be taken as it stands."""
     digits = re.sub(r"[^0-9]", "", text)
+    if re.fullmatch(r"#[A-Z0-9/]+[A!?]", text):
+        return "is an error of the program that wrote it, not a number"
     if re.fullmatch(r"-?0+[0-9]+", text):
         return "has 0 in front, perhaps an item code; no number does"
     if text == "-0":
@@ -274,10 +311,21 @@ def _of_book(cell: Cell) -> Tuple[Optional[int], str]:
     return (int(value), "") if abs(value) < 10**10 else (None, "has more than ten digits")
 
 
+def why_parted(text: str) -> str:
+    """What is wrong with a number whose fields a comma parted."""
+    digits = text.replace(",", "")
+    if re.fullmatch(r"[1-9][0-9]{0,2}(,[0-9]{3})+", text):
+        other = "" if text.count(",") > 1 else ", unless it is a decimal"
+        return f"is parted by its comma; write {digits}{other}, or put it in quotes and say --thousands ','"
+    return "is parted by its comma, perhaps a decimal; numbers are whole (use a smaller coin or unit)"
+
+
 def whole(cell: Cell, notes: Notes, signed: bool = False) -> int:
     """The whole number of a cell, or a `BadSheet` with its address."""
     if cell.value is None and cell.formula:
         raise BadSheet(f"{cell.where} has a formula without a stored value; open the workbook, save it and try again")
+    if cell.value is None and cell.merged:
+        raise BadSheet(f"{cell.where} has no number of its own: it is merged with others ({cell.merged})")
     if cell.value is None:
         raise BadSheet(f"{cell.where} is empty; a number is wanted")
     if isinstance(cell.value, str):
@@ -305,6 +353,8 @@ def is_number(cell: Cell) -> bool:
 
 def label(cell: Cell) -> str:
     """The name that a cell holds; empty where it holds none."""
+    if cell.value is None and cell.formula:
+        raise BadSheet(f"{cell.where} has a formula without a stored value; open the workbook, save it and try again")
     if cell.value is None:
         return ""
     if isinstance(cell.value, str):

@@ -1,9 +1,13 @@
 """Plans many cases, one a line, on all cores."""
 
+import contextlib
 import os
+import signal
+import threading
 
-from ..console import DONE, WrongUse, say
+from ..console import DONE, Broken, WrongUse, say
 from ..outputs import BadOutput, check_outputs, write_whole
+from ..words import counted
 
 ORDER = 26
 SUMMARY = "plan many cases, a case or some changes a line, on all cores"
@@ -34,7 +38,20 @@ def _bar(total: int, done: int):
     return tqdm.tqdm(total=total, initial=done, unit=" cases", disable=None, dynamic_ncols=True)
 
 
-def _went_on(batch, total: int, cores: int):
+@contextlib.contextmanager
+def _heard():
+    """Signals that ask the work to stop are heard and not obeyed at once: what is being written is written to its end."""
+    heard = []
+    hear = lambda number, _: heard.append(number)
+    before = {number: signal.signal(number, hear) for number in (signal.SIGINT, signal.SIGTERM)} if threading.current_thread() is threading.main_thread() else {}
+    try:
+        yield heard
+    finally:
+        for number, handler in before.items():
+            signal.signal(number, handler)
+
+
+def _went_on(batch, total: int, cores: int, heard):
     """Answers what is left, from where an earlier run was stopped."""
     from ..batch import begin, run
 
@@ -43,24 +60,33 @@ def _went_on(batch, total: int, cores: int):
         say(f"{batch.output} has {done:,} answers; going on from there")
     bar = _bar(total, done)
     try:
-        return run(batch, done, cores, bar.update if bar is not None else None)
-    except KeyboardInterrupt:
-        say(f"stopped; the same command goes on from there ({batch.output})")
-        raise
+        return run(batch, done, cores, bar.update if bar is not None else None, lambda: bool(heard))
     finally:
         if bar is not None:
             bar.close()
 
 
+def _stopped(stopped, output: str, heard) -> int:
+    """One sentence, and the status that a shell gives to what a signal stopped."""
+    sentence = f"{stopped.why or 'stopped'}: {output} has {counted(stopped.done, 'answer')}, each whole; the same command goes on from there"
+    if not heard:
+        raise Broken(sentence)
+    say(f"yadvorkhul: {sentence}")
+    return 128 + heard[0]
+
+
 def run(arguments) -> int:
-    from ..batch import Batch, CannotGoOn, count_lines, summary
+    from ..batch import Batch, CannotGoOn, Stopped, count_lines, summary
     from ._given import json_case
 
     try:
         check_outputs([arguments.output, arguments.summary], [path for path in (arguments.lines, arguments.case) if path])
         case = json_case(arguments.case) if arguments.case else None
         batch = Batch(arguments.lines, arguments.output, case, arguments.plans)
-        count = _went_on(batch, count_lines(arguments.lines), _cores(arguments.cores))
+        with _heard() as heard:
+            count = _went_on(batch, count_lines(arguments.lines), _cores(arguments.cores), heard)
+    except Stopped as stopped:
+        return _stopped(stopped, arguments.output, heard)
     except (BadOutput, CannotGoOn) as error:
         raise WrongUse(str(error)) from error
     say(f"written: {arguments.output}: {count:,} answers")

@@ -53,7 +53,8 @@ def text_of(found) -> str:
     lines += _rows(found.results, wide)
     lines += [f"{letter}: {side.refused}" for letter, side in zip("AB", found.sides) if side.refused]
     for what, one, other in found.prints:
-        lines.append(f"fingerprint of {what}: " + (f"the same, {spoken(one)}" if one == other else f"{spoken(one) or 'none'} / {spoken(other) or 'none'}"))
+        both = f"the same, {spoken(one)}" if one else "none; neither has one"
+        lines.append(f"fingerprint of {what}: " + (both if one == other else f"{spoken(one) or 'none'} / {spoken(other) or 'none'}"))
     lines += ["", "inputs that differ:" if found.inputs else "no input differs."] + _rows(found.inputs, wide)
     if all(side.plan for side in found.sides):
         lines += ["", "lanes that differ (drums):" if found.lanes else "no lane differs." if found.alike else "the lanes are not compared: the sizes differ."]
