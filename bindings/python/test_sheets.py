@@ -347,6 +347,17 @@ class Books(Folder):
         book.save(self.path("s.xlsx"))
         with self.assertRaisesRegex(BadSheet, "two sheets are named tariff"):
             import_book(self.path("s.xlsx"))
+        for change, words in (
+            (lambda sheet: sheet.insert_rows(1), "tariff: row 1 is empty; a table begins in its first row and column"),
+            (lambda sheet: sheet.insert_cols(1), "tariff: column A is empty"),
+            (lambda sheet: (sheet.insert_rows(1), setattr(sheet["A1"], "value", "Season")), "tariff!A1: a row with a title alone"),
+            (lambda sheet: sheet.merge_cells("A1:C1"), r"tariff!B1 has no name of its own: it is merged with others \(A1:C1\)"),
+        ):
+            book = openpyxl.load_workbook(self.path("t.xlsx"))
+            change(book["tariff"])
+            book.save(self.path("s.xlsx"))
+            with self.assertRaisesRegex(BadSheet, words):
+                import_book(self.path("s.xlsx"))
         for cell, value, words in (("B1", "=A1", "tariff!B1 has a formula without a stored value"), ("B2", "#DIV/0!", "is an error of the program")):
             with self.assertRaisesRegex(BadSheet, words):
                 import_book(self.spoiled(cell, value))
@@ -364,6 +375,9 @@ class Books(Folder):
             status, said = run(name, self.path("t.xlsx"))
             self.assertEqual(status, 2)
             self.assertIn("t.xlsx is not a case in JSON: it is a workbook; `yadvorkhul import BOOK.xlsx -o CASE.json` makes a case of one", said)
+        tariff = self.path("t.csv", LABELLED)
+        self.assertIn("t.csv alone is no case; give a tariff and a production table", run("plan", tariff)[1])
+        self.assertIn("of text files give two, a tariff and a production table", run("import", tariff, "-o", self.path("x.json"))[1])
         self.assertIn("saved as .xlsx", run("plan", self.path("t.xls", b"\xd0\xcf\x11\xe0" + b"\0" * 600))[1])
 
     def test_hostile(self):

@@ -87,6 +87,8 @@ def _tariff(sheet: Sheet, notes: Notes) -> Case:
     if _named(sheet.rows[0][1:]):
         _covered(sheet, sheet.fields[0] if sheet.fields else len(sheet.rows[0]))
     _even(sheet, sheet.rows[1 if _named(sheet.rows[0][1:]) else 0 : -1])
+    if len(sheet.rows[0]) > 1 and _length(sheet.rows[0]) == 1 and not is_number(sheet.rows[0][0]):
+        raise BadSheet(f"{sheet.rows[0][0].where}: a row with a title alone; the first row has the names or a source")
     top, left = not is_number(sheet.rows[0][-1]), not is_number(sheet.rows[-1][0])
     if top and is_number(sheet.rows[0][0]) and all(is_number(cell) for cell in sheet.rows[0][:-1]):
         raise BadSheet(f"{sheet.rows[0][-1].where}: the supply is missing; each source has its unit costs, then its supply")

@@ -72,6 +72,9 @@ def _sheet(name: str, rows: List[List[Cell]], first: int = 1) -> Sheet:
     wide = max((j + 1 for row in rows for j, cell in enumerate(row) if cell.value is not None), default=0)
     if not wide:
         raise BadSheet(f"{name} is empty")
+    for what, cells in ((f"row {first}", rows[0]), ("column A", [row[0] for row in rows if row])):
+        if all(cell.value is None and not cell.formula for cell in cells):
+            raise BadSheet(f"{name}: {what} is empty; a table begins in its first row and column")
     full = lambda i, row: row[:wide] + [Cell(None, f"{name}!{column_name(j)}{i}") for j in range(len(row), wide)]
     return Sheet(name, [full(i, row) for i, row in enumerate(rows, first)])
 
@@ -107,7 +110,7 @@ def _small(path: str):
         with zipfile.ZipFile(path) as packed:
             size = sum(part.file_size for part in packed.infolist())
     except zipfile.BadZipFile as error:
-        raise BadSheet(f"{path} is not a workbook (.xlsx): {error}") from error
+        raise BadSheet(f"{path} is not a workbook (.xlsx): {error}; of text files give two, a tariff and a production table") from error
     if size > MOST_UNPACKED:
         raise BadSheet(f"{path} is longer than {MOST_UNPACKED:,} bytes once unpacked")
 
@@ -355,6 +358,8 @@ def label(cell: Cell) -> str:
     """The name that a cell holds; empty where it holds none."""
     if cell.value is None and cell.formula:
         raise BadSheet(f"{cell.where} has a formula without a stored value; open the workbook, save it and try again")
+    if cell.value is None and cell.merged:
+        raise BadSheet(f"{cell.where} has no name of its own: it is merged with others ({cell.merged})")
     if cell.value is None:
         return ""
     if isinstance(cell.value, str):

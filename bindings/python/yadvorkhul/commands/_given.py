@@ -27,6 +27,8 @@ def named(arguments):
 def given(arguments):
     """The files named: None and the two files, or the case of a JSON file and None twice."""
     paths = named(arguments)
+    if len(paths) == 1 and paths[0].lower().endswith(".csv"):
+        raise WrongUse(f"{paths[0]} alone is no case; give a tariff and a production table, or one .json file")
     if len(paths) == 1:
         return json_case(paths[0]), None, None
     if len(paths) == 2:
