@@ -321,8 +321,12 @@ class Pages(unittest.TestCase):
             words = self.browser.run("Array.from(document.querySelectorAll('dd')).every(d => d.scrollWidth <= d.parentElement.clientWidth)")
             letters = "Array.from(document.querySelectorAll('div.paper table.lanes *')).map(x => parseFloat(getComputedStyle(x).fontSize))"
             smallest = self.browser.run(f"Math.min(...{letters})")
+            scaled = "x => parseFloat(getComputedStyle(x).fontSize) * Math.hypot(x.getScreenCTM().a, x.getScreenCTM().b)"
+            seen = "Array.from(document.querySelectorAll('figure svg text')).filter(x => x.getBoundingClientRect().width)"
+            drawn = self.browser.run(f"Math.min(...{seen}.map({scaled}))")
             self.browser.call("Emulation.setEmulatedMedia", media="")
             self.assertGreaterEqual(round(smallest * 72 / 96, 2), 7)  # points
+            self.assertGreaterEqual(round(drawn * 72 / 96, 2), 7)
             self.assertGreaterEqual(len(sizes), 3)
             self.assertLessEqual(max(wide for wide, _ in sizes), 703)
             self.assertLessEqual(max(high for _, high in sizes), 1031)

@@ -36,7 +36,7 @@ def _frame(axes, title: str, ticker, wide: bool):
     axes.xaxis.set_major_formatter(ticker.FuncFormatter(lambda value, _: grouped(int(value)) if value == int(value) else ""))
     axes.xaxis.set_major_locator(ticker.MaxNLocator(nbins=7 if wide else 4, integer=True, steps=[1, 2, 5, 10]))
     axes.yaxis.set_major_locator(ticker.MaxNLocator(nbins=5, integer=True))
-    axes.tick_params(labelsize=8, colors=GREY)
+    axes.tick_params(labelsize=8.2, colors=GREY)
     for side in ("top", "right"):
         axes.spines[side].set_visible(False)
 
@@ -59,7 +59,7 @@ def _total(axes, curve: Curve):
 def _label(axes, at, text: str, color: str, **more):
     """A text below a point of the total."""
     axes.annotate(
-        text, (at.split, at.total), xytext=(0, -17), textcoords="offset points", ha="center", fontsize=8, color=color, bbox=BEHIND, **more
+        text, (at.split, at.total), xytext=(0, -17), textcoords="offset points", ha="center", fontsize=8.2, color=color, bbox=BEHIND, **more
     )
 
 
@@ -157,7 +157,7 @@ def two_curves(curves: Sequence[Curve], names: Sequence[str], width: float = 8.4
             axes.plot([s.split for s in curve.splits], [s.total for s in curve.splits], color=color, linewidth=1.9, linestyle=style, label=label)
             axes.plot([curve.given.split], [curve.given.total], marker="*", markersize=13, color=color)
             _label(axes, curve.given, f"{label}: {grouped(curve.given.split)}, {grouped(curve.given.total)}", color, weight="bold")
-        axes.legend(loc="best", fontsize=8, frameon=False)
+        axes.legend(loc="best", fontsize=8.2, frameon=False)
         _axis(axes, plant)
         drawn = _drawn(figure)
     words = "; ".join(f"{label}: least total {grouped(c.given.total)} at {c.given.split}" for c, label in zip(curves, names))
