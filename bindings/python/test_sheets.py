@@ -138,6 +138,8 @@ class Files(Folder):
     def test_shape(self):
         self.refused("tariff!D5 must be empty", LABELLED.replace("demand;3;2;", "demand;3;2;5"))
         self.refused("perhaps the two are swapped", TABLE, LABELLED)
+        self.assertEqual(self.read("2;0\n5;3\n3;\n", "7\n").case.table, [7])
+        self.refused("perhaps the two are swapped", "y;cost\n0;99\n1;20\n2;24\n3;20\n", LABELLED)
         self.refused("production!B1: a second column without a name", LABELLED, "0,50\n1,20\n2,30\n3,10\n")
         self.refused("production!A4: output 2 is wanted", LABELLED, "y;cost\n0;99\n1;20\n3;24\n2;20\n")
         self.assertEqual(self.read(LABELLED, "y;cost\n0;99\n1;20\n2;24\n3;20\n").case, NAMED)

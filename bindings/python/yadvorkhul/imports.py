@@ -195,8 +195,9 @@ def case_of(sheets: Dict[str, Sheet], notes: Notes) -> Case:
     for name in ("tariff", "production"):
         if name not in sheets:
             raise BadSheet(f"a sheet named {name} is wanted; there {'is' if len(sheets) == 1 else 'are'} {', '.join(sheets) or 'none'}")
-    if len(sheets["tariff"].rows[0]) == 1 and len(sheets["production"].rows[0]) > 2:
-        raise BadSheet("the tariff has one column and the production table several; perhaps the two are swapped")
+    tariff, table = sheets["tariff"].rows, sheets["production"].rows
+    if len(tariff[0]) <= 2 < len(table[0]) and all(_length(row) > 2 for row in table[:-1]):
+        raise BadSheet("the tariff has one column or two and the production table several; perhaps the two are swapped")
     gather_thousands(sheets.values(), notes)
     case = _tariff(sheets["tariff"], notes)
     case = case._replace(table=[whole(cell, notes) for cell in _column(sheets["production"], notes)])
