@@ -177,6 +177,7 @@ class Files(Folder):
             self.refused("runs", LABELLED, runs=runs)
         bare = "2,6,3\n5,3,3\n1,4,1\n3,2,\n"
         self.refused("3 sources and 2 terminals", bare, ceilings="1,234,5\n1,234,5\n1,234,5\n")
+        self.refused("ceilings!B2: row 1 has 1 field, this row 2", "T,supply\n2,3\n5,3\n3,\n", ceilings="T\n1,234\n5,678\n")
         self.refused("3 sources and 2 terminals", bare, ceilings="1,2\n3,4\n5,6\n7,8\n")
 
     def test_separators(self):

@@ -165,6 +165,8 @@ def _ceilings(sheet: Sheet, case: Case, notes: Notes) -> List[List[int]]:
     numbers = any(part and all(map(is_number, part)) for part in names)  # numbers where names are wanted: a row too many, or a parted number
     if numbers or not top and len(sheet.rows) > m or not left and len(sheet.rows[0]) > n:
         raise BadSheet(f"{sheet.name} has {len(sheet.rows)} rows and {len(sheet.rows[0])} columns; {m} sources and {n} terminals, perhaps with names, are wanted")
+    if top:
+        _covered(sheet, sheet.fields[0] if sheet.fields else len(sheet.rows[0]))
     found = _labelled(sheet, notes, top, left)
     _same(found.rows, case.sources, sheet.name, "source")
     _same(found.columns, case.terminals, sheet.name, "terminal")
