@@ -69,6 +69,11 @@ class Lines(unittest.TestCase):
         self.assertEqual(answers(['"demand 2 = 3"', "demand 2 = 3", "", '"x'], A)[:2], ['{"split": 3, "total": 36}'] * 2)
         self.assertEqual(json.loads(answers(["demand 2 = 3"], A, True)[0])["amounts"], A._replace(demands=[3, 3]).plan().amounts)
 
+    def test_no_number_is_guessed(self):
+        for line, words in (("demand 2 = 03", "is no change"), ("demand 2 = -0", "is no change"), ("demand 2 = 1,024", "'024' is no change"), ("demand 2 = 2.5", "is no change")):
+            self.assertIn(words, json.loads(answers([line], A)[0])["wrong"])
+        self.assertEqual(answers(["demand 2 = 3, demand 1 = 3"], A), ['{"split": 3, "total": 36}'])
+
     def test_chunks(self):
         self.assertEqual(list(chunks("abcde", 2)), [["a", "b"], ["c", "d"], ["e"]])
 
@@ -132,6 +137,21 @@ class Files(unittest.TestCase):
         counted = []
         self.assertEqual(run(batch, 400, 2, counted.append), 1500)
         self.assertEqual((sum(counted), self.got()), (1100, self.due))
+
+    def test_other_files(self):
+        """A byte order mark is passed over; a workbook or UTF-16 is no file of lines, and nothing is begun."""
+        with open(self.source, "wb") as out:
+            out.write(b"\xef\xbb\xbf" + "\r\n".join(self.lines).encode())
+        self.assertEqual(told("batch", self.source, "--case", SEASON, "-o", self.output)[0], 0)
+        self.assertEqual(self.got(), self.due)
+        for data, words in ((b"PK\x03\x04" + b"x" * 99, "here stands the beginning of a workbook (PK), whatever the file is called"), ("demand 3 = 1\n".encode("utf-16"), "UTF-16")):
+            with open(self.source, "wb") as out:
+                out.write(data)
+            other = self.path("other.jsonl")
+            status, said = told("batch", self.source, "--case", SEASON, "-o", other)
+            self.assertEqual((status, os.path.exists(other), os.path.exists(other + ".state")), (2, False, False))
+            self.assertIn(f"{self.source} is no file of lines: ", said)
+            self.assertIn(words, said)
 
     def test_other_lines(self):
         """Answers to something else are not touched."""

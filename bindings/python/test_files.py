@@ -26,7 +26,8 @@ from yadvorkhul.files import (
     tidy_files,
     write_case,
 )
-from yadvorkhul.refusals import cause_of, explain
+from yadvorkhul.causes import cause_of
+from yadvorkhul.refusals import explain
 
 PROGRAM = os.path.join(os.path.dirname(os.path.abspath(__file__)), "..", "..", "target", "bin", "plan")
 T, P = b"2,6,3\r\n5,3,3\r\n1,4,1\r\n3,2,", b"99\r\n20\r\n24\r\n20"
@@ -120,7 +121,7 @@ class Reader(unittest.TestCase):
             (b"2,6,3", 5, "end of the file"),
             (T + b"\r\n1", 27, "after the record of the demands"),
         ):
-            self.assertIn(word, cause_of(data, at))
+            self.assertIn(word, cause_of(TARIFF, data, at))
 
     def test_spots(self):
         told = explain(FileRefusal(21, 9, files(b"2,6,3\r\n5, 3,3\r\n", P)[0]))

@@ -47,6 +47,48 @@ class Causes(unittest.TestCase):
         self.said("text in UTF-16", T, P.encode("utf-16-be"))
         self.said("`yadvorkhul import` reads such files", T.encode("utf-16"))
 
+    def test_long(self):
+        """A workbook is named by its first bytes where it is too long to be read, and so is an old one."""
+        for data, words in (
+            (b"PK\x03\x04" + b"x" * 70_000, "is longer than 65,536 bytes. Here stands the beginning of a workbook (PK), whatever the file is called; `yadvorkhul import`"),
+            (b"\xd0\xcf\x11\xe0" + bytes(70_000), "is longer than 65,536 bytes. Here stands the beginning of an old workbook (.xls)"),
+            (("9" * 40_000).encode("utf-16-le"), "Here stands text in UTF-16"),
+        ):
+            self.said(words, data)
+            self.said(words, T, data)
+        self.assertNotIn("Here stands", self.said("is longer than 65,536 bytes", b"2,6,3\r\n" * 10_000))
+        self.assertNotIn("Here stands", self.said("is longer than 65,536 bytes", bytes(70_000)))
+
+    def test_more_causes(self):
+        again = "`yadvorkhul import` reads such files"
+        for words, tariff in (
+            (f"a sign that parts thousands; a number has digits alone ({again})", T.replace("2,6", "1\u202f234,6")),
+            ("a space; a number has digits alone", T.replace("2,6", "2,\u202f6")),
+            ("the beginning of an old workbook (.xls)", b"\xd0\xcf\x11\xe0\xa1\xb1\x1a\xe1"),
+            (f"an empty field, perhaps of a header line; the files have none ({again})", ",A,B,\r\n" + T),
+            (f"a line that ends in CR without LF; records end in CR LF ({again})", T.replace("\r\n", "\r")),
+            ("a plus; a number has digits alone", T.replace("5,3,3", "+5,3,3")),
+            ("a minus or a dash that is not the plain one (byte 45)", T.replace("2,6", "\u22122,6")),
+            ("a 0 after a minus; 0 has none", T.replace("2,6", "-0,6")),
+            ("a blank line after demands that lack their last comma", T.rstrip("\r\n,") + "\r\n\r\n"),
+            (f"a semicolon; fields are parted by commas ({again})", T.replace(",", ";")),
+            (f"a byte order mark; save the file as plain text without one ({again})", "\ufeff" + T),
+            (f"a line that ends in LF without CR; records end in CR LF ({again})", T.replace("\r\n", "\n")),
+        ):
+            self.said(words, tariff)
+        self.said("a blank line; the files have none", T, P.replace("20\r\n24", "20\r\n\r\n24"))
+        self.assertNotIn("UTF-16", self.said("NUL (byte 0)", "2,\0,3\r\n5,\0,3\r\n1,\0,1\r\n3,2,"))
+
+    def test_thousands_in_a_tariff(self):
+        """Both readings of 1,234 are said, and the mark is below it."""
+        comma = "perhaps by a comma in 1,234, between thousands or of a decimal; a number has digits alone"
+        said = self.said(f"a field too many, {comma}", T.replace("5,3,3", "5,1,234,3")).split("\n")
+        self.assertEqual(said[1:], ["     2: 5,1,234,3\u2039CR\u203a\u2039LF\u203a", "          ^^^^^", ""])
+        self.said(f"or record 1 has one too many, {comma}", T.replace("2,6", "1,234,6"))
+        self.said("perhaps an item code, or the end of 99,00 with a comma in it", T.replace("5,3,3", "5,99,00,3"))
+        said = self.said("a comma in 1,234, between thousands or of a decimal", T, P.replace("24", "1,234")).split("\n")
+        self.assertEqual(said[1:], ["     3: 1,234\u2039CR\u203a\u2039LF\u203a", "        ^^^^^", ""])
+
     def test_numbers(self):
         self.said("a decimal comma in 99,00", T, P.replace("99", "99,00"))
         self.said("a decimal comma in 20,5", T, P.replace("20\r\n24", "20,5\r\n24"))

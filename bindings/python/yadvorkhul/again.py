@@ -16,7 +16,7 @@ Change = Tuple[int, int, int]  # which slice, which cell of it, the number that 
 
 COSTS, SUPPLIES, DEMANDS, CEILINGS, TABLE, RUNS = range(6)
 WORDS = {"cost": (COSTS, 2), "supply": (SUPPLIES, 1), "demand": (DEMANDS, 1), "ceiling": (CEILINGS, 2), "entry": (TABLE, 1), "run": (RUNS, 1)}
-_CHANGE = re.compile(r"\s*(cost|supply|demand|ceiling|entry|run)\s+([0-9]{1,4})(?:\s+([0-9]{1,4}))?\s*=\s*(-?[0-9]{1,19})\s*")
+_CHANGE = re.compile(r"\s*(cost|supply|demand|ceiling|entry|run)\s+([0-9]{1,4})(?:\s+([0-9]{1,4}))?\s*=\s*(0|-?[1-9][0-9]{0,18})\s*")
 
 
 class NotAChange(ValueError):

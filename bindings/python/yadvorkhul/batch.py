@@ -18,6 +18,7 @@ from typing import Callable, Dict, Iterable, Iterator, List, NamedTuple, Optiona
 from . import Case, Refusal
 from .again import Again, NotAChange
 from .cases import NotACase, parse_case
+from .causes import other
 from .forms import fingerprint
 
 CHUNK = 400  # lines that a worker takes at a time
@@ -146,13 +147,18 @@ def begin(batch: Batch) -> int:
 
 
 def _lines(path: str) -> Iterator[str]:
-    with open(path, encoding="utf-8", errors="surrogateescape", newline="\n") as stream:
+    with open(path, encoding="utf-8-sig", errors="surrogateescape", newline="\n") as stream:
         for line in stream:
             yield line.rstrip("\r\n")
 
 
 def count_lines(path: str) -> int:
+    """How many lines a file has, where it is a text."""
     with open(path, "rb") as stream:
+        cause = other(stream.read(64))
+        if cause:
+            raise CannotGoOn(f"{path} is no file of lines: here stands {cause.split(';')[0]}")
+        stream.seek(0)
         return sum(1 for _ in stream)
 
 

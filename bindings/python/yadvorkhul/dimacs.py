@@ -1,6 +1,6 @@
 """Looks into a network's file for what a refusal is about. Numbers and places are the proved reader's; only the sentences come from here.
 
-The program `flow` names the same causes in the same words (crate `flow_command`); `examples/sentences` holds one to the other."""
+The program `flow` names the same causes in the same words (crate `network_causes`); `examples/sentences` holds one to the other."""
 
 import re
 from typing import List, NamedTuple, Tuple
@@ -71,6 +71,8 @@ def cause_of_line(data: bytes, number: int) -> str:
     kind = line[:1]
     if line.startswith(b"\xef\xbb\xbf"):
         return "a byte order mark; save the file as plain text without one"
+    if line.startswith(b"PK\x03\x04"):
+        return "the beginning of a workbook (PK), whatever the file is called; a network is a text file"
     if kind not in _FORMS:
         return "a line that begins with none of c, p, n and a"
     if _FORMS[kind].fullmatch(line):

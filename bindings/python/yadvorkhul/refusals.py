@@ -7,7 +7,7 @@ from .dimacs import cause_of_limits, cause_of_line, cause_of_none
 from .files import TARIFF, File, FileRefusal
 from .words import counted, grouped
 
-CR, LF, QUOTE, COMMA, MINUS, ZERO, NINE = 13, 10, 34, 44, 45, 48, 57
+CR, LF, COMMA = 13, 10, 44
 
 _ADVICE = {
     1: "Plan regions apart, or join depots that lie together.",
@@ -71,54 +71,6 @@ class Explained(NamedTuple):
 
 def _byte(data: bytes, at: int) -> int:
     return data[at] if 0 <= at < len(data) else -1
-
-
-def _digit(byte: int) -> bool:
-    return ZERO <= byte <= NINE
-
-
-def _letter(byte: int) -> bool:
-    return chr(byte).isascii() and chr(byte).isalpha() or byte >= 128
-
-
-def _leads(data: bytes, at: int) -> bool:
-    """Whether a 0 that a number of several digits begins with stands there."""
-    back = _byte(data, at - 1)
-    begins = back in (-1, COMMA, MINUS, LF) or back == QUOTE and not _digit(_byte(data, at - 2))
-    return _byte(data, at) == ZERO and _digit(_byte(data, at + 1)) and begins
-
-
-def cause_of(data: bytes, at: int) -> str:
-    """What stands where refusal 21 is, with the usual cause, by the byte there and those beside it; empty where they do not tell it."""
-    byte, back = _byte(data, at), _byte(data, at - 1)
-    first_record = LF not in data[:at]
-    if byte == -1:
-        return "the end of the file; a tariff ends in the record of the demands and its empty last field, a production table in an entry"
-    if back == LF and _byte(data, at - 3) == COMMA:
-        return "more after the record of the demands, which is the last: it alone has an empty last field"
-    if _leads(data, at):
-        return "a number with 0 in front, perhaps an item code"
-    if at == 0 and (data.startswith(b"\xef\xbb\xbf") or data[:2] in (b"\xff\xfe", b"\xfe\xff")):
-        return "a byte order mark; save the file as plain text without one"
-    if byte == LF:
-        return "a line that ends in LF without CR; records end in CR LF"
-    if byte == 59:
-        return "a semicolon; fields are parted by commas"
-    if byte == 46:
-        return "a decimal point; numbers are whole"
-    if byte == COMMA and (_digit(back) or back == QUOTE):
-        return "a decimal comma; numbers are whole"
-    if byte in (COMMA, CR) and back in (-1, COMMA, LF):
-        return "an empty field; only the last field of the demands is empty"
-    if byte in (32, 9, 160) or data[at : at + 2] == b"\xc2\xa0":
-        return "a space; a number has digits alone"
-    if _letter(byte) and first_record:
-        return "a letter, perhaps of a header line; the files have none"
-    if byte == MINUS:
-        return "a minus; it can stand only before a unit cost"
-    if _digit(byte) and _digit(back):
-        return "a number of more than ten digits"
-    return ""
 
 
 _NAMES = {-1: "the end of the file", 0: "NUL", 9: "a tab", LF: "LF", CR: "CR", 32: "a space"}
@@ -202,12 +154,12 @@ def _explain_file(refusal: FileRefusal, called: str = "") -> Explained:
     file, number, place = refusal.file, refusal.number, refusal.place
     name = f"the {called or file.kind} file {file.path}"
     spot = None
-    if number == 20 and file.data is None:
-        sentence = f"{name} cannot be opened and read."
-    elif number == 20:
-        sentence = f"{name} is longer than 65,536 bytes."
+    if number == 20:
+        cause = causes.other(file.data)
+        sentence = f"{name} cannot be opened and read." if file.data is None else f"{name} is longer than 65,536 bytes."
+        sentence += f" Here stands {cause}." if cause else ""
     elif number == 21:
-        spot = spot_of(file, place, place + 1, causes.told(file.kind, file.data, place) or cause_of(file.data, place))
+        spot = spot_of(file, place, place + 1, causes.cause_of(file.kind, file.data, place))
         at = f"record {spot.record}, field {spot.field}, offset {place} counted from 0"
         ends = place >= len(file.data)
         sentence = f"{name} ends too soon: {at}." if ends else f"{name} has a byte that cannot stand there: {at}."
@@ -215,12 +167,12 @@ def _explain_file(refusal: FileRefusal, called: str = "") -> Explained:
         odd, wanted = _fields(file.data, place), len(_fields(file.data, 1)) if file.kind == TARIFF else 1
         than = "record 1 has" if file.kind == TARIFF else "each has"
         sentence = f"record {place} of {name} has {counted(len(odd), 'field')}; {than} {wanted}."
-        if len(odd) > wanted:
-            low, high, cause = odd[wanted][0], odd[-1][1], "a field too many, perhaps after a decimal comma; numbers are whole"
-        else:
-            low, high, cause = odd[-1][1], odd[-1][1] + 1, "the end of a record that has too few fields"
-        told = causes.told_fields(file.kind, file.data, file.data.split(b"\r\n")[place - 1])
-        spot = spot_of(file, low, max(high, low + 1), told or cause)
+        low, high = (odd[wanted][0], odd[-1][1]) if len(odd) > wanted else (odd[-1][1], odd[-1][1] + 1)
+        records = file.data.split(b"\r\n")
+        found = causes.odd_record(file.kind, file.data, (records[0], records[place - 1]), wanted)
+        if found.high:
+            low, high = odd[0][0] + found.low, odd[0][0] + found.high
+        spot = spot_of(file, low, max(high, low + 1), found.cause)
     return Explained(number, place, sentence, _ADVICE[number], [], spot)
 
 

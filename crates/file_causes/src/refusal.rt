@@ -1,7 +1,9 @@
 // The sentences of refusals 20 to 22.
 use crate::byte::say_cause;
-use crate::fields::say_fields_cause;
+use crate::fields::said_fields_cause;
+use crate::fields::say_fields_spot;
 use crate::spot::say_spot;
+use crate::whole::said_other;
 use file_io::message::say;
 use file_io::message::say_count;
 use file_io::message::say_name;
@@ -40,10 +42,20 @@ fn explain_byte(place: u64, tariff: bool, bytes: &[u8]) {
     say_spot(bytes, at, after(at));
 }
 
-// Refusal 22: a record by the first field that it has too many, else by its end.
-fn explain_record(record: u64, tariff: bool, bytes: &[u8], wanted: u64) {
+// The place of refusal 22: the first field that a record has too many, else its end.
+fn say_odd_spot(record: u64, bytes: &[u8], more: bool, wanted: u64) {
     let end = record_end(bytes, record);
-    let has = field_at(bytes, end);
+    if more {
+        let low = field_start(bytes, record, next(wanted));
+        say_spot(bytes, low, later(end, after(low)));
+        return;
+    }
+    say_spot(bytes, end, after(end));
+}
+
+// Refusal 22: a record by its count of fields.
+fn explain_record(record: u64, tariff: bool, bytes: &[u8], wanted: u64) {
+    let has = field_at(bytes, record_end(bytes, record));
     say(b" has ");
     say_count(has, b" field", b" fields");
     if tariff {
@@ -52,14 +64,22 @@ fn explain_record(record: u64, tariff: bool, bytes: &[u8], wanted: u64) {
         say(b"; each has ");
     }
     say_with(b"", wanted, b". Here stands ");
-    say_fields_cause(tariff, bytes, record, wanted < has);
+    let named = said_fields_cause(tariff, bytes, record, wanted < has);
     say(b". Look for a missing or doubled comma, or a decimal comma.\n");
-    if wanted < has {
-        let low = field_start(bytes, record, next(wanted));
-        say_spot(bytes, low, later(end, after(low)));
+    if named {
+        say_fields_spot(tariff, bytes, record);
         return;
     }
-    say_spot(bytes, end, after(end));
+    say_odd_spot(record, bytes, wanted < has, wanted);
+}
+
+// Refusal 20. The first bytes of a file that is too long may tell what it is.
+fn explain_unread(bytes: &[u8]) {
+    say(b" cannot be opened and read, or is longer than 65,536 bytes.");
+    if said_other(b" Here stands ", bytes) {
+        say(b".");
+    }
+    say(b" Look at its path and size.\n");
 }
 
 // The refusals of a file: whether it is a tariff, what it is called, its path and its bytes, and how many fields each of its records should have.
@@ -78,9 +98,7 @@ pub fn explain_file(
     say(file);
     say_name(path);
     match number {
-        20 => say(
-            b" cannot be opened and read, or is longer than 65,536 bytes. Look at its path and size.\n",
-        ),
+        20 => explain_unread(bytes),
         21 => explain_byte(place, tariff, bytes),
         _ => explain_record(place, tariff, bytes, wanted),
     }

@@ -2,7 +2,8 @@
 // writing or have no width, and bytes that are no text in UTF-8. The Python package shows names in the same way (console.py).
 use crate::place::byte_at;
 ghost use mathlib.Core.Path.{_≡_};
-ghost use Rattle.file_io.specs.inner.Shown.{within, turned, unseen, hidden, follows, point2, point3, point4, plain, isTwo, isThree, isFour, shownWidth, shownFirst, leftOf, hexDigit, hexOf, escapeOf};
+ghost use Rattle.file_io.specs.inner.Shown.{within, turned, unseen, hidden, follows, point2, point3, point4, plain};
+ghost use Rattle.file_io.specs.inner.Shown.{isTwo, isThree, isFour, shownWidth, shownFirst, leftOf, hexDigit, hexOf, escapeOf};
 
 // Is a number from low to high?
 fn is_within(low: u32, p: u32, high: u32) -> bool

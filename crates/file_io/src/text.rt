@@ -29,7 +29,8 @@ pub fn last_of(s: &[u8]) -> u8
 
 // Does a text begin with these bytes?
 pub fn starts(s: &[u8], word: &[u8]) -> bool
-    ensures { λ r. ⌜ (r ≡ true → take (length (now (word .entry))) (now (s .entry)) ≡ now (word .entry)) × (take (length (now (word .entry))) (now (s .entry)) ≡ now (word .entry) → r ≡ true) ⌝ }
+    ensures { λ r. ⌜ (r ≡ true → take (length (now (word .entry))) (now (s .entry)) ≡ now (word .entry)) ×
+        (take (length (now (word .entry))) (now (s .entry)) ≡ now (word .entry) → r ≡ true) ⌝ }
 {
     same(first(s, word.len()), word)
 }

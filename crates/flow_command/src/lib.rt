@@ -1,8 +1,6 @@
 // The command `flow`: reads a DIMACS network file and the table of the arc that is named, writes the cheapest flow, or the refusal, to standard
 // output, and says what a refusal means on standard error.
 use check::same;
-use file_causes::form::say_line_cause;
-use file_causes::limits::say_limits_cause;
 use file_causes::refusal::explain_file;
 use file_io::about::told_version;
 use file_io::file::file_room;
@@ -12,6 +10,8 @@ use file_io::message::say;
 use file_io::message::say_name;
 use file_io::message::say_with;
 use flow_files::flow_files;
+use network_causes::form::say_line_cause;
+use network_causes::limits::say_limits_cause;
 use plan_files::planned::Printed;
 ghost use mathlib.Core.Path.{_≡_};
 ghost use lib.ListN.{length};

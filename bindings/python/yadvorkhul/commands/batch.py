@@ -68,7 +68,8 @@ def _went_on(batch, total: int, cores: int, heard):
 
 def _stopped(stopped, output: str, heard) -> int:
     """One sentence, and the status that a shell gives to what a signal stopped."""
-    sentence = f"{stopped.why or 'stopped'}: {output} has {counted(stopped.done, 'answer')}, each whole; the same command goes on from there"
+    why = "stopped" if heard else stopped.why  # a signal to all processes ends the workers too
+    sentence = f"{why}: {output} has {counted(stopped.done, 'answer')}, each whole; the same command goes on from there"
     if not heard:
         raise Broken(sentence)
     say(f"yadvorkhul: {sentence}")

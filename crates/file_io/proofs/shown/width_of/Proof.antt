@@ -29,9 +29,12 @@ shows-three-requires c κs = search needs
 returns-3 : tie.Need-returns-3
 unfolding shownWidth
 returns-3 c =
+    let at-shows-two = c .before .before .before in
+    let at-if1 = at-shows-two .before in
+    let at-is-plain = at-if1 .before in
     rw (
-      sym (c .before .before .before .before .before .is-plain .ensures) ∙ c .before .before .before .before .if1 .left,
-      sym (c .before .before .before .shows-two .ensures) ∙ c .before .before .if2 .left,
+      sym (at-is-plain .is-plain .ensures) ∙ at-if1 .if1 .left,
+      sym (at-shows-two .shows-two .ensures) ∙ c .before .before .if2 .left,
       sym (c .before .shows-three .ensures) ∙ c .if3 .taken,
     ) refl
 
@@ -41,20 +44,30 @@ shows-four-requires c κs = search needs
 returns-4 : tie.Need-returns-4
 unfolding shownWidth
 returns-4 c =
+    let at-shows-three = c .before .before .before in
+    let at-if2 = at-shows-three .before in
+    let at-shows-two = at-if2 .before in
+    let at-if1 = at-shows-two .before in
+    let at-is-plain = at-if1 .before in
     rw (
-      sym (c .before .before .before .before .before .before .before .is-plain .ensures) ∙ c .before .before .before .before .before .before .if1 .left,
-      sym (c .before .before .before .before .before .shows-two .ensures) ∙ c .before .before .before .before .if2 .left,
-      sym (c .before .before .before .shows-three .ensures) ∙ c .before .before .if3 .left,
+      sym (at-is-plain .is-plain .ensures) ∙ at-if1 .if1 .left,
+      sym (at-shows-two .shows-two .ensures) ∙ at-if2 .if2 .left,
+      sym (at-shows-three .shows-three .ensures) ∙ c .before .before .if3 .left,
       sym (c .before .shows-four .ensures) ∙ c .if4 .taken,
     ) refl
 
 returns-5 : tie.Need-returns-5
 unfolding shownWidth
 returns-5 c =
+    let at-shows-three = c .before .before .before in
+    let at-if2 = at-shows-three .before in
+    let at-shows-two = at-if2 .before in
+    let at-if1 = at-shows-two .before in
+    let at-is-plain = at-if1 .before in
     rw (
-      sym (c .before .before .before .before .before .before .before .is-plain .ensures) ∙ c .before .before .before .before .before .before .if1 .left,
-      sym (c .before .before .before .before .before .shows-two .ensures) ∙ c .before .before .before .before .if2 .left,
-      sym (c .before .before .before .shows-three .ensures) ∙ c .before .before .if3 .left,
+      sym (at-is-plain .is-plain .ensures) ∙ at-if1 .if1 .left,
+      sym (at-shows-two .shows-two .ensures) ∙ at-if2 .if2 .left,
+      sym (at-shows-three .shows-three .ensures) ∙ c .before .before .if3 .left,
       sym (c .before .shows-four .ensures) ∙ c .if4 .left,
     ) refl
 
