@@ -3,7 +3,6 @@ ghost use Prim.Native.Nat.{_<_};
 use super::leaving::Leave;
 use super::leaving::from_source;
 use super::leaving::from_terminal;
-use super::potentials::raise_subtree;
 use super::prices::fill;
 use super::residuals::VAST;
 use super::residuals::above;
@@ -12,6 +11,7 @@ use super::residuals::loss;
 use super::residuals::pair;
 use super::residuals::reverse_path;
 use super::residuals::toggle_part;
+use simplex::potentials::raise_subtree;
 use spanningtree::NONE;
 use spanningtree::flows::lane;
 use std::num::wrapping_sub_u32;
@@ -31,7 +31,7 @@ fn fill_between(
     }
 }
 
-// The subtree of node, r and c, is taken from its place and hung from host by end; what the lanes above sources and terminals change by on the way up
+// The subtree of node, r and c, is taken from its place and attached to host by end; what the lanes above sources and terminals change by on the way up
 // from the source's end.
 fn move_subtree(
     node: u32,

@@ -7,7 +7,6 @@
 mod exchange;
 mod fits;
 mod leaving;
-mod potentials;
 mod prices;
 mod residuals;
 pub mod solve;

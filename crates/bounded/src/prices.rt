@@ -2,8 +2,8 @@
 ghost use mathlib.Core.Path.{_≡_};
 ghost use Prim.Native.Nat.{_≤_, _<_};
 ghost use lib.ListN.{length};
-use super::potentials::raise_subtree;
 use super::residuals::above;
+use simplex::potentials::raise_subtree;
 use std::num::wrapping_add_u32;
 use std::num::wrapping_sub_u32;
 

@@ -85,7 +85,7 @@ pub fn toggle_part(
     }
 }
 
-// Reverses the path from e up to v, so that the subtree r, c that hung by v hangs by e from host; its lanes change too.
+// Reverses the path from e up to v, so that the subtree r, c that was attached by v is attached to host by e; its lanes change too.
 pub fn reverse_path(
     v: u32,
     e: u32,

@@ -5,34 +5,26 @@ ghost use Prim.Native.Nat.{_≤_, _<_};
 ghost use lib.ListN.{length};
 use super::exchange::pivot;
 use super::fits::fits;
-use super::potentials::source_potentials;
-use super::potentials::terminal_potentials;
 use super::prices::close_lanes;
 use super::prices::fine_for;
 use super::prices::raise_fine;
 use super::residuals::above;
 use super::residuals::half;
 use super::start::start;
+use simplex::potentials::source_potentials;
+use simplex::potentials::terminal_potentials;
 use simplex::price::least;
+use simplex::solve::Pricing;
+use simplex::solve::next;
+use simplex::solve::places;
 use spanningtree::flows::lane;
 use std::num::wrapping_add_u32;
 use std::num::wrapping_sub_u32;
 
-// The turns of the first try, and of the second.
-const TURNS: u32 = 20_000;
+// The passes of the first try, and of the second.
+const PASSES: u32 = 20_000;
 
 const AGAIN: u32 = 400;
-
-// The source that is looked at, and how many in a row had no lane with a reduced cost of the wrong sign.
-struct Turn {
-    row: u32,
-    clean: u32,
-}
-
-fn next(row: u32, m: u32) -> u32 {
-    let r = row % 32 + 1;
-    if r == m { 0 } else { r }
-}
 
 // A lane that enters, by its terminal, how far its reduced cost is from 0, and whether it is full.
 struct Enter {
@@ -107,7 +99,7 @@ fn entering(
 fn step(
     m: u32,
     n: usize,
-    now: Turn,
+    now: Pricing,
     fine: u32,
     cost: &[u32; 2048],
     cap: &[u32; 2048],
@@ -119,11 +111,11 @@ fn step(
     residual: &mut [u64; 128],
     potential: &mut [u32; 32],
     key: &mut [u32; 64],
-) -> Turn {
+) -> Pricing {
     let row = now.row;
     let lane = entering(n, row, cost, price, full, potential, key);
     if lane.gap == 0 {
-        return Turn {
+        return Pricing {
             row: next(row, m),
             clean: now.clean % 64 + 1,
         };
@@ -145,14 +137,14 @@ fn step(
         potential,
         key,
     );
-    Turn { row, clean: 0 }
+    Pricing { row, clean: 0 }
 }
 
-// Until no source has a lane that enters, so many turns at most.
+// Until no source has a lane that enters, so many passes at most.
 fn simplex(
     m: u32,
     n: usize,
-    turns: u32,
+    passes: u32,
     fine: u32,
     cost: &[u32; 2048],
     cap: &[u32; 2048],
@@ -165,8 +157,8 @@ fn simplex(
     potential: &mut [u32; 32],
     key: &mut [u32; 64],
 ) {
-    let mut now = Turn { row: 0, clean: 0 };
-    let mut left = turns;
+    let mut now = Pricing { row: 0, clean: 0 };
+    let mut left = passes;
     while 0 < left {
         if m <= now.clean {
             return;
@@ -200,11 +192,11 @@ fn exceeds(residual: &[u64; 128]) -> bool {
     some
 }
 
-// Where a lane carries more than its ceiling the fine grows, once, for as many turns at most as there are given.
+// Where a lane carries more than its ceiling the fine grows, once, for as many passes at most as there are given.
 fn try_again(
     m: u32,
     n: usize,
-    turns: u32,
+    passes: u32,
     small: u32,
     cost: &[u32; 2048],
     cap: &[u32; 2048],
@@ -238,7 +230,7 @@ fn try_again(
     simplex(
         m,
         n,
-        turns,
+        passes,
         fine,
         cost,
         cap,
@@ -299,14 +291,6 @@ fn full_lanes(full: &[u64; 32], cap: &[u32; 2048], x: &mut [u32; 2048])
     }
 }
 
-// How many places the plan's array has. Called for its promise: an array lent as a slice has a length that proofs know.
-fn places(x: &[u32; 2048]) -> usize
-    ensures { λ _. ⌜ length (now (x .entry)) ≡ 2048 ⌝ }
-{
-    let all: &[u32] = x;
-    all.len()
-}
-
 fn at_most(a: usize, b: usize) -> usize
     ensures { λ r. ⌜ r ≤ b ⌝ }
 {
@@ -356,7 +340,7 @@ fn best_tree(
     simplex(
         m,
         n,
-        TURNS,
+        PASSES,
         fine,
         cost,
         cap,

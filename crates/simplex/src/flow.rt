@@ -1,4 +1,5 @@
 // One pivot: the lane from source i to terminal j comes into the tree, and one on the way between them leaves.
+use super::potentials::raise_subtree;
 use spanningtree::NONE;
 use spanningtree::flows::reverse_path;
 use spanningtree::flows::toggle_part;
@@ -103,51 +104,6 @@ fn from_terminal(j: u32, far: Leave, parent: &[u32; 128], flow: &[u32; 128]) -> 
     }
 }
 
-// The sources of a part rise by d.
-fn raise_sources(part: u32, d: u32, p: &mut [u32; 32]) {
-    let mut rest = part;
-    while 0 < rest {
-        let i = (u32::trailing_zeros(rest) % 32) as usize;
-        p[i] = wrapping_add_u32(p[i], d);
-        rest = rest & (rest - 1);
-    }
-}
-
-// The same of the terminals, whose keys fall by 64 d.
-fn raise_terminals(part: u64, d: u32, key: &mut [u32; 64]) {
-    let e = wrapping_sub_u32(0, d << 6);
-    let mut rest = part;
-    while 0 < rest {
-        let j = (u64::trailing_zeros(rest) % 64) as usize;
-        key[j] = wrapping_add_u32(key[j], e);
-        rest = rest & (rest - 1);
-    }
-}
-
-// A part rises. Where it has more than half of 64 terminals the rest of all nodes falls in its place, as long as source 0 stays near 2^24, from which
-// the potentials must not go far.
-fn shift(
-    r: u32,
-    c: u64,
-    all_rows: u32,
-    all_cols: u64,
-    rise: u32,
-    p: &mut [u32; 32],
-    key: &mut [u32; 64],
-) {
-    if 32 < u64::count_ones(c) {
-        let fall = wrapping_sub_u32(0, rise);
-        let from_low = wrapping_sub_u32(wrapping_add_u32(p[0], fall), 12_582_912);
-        if from_low < 8_388_608 {
-            raise_sources(all_rows ^ r, fall, p);
-            raise_terminals(all_cols ^ c, fall, key);
-            return;
-        }
-    }
-    raise_sources(r, rise, p);
-    raise_terminals(c, rise, key);
-}
-
 // The pivot at a lane that is d too cheap.
 pub fn pivot(
     i: u32,
@@ -220,5 +176,5 @@ pub fn pivot(
         terminals_below,
         flow,
     );
-    shift(r, c, sources_below[0], terminals_below[0], rise, p, key);
+    raise_subtree(r, c, sources_below[0], terminals_below[0], rise, p, key);
 }

@@ -2,17 +2,20 @@
 ghost use mathlib.Core.Path.{_≡_};
 ghost use lib.ListN.{length};
 use super::flow::pivot;
+use super::potentials::source_potentials;
+use super::potentials::terminal_potentials;
 use super::price::least;
 use super::start::start;
 use spanningtree::flows::lane;
 
 // The source that is looked at, and how many in a row had no lane that is too cheap.
-struct Turn {
-    row: u32,
-    clean: u32,
+pub struct Pricing {
+    pub row: u32,
+    pub clean: u32,
 }
 
-fn next(row: u32, m: u32) -> u32 {
+// The source after this one, of m.
+pub fn next(row: u32, m: u32) -> u32 {
     let r = row % 32 + 1;
     if r == m { 0 } else { r }
 }
@@ -21,7 +24,7 @@ fn next(row: u32, m: u32) -> u32 {
 fn step(
     m: u32,
     n: usize,
-    now: Turn,
+    now: Pricing,
     cost: &[u32; 2048],
     parent: &mut [u32; 128],
     sources_below: &mut [u32; 128],
@@ -29,12 +32,12 @@ fn step(
     flow: &mut [u32; 128],
     p: &mut [u32; 32],
     key: &mut [u32; 64],
-) -> Turn {
+) -> Pricing {
     let row = now.row;
     let l = least(row, n, cost, key);
     let s = l / 64 + p[(row % 32) as usize] % 33_554_432;
     if 33_554_432 <= s {
-        return Turn {
+        return Pricing {
             row: next(row, m),
             clean: now.clean % 64 + 1,
         };
@@ -50,7 +53,7 @@ fn step(
         p,
         key,
     );
-    Turn { row, clean: 0 }
+    Pricing { row, clean: 0 }
 }
 
 // Until no source has a lane that is too cheap, 20,000 passes at most.
@@ -65,7 +68,7 @@ fn simplex(
     p: &mut [u32; 32],
     key: &mut [u32; 64],
 ) {
-    let mut now = Turn { row: 0, clean: 0 };
+    let mut now = Pricing { row: 0, clean: 0 };
     let mut left: u32 = 20_000;
     while 0 < left {
         if m <= now.clean {
@@ -99,28 +102,8 @@ fn carried(parent: &[u32; 128], flow: &[u32; 128], x: &mut [u32; 2048])
     }
 }
 
-// The potentials of the sources, from 600,000,000 on.
-fn source_potentials(p: &[u32; 32], pot: &mut [u32; 96])
-    requires { ⌜ length (now pot) ≡ 96 ⌝ }
-    ensures { λ _. ⌜ length (now (pot .exit)) ≡ 96 ⌝ }
-{
-    for i in 0..32 {
-        pot[i] = 600_000_000 + p[i] % 33_554_432;
-    }
-}
-
-// The same of the terminals.
-fn terminal_potentials(key: &[u32; 64], pot: &mut [u32; 96])
-    requires { ⌜ length (now pot) ≡ 96 ⌝ }
-    ensures { λ _. ⌜ length (now (pot .exit)) ≡ 96 ⌝ }
-{
-    for j in 0..64 {
-        pot[32 + j] = 633_554_432 - key[j] % 2_147_483_648 / 64;
-    }
-}
-
 // How many places the plan's array has. Called for its promise: an array lent as a slice has a length that proofs know.
-fn places(x: &[u32; 2048]) -> usize
+pub fn places(x: &[u32; 2048]) -> usize
     ensures { λ _. ⌜ length (now (x .entry)) ≡ 2048 ⌝ }
 {
     let all: &[u32] = x;

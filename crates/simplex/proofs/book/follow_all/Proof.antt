@@ -1,14 +1,14 @@
--- `bounded::start::follow_all` is safe and ends. Assumes nothing.
+-- `simplex::book::follow_all` is safe and ends. Assumes nothing.
 use Prim.Native.Nat.{_≤_}
 use borrow.Author.Needs.{needs}
-use Rattle.bounded.proofs.start.follow_all.Statement.{statement}
-use Rattle.bounded.proofs.start.follow_all.Tie as tie
+use Rattle.simplex.proofs.book.follow_all.Statement.{statement}
+use Rattle.simplex.proofs.book.follow_all.Tie as tie
 
 abbrev Inv-loop : tie.InvT-loop
-Inv-loop count book price parent potential₀ key₀ k₀ potential key k = k ≤ 128
+Inv-loop count book cost parent p₀ key₀ k₀ p key k = k ≤ 128
 
 abbrev μ-loop : tie.MeasureT-loop
-μ-loop count book price parent potential₀ key₀ k₀ potential key k = k
+μ-loop count book cost parent p₀ key₀ k₀ p key k = k
 
 loop-holds : tie.Need-loop-holds Inv-loop μ-loop
 loop-holds c = search needs

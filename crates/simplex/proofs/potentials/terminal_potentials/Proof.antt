@@ -1,16 +1,16 @@
--- `bounded::potentials::source_potentials` is safe and ends. Assumes nothing.
+-- `simplex::potentials::terminal_potentials` is safe and ends. Assumes nothing.
 use Prim.Native.Nat.{_-_, _≤_}
 use borrow.Author.Needs.{needs}
 use mathlib.Core.Path.{_≡_}
 use lib.ListN.{length}
-use Rattle.bounded.proofs.potentials.source_potentials.Statement.{statement}
-use Rattle.bounded.proofs.potentials.source_potentials.Tie as tie
+use Rattle.simplex.proofs.potentials.terminal_potentials.Statement.{statement}
+use Rattle.simplex.proofs.potentials.terminal_potentials.Tie as tie
 
 abbrev Inv-loop : tie.InvT-loop
-Inv-loop potential pot₀ i₀ pot i = (i ≤ 32) × (length pot ≡ 96)
+Inv-loop key pot₀ j₀ pot j = (j ≤ 64) × (length pot ≡ 96)
 
 abbrev μ-loop : tie.MeasureT-loop
-μ-loop potential pot₀ i₀ pot i = 32 - i
+μ-loop key pot₀ j₀ pot j = 64 - j
 
 loop-holds : tie.Need-loop-holds Inv-loop μ-loop
 loop-holds c = search needs
@@ -21,6 +21,9 @@ mul-pot c = search needs
 element-copy-out-pot : tie.Need-element-copy-out-pot Inv-loop μ-loop
 element-copy-out-pot c = search needs
 
+sub-pot : tie.Need-sub-pot Inv-loop μ-loop
+sub-pot c = search needs
+
 add-pot : tie.Need-add-pot Inv-loop μ-loop
 add-pot c = search needs
 
@@ -30,8 +33,8 @@ mul-pot-2 c = search needs
 element-write-pot : tie.Need-element-write-pot Inv-loop μ-loop
 element-write-pot c = search needs
 
-add-i : tie.Need-add-i Inv-loop μ-loop
-add-i c = search needs
+add-j : tie.Need-add-j Inv-loop μ-loop
+add-j c = search needs
 
 loop-less : tie.Need-loop-less Inv-loop μ-loop
 loop-less c = search needs
@@ -42,8 +45,8 @@ loop-again c = search needs
 returns : tie.Need-returns Inv-loop μ-loop
 returns c = search needs
 
-pub source-potentials-spec : {M : Type 1} → statement M
-source-potentials-spec =
+pub terminal-potentials-spec : {M : Type 1} → statement M
+terminal-potentials-spec =
     tie.close
     (tie.spec
     Inv-loop
@@ -51,10 +54,11 @@ source-potentials-spec =
     loop-holds
     mul-pot
     element-copy-out-pot
+    sub-pot
     add-pot
     mul-pot-2
     element-write-pot
-    add-i
+    add-j
     loop-less
     loop-again
     returns)

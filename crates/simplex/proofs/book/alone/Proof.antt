@@ -1,14 +1,14 @@
--- `bounded::start::alone` is safe and ends. Assumes nothing.
+-- `simplex::book::alone` is safe and ends. Assumes nothing.
 use Prim.Native.Nat.{_-_, _≤_}
 use borrow.Author.Needs.{needs}
-use Rattle.bounded.proofs.start.alone.Statement.{statement}
-use Rattle.bounded.proofs.start.alone.Tie as tie
+use Rattle.simplex.proofs.book.alone.Statement.{statement}
+use Rattle.simplex.proofs.book.alone.Tie as tie
 
 abbrev Inv-loop : tie.InvT-loop
-Inv-loop sources-below₀ terminals-below₀ j₀ sources-below terminals-below j = j ≤ 64
+Inv-loop rows₀ cols₀ j₀ sources-below terminals-below j = j ≤ 64
 
 abbrev μ-loop : tie.MeasureT-loop
-μ-loop sources-below₀ terminals-below₀ j₀ sources-below terminals-below j = 64 - j
+μ-loop rows₀ cols₀ j₀ sources-below terminals-below j = 64 - j
 
 loop-holds : tie.Need-loop-holds Inv-loop μ-loop
 loop-holds c = search needs

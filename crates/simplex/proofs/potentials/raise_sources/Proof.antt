@@ -1,17 +1,16 @@
--- `simplex::flow::raise_sources` is safe and ends. Assumes nothing.
-use Prim.Native.Nat.{_-_}
+-- `simplex::potentials::raise_sources` is safe and ends. Assumes nothing.
+use Prim.Native.Nat.{_-_, _<_, _^_}
 use native.Mathlib.Omega.{arith}
 use borrow.Author.Needs.{needs}
 use lib.Bits.{and-le-r}
-use Prim.Native.Nat.{_^_, _<_}
-use Rattle.simplex.proofs.flow.raise_sources.Statement.{statement}
-use Rattle.simplex.proofs.flow.raise_sources.Tie as tie
+use Rattle.simplex.proofs.potentials.raise_sources.Statement.{statement}
+use Rattle.simplex.proofs.potentials.raise_sources.Tie as tie
 
 abbrev Inv-loop : tie.InvT-loop
-Inv-loop part d p₀ rest₀ p rest = rest < 2 ^ 32
+Inv-loop part d potential₀ rest₀ potential rest = rest < 2 ^ 32
 
 abbrev μ-loop : tie.MeasureT-loop
-μ-loop part d p₀ rest₀ p rest = rest
+μ-loop part d potential₀ rest₀ potential rest = rest
 
 loop-holds : tie.Need-loop-holds Inv-loop μ-loop
 loop-holds c = search needs
@@ -28,11 +27,11 @@ element-copy-out-wrapping-add-u32 c = search needs
 wrapping-add-u32-requires : tie.Need-wrapping-add-u32-requires Inv-loop μ-loop
 wrapping-add-u32-requires c κs = search needs
 
-mul-p : tie.Need-mul-p Inv-loop μ-loop
-mul-p c = search needs
+mul-potential : tie.Need-mul-potential Inv-loop μ-loop
+mul-potential c = search needs
 
-element-write-p : tie.Need-element-write-p Inv-loop μ-loop
-element-write-p c = search needs
+element-write-potential : tie.Need-element-write-potential Inv-loop μ-loop
+element-write-potential c = search needs
 
 sub-rest : tie.Need-sub-rest Inv-loop μ-loop
 sub-rest c = search needs
@@ -57,8 +56,8 @@ raise-sources-spec =
     mul-wrapping-add-u32
     element-copy-out-wrapping-add-u32
     wrapping-add-u32-requires
-    mul-p
-    element-write-p
+    mul-potential
+    element-write-potential
     sub-rest
     loop-less
     loop-again

@@ -1,22 +1,25 @@
--- `bounded::potentials::raise_sources` is safe and ends. Assumes nothing.
+-- `simplex::potentials::raise_terminals` is safe and ends. Assumes nothing.
 use Prim.Native.Nat.{_-_, _<_, _^_}
 use native.Mathlib.Omega.{arith}
 use borrow.Author.Needs.{needs}
 use lib.Bits.{and-le-r}
-use Rattle.bounded.proofs.potentials.raise_sources.Statement.{statement}
-use Rattle.bounded.proofs.potentials.raise_sources.Tie as tie
+use Rattle.simplex.proofs.potentials.raise_terminals.Statement.{statement}
+use Rattle.simplex.proofs.potentials.raise_terminals.Tie as tie
 
 abbrev Inv-loop : tie.InvT-loop
-Inv-loop part d potential₀ rest₀ potential rest = rest < 2 ^ 32
+Inv-loop part d key₀ e rest₀ key rest = rest < 2 ^ 64
 
 abbrev μ-loop : tie.MeasureT-loop
-μ-loop part d potential₀ rest₀ potential rest = rest
+μ-loop part d key₀ e rest₀ key rest = rest
+
+wrapping-sub-u32-requires : tie.Need-wrapping-sub-u32-requires Inv-loop μ-loop
+wrapping-sub-u32-requires c κs = search needs
 
 loop-holds : tie.Need-loop-holds Inv-loop μ-loop
 loop-holds c = search needs
 
-cast-i : tie.Need-cast-i Inv-loop μ-loop
-cast-i c = search needs
+cast-j : tie.Need-cast-j Inv-loop μ-loop
+cast-j c = search needs
 
 mul-wrapping-add-u32 : tie.Need-mul-wrapping-add-u32 Inv-loop μ-loop
 mul-wrapping-add-u32 c = search needs
@@ -27,11 +30,11 @@ element-copy-out-wrapping-add-u32 c = search needs
 wrapping-add-u32-requires : tie.Need-wrapping-add-u32-requires Inv-loop μ-loop
 wrapping-add-u32-requires c κs = search needs
 
-mul-potential : tie.Need-mul-potential Inv-loop μ-loop
-mul-potential c = search needs
+mul-key : tie.Need-mul-key Inv-loop μ-loop
+mul-key c = search needs
 
-element-write-potential : tie.Need-element-write-potential Inv-loop μ-loop
-element-write-potential c = search needs
+element-write-key : tie.Need-element-write-key Inv-loop μ-loop
+element-write-key c = search needs
 
 sub-rest : tie.Need-sub-rest Inv-loop μ-loop
 sub-rest c = search needs
@@ -45,19 +48,20 @@ loop-again c = omega (arith, and-le-r (c .before .before .before .loop .rest) (c
 returns : tie.Need-returns Inv-loop μ-loop
 returns c = search needs
 
-pub raise-sources-spec : {M : Type 1} → statement M
-raise-sources-spec =
+pub raise-terminals-spec : {M : Type 1} → statement M
+raise-terminals-spec =
     tie.close
     (tie.spec
     Inv-loop
     μ-loop
+    wrapping-sub-u32-requires
     loop-holds
-    cast-i
+    cast-j
     mul-wrapping-add-u32
     element-copy-out-wrapping-add-u32
     wrapping-add-u32-requires
-    mul-potential
-    element-write-potential
+    mul-key
+    element-write-key
     sub-rest
     loop-less
     loop-again

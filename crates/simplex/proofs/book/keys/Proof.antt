@@ -1,8 +1,8 @@
--- `bounded::start::keys` is safe and ends. Assumes nothing.
+-- `simplex::book::keys` is safe and ends. Assumes nothing.
 use Prim.Native.Nat.{_-_, _≤_}
 use borrow.Author.Needs.{needs}
-use Rattle.bounded.proofs.start.keys.Statement.{statement}
-use Rattle.bounded.proofs.start.keys.Tie as tie
+use Rattle.simplex.proofs.book.keys.Statement.{statement}
+use Rattle.simplex.proofs.book.keys.Tie as tie
 
 abbrev Inv-loop : tie.InvT-loop
 Inv-loop n key₀ j₀ key j = j ≤ 64
