@@ -95,3 +95,7 @@ none-but w r h e i l z =
     let p : (1 * 2 ^ w) % 2 ^ 32 ≡ 2 ^ w = power-fits w h in
     let y : bitAnd r (2 ^ 32 - 1 - 2 ^ w) ≡ 0 = ap (λ v. bitAnd r (2 ^ 32 - 1 - v)) (sym p) ∙ e in
     omega (arith, ap (λ v. bit v i) y, bit-none i, bit-and r (2 ^ 32 - 1 - 2 ^ w) i, take-other w (2 ^ 32 - 1) i (bit-ones 32 w h) z, bit-ones 32 i l)
+
+-- two words have no bit in common
+pub none-common : (a b i : ℕ) → bitAnd a b ≡ 0 → bit b i ≡ 1 → bit a i ≡ 0
+none-common a b i e h = omega (arith, ap (λ v. bit v i) e, bit-none i, bit-and a b i)

@@ -26,7 +26,7 @@ use Rattle.reachability.specs.inner.Reachability.{AheadAt, Moved, Back, 
 use Rattle.transport.proofs.Sums.{sum-change, marks-most}
 use Rattle.residual.proofs.ResidualArc.{arc-room, arc-source, arc-terminal, arc-eq}
 use Rattle.residual.proofs.Bits.{bit-none, bit-most, bit-or, bit-own, bit-place, low-set, rest-same, rest-other}
-use Rattle.reachability.proofs.MaskBits.{bit-and, bit-ones, bit-power, take-fits, take-own, take-other, take-less, take-gone, take-kept}
+use Rattle.reachability.proofs.MaskBits.{bit-and, bit-ones, bit-power, take-fits, take-own, take-other, take-less, take-gone, take-kept, none-common}
 
 -- ---- one node more
 
@@ -604,6 +604,42 @@ module _ {m n s i g limit : ℕ} {f x : List ℕ} {S₀ W₀ : ℕ} (at : AheadA
         done = rest-done refl;
       }
 
+    -- each source that serves it is reached
+    pub ahead-pass : ((a : ℕ) → bit S a ≡ 1 → bit (get Y j) a ≡ 0) → LookingAhead m n i g f x s limit S₀ W₀ P Y t (R - 2 ^ j) S W (rest - 2 ^ j)
+    ahead-pass u = record {
+      fits = omega (arith, q .fits);
+      covers = q .covers;
+      known = q .known;
+      reaching = record {
+        dist = q .reaching .dist;
+        hops = q .reaching .hops;
+        widths = q .reaching .widths;
+        tree = q .reaching .tree;
+        fits-r = omega (arith, q .reaching .fits-r);
+        fits-s = q .reaching .fits-s;
+        fits-w = q .reaching .fits-w;
+        fresh-s = q .reaching .fresh-s;
+        seen-s = q .reaching .seen-s;
+        fresh-t = λ b hb e. q .reaching .fresh-t b hb (take-less j R b ahead-fresh e .1);
+        others = λ b hb e. let w = q .reaching .others b hb e in (take-kept j R b ahead-fresh (w .0), w .1);
+        waits = q .reaching .waits;
+      };
+      aiming = ahead-aim;
+      moved = q .moved;
+      shut = record {
+        ahead = λ a b ha hb z h es ew. take-kept j R b ahead-fresh (q .shut .ahead a b ha hb z h es ew);
+        back = λ a b ha hb h e. elim (ℕ-discrete b j) [
+          | yes z ↦ elim (ℕ-discrete (bit S a) 0) [
+            | yes y ↦ y
+            | no y ↦ absurd (omega (arith, q .covers .serving a j ha ahead-terminal (rw z at h), u a (omega (arith, bit-most S a))))
+          ]
+          | no z ↦ q .shut .back a b ha hb h (take-gone j R b ahead-fresh z e)
+        ];
+      };
+      left = still-left refl;
+      done = rest-done refl;
+    }
+
     module _ (h : cells x i j < cells f i j) where
       pub ahead-visit : AtTerminal m n f x s limit t (R - 2 ^ j) S W (set P (32 + j) i) j
       ahead-visit =
@@ -826,3 +862,39 @@ module _ {m n i j limit : ℕ} {f x : List ℕ} {t R S W : ℕ} {P : List ℕ} (
     where
       none : (a : ℕ) → bit W a ≡ 0
       none a = let z : W ≡ 0 = omega arith in ap (λ y. bit y a) z ∙ bit-none a
+
+-- ---- no terminal to begin with
+
+-- source i has no free lane to a terminal that another source may serve, but to terminal j
+pub no-start : {m n i j : ℕ} {f x w : List ℕ} {t : ℕ} → m ≤ 32 → i < m → Opens m n f w → Known m n i j x t → cells f i j ≡ 0
+    → bitAnd (get w i) (t - 2 ^ j) ≡ 0 → NoRoute m n i j f x
+no-start {m} {n} {i} {j} {f} {x} {w} {t} hm hi o k e z = record {
+  p = bit (2 ^ 32 - 1 - 2 ^ i);
+  q = bit t;
+  start = take-own i (2 ^ 32 - 1) (bit-ones 32 i (omega arith));
+  goal = k .goal;
+  most = bit-most t;
+  ahead = λ a b ha hb l. elim (ℕ-discrete a i) [
+    | yes y ↦ omega (arith, none b hb (rw y at l))
+    | no y ↦ omega (arith, bit-most t b, other a (omega arith) y)
+  ];
+  back = λ a b ha hb l. elim (ℕ-discrete a i) [
+    | yes y ↦ rw y (omega (arith, take-own i (2 ^ 32 - 1) (bit-ones 32 i (omega arith))))
+    | no y ↦ omega (arith, k .supplied .has a b ha hb y l, bit-most (2 ^ 32 - 1 - 2 ^ i) a)
+  ];
+}
+  where
+    other : (a : ℕ) → a < 32 → a ≢ i → bit (2 ^ 32 - 1 - 2 ^ i) a ≡ 1
+    other a h y = take-other i (2 ^ 32 - 1) a (bit-ones 32 i (omega arith)) y ∙ bit-ones 32 a h
+
+    none : (b : ℕ) → b < n → cells x i b < cells f i b → bit t b ≡ 0
+    none b hb l = elim (ℕ-discrete (bit t b) 0) [
+      | yes y ↦ y
+      | no y ↦
+          let g : b ≢ j = λ v. absurd (omega (arith, ap (λ u. cells f i u) v)) in
+          absurd (omega (
+            arith,
+            o .has i b hi hb (omega arith),
+            none-common (get w i) (t - 2 ^ j) b z (omega (arith, take-other j t b (k .goal) g, bit-most t b)),
+          ))
+    ]

@@ -4,7 +4,7 @@ ghost use Prim.Native.Nat.{_+_, _*_, _^_, _<_};
 ghost use lib.ListN.{length, getD};
 ghost use Rattle.residual.specs.inner.Bits.{bit};
 ghost use Rattle.residual.specs.inner.LanesInUse.{Covers};
-ghost use Rattle.reachability.specs.inner.Reachability.{Opens, Known, Room, Unserved, Dropped, Reaching, AtTerminal, Aiming, ReachAt};
+ghost use Rattle.reachability.specs.inner.Reachability.{Opens, Known, Room, Seen, Unserved, Dropped, Reaching, AtTerminal, Aiming, ReachAt};
 ghost use Rattle.reachability.specs.inner.Reachability.{AheadAt, Shut, LookedBack, LookedAhead, ReachDone};
 
 // The terminals that a source other than the start may serve; the terminals of these and the sources that are not reached yet, and the sources
@@ -35,6 +35,14 @@ fn has_room(i: usize, j: usize, free: &[u32; 2048], x: &[u32; 2048]) -> bool
     x[k] < free[k]
 }
 
+// Does none of the sources that are not reached yet serve terminal j?
+fn seen(j: usize, sources: u32, serves: &[u32; 64]) -> bool
+    requires { ⌜ j < 64 ⌝ }
+    ensures { λ r. ⌜ Seen sources j (now (serves .entry)) r ⌝ }
+{
+    serves[j] & sources == 0
+}
+
 // Does no source but the start serve terminal j?
 fn unserved(start: usize, j: usize, serves: &[u32; 64]) -> bool
     requires { ⌜ (start < 32) × (j < 64) ⌝ }
@@ -44,7 +52,7 @@ fn unserved(start: usize, j: usize, serves: &[u32; 64]) -> bool
 }
 
 // Takes source i from those that serve terminal j.
-fn drop_source(i: usize, j: usize, serves: &mut [u32; 64])
+pub fn drop_source(i: usize, j: usize, serves: &mut [u32; 64])
     requires { ⌜ (i < 32) × (j < 64) ⌝ }
     ensures { λ _. ⌜ Dropped i j (now (serves .entry)) (now (serves .exit)) ⌝ }
 {
@@ -107,7 +115,7 @@ fn look_back(
 }
 
 // Reaches each terminal that source i has room to send to, the last first, and each source that sends there, until one has room to send to
-// the goal. A terminal that no source but the start serves any longer is of no use.
+// the goal. A terminal that leads to no other source is passed over; one that no source but the start serves any longer is of no use in this row.
 fn look_ahead(
     m: usize,
     n: usize,
@@ -139,9 +147,11 @@ fn look_ahead(
     while 0 < rest {
         let j = highest(rest);
         rest = rest - (1 << j);
-        if unserved(start, j, serves) {
-            now.supplied = now.supplied - (1 << j);
+        if seen(j, now.sources, serves) {
             now.terminals = now.terminals - (1 << j);
+            if unserved(start, j, serves) {
+                now.supplied = now.supplied - (1 << j);
+            }
         } else if has_room(i, j, free, x) {
             prev[32 + j] = i as u32;
             now.terminals = now.terminals - (1 << j);

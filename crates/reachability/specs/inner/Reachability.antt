@@ -81,6 +81,10 @@ pub record Room (i j : ℕ) (f x : List ℕ) (r : Bool) : Type 0 where
   pub room : r ≡ true → cells x i j < cells f i j
   pub full : r ≡ false → cells f i j ≤ cells x i j
 
+-- whether none of the sources S serves terminal j
+pub record Seen (S j : ℕ) (s : List ℕ) (r : Bool) : Type 0 where
+  pub none : r ≡ true → (i : ℕ) → bit S i ≡ 1 → bit (get s j) i ≡ 0
+
 -- whether no source but e serves terminal j
 pub record Unserved (e j : ℕ) (s : List ℕ) (r : Bool) : Type 0 where
   pub none : r ≡ true → (i : ℕ) → i < 32 → i ≢ e → bit (get s j) i ≡ 0

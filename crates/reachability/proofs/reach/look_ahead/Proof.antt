@@ -3,7 +3,7 @@ use mathlib.Core.Path.{sym, _∙_}
 use mathlib.Core.Bool.{true≢false, false≢true}
 use Prim.Native.Nat.{_<_}
 use native.Mathlib.Omega.{arith}
-use Rattle.reachability.proofs.Reachability.{LookingAhead, ahead-start, ahead-terminal, ahead-fresh, ahead-supplied, ahead-fewer, ahead-drop}
+use Rattle.reachability.proofs.Reachability.{LookingAhead, ahead-start, ahead-terminal, ahead-fresh, ahead-supplied, ahead-fewer, ahead-drop, ahead-pass}
 use Rattle.reachability.proofs.Reachability.{ahead-visit, ahead-aim, ahead-take, ahead-skip, ahead-end}
 use Rattle.reachability.proofs.MaskBits.{take-fits, power-fits-long}
 use Rattle.reachability.proofs.reach.look_ahead.Statement.{statement}
@@ -52,10 +52,10 @@ shl-rest-2 c = short c
 sub-rest-2 : tie.Need-sub-rest-2 Inv-loop μ-loop
 sub-rest-2 c = rw (power-fits-long (c .highest .result) (short c)) (take-fits _ _ (c .highest .ensures))
 
-unserved-requires : tie.Need-unserved-requires Inv-loop μ-loop
-unserved-requires c κs = let s = c .before .before .before .before .before .before .pre .0 in (omega (arith, s .start, s .sources), short (c .before))
+seen-requires : tie.Need-seen-requires Inv-loop μ-loop
+seen-requires c κs = short (c .before)
 
--- ---- no source but the start serves it
+-- ---- each source that serves it is reached
 
 shl-now : tie.Need-shl-now Inv-loop μ-loop
 shl-now c = short (c .before .before .before)
@@ -66,22 +66,30 @@ sub-now c =
     let at-loop = h .before .before in
     let entry = at-loop .before .before .before in
     let s = entry .pre in
-    rw (power-fits-long (h .highest .result) (short h)) (take-fits _ _ (ahead-supplied (s .0) (s .1 .0) _ (at-loop .loop .inv) (h .highest .ensures)))
+    rw (power-fits-long (h .highest .result) (short h)) (take-fits _ _ (ahead-fresh (s .0) (s .1 .0) _ (at-loop .loop .inv) (h .highest .ensures)))
 
-shl-now-2 : tie.Need-shl-now-2 Inv-loop μ-loop
-shl-now-2 c = short (c .before .before .before .before)
-
-sub-now-2 : tie.Need-sub-now-2 Inv-loop μ-loop
-sub-now-2 c =
+unserved-requires : tie.Need-unserved-requires Inv-loop μ-loop
+unserved-requires c κs =
     let h = c .before .before .before .before .before in
     let at-loop = h .before .before in
     let entry = at-loop .before .before .before in
     let s = entry .pre in
-    rw (power-fits-long (h .highest .result) (short h)) (take-fits _ _ (ahead-fresh (s .0) (s .1 .0) _ (at-loop .loop .inv) (h .highest .ensures)))
+    (omega (arith, s .0 .start, s .0 .sources), short h)
+
+shl-now-2 : tie.Need-shl-now-2 Inv-loop μ-loop
+shl-now-2 c = short (c .before .before .before .before .before .before .before)
+
+sub-now-2 : tie.Need-sub-now-2 Inv-loop μ-loop
+sub-now-2 c =
+    let h = c .before .before .before .before .before .before .before .before in
+    let at-loop = h .before .before in
+    let entry = at-loop .before .before .before in
+    let s = entry .pre in
+    rw (power-fits-long (h .highest .result) (short h)) (take-fits _ _ (ahead-supplied (s .0) (s .1 .0) _ (at-loop .loop .inv) (h .highest .ensures)))
 
 loop-less : tie.Need-loop-less Inv-loop μ-loop
 loop-less c =
-    let h = c .before .before .before .before .before in
+    let h = c .before .before .before .before .before .before .before .before in
     let at-loop = h .before .before in
     let entry = at-loop .before .before .before in
     let s = entry .pre in
@@ -89,14 +97,31 @@ loop-less c =
 
 loop-again : tie.Need-loop-again Inv-loop μ-loop
 loop-again c =
-    let t = c .before .before in
-    let at-unserved = t .before in
-    let h = at-unserved .before .before in
+    let t = c .before in
+    let h = c .before .before .before .before .before .before .before .before in
     let at-loop = h .before .before in
     let entry = at-loop .before .before .before in
     let s = entry .pre in
     rw (power-fits-long (h .highest .result) (short h))
-    (ahead-drop (s .0) (s .1 .0) _ (at-loop .loop .inv) (h .highest .ensures) (at-unserved .unserved .ensures .none (t .if1 .taken)))
+    (ahead-drop (s .0) (s .1 .0) _ (at-loop .loop .inv) (h .highest .ensures) (t .before .unserved .ensures .none (t .if2 .taken)))
+
+loop-less-2 : tie.Need-loop-less-2 Inv-loop μ-loop
+loop-less-2 c =
+    let h = c .before .before .before .before .before .before .before in
+    let at-loop = h .before .before in
+    let entry = at-loop .before .before .before in
+    let s = entry .pre in
+    rw (power-fits-long (h .highest .result) (short h)) (ahead-fewer (s .0) (s .1 .0) _ (at-loop .loop .inv) (h .highest .ensures))
+
+loop-again-2 : tie.Need-loop-again-2 Inv-loop μ-loop
+loop-again-2 c =
+    let t = c .before .before .before .before in
+    let h = c .before .before .before .before .before .before .before in
+    let at-loop = h .before .before in
+    let entry = at-loop .before .before .before in
+    let s = entry .pre in
+    rw (power-fits-long (h .highest .result) (short h))
+    (ahead-pass (s .0) (s .1 .0) _ (at-loop .loop .inv) (h .highest .ensures) (t .before .seen .ensures .none (t .if1 .taken)))
 
 -- ---- the source has room
 
@@ -139,7 +164,7 @@ look-back-requires c κs =
     let at-loop = h .before .before in
     let entry = at-loop .before .before .before in
     let s = entry .pre in
-    let q = at-loop .loop .inv in let o = at-has-room .has-room .ensures .room (t .if2 .taken) in
+    let q = at-loop .loop .inv in let o = at-has-room .has-room .ensures .room (t .if3 .taken) in
     rw (power-fits-long (h .highest .result) (short h)) (
       record { sources = s .0 .sources; terminals = s .0 .terminals; source = s .0 .start; terminal = terminal h },
       (q .covers, (ahead-visit (s .0) (s .1 .0) _ q (h .highest .ensures) o, ahead-aim (s .0) (s .1 .0) _ q (h .highest .ensures))),
@@ -152,38 +177,17 @@ returns c =
       record {
         known = rw (d .0 .same) (at-loop .loop .inv .known);
         found = d .0 .found;
-        reaching = λ e. absurd (true≢false (sym (c .if3 .taken) ∙ e));
-        aiming = λ e. absurd (true≢false (sym (c .if3 .taken) ∙ e));
-        shut = λ e. absurd (true≢false (sym (c .if3 .taken) ∙ e));
-        fewer = λ e. absurd (true≢false (sym (c .if3 .taken) ∙ e));
+        reaching = λ e. absurd (true≢false (sym (c .if4 .taken) ∙ e));
+        aiming = λ e. absurd (true≢false (sym (c .if4 .taken) ∙ e));
+        shut = λ e. absurd (true≢false (sym (c .if4 .taken) ∙ e));
+        fewer = λ e. absurd (true≢false (sym (c .if4 .taken) ∙ e));
       },
       d .1,
     )
 
-loop-less-2 : tie.Need-loop-less-2 Inv-loop μ-loop
-loop-less-2 c =
-    let h = c .before .before .before .before .before .before .before .before .before .before in
-    let at-loop = h .before .before in
-    let entry = at-loop .before .before .before in
-    let s = entry .pre in
-    rw (power-fits-long (h .highest .result) (short h)) (ahead-fewer (s .0) (s .1 .0) _ (at-loop .loop .inv) (h .highest .ensures))
-
-loop-again-2 : tie.Need-loop-again-2 Inv-loop μ-loop
-loop-again-2 c =
-    let t = c .before .before .before .before .before in
-    let at-has-room = t .before in
-    let h = at-has-room .before .before .before .before in
-    let at-loop = h .before .before in
-    let entry = at-loop .before .before .before in
-    let s = entry .pre in
-    let d = c .before .look-back .ensures in let l = c .if3 .left in
-    rw (power-fits-long (h .highest .result) (short h))
-    (ahead-take (s .0) (s .1 .0) _ (at-loop .loop .inv) (h .highest .ensures) (at-has-room .has-room .ensures .room (t .if2 .taken)) (d .0 .same) (d .1) (d .0 .reaching l) (d .0 .aiming l)
-    (rw (power-fits-long (h .highest .result) (short h)) at (d .0 .back l)))
-
 loop-less-3 : tie.Need-loop-less-3 Inv-loop μ-loop
 loop-less-3 c =
-    let h = c .before .before .before .before .before in
+    let h = c .before .before .before .before .before .before .before .before .before .before in
     let at-loop = h .before .before in
     let entry = at-loop .before .before .before in
     let s = entry .pre in
@@ -191,12 +195,33 @@ loop-less-3 c =
 
 loop-again-3 : tie.Need-loop-again-3 Inv-loop μ-loop
 loop-again-3 c =
+    let t = c .before .before .before .before .before in
+    let at-has-room = t .before in
+    let h = at-has-room .before .before .before .before in
+    let at-loop = h .before .before in
+    let entry = at-loop .before .before .before in
+    let s = entry .pre in
+    let d = c .before .look-back .ensures in let l = c .if4 .left in
+    rw (power-fits-long (h .highest .result) (short h))
+    (ahead-take (s .0) (s .1 .0) _ (at-loop .loop .inv) (h .highest .ensures) (at-has-room .has-room .ensures .room (t .if3 .taken)) (d .0 .same) (d .1) (d .0 .reaching l) (d .0 .aiming l)
+    (rw (power-fits-long (h .highest .result) (short h)) at (d .0 .back l)))
+
+loop-less-4 : tie.Need-loop-less-4 Inv-loop μ-loop
+loop-less-4 c =
+    let h = c .before .before .before .before .before in
+    let at-loop = h .before .before in
+    let entry = at-loop .before .before .before in
+    let s = entry .pre in
+    rw (power-fits-long (h .highest .result) (short h)) (ahead-fewer (s .0) (s .1 .0) _ (at-loop .loop .inv) (h .highest .ensures))
+
+loop-again-4 : tie.Need-loop-again-4 Inv-loop μ-loop
+loop-again-4 c =
     let h = c .before .before .before .before .before in
     let at-loop = h .before .before in
     let entry = at-loop .before .before .before in
     let s = entry .pre in
     rw (power-fits-long (h .highest .result) (short h))
-    (ahead-skip (s .0) (s .1 .0) _ (at-loop .loop .inv) (h .highest .ensures) (c .before .has-room .ensures .full (c .if2 .left)))
+    (ahead-skip (s .0) (s .1 .0) _ (at-loop .loop .inv) (h .highest .ensures) (c .before .has-room .ensures .full (c .if3 .left)))
 
 returns-2 : tie.Need-returns-2 Inv-loop μ-loop
 returns-2 c = let s = c .before .before .before .before .pre in let q = c .before .loop .inv in (
@@ -225,13 +250,16 @@ look-ahead-spec =
     highest-requires
     shl-rest-2
     sub-rest-2
-    unserved-requires
+    seen-requires
     shl-now
     sub-now
+    unserved-requires
     shl-now-2
     sub-now-2
     loop-less
     loop-again
+    loop-less-2
+    loop-again-2
     has-room-requires
     cast-prev
     add-prev
@@ -241,8 +269,8 @@ look-ahead-spec =
     sub-now-3
     look-back-requires
     returns
-    loop-less-2
-    loop-again-2
     loop-less-3
     loop-again-3
+    loop-less-4
+    loop-again-4
     returns-2)
