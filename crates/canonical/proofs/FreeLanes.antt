@@ -18,32 +18,7 @@ use Rattle.reachability.proofs.MaskBits.{bit-ones}
 
 -- ---- the free lanes of each source
 
--- lane (i, j) is free
-pub open-lane : {m n i j : ℕ} {f w : List ℕ} (u : ℕ) → m ≤ 32 → n ≤ 64 → i < m → j < n → Opens m n f w
-    → Opens m n (set f (i * 64 + j) u) (set w i (bitOr (get w i) (2 ^ j)))
-open-lane {m} {n} {i} {j} {f} {w} u hm hn hi hj q = record {
-  long = length-set w i (bitOr (get w i) (2 ^ j)) ∙ q .long;
-  within = λ a l. elim (ℕ-discrete a i) [
-    | yes z ↦ rw (z, own) (or-lt n (get w i) (2 ^ j) (q .within i hi) (pow-lt {i = j} {j = n} hj))
-    | no z ↦ rw (getD-set-other w i a (bitOr (get w i) (2 ^ j)) 0 z) (q .within a l)
-  ];
-  has = λ a b ha hb o. elim (ℕ-discrete a i) [
-    | yes z ↦ rw (z, own) (elim (ℕ-discrete b j) [
-      | yes y ↦ rw y (omega (arith, bit-or (get w i) (2 ^ j) j, bit-own j, bit-most (get w i) j))
-      | no y ↦
-          let e : cells (set f (i * 64 + j) u) a b ≡ cells f a b = getD-set-other f (i * 64 + j) (a * 64 + b) u 0 (omega arith) in
-          omega (arith, bit-or (get w i) (2 ^ j) b, q .has i b hi hb (rw (← z) (omega arith)), bit-most (2 ^ j) b)
-    ])
-    | no z ↦
-        let e : cells (set f (i * 64 + j) u) a b ≡ cells f a b = getD-set-other f (i * 64 + j) (a * 64 + b) u 0 (omega arith) in
-        rw (getD-set-other w i a (bitOr (get w i) (2 ^ j)) 0 z) (q .has a b ha hb (omega arith))
-  ];
-}
-  where
-    own : get (set w i (bitOr (get w i) (2 ^ j))) i ≡ bitOr (get w i) (2 ^ j)
-    own = getD-set-same w i (bitOr (get w i) (2 ^ j)) 0 (omega (arith, q .long))
-
--- none is
+-- none is free
 pub open-none : {m n : ℕ} {f : List ℕ} → m ≤ 32 → ((k : ℕ) → get f k ≡ 0) → Opens m n f (replicate 32 0)
 open-none {m} {n} {f} h z = record {
   long = length-replicate {A = ℕ} 32 0;

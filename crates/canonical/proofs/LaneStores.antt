@@ -6,9 +6,9 @@ use Prim.Native.Nat.{ℕ, _+_, _-_, _*_, _%_, _^_, _≤_, _<_}
 use native.Mathlib.Decide.{ℕ-discrete, decLt}
 use native.Mathlib.Omega.{arith}
 use lib.ListN.{length, set, length-set, replicate, length-replicate, getD-replicate, List·getD-eq-default}
-use lib.Bits.{bitAnd, bitOr, and-le-l}
+use lib.Bits.{bitAnd, bitOr, and-le-l, or-lt}
 use lib.Count.{trailingZeros}
-use lib.Pow.{pow-mono}
+use lib.Pow.{pow-mono, pow-lt}
 use lib.Seq.{getD-set-same, getD-set-other}
 use Rattle.transport.specs.Plan.{Table}
 use Rattle.residual.specs.inner.Cells.{cells}
@@ -17,12 +17,14 @@ use Rattle.residual.specs.inner.Bits.{bit, Left}
 use Rattle.residual.specs.inner.LanesInUse.{Covers}
 use Rattle.augment.specs.inner.LaneMarks.{Served}
 use Rattle.augment.specs.inner.PathWalk.{Carried}
-use Rattle.reachability.specs.inner.Reachability.{Opens, Supplied}
-use Rattle.canonical.specs.inner.Canonize.{Doors, TightLane, PartedAt, free, aside, Settling, FreeReady, LaneSettled, Longs, CanonReady, bare}
-use Rattle.canonical.specs.inner.Canonize.{PartReady, Kept, Clear, LaneParted, PartedTo, Open, Onward, Canonized}
-use Rattle.residual.proofs.Bits.{bit-none, bit-place, power-fits, low-set, rest-other, left-start, left-low, left-none, left-next}
+use Rattle.reachability.specs.inner.Reachability.{Opens, Supplied, ReachAt}
+use Rattle.canonical.specs.inner.Canonize.{Doors, TightLane, PartedAt, free, aside, Settling, FreeReady, LaneSettled, Longs, CanonReady, bare, priced}
+use Rattle.canonical.specs.inner.Canonize.{PartReady, Kept, Clear, LaneFreed, Tights, PartedTo, Open, Onward, Canonized}
+use Rattle.residual.proofs.Bits.{bit-none, bit-most, bit-or, bit-own, bit-place, power-fits, low-set, rest-other, left-start, left-low}
+use Rattle.residual.proofs.Bits.{left-set, left-none, left-next, left-end}
 use Rattle.augment.proofs.LaneMarks.{cover-arc, cover-none, set-less}
 use Rattle.reachability.proofs.Reachability.{cover-drop}
+use Rattle.reachability.proofs.MaskBits.{bit-power}
 use Rattle.canonical.proofs.FreeLanes.{open-none, supplied-whole, supplied-but}
 use Rattle.canonical.proofs.Rerouting.{cover-under}
 use Rattle.canonical.proofs.LaneByLane.{settle-start, settle-next, settle-end}
@@ -35,11 +37,11 @@ kept-none = record { sums = λ k. refl }
 pub kept-both : {o x o' x' o'' x'' : List ℕ} → Kept o x o' x' → Kept o' x' o'' x'' → Kept o x o'' x''
 kept-both g h = record { sums = λ k. h .sums k ∙ g .sums k }
 
--- ---- one lane is parted
+-- ---- one lane is free
 
-module _ {N : Net} {p o f x : List ℕ} {i j : ℕ} (r : PartReady N p) (hi : i < N .m) (hj : j < N .n) (w : Clear i j o f x) where
+module _ {m n i j : ℕ} {o f x : List ℕ} (r : ReachAt m n i j) (w : Clear i j o f x) where
   inside : i * 64 + j < 2048
-  inside = omega (arith, r .sources, r .terminals)
+  inside = omega (arith, r .source, r .terminal, r .sources, r .terminals)
 
   -- an empty lane of x or of f gets v
   brought : (v : ℕ) {y : List ℕ} → cells y i j ≡ 0 → Carried (32 + j) i v y (set y (i * 64 + j) v)
@@ -48,13 +50,14 @@ module _ {N : Net} {p o f x : List ℕ} {i j : ℕ} (r : PartReady N p) (hi : i 
       let z : get y (i * 64 + j) + v ≡ v = omega (arith, h) in
       record { less = λ l. absurd (omega arith); more = λ l. rw (e, z) refl }
 
-  -- a tight lane is free, and none of its drums is set aside any longer
-  part-free : {o' x' : List ℕ} → TightLane N p i j → length o' ≡ 2048 → length x' ≡ 2048 → cells o' i j ≡ 0 → cells x' i j ≡ cells o i j
+  -- none of its drums is set aside any longer
+  freed : {u : Table} {o' x' : List ℕ} → length o' ≡ 2048 → length x' ≡ 2048 → cells o' i j ≡ 0 → cells x' i j ≡ cells o i j
       → ((k : ℕ) → k ≢ i * 64 + j → get o' k ≡ get o k) → ((k : ℕ) → k ≢ i * 64 + j → get x' k ≡ get x k)
-      → LaneParted N p i j o f x o' (set f (i * 64 + j) (N .u i j)) x'
-  part-free {o'} {x'} t lo lx none all off-o off-x = record {
-    longs = record { long-o = lo; long-f = length-set f (i * 64 + j) (N .u i j) ∙ w .longs .long-f; long-x = lx };
-    own = free t none (getD-set-same f (i * 64 + j) (N .u i j) 0 (omega (arith, inside, w .longs .long-f)));
+      → LaneFreed u i j o f x o' (set f (i * 64 + j) (u i j)) x'
+  freed {u} {o'} {x'} lo lx none all off-o off-x = record {
+    longs = record { long-o = lo; long-f = length-set f (i * 64 + j) (u i j) ∙ w .longs .long-f; long-x = lx };
+    none = none;
+    ceiling = getD-set-same f (i * 64 + j) (u i j) 0 (omega (arith, inside, w .longs .long-f));
     kept = record {
       sums = λ k. elim (ℕ-discrete k (i * 64 + j)) [
         | yes z ↦ rw z (omega (arith, none, all, w .free-x))
@@ -62,44 +65,32 @@ module _ {N : Net} {p o f x : List ℕ} {i j : ℕ} (r : PartReady N p) (hi : i 
       ];
     };
     off-o = off-o;
-    off-f = λ k z. getD-set-other f (i * 64 + j) k (N .u i j) 0 z;
+    off-f = λ k z. getD-set-other f (i * 64 + j) k (u i j) 0 z;
     off-x = off-x;
   }
 
   -- they are moved
-  pub part-moved : TightLane N p i j
-      → LaneParted N p i j o f x (set o (i * 64 + j) 0) (set f (i * 64 + j) (N .u i j)) (set x (i * 64 + j) (get o (i * 64 + j)))
-  part-moved t =
-      part-free t (length-set o (i * 64 + j) 0 ∙ w .longs .long-o) (length-set x (i * 64 + j) (get o (i * 64 + j)) ∙ w .longs .long-x)
+  pub freed-moved : {u : Table} → LaneFreed u i j o f x (set o (i * 64 + j) 0) (set f (i * 64 + j) (u i j)) (set x (i * 64 + j) (get o (i * 64 + j)))
+  freed-moved =
+      freed (length-set o (i * 64 + j) 0 ∙ w .longs .long-o) (length-set x (i * 64 + j) (get o (i * 64 + j)) ∙ w .longs .long-x)
       (getD-set-same o (i * 64 + j) 0 0 (omega (arith, inside, w .longs .long-o)))
       (getD-set-same x (i * 64 + j) (get o (i * 64 + j)) 0 (omega (arith, inside, w .longs .long-x)))
       (λ k z. getD-set-other o (i * 64 + j) k 0 0 z) (λ k z. getD-set-other x (i * 64 + j) k (get o (i * 64 + j)) 0 z)
 
   -- there are none
-  pub part-empty : TightLane N p i j → cells o i j ≤ 0 → LaneParted N p i j o f x o (set f (i * 64 + j) (N .u i j)) x
-  part-empty t e =
-      part-free t (w .longs .long-o) (w .longs .long-x) (omega arith) (omega (arith, w .free-x)) (λ k z. refl) (λ k z. refl)
+  pub freed-empty : {u : Table} → cells o i j ≤ 0 → LaneFreed u i j o f x o (set f (i * 64 + j) (u i j)) x
+  freed-empty e =
+      freed (w .longs .long-o) (w .longs .long-x) (omega arith) (omega (arith, w .free-x)) (λ k z. refl) (λ k z. refl)
 
-  -- what another carries is set aside as it stands
-  pub part-aside : ¬ TightLane N p i j → LaneParted N p i j o f x o f x
-  part-aside t = record {
-    longs = w .longs;
-    own = aside t (w .free-f) (w .free-x);
-    kept = kept-none;
-    off-o = λ k z. refl;
-    off-f = λ k z. refl;
-    off-x = λ k z. refl;
-  }
-
-  pub cover-brought : (v : ℕ) {s s' : List ℕ} → Covers (N .m) (N .n) x s → Served (32 + j) i s s' → Covers (N .m) (N .n) (set x (i * 64 + j) v) s'
-  cover-brought v c l = cover-arc (r .terminals) (omega (arith, r .terminals)) (λ o. hi) c (brought v (w .free-x)) l
+  pub cover-brought : (v : ℕ) {s s' : List ℕ} → Covers m n x s → Served (32 + j) i s s' → Covers m n (set x (i * 64 + j) v) s'
+  cover-brought v c l = cover-arc (r .terminals) (omega (arith, r .terminal, r .terminals)) (λ o. r .source) c (brought v (w .free-x)) l
 
   -- a lane that is free is noted with its terminal
-  pub door-open : (v : ℕ) {d : List ℕ} → Doors (N .m) (N .n) f d → Doors (N .m) (N .n) (set f (i * 64 + j) v) (set d j (bitOr (get d j) ((1 * 2 ^ i) % 2 ^ 32)))
+  pub door-open : (v : ℕ) {d : List ℕ} → Doors m n f d → Doors m n (set f (i * 64 + j) v) (set d j (bitOr (get d j) ((1 * 2 ^ i) % 2 ^ 32)))
   door-open v {d} q =
       let e : 32 + j - 32 ≡ j = omega arith in
-      rw (power-fits i (omega (arith, r .sources)))
-      (cover-arc (r .terminals) (omega (arith, r .terminals)) (λ o. hi) q (brought v (w .free-f)) (record { less = λ l. absurd (omega arith); more = λ l. rw e refl }))
+      rw (power-fits i (omega (arith, r .source, r .sources)))
+      (cover-arc (r .terminals) (omega (arith, r .terminal, r .terminals)) (λ o. r .source) q (brought v (w .free-f)) (record { less = λ l. absurd (omega arith); more = λ l. rw e refl }))
 
 -- ---- lane by lane
 
@@ -107,9 +98,9 @@ module _ {N : Net} {p o f x s w d : List ℕ} {i j : ℕ} (small : N .n ≤ 64) 
   pub clear-at : Clear i j o f x
   clear-at = let z = q .parting .rest i j hi hj (omega arith) in record { longs = q .longs; free-f = z .0; free-x = z .1 }
 
-  pub part-next : {o' f' x' s' w' d' : List ℕ} → LaneParted N p i j o f x o' f' x' → Covers (N .m) (N .n) x' s' → Opens (N .m) (N .n) f' w'
-      → Doors (N .m) (N .n) f' d' → PartedTo N p (i * 64 + (j + 1)) o' f' x' s' w' d'
-  part-next {o'} {f'} {x'} {s'} d c e g = record {
+  pub part-next : {o' f' x' s' d' : List ℕ} → TightLane N p i j → bit (get w i) j ≡ 1 → LaneFreed (N .u) i j o f x o' f' x' → Covers (N .m) (N .n) x' s'
+      → Doors (N .m) (N .n) f' d' → PartedTo N p (i * 64 + (j + 1)) o' f' x' s' w d'
+  part-next {o'} {f'} {x'} {s'} t b d c g = record {
     longs = d .longs;
     parting = record {
       done = λ a b ha hb l. elim (ℕ-discrete (a * 64 + b) (i * 64 + j)) [
@@ -121,12 +112,22 @@ module _ {N : Net} {p o f x s w d : List ℕ} {i j : ℕ} (small : N .n ≤ 64) 
           rw (d .off-f (a * 64 + b) z, d .off-x (a * 64 + b) z) (q .parting .rest a b ha hb (omega arith));
     };
     covers = c;
-    opens = e;
+    opens = record {
+      long = q .opens .long;
+      within = q .opens .within;
+      has = λ a b ha hb o. elim (ℕ-discrete (a * 64 + b) (i * 64 + j)) [
+        | yes z ↦ noted a b (omega arith) (omega arith)
+        | no z ↦ q .opens .has a b ha hb (omega (arith, d .off-f (a * 64 + b) z))
+      ];
+    };
     doors = g;
   }
     where
       here : (a b : ℕ) → a ≡ i → b ≡ j → PartedAt N p (cells o') (cells f') (cells x') a b
-      here a b ea eb = rw (ea, eb) (d .own)
+      here a b ea eb = rw (ea, eb) (free t (d .none) (d .ceiling))
+
+      noted : (a l : ℕ) → a ≡ i → l ≡ j → bit (get w a) l ≡ 1
+      noted a l ea eb = rw (ea, eb) b
 
 -- places between which no lane lies
 pub part-skip : {N : Net} {p o f x s w d : List ℕ} {k k' : ℕ} → PartedTo N p k o f x s w d
@@ -141,6 +142,149 @@ part-skip q h l = record {
   opens = q .opens;
   doors = q .doors;
 }
+
+-- lanes that are not tight are set aside as they stand
+part-over : {N : Net} {p o f x s w d : List ℕ} {k k' : ℕ} → PartedTo N p k o f x s w d
+    → ((i j : ℕ) → i < N .m → j < N .n → k ≤ i * 64 + j → i * 64 + j < k' → ¬ TightLane N p i j) → k ≤ k' → PartedTo N p k' o f x s w d
+part-over {k = k} q h l = record {
+  longs = q .longs;
+  parting = record {
+    done = λ i j a b g. elim (decLt (i * 64 + j) k) [
+      | yes y ↦ q .parting .done i j a b y
+      | no y ↦ let z = q .parting .rest i j a b (omega arith) in aside (h i j a b (omega arith) g) (z .0) (z .1)
+    ];
+    rest = λ i j a b g. q .parting .rest i j a b (omega arith);
+  };
+  covers = q .covers;
+  opens = q .opens;
+  doors = q .doors;
+}
+
+-- the lanes of source i that may be free are known before one is
+part-ways : {N : Net} {p o f x s w d : List ℕ} {i t : ℕ} → N .n ≤ 64 → i < N .m → i < 32 → t < 2 ^ N .n → PartedTo N p (i * 64) o f x s w d
+    → PartedTo N p (i * 64) o f x s (set w i t) d
+part-ways {w = w} {i = i} {t = t} hn hi hs l q = record {
+  longs = q .longs;
+  parting = q .parting;
+  covers = q .covers;
+  opens = record {
+    long = length-set w i t ∙ q .opens .long;
+    within = λ a ha. elim (ℕ-discrete a i) [
+      | yes z ↦ rw (z, own) l
+      | no z ↦ rw (getD-set-other w i a t 0 z) (q .opens .within a ha)
+    ];
+    has = λ a b ha hb o. elim (ℕ-discrete a i) [
+      | yes z ↦ absurd (omega (arith, q .parting .rest a b ha hb (omega arith) .0))
+      | no z ↦ rw (getD-set-other w i a t 0 z) (q .opens .has a b ha hb o)
+    ];
+  };
+  doors = q .doors;
+}
+  where
+    own : get (set w i t) i ≡ t
+    own = getD-set-same w i t 0 (omega (arith, q .opens .long))
+
+-- ---- the tight lanes of a source, bit by bit
+
+pub part-priced : {m n : ℕ} {c u : Table} {p : List ℕ} → PartReady (bare m n c u) p → PartReady (priced m n c) p
+part-priced r = record { sources = r .sources; terminals = r .terminals; costs = r .costs; high = r .high }
+
+pub tights-none : {c : Table} {p : List ℕ} {i : ℕ} → Tights c p i 0 0
+tights-none = record {
+  fits = omega arith;
+  tight = λ j e. absurd (omega (arith, bit-none j));
+  loose = λ j l e. absurd (omega arith);
+}
+
+module _ {c : Table} {p : List ℕ} {i k t : ℕ} (q : Tights c p i k t) where
+  low : bit t k ≡ 0
+  low = elim (ℕ-discrete (bit t k) 0) [
+    | yes z ↦ z
+    | no z ↦ absurd (omega (arith, bit-place k t k (q .fits) (omega (arith, bit-most t k))))
+  ]
+
+  pub tights-more : c i k + get p i ≡ get p (32 + k) → Tights c p i (k + 1) (bitOr t (2 ^ k))
+  tights-more e = record {
+    fits = or-lt (k + 1) t (2 ^ k) (omega (arith, q .fits, pow-mono {i = k} {j = k + 1} (omega arith))) (pow-lt {i = k} {j = k + 1} (omega arith));
+    tight = λ j h. elim (ℕ-discrete j k) [
+      | yes z ↦ rw z e
+      | no z ↦ q .tight j (omega (arith, bit-or t (2 ^ k) j, bit-power k j z, h, bit-most t j))
+    ];
+    loose = λ j l h. elim (ℕ-discrete j k) [
+      | yes z ↦ absurd (omega (arith, bit-or t (2 ^ k) j, ap (λ v. bit (2 ^ k) v) z, bit-own k))
+      | no z ↦ q .loose j (omega arith) (omega (arith, bit-or t (2 ^ k) j))
+    ];
+  }
+
+  pub tights-same : ¬ (c i k + get p i ≡ get p (32 + k)) → Tights c p i (k + 1) t
+  tights-same e = record {
+    fits = omega (arith, q .fits, pow-mono {i = k} {j = k + 1} (omega arith));
+    tight = q .tight;
+    loose = λ j l h. elim (ℕ-discrete j k) [
+      | yes z ↦ rw z e
+      | no z ↦ q .loose j (omega arith) h
+    ];
+  }
+
+-- those left in rest are to be freed
+pub record Freeing (N : Net) (p : List ℕ) (i : ℕ) (o₀ x₀ o f x s w d : List ℕ) (all rest : ℕ) : Type 0 where
+  pub hi : ℕ
+  pub most : hi ≤ 64
+  pub fits : rest < 2 ^ 64
+  pub past : Left all rest hi
+  pub parted : PartedTo N p (i * 64 + hi) o f x s w d
+  pub kept : Kept o₀ x₀ o x
+  pub noted : get w i ≡ all
+
+module _ {N : Net} {p : List ℕ} {i all : ℕ} (small : N .n ≤ 64) (few : N .m ≤ 32) (ha : i < N .m) (t : Tights (N .c) p i (N .n) all) where
+  pub free-start : {o f x s w d : List ℕ} → PartedTo N p (i * 64) o f x s w d → Freeing N p i o x o f x s (set w i all) d all all
+  free-start {w = w} q = record {
+    hi = 0;
+    most = omega arith;
+    fits = omega (arith, t .fits, pow-mono {i = N .n} {j = 64} small);
+    past = left-start;
+    parted = part-skip (part-ways small ha (omega arith) (t .fits) q) (λ a b c d l. omega arith) (omega arith);
+    kept = kept-none;
+    noted = getD-set-same w i all 0 (omega (arith, q .opens .long));
+  }
+
+  module _ {o₀ x₀ o f x s w d : List ℕ} {rest : ℕ} (q : Freeing N p i o₀ x₀ o f x s w d all rest) where
+    pub free-end : rest ≤ 0 → PartedTo N p (i * 64 + 64) o f x s w d
+    free-end e = part-over (q .parted) (λ a b c d l g. lane a b c d (omega arith) (omega arith)) (omega (arith, q .most))
+      where
+        lane : (a b : ℕ) → a < N .m → b < N .n → a ≡ i → q .hi ≤ b → ¬ TightLane N p a b
+        lane a b c d z l = rw z (t .loose b d (left-end (q .past) e b l))
+
+    module _ (g : 0 < rest) where
+      abbrev j : ℕ
+      j = trailingZeros 64 rest
+
+      set-bit : bit all j ≡ 1
+      set-bit = left-set 64 (q .past) g (q .fits)
+
+      pub free-at : ReachAt (N .m) (N .n) i (trailingZeros 64 rest)
+      free-at = record { sources = few; terminals = small; source = ha; terminal = bit-place (N .n) all j (t .fits) set-bit }
+
+      here : PartedTo N p (i * 64 + j) o f x s w d
+      here = part-over (q .parted) (λ a b c d y v. lane a b c d (omega (arith, q .most, free-at .terminal)) (omega (arith, q .most, free-at .terminal)) (omega (arith, q .most, free-at .terminal))) (omega (arith, left-low 64 (q .past) g (q .fits)))
+        where
+          lane : (a b : ℕ) → a < N .m → b < N .n → a ≡ i → q .hi ≤ b → b < j → ¬ TightLane N p a b
+          lane a b c d z y u = rw z (t .loose b d (left-none 64 (q .past) g (q .fits) b y u))
+
+      pub free-clear : Clear i (trailingZeros 64 rest) o f x
+      free-clear = clear-at small ha (free-at .terminal) here
+
+      pub free-next : {o' f' x' s' d' : List ℕ} → LaneFreed (N .u) i (trailingZeros 64 rest) o f x o' f' x' → Covers (N .m) (N .n) x' s'
+          → Doors (N .m) (N .n) f' d' → Freeing N p i o₀ x₀ o' f' x' s' w d' all (bitAnd rest (rest - 1))
+      free-next e c y = record {
+        hi = j + 1;
+        most = omega (arith, free-at .terminal);
+        fits = omega (arith, and-le-l rest (rest - 1), q .fits);
+        past = left-next 64 (q .past) g (q .fits);
+        parted = part-next small ha (free-at .terminal) here (t .tight j set-bit) (rw (q .noted) set-bit) e c y;
+        kept = kept-both (q .kept) (e .kept);
+        noted = q .noted;
+      }
 
 -- ---- settled, lane by lane
 

@@ -2,10 +2,11 @@
 use mathlib.Core.Path.{_≡_, refl, sym, ap, _∙_}
 use mathlib.Core.Logic.{_≢_}
 use mathlib.Core.List.{List, []}
-use Prim.Native.Nat.{ℕ, zero, suc, _+_, _-_, _*_, _≤_, _<_}
+use Prim.Native.Nat.{ℕ, zero, suc, _+_, _-_, _*_, _^_, _≤_, _<_}
 use native.Mathlib.Decide.{ℕ-discrete, decLt}
 use native.Mathlib.Omega.{arith}
 use lib.ListN.{length, set, length-set, replicate, length-replicate, getD-replicate}
+use lib.Bits.{bitAnd}
 use lib.Seq.{getD-set-same, getD-set-other}
 use Rattle.transport.specs.Sum.{sum}
 use Rattle.transport.specs.Plan.{Table, row, col, Under}
@@ -20,7 +21,7 @@ use Rattle.augment.specs.inner.Send.{SendReady}
 use Rattle.augment.specs.inner.LaneMarks.{Trail, Marks}
 use Rattle.augment.specs.inner.PathWalk.{Walkable, Walked, Walking}
 use Rattle.augment.specs.inner.PathMeasure.{Route, Measured}
-use Rattle.reachability.specs.inner.Reachability.{level, ReachAt, Trodden}
+use Rattle.reachability.specs.inner.Reachability.{Opens, Known, Dropped, level, ReachAt, Trodden}
 use Rattle.canonical.specs.inner.Canonize.{FreeReady, Followed, Rerouting, Rerouted, Doors, Resent, LaneSettled}
 use Rattle.transport.proofs.Sums.{sum-mono}
 use Rattle.transport.proofs.CellChange.{Put, row-put, row-put-off, col-put, col-put-off}
@@ -31,6 +32,7 @@ use Rattle.augment.proofs.CellStores.{cells-put}
 use Rattle.augment.proofs.PathMeasure.{route}
 use Rattle.augment.proofs.Delivery.{push-ready, mark-ready, pushed}
 use Rattle.augment.proofs.LaneMarks.{trail-wide, cover-walk}
+use Rattle.reachability.proofs.Reachability.{cover-drop, no-start}
 use Rattle.canonical.proofs.ClosedLane.{closed-least}
 
 -- f is no more than g but at i
@@ -226,6 +228,10 @@ module _ {m n i j : ℕ} {f x : List ℕ} (r : FreeReady m n i j f x) (shut : ce
         | no e ↦ omega (arith, col-spot-off m left i j l (cells x') e, d .rerouting .cols l h, pulse-off left j l (λ z. e (sym z)))
       ]
 
+  -- no search is needed: source i has no free lane to begin with
+  pub stays-row : {amount : ℕ} {w : List ℕ} {t : ℕ} → Known m n i j x t → Opens m n f w → bitAnd (get w i) (t - 2 ^ j) ≡ 0 → Resent m n i j amount f x x amount
+  stays-row k o e = resent (record { rerouting = reroute-start r; none = λ h. no-start (r .sources) (r .source) o k shut e })
+
 -- ---- the lane
 
 -- fewer drums: what served still does
@@ -315,8 +321,8 @@ module _ {m n i j : ℕ} {f x : List ℕ} (r : FreeReady m n i j f x) (lf : leng
     | no z ↦ omega (arith, x-off (a * 64 + b) z)
   ]
 
-  pub out-covers : {s : List ℕ} → Covers m n x s → Covers m n x₀ s
-  out-covers c = cover-under c out-under
+  pub out-dropped : {s s' : List ℕ} → Covers m n x s → Dropped i j s s' → Covers m n (set x (i * 64 + j) 0) s'
+  out-dropped c d = cover-drop (r .sources) (r .source) (r .terminal) (cover-under c out-under) (omega (arith, x-own)) (r .terminals) d
 
   pub out-shut : cells f₀ i j ≡ 0
   out-shut = f-own

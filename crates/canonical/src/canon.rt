@@ -6,49 +6,55 @@ ghost use lib.ListN.{getD, length};
 ghost use Rattle.residual.specs.inner.Cells.{cells};
 ghost use Rattle.residual.specs.inner.Network.{net};
 ghost use Rattle.residual.specs.inner.LanesInUse.{Covers};
-ghost use Rattle.reachability.specs.inner.Reachability.{Opens, Supplied, Known, Trodden};
+ghost use Rattle.reachability.specs.inner.Reachability.{Opens, Supplied, Known, ReachAt, Trodden};
 ghost use Rattle.canonical.specs.inner.Canonize.{FreeReady, Followed, Rerouted, Doors, Resent, LaneSettled, CanonReady, bare, Kept};
-ghost use Rattle.canonical.specs.inner.Canonize.{PartReady, Clear, LaneParted, PartedTo, Open, Onward, Canonized};
+ghost use Rattle.canonical.specs.inner.Canonize.{priced, Tights, PartReady, Clear, LaneFreed, PartedTo, Open, Onward, Canonized};
 use augment::send::measure;
 use augment::send::push;
 use augment::send::serve;
+use reachability::reach::drop_source;
 use reachability::reach::reach;
 
-// A tight lane is free, with its ceiling and its drums, and noted with its source and its terminal; what another lane carries stays in the plan,
-// set aside.
-fn part_lane(
+// The tight lanes of source i, a bit for each.
+fn tight_lanes(m: usize, n: usize, i: usize, cost: &[u32; 2048], pot: &[u32; 96]) -> u64
+    requires { ⌜ i < m ⌝ }
+    requires { ⌜ PartReady (priced m n (cells (now cost))) (now pot) ⌝ }
+    ensures { λ r. ⌜ Tights (cells (now (cost .entry))) (now (pot .entry)) i n r ⌝ }
+{
+    let own = pot[i];
+    let mut all: u64 = 0;
+    for j in 0..n {
+        if cost[i * 64 + j] + own == pot[32 + j] {
+            all = all | (1 << j);
+        }
+    }
+    all
+}
+
+// Lane (i, j) is free, with its ceiling and its drums, and noted with its terminal.
+fn free_lane(
     m: usize,
     n: usize,
     i: usize,
     j: usize,
-    cost: &[u32; 2048],
     cap: &[u32; 2048],
-    pot: &[u32; 96],
     plan: &mut [u32; 2048],
     free: &mut [u32; 2048],
     x: &mut [u32; 2048],
     serves: &mut [u32; 64],
-    ways: &mut [u64; 32],
     doors: &mut [u32; 64],
 )
-    requires { ⌜ (i < m) × (j < n) ⌝ }
-    requires { ⌜ PartReady (bare m n (cells (now cost)) (cells (now cap))) (now pot) ⌝ }
+    requires { ⌜ ReachAt m n i j ⌝ }
     requires { ⌜ Clear i j (now plan) (now free) (now x) ⌝ }
     requires { ⌜ Covers m n (now x) (now serves) ⌝ }
-    requires { ⌜ Opens m n (now free) (now ways) ⌝ }
     requires { ⌜ Doors m n (now free) (now doors) ⌝ }
-    ensures { λ _. ⌜ LaneParted (bare m n (cells (now (cost .entry))) (cells (now (cap .entry)))) (now (pot .entry)) i j (now (plan .entry))
-        (now (free .entry)) (now (x .entry)) (now (plan .exit)) (now (free .exit)) (now (x .exit)) ⌝ }
+    ensures { λ _. ⌜ LaneFreed (cells (now (cap .entry))) i j (now (plan .entry)) (now (free .entry)) (now (x .entry)) (now (plan .exit))
+        (now (free .exit)) (now (x .exit)) ⌝ }
     ensures { λ _. ⌜ Covers m n (now (x .exit)) (now (serves .exit)) ⌝ }
-    ensures { λ _. ⌜ Opens m n (now (free .exit)) (now (ways .exit)) ⌝ }
     ensures { λ _. ⌜ Doors m n (now (free .exit)) (now (doors .exit)) ⌝ }
 {
     let k = i * 64 + j;
-    if cost[k] + pot[i] != pot[32 + j] {
-        return;
-    }
     free[k] = cap[k];
-    ways[i] = ways[i] | (1 << j);
     doors[j] = doors[j] | (1 << i);
     let amount = plan[k];
     if 0 < amount {
@@ -58,7 +64,7 @@ fn part_lane(
     }
 }
 
-// The lanes of source i are parted.
+// The lanes of source i are parted: a tight one is free; what another carries stays in the plan, set aside.
 fn part_row(
     m: usize,
     n: usize,
@@ -81,22 +87,13 @@ fn part_row(
         (now (plan .exit)) (now (free .exit)) (now (x .exit)) (now (serves .exit)) (now (ways .exit)) (now (doors .exit)) ⌝ }
     ensures { λ _. ⌜ Kept (now (plan .entry)) (now (x .entry)) (now (plan .exit)) (now (x .exit)) ⌝ }
 {
-    for j in 0..n {
-        part_lane(
-            m,
-            n,
-            i,
-            j,
-            cost,
-            cap,
-            pot,
-            plan,
-            free,
-            x,
-            serves,
-            ways,
-            doors,
-        );
+    let all = tight_lanes(m, n, i, cost, pot);
+    ways[i] = all;
+    let mut rest = all;
+    while 0 < rest {
+        let j = u64::trailing_zeros(rest) as usize;
+        free_lane(m, n, i, j, cap, plan, free, x, serves, doors);
+        rest = rest & (rest - 1);
     }
 }
 
@@ -184,7 +181,8 @@ fn reroute(
     left
 }
 
-// Sends amount round the closed lane (i, j), as far as it can go; what is left. No search is made where no lane to terminal j is free.
+// Sends amount round the closed lane (i, j), as far as it can go; what is left. No search is made where no lane to terminal j is free, or where
+// source i has no free lane to another terminal that a source after i may serve.
 fn resend(
     m: usize,
     n: usize,
@@ -209,6 +207,9 @@ fn resend(
     ensures { λ r. ⌜ Covers m n (now (x .exit)) (now (serves .exit)) ⌝ }
 {
     if doors[j] == 0 {
+        return amount;
+    }
+    if ways[i] & (*supplied - (1 << j)) == 0 {
         return amount;
     }
     reroute(m, n, ways, free, i, j, amount, x, supplied, serves)
@@ -243,6 +244,7 @@ fn settle_lane(
         return;
     }
     x[k] = 0;
+    drop_source(i, j, serves);
     *supplied = *supplied | (1 << j);
     let left = resend(m, n, ways, free, i, j, amount, x, supplied, serves, doors);
     aside[k] = aside[k] + left;

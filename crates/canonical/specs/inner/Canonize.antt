@@ -3,7 +3,7 @@
 use mathlib.Core.Path.{_≡_}
 use mathlib.Core.Logic.{_≢_}
 use mathlib.Core.List.{List}
-use Prim.Native.Nat.{ℕ, _+_, _*_, _≤_, _<_}
+use Prim.Native.Nat.{ℕ, _+_, _*_, _^_, _≤_, _<_}
 use lib.ListN.{length}
 use Rattle.transport.specs.Plan.{Table, row, col, freight, Under}
 use Rattle.transport.specs.inner.Slackness.{Slack}
@@ -157,6 +157,10 @@ lanes m n c u y = record { m = m; n = n; c = c; u = u; x = y }
 abbrev pub bare : ℕ → ℕ → Table → Table → Net
 bare m n c u = lanes m n c u (λ i j. 0)
 
+-- their unit costs alone
+abbrev pub priced : ℕ → ℕ → Table → Net
+priced m n c = bare m n c (λ i j. 0)
+
 -- sizes, unit costs and potentials that the engine admits
 pub record PartReady (N : Net) (p : List ℕ) : Type 0 where
   pub sources : N .m ≤ 32
@@ -174,14 +178,21 @@ pub record Clear (i j : ℕ) (o f x : List ℕ) : Type 0 where
   pub free-f : cells f i j ≡ 0
   pub free-x : cells x i j ≡ 0
 
--- lane (i, j) is parted
-pub record LaneParted (N : Net) (p : List ℕ) (i j : ℕ) (o f x o' f' x' : List ℕ) : Type 0 where
+-- lane (i, j) is free, with its ceiling u and its drums, of which none is set aside any longer
+pub record LaneFreed (u : Table) (i j : ℕ) (o f x o' f' x' : List ℕ) : Type 0 where
   pub longs : Longs o' f' x'
-  pub own : PartedAt N p (cells o') (cells f') (cells x') i j
+  pub none : cells o' i j ≡ 0
+  pub ceiling : cells f' i j ≡ u i j
   pub kept : Kept o x o' x'
   pub off-o : (k : ℕ) → k ≢ i * 64 + j → get o' k ≡ get o k
   pub off-f : (k : ℕ) → k ≢ i * 64 + j → get f' k ≡ get f k
   pub off-x : (k : ℕ) → k ≢ i * 64 + j → get x' k ≡ get x k
+
+-- of the first k lanes of source i the tight ones have their bits set in t
+pub record Tights (c : Table) (p : List ℕ) (i k t : ℕ) : Type 0 where
+  pub fits : t < 2 ^ k
+  pub tight : (j : ℕ) → bit t j ≡ 1 → c i j + get p i ≡ get p (32 + j)
+  pub loose : (j : ℕ) → j < k → bit t j ≡ 0 → ¬ (c i j + get p i ≡ get p (32 + j))
 
 -- the lanes before place k are, x is covered, and the free lanes are noted
 pub record PartedTo (N : Net) (p : List ℕ) (k : ℕ) (o f x s w d : List ℕ) : Type 0 where

@@ -4,7 +4,7 @@ use native.Mathlib.Omega.{arith}
 use Rattle.reachability.proofs.MaskBits.{power-fits-long}
 use Rattle.canonical.proofs.FreeLanes.{supplied-more, supplied-under}
 use Rattle.canonical.proofs.LaneStores.{free-ready, opens-closed, door-closed, open-next, longs-closed, longs-settled}
-use Rattle.canonical.proofs.Rerouting.{lane-empty, out-ready, out-shut, out-under, out-covers, lane-settled}
+use Rattle.canonical.proofs.Rerouting.{lane-empty, out-ready, out-shut, out-under, out-dropped, lane-settled}
 use borrow.Author.Needs.{needs}
 use Rattle.canonical.proofs.canon.settle_lane.Statement.{statement}
 use Rattle.canonical.proofs.canon.settle_lane.Tie as tie
@@ -61,15 +61,19 @@ mul-x c = search needs
 element-write-x : tie.Need-element-write-x
 element-write-x c = search needs
 
+drop-source-requires : tie.Need-drop-source-requires
+drop-source-requires c κs = search needs
+
 short : (s : tie.Start) → s .args .j < 64
 short s = omega (arith, s .pre .0 .1, s .pre .1 .1 .terminals)
 
 shl-supplied : tie.Need-shl-supplied
-shl-supplied c = short (c .before .before .before .before)
+shl-supplied c = short (c .before .before .before .before .before .before)
 
 resend-requires : tie.Need-resend-requires
 resend-requires c κs =
-    let s = c .before .before .before .before .before .before .before .before .before in
+    let at-drop = c .before .before .before .before .before .before in
+    let s = at-drop .before .before .before .before .before in
     let q = s .pre .1 .1 in let r = free-ready (s .pre .0 .0) (s .pre .0 .1) q in let l = q .longs .long-f in
     rw (power-fits-long (s .args .j) (short s)) (
       out-ready r l,
@@ -77,7 +81,7 @@ resend-requires c κs =
         out-shut r l,
         (
           supplied-more (s .args .j) (short s) (supplied-under (s .pre .1 .0) (out-under r l)),
-          (opens-closed (s .args .i * 64 + s .args .j) (q .opens), (out-covers r l (q .covers), door-closed (s .pre .0 .0) (s .pre .0 .1) q)),
+          (opens-closed (s .args .i * 64 + s .args .j) (q .opens), (out-dropped r l (q .covers) (at-drop .drop-source .ensures), door-closed (s .pre .0 .0) (s .pre .0 .1) q)),
         ),
       ),
     )
@@ -90,7 +94,7 @@ element-copy-out-aside c = search needs
 
 add-aside : tie.Need-add-aside
 add-aside c =
-    let s = c .before .before .before .before .before .before .before .before .before .before .before in
+    let s = c .before .before .before .before .before .before .before .before .before .before .before .before .before in
     let q = s .pre .1 .1 in
     omega (arith, c .before .resend .ensures .0 .most, q .under (s .args .i) (s .args .j) (s .pre .0 .0) (s .pre .0 .1), q .ceilings (s .args .i) (s .args .j) (s .pre .0 .0) (s .pre .0 .1))
 
@@ -102,7 +106,7 @@ element-write-aside c = search needs
 
 returns-2 : tie.Need-returns-2
 returns-2 c =
-    let s = c .before .before .before .before .before .before .before .before .before .before .before in
+    let s = c .before .before .before .before .before .before .before .before .before .before .before .before .before in
     let q = s .pre .1 .1 in let l = q .longs in let w = c .before .resend .ensures in
     let d = lane-settled (free-ready (s .pre .0 .0) (s .pre .0 .1) q) (l .long-f) (l .long-o) (w .0) in
     (d, (open-next (s .pre .0 .0) (s .pre .0 .1) q d (longs-settled (s .args .i * 64 + s .args .j) _ l (w .0 .long-x)) (w .1 .1) (door-closed (s .pre .0 .0) (s .pre .0 .1) q), w .1 .0))
@@ -127,6 +131,7 @@ settle-lane-spec =
     returns
     mul-x
     element-write-x
+    drop-source-requires
     shl-supplied
     resend-requires
     mul-aside
