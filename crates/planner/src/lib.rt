@@ -3,6 +3,8 @@ ghost use lib.ListN.{length};
 ghost use Rattle.problem.specs.Case.{lent};
 ghost use Rattle.planner.specs.Answer.{outcome, slices, Answered};
 use crate::solve::solve;
+use size::limits::Size;
+use split_range::trial::Trial;
 use validation::tests::Made;
 use validation::tests::Verdict;
 use validation::tests::form_test;
@@ -25,9 +27,15 @@ pub enum Answer {
     },
 }
 
-// Plans a lent case, or refuses it by a number and a place; in step 1 by the simplex where quick says so. The answer is the same.
+// The answer, and whether a plan of the simplex passed the check in step 1.
+pub struct Tried {
+    pub answer: Answer,
+    pub passed: bool,
+}
+
+// Plans a lent case, or refuses it by a number and a place. However step 1 is tried, the answer is the same.
 pub fn plan_by(
-    quick: bool,
+    trial: Trial,
     m: usize,
     n: usize,
     run1: u64,
@@ -40,11 +48,11 @@ pub fn plan_by(
     plan: &mut [u64],
     splits: &mut [u64],
     freights: &mut [i64],
-) -> Answer
+) -> Tried
     ensures { λ r. ⌜ Answered
         (lent m n run1 run2 (now (costs .entry)) (now (supplies .entry)) (now (demands .entry)) (now (ceilings .entry)) (now (table .entry))
         (length (now (plan .entry))) (length (now (splits .entry))) (length (now (freights .entry))))
-        (outcome r) (slices (now (plan .entry)) (now (splits .entry)) (now (freights .entry)))
+        (outcome (r .answer)) (slices (now (plan .entry)) (now (splits .entry)) (now (freights .entry)))
         (slices (now (plan .exit)) (now (splits .exit)) (now (freights .exit))) ⌝ }
 {
     if let Verdict::Refused(number, place) = form_test(
@@ -58,14 +66,22 @@ pub fn plan_by(
         ceilings,
         table,
     ) {
-        return Answer::Refused { number, place };
+        return Tried {
+            answer: Answer::Refused { number, place },
+            passed: false,
+        };
     }
     match made_of(run1, run2, supplies, demands) {
-        Made::Unbalanced(number) => Answer::Refused { number, place: 0 },
+        Made::Unbalanced(number) => Tried {
+            answer: Answer::Refused { number, place: 0 },
+            passed: false,
+        },
         Made::Drums(made) => solve(
-            quick,
-            m,
-            n,
+            trial,
+            Size {
+                sources: m,
+                terminals: n,
+            },
             run1,
             run2,
             costs,
@@ -102,8 +118,13 @@ pub fn plan(
         (outcome r) (slices (now (plan .entry)) (now (splits .entry)) (now (freights .entry)))
         (slices (now (plan .exit)) (now (splits .exit)) (now (freights .exit))) ⌝ }
 {
-    plan_by(
-        true,
+    let usual = Trial {
+        simplex: true,
+        lane: 2048,
+        node: 128,
+    };
+    let tried = plan_by(
+        usual,
         m,
         n,
         run1,
@@ -116,5 +137,6 @@ pub fn plan(
         plan,
         splits,
         freights,
-    )
+    );
+    tried.answer
 }

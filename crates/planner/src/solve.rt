@@ -5,12 +5,15 @@ ghost use Rattle.planner.specs.inner.Ready.{OnBalance};
 ghost use Rattle.planner.specs.Answer.{outcome, slices, Answered};
 ghost use Rattle.planner.specs.inner.CaseCurve.{Climbed};
 use crate::Answer;
+use crate::Tried;
 use engine_arrays::work::copy_rows;
 use engine_arrays::work::gather_rows;
 use engine_arrays::work::raise_rows;
 use engine_arrays::work::supplied;
 use engine_arrays::work::wanted;
+use size::limits::Size;
 use split_range::begin::begin;
+use split_range::trial::Trial;
 use sweep::curve::sweep;
 use sweep::freight::lowered;
 use validation::tests::Verdict;
@@ -18,11 +21,10 @@ use validation::tests::splits_test;
 use validation::tests::sum_of;
 
 // Prepares the working arrays with raised costs, has the engine find the first and the last split, tests 27, 9 and 11, has the engine sweep
-// the splits, copies the plan out and lowers total and freight. Whether step 1 tries the simplex does not show in the answer.
+// the splits, copies the plan out and lowers total and freight. How step 1 is tried does not show in the answer.
 pub fn solve(
-    quick: bool,
-    m: usize,
-    n: usize,
+    trial: Trial,
+    size: Size,
     run1: u64,
     run2: u64,
     costs: &[i64],
@@ -34,21 +36,23 @@ pub fn solve(
     plan: &mut [u64],
     splits: &mut [u64],
     freights: &mut [i64],
-) -> Answer
+) -> Tried
     requires { ⌜ OnBalance
-        (lent m n run1 run2 (now costs) (now supplies) (now demands) (now ceilings) (now table) (length (now plan)) (length (now splits))
+        (lent (size .sources) (size .terminals) run1 run2 (now costs) (now supplies) (now demands) (now ceilings) (now table) (length (now plan)) (length (now splits))
         (length (now freights)))
         made ⌝ }
     ensures { λ r. ⌜ Answered
-        (lent m n run1 run2 (now (costs .entry)) (now (supplies .entry)) (now (demands .entry)) (now (ceilings .entry)) (now (table .entry))
+        (lent (size .sources) (size .terminals) run1 run2 (now (costs .entry)) (now (supplies .entry)) (now (demands .entry)) (now (ceilings .entry)) (now (table .entry))
         (length (now (plan .entry))) (length (now (splits .entry))) (length (now (freights .entry))))
-        (outcome r) (slices (now (plan .entry)) (now (splits .entry)) (now (freights .entry)))
+        (outcome (r .answer)) (slices (now (plan .entry)) (now (splits .entry)) (now (freights .entry)))
         (slices (now (plan .exit)) (now (splits .exit)) (now (freights .exit))) ⌝ }
     ensures { λ r. ⌜ Climbed
-        (lent m n run1 run2 (now (costs .entry)) (now (supplies .entry)) (now (demands .entry)) (now (ceilings .entry)) (now (table .entry))
+        (lent (size .sources) (size .terminals) run1 run2 (now (costs .entry)) (now (supplies .entry)) (now (demands .entry)) (now (ceilings .entry)) (now (table .entry))
         (length (now (plan .entry))) (length (now (splits .entry))) (length (now (freights .entry))))
-        (outcome r) ⌝ }
+        (outcome (r .answer)) ⌝ }
 {
+    let m = size.sources;
+    let n = size.terminals;
     let mut cost = [0u32; 2048];
     raise_rows(m, n, costs, &mut cost);
     let mut cap = [0u32; 2048];
@@ -64,9 +68,8 @@ pub fn solve(
     let mut sources_below = [0u32; 128];
     let mut terminals_below = [0u64; 128];
     let range = begin(
-        quick,
-        m,
-        n,
+        trial,
+        size,
         &cost,
         &cap,
         &amounts,
@@ -81,10 +84,14 @@ pub fn solve(
         &mut sources_below,
         &mut terminals_below,
     );
+    let passed = range.passed;
     if !range.found {
-        return Answer::Refused {
-            number: 27,
-            place: 0,
+        return Tried {
+            answer: Answer::Refused {
+                number: 27,
+                place: 0,
+            },
+            passed,
         };
     }
     let lo = range.lo;
@@ -98,7 +105,10 @@ pub fn solve(
         splits.len(),
         freights.len(),
     ) {
-        return Answer::Refused { number, place };
+        return Tried {
+            answer: Answer::Refused { number, place },
+            passed,
+        };
     }
     let mut kept = [0u32; 2048];
     let best = sweep(
@@ -125,10 +135,13 @@ pub fn solve(
     let stops = best.stops;
     let total = lowered(best.total, added);
     let freight = lowered(best.freight, added);
-    Answer::Planned {
-        split: best.split,
-        total,
-        freight,
-        stops,
+    Tried {
+        answer: Answer::Planned {
+            split: best.split,
+            total,
+            freight,
+            stops,
+        },
+        passed,
     }
 }

@@ -9,10 +9,14 @@ ghost use Rattle.slackcheck.specs.inner.Checked.{CheckReady};
 ghost use Rattle.firstsplit.specs.inner.FirstPlan.{FirstPlan};
 ghost use Rattle.split_range.specs.inner.QuickPlan.{Quick};
 ghost use Rattle.split_range.specs.inner.Range.{BeginReady};
+use super::trial::Trial;
+use super::trial::spoil_plan;
+use super::trial::spoil_tree;
 use bounded::solve::solve as solve_within;
 use firstsplit::base::First;
 use firstsplit::base::first_plan;
 use simplex::solve::solve;
+use size::limits::Size;
 use slackcheck::check::good;
 use slackcheck::serving::all_servers;
 
@@ -32,8 +36,7 @@ fn first_split(run0: u32, supply1: u32, made: u32) -> u32
 // The plan of the simplex at a split with its tree, for whoever checks it: of the one that knows no ceilings, where none is below a demand.
 fn simplex_at(
     wide: bool,
-    m: usize,
-    n: usize,
+    size: Size,
     cost: &[u32; 2048],
     cap: &[u32; 2048],
     supply: &[u32; 32],
@@ -54,8 +57,8 @@ fn simplex_at(
     amounts[1] = made - split;
     if wide {
         solve(
-            m,
-            n,
+            size.sources,
+            size.terminals,
             cost,
             &amounts,
             demand,
@@ -67,8 +70,8 @@ fn simplex_at(
         );
     } else {
         solve_within(
-            m,
-            n,
+            size.sources,
+            size.terminals,
             cost,
             cap,
             &amounts,
@@ -84,9 +87,9 @@ fn simplex_at(
 
 // A cheapest plan at the first split within the supplies and the least runs, where the simplex finds one that passes the check.
 fn quick_plan(
+    trial: Trial,
     wide: bool,
-    m: usize,
-    n: usize,
+    size: Size,
     cost: &[u32; 2048],
     cap: &[u32; 2048],
     supply: &[u32; 32],
@@ -100,16 +103,15 @@ fn quick_plan(
     sources_below: &mut [u32; 128],
     terminals_below: &mut [u64; 128],
 ) -> First
-    requires { ⌜ CheckReady m n (cells (now cost)) ⌝ }
+    requires { ⌜ CheckReady (size .sources) (size .terminals) (cells (now cost)) ⌝ }
     requires { ⌜ run0 ≤ made ⌝ }
-    ensures { λ r. ⌜ Quick m n (now (cost .entry)) (now (cap .entry)) (now (x .entry)) (now (supply .entry)) (now (demand .entry)) run0 made
+    ensures { λ r. ⌜ Quick (size .sources) (size .terminals) (now (cost .entry)) (now (cap .entry)) (now (x .entry)) (now (supply .entry)) (now (demand .entry)) run0 made
         (now (pot .exit)) (now (x .exit)) (now (serves .exit)) (r .found) (r .split) ⌝ }
 {
     let split = first_split(run0, supply[1], made);
     simplex_at(
         wide,
-        m,
-        n,
+        size,
         cost,
         cap,
         supply,
@@ -122,6 +124,10 @@ fn quick_plan(
         sources_below,
         terminals_below,
     );
+    spoil_plan(trial.lane, x);
+    spoil_tree(trial.node, parent);
+    let m = size.sources;
+    let n = size.terminals;
     if !good(m, n, split, made, supply, demand, cost, cap, x, pot) {
         return First {
             found: false,
@@ -136,10 +142,9 @@ fn quick_plan(
 // A cheapest plan at the first split that has one: by the simplex, where that is wanted and its plan passes the check; else by cheapest paths,
 // and there is no tree: no node is above plant 2. Any cheapest plan will do: the plan for everybody takes its place at the end.
 pub fn cheapest_first(
-    quick: bool,
+    trial: Trial,
     wide: bool,
-    m: usize,
-    n: usize,
+    size: Size,
     cost: &[u32; 2048],
     cap: &[u32; 2048],
     supply: &[u32; 32],
@@ -154,16 +159,16 @@ pub fn cheapest_first(
     sources_below: &mut [u32; 128],
     terminals_below: &mut [u64; 128],
 ) -> First
-    requires { ⌜ BeginReady m n (now cost) (now cap) (now supply) (now demand) run0 run1 made ⌝ }
-    ensures { λ r. ⌜ FirstPlan (net m n (now (cost .entry)) (now (cap .entry)) (now (x .entry))) (λ i. get (now (supply .entry)) i)
+    requires { ⌜ BeginReady (size .sources) (size .terminals) (now cost) (now cap) (now supply) (now demand) run0 run1 made ⌝ }
+    ensures { λ r. ⌜ FirstPlan (net (size .sources) (size .terminals) (now (cost .entry)) (now (cap .entry)) (now (x .entry))) (λ i. get (now (supply .entry)) i)
         (now (demand .entry)) run0 run1 made (now (pot .exit)) (now (x .exit)) (r .found) (r .split) ⌝ }
-    ensures { λ r. ⌜ Covers m n (now (x .exit)) (now (serves .exit)) ⌝ }
+    ensures { λ r. ⌜ Covers (size .sources) (size .terminals) (now (x .exit)) (now (serves .exit)) ⌝ }
 {
-    if quick {
+    if trial.simplex {
         let first = quick_plan(
+            trial,
             wide,
-            m,
-            n,
+            size,
             cost,
             cap,
             supply,
@@ -185,8 +190,8 @@ pub fn cheapest_first(
     *x = [0u32; 2048];
     *serves = [0u32; 64];
     first_plan(
-        m,
-        n,
+        size.sources,
+        size.terminals,
         cost,
         cap,
         supply,

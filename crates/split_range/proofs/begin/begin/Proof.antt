@@ -13,6 +13,9 @@ all-wide-requires c κs = search needs
 cheapest-first-requires : tie.Need-cheapest-first-requires
 cheapest-first-requires c κs = search needs
 
+element-copy-out-passed : tie.Need-element-copy-out-passed
+element-copy-out-passed c = search needs
+
 element-copy-out-smaller : tie.Need-element-copy-out-smaller
 element-copy-out-smaller c = search needs
 
@@ -24,14 +27,14 @@ smaller-requires c κs = search needs
 
 sub-last : tie.Need-sub-last
 sub-last c =
-    let at-cheapest-first = c .before .before .before in
+    let at-cheapest-first = c .before .before .before .before in
     let entry = at-cheapest-first .before .before .before .before .before .before .before .before in
     let f = rw (c .before .before .if1 .taken) at (at-cheapest-first .cheapest-first .ensures .0 .done) in omega (arith, split-within (entry .pre) f, c .smaller .ensures)
 
 last-requires : tie.Need-last-requires
 last-requires c κs =
     let at-if1 = c .before .before .before .before in
-    let at-cheapest-first = at-if1 .before in
+    let at-cheapest-first = at-if1 .before .before in
     let at-all-wide = at-cheapest-first .before .before .before .before .before .before .before in
     let entry = at-all-wide .before in
     let r = entry .pre in
@@ -53,7 +56,7 @@ returns : tie.Need-returns
 returns c =
     let at-smaller = c .before .before .before in
     let at-if1 = at-smaller .before .before in
-    let at-cheapest-first = at-if1 .before in
+    let at-cheapest-first = at-if1 .before .before in
     let entry = at-cheapest-first .before .before .before .before .before .before .before .before in
     let r = entry .pre in
     let f = rw (at-if1 .if1 .taken) at (at-cheapest-first .cheapest-first .ensures .0 .done) in
@@ -61,7 +64,9 @@ returns c =
 
 returns-2 : tie.Need-returns-2
 returns-2 c =
-    let r = c .before .before .before .before .before .before .before .before .before .pre in none-ranged r 0 0 (rw (c .if1 .left) at (c .before .cheapest-first .ensures .0 .done))
+    let at-cheapest-first = c .before .before in
+    let r = at-cheapest-first .before .before .before .before .before .before .before .before .pre in
+    none-ranged r 0 0 (rw (c .if1 .left) at (at-cheapest-first .cheapest-first .ensures .0 .done))
 
 pub begin-spec : {M : Type 1} → statement M
 begin-spec =
@@ -69,6 +74,7 @@ begin-spec =
     (tie.spec
     all-wide-requires
     cheapest-first-requires
+    element-copy-out-passed
     element-copy-out-smaller
     sub-smaller
     smaller-requires
