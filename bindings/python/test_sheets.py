@@ -190,6 +190,15 @@ class Files(Folder):
         self.assertEqual(self.read(LABELLED.replace(";", "\t").replace("Paris", "Paris; Nord")).case.terminals[0], "Paris; Nord")
         self.refused("tariff!D5 is empty", ("sep=;\n" + LABELLED).replace("Lyon;1;4;1", "Lyon;1;4"))
 
+    def test_names_in_utf_16(self):
+        """Names of which no byte is 0 are read in UTF-16 without its mark too."""
+        far = NAMED._replace(sources=["\u6771\u4eac\u5de5\u5834"] * 3, terminals=["\u5927\u962a\u5e02\u5834", "\u540d\u53e4\u5c4b"])
+        text = LABELLED
+        for one, other in zip(NAMED.sources + NAMED.terminals, far.sources + far.terminals):
+            text = text.replace(one, other)
+        for codec in ("utf-16-le", "utf-16-be", "utf-16", "utf-8"):
+            self.assertEqual(self.read(text.encode(codec)).case, far, codec)
+
     def test_no_text(self):
         """What is no text is named: NUL, an old workbook."""
         self.refused("t.csv holds a NUL character (byte 0) in line 3; no text has one", LABELLED.replace("5;3", "5\0;3"))

@@ -159,12 +159,13 @@ _SEPARATORS = {"\t": "tab", ";": "semicolon", ",": "comma"}
 
 
 def _without_mark(data: bytes) -> str:
-    """The encoding of a text without a byte order mark: UTF-16 where every other byte is 0, half of them at least and none of those between."""
+    """The encoding of a text without a byte order mark: UTF-16 where of every other byte a tenth at least is 0, and none of those between.
+    Letters that are not Latin have no 0."""
     head = data[:200]
     even, odd = head[::2].count(0), head[1::2].count(0)
-    if odd > 1 and not even and odd >= len(head) // 4:
+    if odd > 1 and not even and odd >= len(head) // 20:
         return "utf-16-le"
-    return "utf-16-be" if even > 1 and not odd and even >= len(head) // 4 else "utf-8"
+    return "utf-16-be" if even > 1 and not odd and even >= len(head) // 20 else "utf-8"
 
 
 def decoded(data: bytes, name: str, notes: Notes) -> str:
