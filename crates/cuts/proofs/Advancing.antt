@@ -10,7 +10,8 @@ use lib.Seq.{getD-set-same, getD-set-other}
 use Rattle.residual.specs.inner.Network.{get}
 use Rattle.residual.specs.inner.Bits.{bit}
 use Rattle.residual.specs.inner.LanesInUse.{Covers}
-use Rattle.cuts.specs.inner.Cut.{CutReady, Shifted}
+use Rattle.treepath.specs.inner.Follow.{FollowReady}
+use Rattle.cuts.specs.inner.Cut.{CutReady, Priced, Shifted}
 use Rattle.cuts.specs.inner.Advance.{Forgot, Advanced}
 use Rattle.cuts.proofs.PartBits.{bit-drop}
 
@@ -72,3 +73,8 @@ advance-next a b = record {
 pub advance-ready : {m n : ℕ} {cost table columns x s p s' p' : List ℕ} → CutReady m n table columns p → Advanced m n cost table columns x s p s' p'
     → CutReady m n table columns p'
 advance-ready r a = record { sources = r .sources; terminals = r .terminals; costs = r .costs; columns-most = r .columns-most; high = a .high; long = a .long }
+
+-- the tree's path can be walked
+pub follow-ready : {m n : ℕ} {cost table columns x s p s' p' : List ℕ} → CutReady m n table columns p → Priced m n cost
+    → Advanced m n cost table columns x s p s' p' → FollowReady m n cost p'
+follow-ready r q a = record { sources = r .sources; terminals = r .terminals; costs = q .costs; high = a .high; long = a .long }

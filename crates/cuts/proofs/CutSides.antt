@@ -34,18 +34,18 @@ source-lows-2 {out} {cost} r = record {
 pub fewer : {out k n : ℕ} {cost w : List ℕ} → k ≤ n → SourcesReady out n cost w → SourcesReady out k cost w
 fewer l r = record { few = r .few; costs = λ i j e h. r .costs i j e (omega arith); most = r .most }
 
-pub half-nearest : {out : ℕ} (cols : ℕ) {cost w acc : List ℕ} {from key : ℕ} → Lows out 0 64 0 cost w 0 acc → Low (bitAnd cols 4294967295) 32 acc w from 0 key
+pub half-nearest : {out : ℕ} (cols : ℕ) {cost w acc : List ℕ} {from key : ℕ} → Lows out 0 64 0 cost w 0 acc → Low (bitAnd cols 4294967295) 32 acc w from key
     → Nearest out (bitAnd cols 4294967295) (cells cost) w key
 half-nearest {out} cols {cost} {w} a b = record {
   each = λ i j hi hj o u.
       let s : 0 + i ≡ i = omega arith in
       let z : i * 64 + 0 + j ≡ i * 64 + j = omega arith in
       let l = bit-place 32 (bitAnd cols 4294967295) j (low-half-fits cols) u in
-      omega (arith, b .each j u (bit-none j), a .low i j o (bit-none i) l, ap (λ v. get cost v) z, ap (λ v. get w v) s);
+      omega (arith, b .each j u, a .low i j o (bit-none i) l, ap (λ v. get cost v) z, ap (λ v. get w v) s);
 }
 
 pub sources-nearest : {out cols : ℕ} {cost w acc : List ℕ} {key key' : ℕ} → Nearest out (bitAnd cols 4294967295) (cells cost) w key
-    → Lows out 0 64 32 cost w 0 acc → Low (cols / 2 ^ 32) 64 acc w key 0 key' → Nearest out cols (cells cost) w key'
+    → Lows out 0 64 32 cost w 0 acc → Low (cols / 2 ^ 32) 64 acc w key key' → Nearest out cols (cells cost) w key'
 sources-nearest {out} {cols} {cost} {w} {acc} {key} {key'} a c d = record {
   each = λ i j hi hj o u.
       let s : 0 + i ≡ i = omega arith in
@@ -57,7 +57,7 @@ sources-nearest {out} {cols} {cost} {w} {acc} {key} {key'} a c d = record {
             let t : 64 + (j - 32) ≡ 32 + j = omega arith in
             omega (
               arith,
-              d .each (j - 32) (high-half cols (j - 32) ∙ ap (λ v. has cols v) y ∙ u) (bit-none (j - 32)),
+              d .each (j - 32) (high-half cols (j - 32) ∙ ap (λ v. has cols v) y ∙ u),
               c .low i (j - 32) o (bit-none i) (omega arith),
               ap (λ v. get cost v) z,
               ap (λ v. get w v) s,
@@ -76,13 +76,13 @@ terminal-lows {cols = cols} h r = record {
   most = r .most;
 }
 
-pub terminals-nearest : {out cols : ℕ} {columns w acc : List ℕ} {from key : ℕ} → Lows cols 32 32 0 columns w 0 acc → Low out 0 acc w from 0 key
+pub terminals-nearest : {out cols : ℕ} {columns w acc : List ℕ} {from key : ℕ} → Lows cols 32 32 0 columns w 0 acc → Low out 0 acc w from key
     → Nearest out cols (byTerminal columns) w key
 terminals-nearest {columns = columns} {w} a b = record {
   each = λ i j hi hj o u.
       let s : 0 + i ≡ i = omega arith in
       let z : j * 32 + 0 + i ≡ j * 32 + i = omega arith in
-      omega (arith, b .each i o (bit-none i), a .low j i u (bit-none j) hi, ap (λ v. get columns v) z, ap (λ v. get w v) s);
+      omega (arith, b .each i o, a .low j i u (bit-none j) hi, ap (λ v. get columns v) z, ap (λ v. get w v) s);
 }
 
 -- ---- either

@@ -14,7 +14,8 @@ use Rattle.residual.specs.inner.Cells.{cells}
 use Rattle.residual.specs.inner.Network.{get}
 use Rattle.residual.specs.inner.Bits.{bit}
 use Rattle.residual.proofs.Bits.{bit-or, or-above, bit-most, bit-none, bit-place, low-set, rest-same, rest-other}
-use Rattle.cuts.specs.inner.Cut.{has, share, Others, ChangeReady, Changed, Shut, Gathered, Folded, Weighed, Lows, Low, Top, Bottom, LiftReady, Rose, Lifted, Nearer, OutTo, ExitTo}
+use Rattle.cuts.specs.inner.Cut.{has, share, Others, ChangeReady, Changed, Shut, Gathered, Folded, Weighed, Lows, Counted, LowTo}
+use Rattle.cuts.specs.inner.Cut.{Low, Top, Bottom, LiftReady, Rose, Lifted, Nearer, OutTo, ExitTo}
 use Rattle.cuts.proofs.PartBits.{apart, bit-and, rest-done, own-low, own-next}
 use Rattle.cuts.proofs.CutSlack.{share-in, share-out, share-most}
 
@@ -286,21 +287,21 @@ pub lows-end : {part at stride first : ℕ} {table w acc : List ℕ} {r : ℕ} �
 lows-end {part} {at} {stride} {first} {table} {w} {acc} {r} q h =
     let z : r ≡ 0 = omega arith in subst (λ (y : ℕ). Lows part at stride first table w y acc) z q
 
-pub low-start : {part at : ℕ} {low w : List ℕ} {from : ℕ} → Low part at low w from part from
-low-start = record { less = omega arith; each = λ b e z. absurd (omega arith) }
+pub low-start : {part at : ℕ} {low w : List ℕ} → LowTo part at low w 0 2000000000
+low-start = record { most = omega arith; each = λ b h. absurd (omega arith) }
 
-pub low-next : {part at : ℕ} {low w : List ℕ} {from r key key' : ℕ} → Low part at low w from r key → 0 < r → r < 2 ^ 64
-    → key' ≤ get low (trailingZeros 64 r) + get w (at + trailingZeros 64 r) → key' ≤ key → Low part at low w from (bitAnd r (r - 1)) key'
-low-next {r = r} q o h a b = record {
-  less = omega (arith, q .less);
-  each = λ k e z. elim (ℕ-discrete k (trailingZeros 64 r)) [
-    | yes y ↦ rw y a
-    | no y ↦ omega (arith, q .each k e (rest-done 64 o h k z y))
+pub low-next : {part at k key key' a : ℕ} {low w : List ℕ} → LowTo part at low w k key → Counted part k (get low k + get w (at + k)) a → key' ≤ a → key' ≤ key
+    → LowTo part at low w (k + 1) key'
+low-next {k = k} q c e f = record {
+  most = omega (arith, q .most);
+  each = λ b h z. elim (ℕ-discrete b k) [
+    | yes y ↦ rw y (omega (arith, c .inside (rw y at z)))
+    | no y ↦ omega (arith, q .each b (omega arith) z)
   ];
 }
 
-pub low-end : {part at : ℕ} {low w : List ℕ} {from r key : ℕ} → Low part at low w from r key → r ≤ 0 → Low part at low w from 0 key
-low-end {part} {at} {low} {w} {from} {r} {key} q h = let z : r ≡ 0 = omega arith in subst (λ (y : ℕ). Low part at low w from y key) z q
+pub low-end : {part at from key key' : ℕ} {low w : List ℕ} → part < 2 ^ 32 → LowTo part at low w 32 key → key' ≤ key → key' ≤ from → Low part at low w from key'
+low-end {part} h q e f = record { less = f; each = λ b z. omega (arith, q .each b (bit-place 32 part b h z) z) }
 
 pub top-next : {p : List ℕ} {k most : ℕ} → Top p k most → Top p (k + 1) (bitOr most (get p k))
 top-next {p} {k} {most} q = record {

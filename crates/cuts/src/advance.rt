@@ -1,19 +1,36 @@
-// Cuts until the path of the tree has drums on every lane that loses some and room on every lane that gains some, or the tree is given up. After a cut
-// that left the potentials as they were another tight lane is looked for first: it takes no cut. Nothing is asked of the tree.
+// Cuts until the path of the tree leads over open and tight arcs, or the tree is given up. After a cut that left the potentials as they were another tight
+// lane is looked for first: it takes no cut. Nothing is asked of the tree.
+ghost use mathlib.Core.Path.{_≡_};
 ghost use Prim.Native.Nat.{_<_};
+ghost use lib.ListN.{length};
+ghost use Rattle.residual.specs.inner.Network.{net};
+ghost use Rattle.treepath.specs.inner.Follow.{Followed};
 ghost use Rattle.cuts.specs.inner.Cut.{WeightsReady, CutReady, Priced, Shifted};
 ghost use Rattle.cuts.specs.inner.Advance.{Forgot, Advanced, AdvancedUnder};
 ghost use Rattle.cuts.specs.inner.Tables.{Tables};
 use super::cut::cut;
+use size::limits::Size;
 use spanningtree::NONE;
 use spanningtree::entering::came_in;
 use spanningtree::entering::tight_lane;
-use spanningtree::leaving::blocked;
-use spanningtree::leaving::blocked_at_start;
 use spanningtree::parts::reattach;
+use treepath::follow::follow;
 
-// The cell of parent, which is no node's, that has 1 where the last cut left the potentials as they were.
-const FLAT: usize = 127;
+// The node whose arc is taken to end the tree's path, NONE where none is known; and whether the last cut left the potentials as they were. Nothing is
+// promised of either.
+pub struct Hint {
+    pub node: u32,
+    pub flat: bool,
+}
+
+// What a stretch goes by: the size of the case, how many drums it is to send at most, whether no ceiling was found to be below a demand, and a hint. The
+// last two decide how cuts are made, and show in no answer.
+pub struct Task {
+    pub size: Size,
+    pub limit: u32,
+    pub wide: bool,
+    pub hint: Hint,
+}
 
 // Source i is no longer noted to serve terminal j, where their lane is empty.
 fn forget(i: usize, j: usize, x: &[u32; 2048], serves: &mut [u32; 64])
@@ -28,10 +45,11 @@ fn forget(i: usize, j: usize, x: &[u32; 2048], serves: &mut [u32; 64])
     }
 }
 
-// The lane that comes in: its node in the part, and the other.
+// The lane that comes in: its node in the part, and the other; and whether the last cut left the potentials as they were.
 struct Joint {
     inner: u32,
     outer: u32,
+    flat: bool,
 }
 
 // The lane that comes in by the cut of the part; NONE where no cut is made.
@@ -70,6 +88,7 @@ fn cut_in(
         return Joint {
             inner: NONE,
             outer: NONE,
+            flat: false,
         };
     }
     if made.out {
@@ -77,12 +96,14 @@ fn cut_in(
         return Joint {
             inner: k / 64,
             outer: 32 + k % 64,
+            flat: false,
         };
     }
     let lane = came_in(m, made.node, part, below, table, columns, pot);
     Joint {
         inner: lane.terminal,
         outer: lane.source,
+        flat: false,
     }
 }
 
@@ -91,6 +112,7 @@ fn next_lane(
     wide: bool,
     m: usize,
     n: usize,
+    flat: bool,
     part: u32,
     below: u64,
     cost: &[u32; 2048],
@@ -99,19 +121,19 @@ fn next_lane(
     x: &[u32; 2048],
     serves: &[u32; 64],
     pot: &mut [u32; 96],
-    parent: &mut [u32; 128],
 ) -> Joint
     requires { ⌜ CutReady m n (now table) (now columns) (now pot) ⌝ }
     requires { ⌜ Priced m n (now cost) ⌝ }
     ensures { λ r. ⌜ Shifted m n (now (cost .entry)) (now (table .entry)) (now (columns .entry)) (now (x .entry)) (now (serves .entry))
         (now (pot .entry)) (now (pot .exit)) ⌝ }
 {
-    if parent[FLAT] == 1 {
+    if flat {
         let tight = tight_lane(m, part, below, columns, pot);
         if tight.source < NONE {
             return Joint {
                 inner: tight.terminal,
                 outer: tight.source,
+                flat: true,
             };
         }
     }
@@ -130,12 +152,12 @@ fn next_lane(
         serves,
         pot,
     );
-    parent[FLAT] = if (first == pot[0]) & (second == pot[1]) {
-        1
-    } else {
-        0
-    };
-    lane
+    let still = (first == pot[0]) & (second == pot[1]);
+    Joint {
+        inner: lane.inner,
+        outer: lane.outer,
+        flat: still,
+    }
 }
 
 // The lane above node v, where v is a source and the lane is empty, is no longer noted as one in use.
@@ -149,12 +171,18 @@ fn forget_above(v: u32, x: &[u32; 2048], serves: &mut [u32; 64], parent: &[u32; 
     }
 }
 
-// The lane above node v leaves the tree; the part below it hangs from another. Whether that was done.
+// Whether a cut was made as it was wanted, and whether the last one left the potentials as they were.
+struct Made {
+    done: bool,
+    flat: bool,
+}
+
+// The lane above the node of the hint, where it is one, leaves the tree; the part below it hangs from another. Whether that was done.
 fn step(
     wide: bool,
     m: usize,
     n: usize,
-    v: u32,
+    hint: Hint,
     cost: &[u32; 2048],
     table: &[u32; 2048],
     columns: &[u32; 2048],
@@ -164,12 +192,19 @@ fn step(
     parent: &mut [u32; 128],
     sources_below: &mut [u32; 128],
     terminals_below: &mut [u64; 128],
-) -> bool
+) -> Made
     requires { ⌜ CutReady m n (now table) (now columns) (now pot) ⌝ }
     requires { ⌜ Priced m n (now cost) ⌝ }
     ensures { λ r. ⌜ Advanced m n (now (cost .entry)) (now (table .entry)) (now (columns .entry)) (now (x .entry)) (now (serves .entry))
         (now (pot .entry)) (now (serves .exit)) (now (pot .exit)) ⌝ }
 {
+    let v = hint.node;
+    if NONE <= v {
+        return Made {
+            done: true,
+            flat: hint.flat,
+        };
+    }
     forget_above(v, x, serves, parent);
     let k = (v % 128) as usize;
     let part = sources_below[k];
@@ -178,6 +213,7 @@ fn step(
         wide,
         m,
         n,
+        hint.flat,
         part,
         below,
         cost,
@@ -186,10 +222,12 @@ fn step(
         x,
         serves,
         pot,
-        parent,
     );
     if NONE <= lane.outer {
-        return false;
+        return Made {
+            done: false,
+            flat: false,
+        };
     }
     reattach(
         v,
@@ -199,15 +237,26 @@ fn step(
         sources_below,
         terminals_below,
     );
-    true
+    Made {
+        done: true,
+        flat: lane.flat,
+    }
 }
 
-// Cuts as long as the path is blocked, by the tables given. Where that fails the tree has no path any more.
+// The arcs of the tree's path (0: it has none), how many drums can go along it, and whether the last cut left the potentials as they were.
+pub struct Course {
+    pub count: u32,
+    pub amount: u32,
+    pub flat: bool,
+}
+
+// Cuts until the tree's path leads over open and tight arcs, by the tables given. Any answer 0 will do: a path is then searched for.
 fn cut_until(
     wide: bool,
     m: usize,
     n: usize,
-    told: u32,
+    limit: u32,
+    hint: Hint,
     cost: &[u32; 2048],
     cap: &[u32; 2048],
     table: &[u32; 2048],
@@ -218,23 +267,33 @@ fn cut_until(
     parent: &mut [u32; 128],
     sources_below: &mut [u32; 128],
     terminals_below: &mut [u64; 128],
-)
+    prev: &mut [u32; 96],
+) -> Course
     requires { ⌜ CutReady m n (now table) (now columns) (now pot) ⌝ }
     requires { ⌜ Priced m n (now cost) ⌝ }
-    ensures { λ _. ⌜ Advanced m n (now (cost .entry)) (now (table .entry)) (now (columns .entry)) (now (x .entry)) (now (serves .entry))
+    requires { ⌜ (1 < m) × (length (now prev) ≡ 96) ⌝ }
+    ensures { λ r. ⌜ Advanced m n (now (cost .entry)) (now (table .entry)) (now (columns .entry)) (now (x .entry)) (now (serves .entry))
         (now (pot .entry)) (now (serves .exit)) (now (pot .exit)) ⌝ }
+    ensures { λ r. ⌜ length (now (prev .exit)) ≡ 96 ⌝ }
+    ensures { λ r. ⌜ (0 < r .count →
+        Followed (net m n (now (cost .entry)) (now (cap .entry)) (now (x .entry))) (now (pot .exit)) limit (now (prev .exit)) (r .count) (r .amount)) ⌝ }
 {
-    let mut v = blocked_at_start(wide, told, parent, cap, x);
+    let none = Course {
+        count: 0,
+        amount: 0,
+        flat: false,
+    };
+    if NONE <= parent[1] {
+        return none;
+    }
+    let mut at = hint;
     let mut left: u32 = 200;
     while 0 < left {
-        if v == NONE {
-            return;
-        }
-        if !step(
+        let made = step(
             wide,
             m,
             n,
-            v,
+            at,
             cost,
             table,
             columns,
@@ -244,23 +303,31 @@ fn cut_until(
             parent,
             sources_below,
             terminals_below,
-        ) {
-            parent[1] = NONE;
-            return;
+        );
+        if !made.done {
+            return none;
         }
-        v = blocked(wide, parent, cap, x);
+        let traced = follow(m, n, cost, cap, x, pot, parent, limit, prev);
+        if 0 < traced.count {
+            return Course {
+                count: traced.count,
+                amount: traced.amount,
+                flat: made.flat,
+            };
+        }
+        at = Hint {
+            node: traced.stop,
+            flat: made.flat,
+        };
         left = left - 1;
     }
+    none
 }
 
-// Cuts as long as the path is blocked. Where that fails the tree has no path any more. The node told, where it is one, is taken to be the last at
-// which the path is blocked. Where ceilings are wide the unit costs are the table by source. Any potentials will do under which
-// what was slack is slack: the path is checked, or searched for.
+// The path of the tree, for as many drums as the task has at most, into prev: cuts are made until it leads over open and tight arcs, or the tree is given
+// up. Where ceilings are wide the unit costs are the table by source. Any potentials will do under which what was slack is slack.
 pub fn advance(
-    wide: bool,
-    m: usize,
-    n: usize,
-    told: u32,
+    task: Task,
     cost: &[u32; 2048],
     cap: &[u32; 2048],
     ahead: &[u32; 2048],
@@ -271,19 +338,31 @@ pub fn advance(
     parent: &mut [u32; 128],
     sources_below: &mut [u32; 128],
     terminals_below: &mut [u64; 128],
-)
-    requires { ⌜ Tables wide m n (now cost) (now cap) (now x) (now ahead) (now columns) ⌝ }
+    prev: &mut [u32; 96],
+) -> Course
+    requires { ⌜ Tables (task .wide) (task .size .sources) (task .size .terminals) (now cost) (now cap) (now x) (now ahead) (now columns) ⌝ }
     requires { ⌜ WeightsReady (now pot) ⌝ }
-    requires { ⌜ Priced m n (now cost) ⌝ }
-    ensures { λ _. ⌜ AdvancedUnder m n (now (cost .entry)) (now (cap .entry)) (now (x .entry)) (now (serves .entry)) (now (pot .entry))
-        (now (serves .exit)) (now (pot .exit)) ⌝ }
+    requires { ⌜ Priced (task .size .sources) (task .size .terminals) (now cost) ⌝ }
+    requires { ⌜ (1 < task .size .sources) × (length (now prev) ≡ 96) ⌝ }
+    ensures { λ _. ⌜ AdvancedUnder (task .size .sources) (task .size .terminals) (now (cost .entry)) (now (cap .entry)) (now (x .entry))
+        (now (serves .entry)) (now (pot .entry)) (now (serves .exit)) (now (pot .exit)) ⌝ }
+    ensures { λ r. ⌜ length (now (prev .exit)) ≡ 96 ⌝ }
+    ensures { λ r. ⌜ (0 < r .count →
+        Followed (net (task .size .sources) (task .size .terminals) (now (cost .entry)) (now (cap .entry)) (now (x .entry))) (now (pot .exit))
+        (task .limit) (now (prev .exit)) (r .count) (r .amount)) ⌝ }
 {
-    if wide {
-        cut_until(
-            wide,
+    let size = task.size;
+    let m = size.sources;
+    let n = size.terminals;
+    let limit = task.limit;
+    let hint = task.hint;
+    if task.wide {
+        return cut_until(
+            true,
             m,
             n,
-            told,
+            limit,
+            hint,
             cost,
             cap,
             cost,
@@ -294,14 +373,15 @@ pub fn advance(
             parent,
             sources_below,
             terminals_below,
+            prev,
         );
-        return;
     }
     cut_until(
-        wide,
+        false,
         m,
         n,
-        told,
+        limit,
+        hint,
         cost,
         cap,
         ahead,
@@ -312,5 +392,6 @@ pub fn advance(
         parent,
         sources_below,
         terminals_below,
-    );
+        prev,
+    )
 }

@@ -96,10 +96,8 @@ fn write(
     columns[j * 32 + i] = cell;
 }
 
-// The lane of an arc from w to v that drums went over. Where ceilings are wide no lane fills. Any two tables will do that are
-// at most the unit costs of lanes with room.
+// The lane of an arc from w to v that drums went over. Any two tables will do that are at most the unit costs of lanes with room.
 pub fn renew(
-    wide: bool,
     v: usize,
     w: usize,
     cost: &[u32; 2048],
@@ -109,12 +107,9 @@ pub fn renew(
     columns: &mut [u32; 2048],
 )
     requires { ⌜ LaneEnds v w ⌝ }
-    ensures { λ _. ⌜ Renewed wide v w (now (cost .entry)) (now (cap .entry)) (now (x .entry)) (now (ahead .entry)) (now (columns .entry))
+    ensures { λ _. ⌜ Renewed v w (now (cost .entry)) (now (cap .entry)) (now (x .entry)) (now (ahead .entry)) (now (columns .entry))
         (now (ahead .exit)) (now (columns .exit)) ⌝ }
 {
-    if wide {
-        return;
-    }
     if v < 32 {
         write(v, w - 32, cost, cap, x, ahead, columns);
     } else {

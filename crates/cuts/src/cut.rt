@@ -9,7 +9,7 @@ ghost use lib.ListN.{length};
 ghost use Rattle.residual.specs.inner.Cells.{cells};
 ghost use Rattle.cuts.specs.inner.Columns.{byTerminal};
 ghost use Rattle.cuts.specs.inner.Cut.{Nearer, OutReady, OutTo, ExitReady, ExitTo, Exit, Priced, Others, ChangeReady, Changed, Shut};
-ghost use Rattle.cuts.specs.inner.Cut.{FoldReady, Folded, WeightsReady, Weighed, LowsReady, Lows, LeastReady, Low, SourcesReady};
+ghost use Rattle.cuts.specs.inner.Cut.{FoldReady, Folded, WeightsReady, Weighed, LowsReady, Lows, LeastReady, Counted, LowTo, Low, SourcesReady};
 ghost use Rattle.cuts.specs.inner.Cut.{TerminalsReady, Nearest, NearReady, Near, Top, Bottom, CutReady, LiftReady, Lifted, Shifted};
 
 // The bits below n that are not in the part.
@@ -209,19 +209,56 @@ fn way_out(
     leaving(m, n, inside, cols, cost, x, serves, pot)
 }
 
-// The least of what low has and weight, over the nodes of a part: bit b of it is node at + b.
-fn least(part: u64, at: usize, low: &[u32; 32], weight: &[u32; 96], from: Entry) -> Entry
-    requires { ⌜ LeastReady part at (now low) (now weight) ⌝ }
-    ensures { λ r. ⌜ Low part at (now (low .entry)) (now (weight .entry)) (from .key) 0 (r .key) ⌝ }
+// A key, where bit b is in the part; else a number that no key is above.
+fn counted(b: usize, part: u32, key: u32) -> u32
+    requires { ⌜ (b < 32) × (key ≤ 1800000000) ⌝ }
+    ensures { λ r. ⌜ Counted part b key r ⌝ }
 {
-    let mut far = from;
-    let mut left = part;
-    while 0 < left {
-        let b = u64::trailing_zeros(left) as usize;
-        far = less(at + b, low[b] + weight[at + b], far);
-        left = left & (left - 1);
+    if (part >> b) % 2 == 1 {
+        return key;
+    }
+    2_000_000_000
+}
+
+// The least of what low has and weight, over the nodes of a part: bit b of it is node at + b. The key of each goes into keys. All 32 places are looked at,
+// without a branch, which plain machines do four at a time.
+fn lowest(part: u32, at: usize, low: &[u32; 32], weight: &[u32; 96], keys: &mut [u32; 32]) -> u32
+    requires { ⌜ LeastReady part at (now low) (now weight) ⌝ }
+    ensures { λ r. ⌜ LowTo part at (now (low .entry)) (now (weight .entry)) 32 r ⌝ }
+{
+    let mut far: u32 = 2_000_000_000;
+    for b in 0..32 {
+        let key = counted(b, part, low[b] + weight[at + b]);
+        keys[b] = key;
+        far = lower(key, far);
     }
     far
+}
+
+// The first place of a key; 0 where it has none.
+fn place(key: u32, keys: &[u32; 32]) -> usize
+    ensures { λ r. ⌜ r < 32 ⌝ }
+{
+    for b in 0..32 {
+        if keys[b] == key {
+            return b;
+        }
+    }
+    0
+}
+
+// The least of a key and of what low has and weight, over the nodes of a part: bit b of it is node at + b.
+fn least(part: u64, at: usize, low: &[u32; 32], weight: &[u32; 96], from: Entry) -> Entry
+    requires { ⌜ LeastReady part at (now low) (now weight) ⌝ }
+    ensures { λ r. ⌜ Low part at (now (low .entry)) (now (weight .entry)) (from .key) (r .key) ⌝ }
+{
+    let mut keys = [0u32; 32];
+    let far = lowest(part as u32, at, low, weight, &mut keys);
+    if from.key <= far {
+        return from;
+    }
+    let node = at + place(far, &keys);
+    Entry { key: far, node }
 }
 
 // The least into the part, source by source, to its terminals below 32.

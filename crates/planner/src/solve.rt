@@ -111,9 +111,13 @@ pub fn solve(
         };
     }
     let mut kept = [0u32; 2048];
+    let size = Size {
+        sources: m,
+        terminals: n,
+    };
     let best = sweep(
-        m,
-        n,
+        size,
+        range.wide,
         &cost,
         &cap,
         &wants,

@@ -7,7 +7,8 @@ use lastsplit::reach::last;
 use paths::search::smaller;
 use size::limits::Size;
 
-// Whether there is a plan, whether no ceiling is below its terminal's demand, whether the simplex's plan passed, and the first and the last split.
+// Whether there is a plan, and the first and the last split; and, of which nothing is promised, whether no ceiling is below its terminal's demand
+// and whether the simplex's plan passed.
 pub struct Range {
     pub found: bool,
     pub wide: bool,

@@ -4,16 +4,16 @@ use mathlib.Core.List.{List}
 use Prim.Native.Nat.{ℕ, _-_, _≤_, _<_}
 use native.Mathlib.Decide.{ℕ-discrete, decLt}
 use native.Mathlib.Omega.{arith}
-use lib.ListN.{set, replicate}
+use lib.ListN.{length, set, replicate}
 use Rattle.residual.specs.inner.Cells.{cells}
 use Rattle.residual.specs.inner.Network.{Net, get}
 use Rattle.residual.specs.inner.Labels.{Book, book, far, Low}
 use Rattle.paths.specs.inner.Search.{Sound, Near, Label, Stuck, Searched, Labelled}
-use Rattle.augment.specs.inner.Potentials.{Lowered}
+use Rattle.augment.specs.inner.Potentials.{LowerReady, Lowered}
 use Rattle.augment.specs.inner.Send.{SendReady}
 use Rattle.augment.specs.inner.PathWalk.{WalkReady}
 use Rattle.treepath.specs.inner.Follow.{Followed}
-use Rattle.stretch.specs.inner.Stretch.{ShiftReady, Reached, PathDone, PathAhead, LowerDone}
+use Rattle.stretch.specs.inner.Stretch.{ShiftReady, Reached, PathDone, PathAhead, PathTaken}
 use Rattle.transport.proofs.Differences.{diff-same}
 use Rattle.paths.proofs.SearchCut.{cut-greatest}
 use Rattle.augment.proofs.Delivery.{lower-ready, stroll-ready, push-ready, mark-ready, pushed, delivered, after}
@@ -96,6 +96,10 @@ pub search-found : {N : Net} {p x T P H W : List ℕ} {limit D d h : ℕ} → Sh
     → PathAhead N p x limit T P h D d
 search-found {limit = limit} k q e eD eh ed = record { ready = k; done = path-done k (only limit) q e eD eh ed; low = q .low }
 
+pub search-lower : {N : Net} {p x T P H W : List ℕ} {limit : ℕ} → ShiftReady N p x limit
+    → Searched N p (set (replicate 96 0) 1 limit) 0 limit (book T P H W) 1 → LowerReady (get T 1 - get p 1) T p
+search-lower {limit = limit} k q = lower-ready (ready k (only limit) q) (reached k (only limit) q) (omega arith) refl
+
 -- ---- the path of a tree: it has no reduced cost, and its distances are those of the potentials
 
 module _ {N : Net} {p x T P : List ℕ} {limit count d : ℕ} (sound : Sound N p) (s : PathDone N p x limit T P count 0 d) (low : Low p T) where
@@ -124,7 +128,7 @@ module _ {N : Net} {p x T P : List ℕ} {limit count d : ℕ} (sound : Sound N p
     over = λ p' l. s .over p' (lowered-too l);
   }
 
-pub tree-found : {N : Net} {p x P : List ℕ} {limit count amount : ℕ} → ShiftReady N p x limit → N .x ≡ cells x
+tree-found : {N : Net} {p x P : List ℕ} {limit count amount : ℕ} → ShiftReady N p x limit → N .x ≡ cells x
     → Followed N p limit P count amount → PathAhead N p x limit p P count 0 amount
 tree-found {limit = limit} k e q =
     let t = tree-path (k .plant-slack .sound) (k .plant-slack .plants) (k .some) q (set (replicate 96 0) 1 limit) (omega (arith, only limit .one, k .some)) in
@@ -136,12 +140,13 @@ tree-found {limit = limit} k e q =
 
 -- ---- the potentials after it
 
--- where the path has no reduced cost, the potentials are as low as they are to be
-pub found-lowered : {N : Net} {p x : List ℕ} {limit : ℕ} {dist prev : List ℕ} {count gap d : ℕ} {p' : List ℕ}
-    → PathAhead N p x limit dist prev count gap d → LowerDone gap dist p p' → Lowered gap dist p 96 p'
-found-lowered {gap = gap} f w = elim (decLt 0 gap) [
-  | yes h ↦ w .lowered h
-  | no h ↦
-      rw (w .same (omega arith))
-      (record { long = f .done .ready .long; down = λ v o. omega (arith, f .low v o); rest = λ v o. refl })
-]
+pub search-taken : {N : Net} {p x : List ℕ} {limit : ℕ} {dist prev : List ℕ} {count gap d : ℕ} {p' : List ℕ}
+    → PathAhead N p x limit dist prev count gap d → Lowered gap dist p 96 p' → length prev ≡ 96 → PathTaken N p' x limit prev count d
+search-taken f l o = record { old = _; dist = _; gap = _; ahead = f; lowered = l; long = o }
+
+-- the path of a tree has no reduced cost, and the potentials are as low as they are to be
+pub tree-taken : {N : Net} {p x P : List ℕ} {limit count amount : ℕ} → ShiftReady N p x limit → N .x ≡ cells x → Followed N p limit P count amount
+    → PathTaken N p x limit P count amount
+tree-taken k e q =
+    let f = tree-found k e q in
+    search-taken f (record { long = f .done .ready .long; down = λ v o. omega (arith, f .low v o); rest = λ v o. refl }) (q .long)

@@ -22,7 +22,7 @@ use Rattle.lastsplit.specs.inner.PlantShift.{Over}
 use Rattle.incumbent.specs.inner.Scan.{along, better, scanned, ScanReady}
 use Rattle.stretch.specs.inner.ResidualPath.{Arc, PathIn, pathCost, StretchPath}
 use Rattle.stretch.specs.inner.PathUndone.{Undoing}
-use Rattle.stretch.specs.inner.Stretch.{Part, PathDone, KeepReady, KeepDone, HoldDone, heldAt, StretchReady, Kept, StretchDone}
+use Rattle.stretch.specs.inner.Stretch.{Part, PathDone, KeepReady, KeepDone, HoldDone, heldAt, StretchReady, Sent, Kept, StretchDone}
 use Rattle.incumbent.specs.declared.Incumbent.{Incumbent}
 use Rattle.transport.proofs.Optimality.{segment}
 use Rattle.transport.proofs.PathFlow.{Shifted, flow-shifted}
@@ -33,6 +33,7 @@ use Rattle.incumbent.proofs.IncumbentScan.{along-is}
 use Rattle.transport.proofs.Differences.{diff-same}
 use Rattle.stretch.proofs.HeldPlan.{held-here, held-kept, walked-none}
 use Rattle.stretch.proofs.PathArcs.{no-less, rises}
+use Rattle.stretch.proofs.AfterCuts.{ready-on}
 
 -- ---- the incumbent
 
@@ -145,10 +146,10 @@ module _ {N : Net} {p x table : List ℕ} {y v limit : ℕ} {best : Incumbent} {
     above t h =
         let l = on-line (row (N .n) (N .x)) (col (N .m) (N .x)) (row (N .n) (N .x) 1) (here r) t h in omega (arith, l .2, r .value)
 
-  pub loss-ready : gap ≤ get p 0
+  loss-ready : gap ≤ get p 0
   loss-ready = omega (arith, s .ready .above 0 (omega arith), s .starts)
 
-  pub scan-ready : ScanReady table y d v (get p 1) (get p 0 - gap)
+  scan-ready : ScanReady table y d v (get p 1) (get p 0 - gap)
   scan-ready = record {
     entries = omega (arith, r .entries, most);
     small = λ t h. r .small t (omega (arith, most));
@@ -189,16 +190,6 @@ module _ {N : Net} {p x table : List ℕ} {y v limit : ℕ} {best : Incumbent} {
       rise = rises v (get p 1) (get p 0 - gap) d (pathCost N (s .route .path)) cost (scan-ready .above);
     }
 
-  -- the freight there is within range
-  pub gains : get p 1 * d ≤ 4000000000000
-  gains = mul-le-mul {n₂ = 1000000000} {m₂ = 4000} (scan-ready .rise) (scan-ready .few)
-
-  pub losses : (get p 0 - gap) * d ≤ 4000000000000
-  losses = mul-le-mul {n₂ = 1000000000} {m₂ = 4000} (scan-ready .fall) (scan-ready .few)
-
-  pub losses-short : (get p 0 - gap) * d ≤ v + get p 1 * d
-  losses-short = scan-ready .above d (omega arith)
-
   module _ {held : Incumbent} (look : held ≡ scanned table y v (get p 1) (get p 0 - gap) best d) where
     seen : Looked y v (get p 1) (get p 0 - gap) best d held
     seen = rw look (looked table y v (get p 1) (get p 0 - gap) best (r .behind) d)
@@ -216,7 +207,7 @@ module _ {N : Net} {p x table : List ℕ} {y v limit : ℕ} {best : Incumbent} {
       walked = w;
     }
 
-    pub keep-ready : (x' : List ℕ) → Walked prev d count 1 x x' → KeepReady prev count (held .split) y (y + d) x'
+    keep-ready : (x' : List ℕ) → Walked prev d count 1 x x' → KeepReady prev count (held .split) y (y + d) x'
     keep-ready x' w = record { undoing = taken x' w; most = omega (arith, within); near = omega (arith, scan-ready .few) }
 
     module _ {kept kept' p' x' pots pots' : List ℕ} (k : KeepDone prev count (held .split) y (y + d) x' kept kept') (w : Walked prev d count 1 x x')
@@ -293,7 +284,7 @@ module _ {N : Net} {p x table : List ℕ} {y v limit : ℕ} {best : Incumbent} {
             ready = subst (λ (l : List ℕ). CanonReady (again N after) l) (sym (new-prices h)) (part-ready x' lo w after (held .split - y) t);
           }
 
-      pub stretch-done : StretchDone N table y v limit best (heldAt (best .split) y x kept) (heldAt (best .split) y p' pots) p' x'
+      stretch-done : StretchDone N table y v limit best (heldAt (best .split) y x kept) (heldAt (best .split) y p' pots) p' x'
           (heldAt (held .split) (y + d) x' kept') (heldAt (held .split) (y + d) p' pots') d (y + d) (v + get p 1 * d - (get p 0 - gap) * d) (get p 1)
           (get p 0 - gap) held
       unfolding along stretch-path
@@ -314,3 +305,60 @@ module _ {N : Net} {p x table : List ℕ} {y v limit : ℕ} {best : Incumbent} {
         new = λ h.
             (seen .new h .0, new h (s .part p' lo (held .split - y) within after (gone h)), s .route .amounts (held .split - y) after (gone h));
       }
+
+-- ---- by the potentials for the next stretch
+
+module _ {N : Net} {q p' x x' table prev : List ℕ} {y v limit count d : ℕ} {best : Incumbent}
+    (r : StretchReady N q x table y v limit best) (s : Sent N x limit p' x' prev count d) where
+  found : PathDone N (s .taken .old) x limit (s .taken .dist) prev count (s .taken .gap) d
+  found = s .taken .ahead .done
+
+  on : StretchReady N (s .taken .old) x table y v limit best
+  on = ready-on r (s .taken .ahead .ready)
+
+  gain-is : get (s .taken .old) 1 ≡ get p' 1
+  gain-is = up on found x' (s .taken .lowered) (s .walked)
+
+  loss-is : get (s .taken .old) 0 - s .taken .gap ≡ get p' 0
+  loss-is = down on found x' (s .taken .lowered) (s .walked)
+
+  pub revise-scan : ScanReady table y d v (get p' 1) (get p' 0)
+  revise-scan =
+      subst (λ (l : ℕ). ScanReady table y d v (get p' 1) l) loss-is
+      (subst (λ (g : ℕ). ScanReady table y d v g (get (s .taken .old) 0 - s .taken .gap)) gain-is (scan-ready on found))
+
+  -- the freight there is within range
+  pub revise-gains : get p' 1 * d ≤ 4000000000000
+  revise-gains = mul-le-mul {n₂ = 1000000000} {m₂ = 4000} (revise-scan .rise) (revise-scan .few)
+
+  pub revise-losses : get p' 0 * d ≤ 4000000000000
+  revise-losses = mul-le-mul {n₂ = 1000000000} {m₂ = 4000} (revise-scan .fall) (revise-scan .few)
+
+  pub revise-short : get p' 0 * d ≤ v + get p' 1 * d
+  revise-short = revise-scan .above d (omega arith)
+
+  module _ {held : Incumbent} (look : held ≡ scanned table y v (get p' 1) (get p' 0) best d) where
+    look-old : held ≡ scanned table y v (get (s .taken .old) 1) (get (s .taken .old) 0 - s .taken .gap) best d
+    look-old =
+        subst (λ (l : ℕ). held ≡ scanned table y v (get (s .taken .old) 1) l best d) (sym loss-is)
+        (subst (λ (g : ℕ). held ≡ scanned table y v g (get p' 0) best d) (sym gain-is) look)
+
+    pub revise-keep : KeepReady prev count (held .split) y (y + d) x'
+    revise-keep = keep-ready on found look-old x' (s .walked)
+
+    pub revised : {kept kept' pots pots' : List ℕ} → KeepDone prev count (held .split) y (y + d) x' kept kept'
+        → HoldDone (held .split) y (y + d) p' pots pots'
+        → StretchDone N table y v limit best (heldAt (best .split) y x kept) (heldAt (best .split) y p' pots) p' x'
+        (heldAt (held .split) (y + d) x' kept') (heldAt (held .split) (y + d) p' pots') d (y + d) (v + get p' 1 * d - get p' 0 * d) (get p' 1)
+        (get p' 0) held
+    revised {kept} {kept'} {pots} {pots'} k o =
+        subst
+        (λ (l : ℕ). StretchDone N table y v limit best (heldAt (best .split) y x kept) (heldAt (best .split) y p' pots) p' x'
+        (heldAt (held .split) (y + d) x' kept') (heldAt (held .split) (y + d) p' pots') d (y + d) (v + get p' 1 * d - l * d) (get p' 1) l held)
+        loss-is
+        (subst
+        (λ (g : ℕ). StretchDone N table y v limit best (heldAt (best .split) y x kept) (heldAt (best .split) y p' pots) p' x'
+        (heldAt (held .split) (y + d) x' kept') (heldAt (held .split) (y + d) p' pots') d (y + d)
+        (v + g * d - (get (s .taken .old) 0 - s .taken .gap) * d) g (get (s .taken .old) 0 - s .taken .gap) held)
+        gain-is
+        (stretch-done on found look-old k (s .walked) (s .taken .lowered) o))

@@ -6,7 +6,7 @@ use Prim.Native.Nat.{ℕ, zero, suc, min, _+_, _-_, _≤_, _<_}
 use native.Mathlib.Decide.{ℕ-discrete, decLt}
 use native.Mathlib.Numerals.{add-one}
 use native.Mathlib.Omega.{arith}
-use lib.ListN.{length, set, length-set, replicate, length-replicate}
+use lib.ListN.{length, set, length-set}
 use lib.Seq.{getD-set-same, getD-set-other}
 use Rattle.residual.specs.inner.Network.{Net, get}
 use Rattle.residual.specs.inner.Network.Arc.{ahead, back}
@@ -117,10 +117,10 @@ module _ (N : Net) (p : List ℕ) (f : ℕ → ℕ) (P : List ℕ) where
       rw (q .1) (omega (arith, least limit h (f a) (min d (carries N (f a) a)) v e (omega arith) (q .3)))
 
 module _ {N : Net} {p : List ℕ} {f : ℕ → ℕ} {limit : ℕ} where
-  pub walk-start : 1 < N .m → Walk N p f limit (replicate 96 0) 1 0 limit
+  pub walk-start : {P : List ℕ} → 1 < N .m → length P ≡ 96 → Walk N p f limit P 1 0 limit
   unfolding Part
-  walk-start h = record {
-    long = length-replicate {A = ℕ} 96 0;
+  walk-start h l = record {
+    long = l;
     node = omega arith;
     away = λ z. absurd (omega arith);
     source = λ z. h;

@@ -3,6 +3,7 @@ ghost use mathlib.Core.Path.{_≡_};
 ghost use mathlib.Core.Bool.{true};
 ghost use mathlib.Core.List.{List};
 ghost use Prim.Native.Nat.{ℕ, _+_, _-_, _≤_, _<_};
+ghost use lib.ListN.{length};
 ghost use Rattle.residual.specs.inner.Network.{net};
 ghost use Rattle.treepath.specs.inner.Follow.{FollowReady, Bears, Followed};
 use paths::search::smaller;
@@ -92,15 +93,17 @@ fn tied(
     tied_ahead(m, v, w, cost, cap, x, pot)
 }
 
-// The arcs of the tree's path (0: it has none), and how many drums can go along it.
+// The arcs of the tree's path (0: it has none), and how many drums can go along it. Where it has none, the node whose arc ended it, of which nothing is
+// promised.
 pub struct Traced {
     pub count: u32,
     pub amount: u32,
+    pub stop: u32,
 }
 
 // The way from plant 2 up the tree, for limit drums at most: does it lead to plant 1? It ends there, or where an arc is not open or not tight, or
-// after as many arcs as no path has. For each node on it but the last, prev then has the node before it. Any answer 0 will do: a path is then
-// searched for.
+// after as many arcs as no path has. For each node on it but the last, prev then has the node before it; its other cells stay. Any answer 0 will do:
+// a path is then searched for.
 pub fn follow(
     m: usize,
     n: usize,
@@ -114,10 +117,11 @@ pub fn follow(
 ) -> Traced
     requires { ⌜ FollowReady m n (now cost) (now pot) ⌝ }
     requires { ⌜ 1 < m ⌝ }
+    requires { ⌜ length (now prev) ≡ 96 ⌝ }
+    ensures { λ r. ⌜ length (now (prev .exit)) ≡ 96 ⌝ }
     ensures { λ r. ⌜ (0 < r .count →
         Followed (net m n (now (cost .entry)) (now (cap .entry)) (now (x .entry))) (now (pot .entry)) limit (now (prev .exit)) (r .count) (r .amount)) ⌝ }
 {
-    *prev = [0u32; 96];
     let mut v: usize = 1;
     let mut count: u32 = 0;
     let mut amount = limit;
@@ -125,21 +129,28 @@ pub fn follow(
         let w = (parent[v] % 128) as usize;
         let room = tied(m, n, v, w, cost, cap, x, pot);
         if room == 0 {
+            let stop = v as u32;
             return Traced {
                 count: 0,
                 amount: 0,
+                stop,
             };
         }
         prev[v] = w as u32;
         amount = smaller(amount, room);
         count = count + 1;
         if w == 0 {
-            return Traced { count, amount };
+            return Traced {
+                count,
+                amount,
+                stop: 0,
+            };
         }
         v = w;
     }
     Traced {
         count: 0,
         amount: 0,
+        stop: 1,
     }
 }

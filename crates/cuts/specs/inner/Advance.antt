@@ -20,7 +20,7 @@ pub record Advanced (m n : ℕ) (cost table columns x s p s' p' : List ℕ) : Ty
   pub covers : Covers m n x s → Covers m n x s'
   pub sound : (cap : List ℕ) → Ahead m n cost cap x table columns → Covers m n x s → Sound (net m n cost cap x) p → Sound (net m n cost cap x) p'
 
--- the same under given ceilings, whatever stands in tables
+-- the same under given ceilings, whatever stands in the tables
 pub record AdvancedUnder (m n : ℕ) (cost cap x s p s' p' : List ℕ) : Type 0 where
   pub long : length p' ≡ 96
   pub floor : (v : ℕ) → v < 96 → min (get p v) 416000000 ≤ get p' v

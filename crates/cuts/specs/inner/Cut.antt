@@ -99,10 +99,20 @@ pub record LeastReady (part at : ℕ) (low w : List ℕ) : Type 0 where
   pub most : (i : ℕ) → get low i ≤ 1000000000
   pub weights : (v : ℕ) → v < 96 → get w v ≤ 800000000
 
--- key is at most the key before, and what low has and weight for each node of the part, but for those that are left
-pub record Low (part at : ℕ) (low w : List ℕ) (from left key : ℕ) : Type 0 where
+-- r is the key, where node b is in the part
+pub record Counted (part b key r : ℕ) : Type 0 where
+  pub inside : has part b ≡ 1 → r ≤ key
+  pub most : r ≤ 2000000000
+
+-- key is at most what low has and weight for each node of the part below k
+pub record LowTo (part at : ℕ) (low w : List ℕ) (k key : ℕ) : Type 0 where
+  pub most : key ≤ 2000000000
+  pub each : (b : ℕ) → b < k → has part b ≡ 1 → key ≤ get low b + get w (at + b)
+
+-- key is at most the key before, and what low has and weight for each node of the part
+pub record Low (part at : ℕ) (low w : List ℕ) (from key : ℕ) : Type 0 where
   pub less : key ≤ from
-  pub each : (b : ℕ) → has part b ≡ 1 → bit left b ≡ 0 → key ≤ get low b + get w (at + b)
+  pub each : (b : ℕ) → has part b ≡ 1 → key ≤ get low b + get w (at + b)
 
 pub record SourcesReady (out n : ℕ) (cost w : List ℕ) : Type 0 where
   pub few : out < 2 ^ 32

@@ -42,8 +42,7 @@ pub record LaneEnds (v w : ℕ) : Type 0 where
   pub source : v < 32 → (32 ≤ w) × (w < 96)
   pub terminal : 32 ≤ v → (w < 32) × (v < 96)
 
--- the lane of the arc from w to v has been written anew, but where ceilings are wide
-pub record Renewed (wide : Bool) (v w : ℕ) (cost cap x ahead columns ahead' columns' : List ℕ) : Type 0 where
-  pub same : wide ≡ true → (ahead' ≡ ahead) × (columns' ≡ columns)
-  pub less : wide ≡ false → v < 32 → Written v (w - 32) cost cap x ahead columns ahead' columns'
-  pub more : wide ≡ false → 32 ≤ v → Written w (v - 32) cost cap x ahead columns ahead' columns'
+-- the lane of the arc from w to v has been written anew
+pub record Renewed (v w : ℕ) (cost cap x ahead columns ahead' columns' : List ℕ) : Type 0 where
+  pub less : v < 32 → Written v (w - 32) cost cap x ahead columns ahead' columns'
+  pub more : 32 ≤ v → Written w (v - 32) cost cap x ahead columns ahead' columns'

@@ -64,10 +64,19 @@ pub record PathAhead (N : Net) (p x : List ℕ) (limit : ℕ) (dist prev : List 
   pub done : PathDone N p x limit dist prev count gap d
   pub low : Low p dist
 
--- the potentials p become p': lowered where the path has a reduced cost, else as they are
-pub record LowerDone (gap : ℕ) (dist p p' : List ℕ) : Type 0 where
-  pub lowered : 0 < gap → Lowered gap dist p 96 p'
-  pub same : gap ≤ 0 → p' ≡ p
+-- 4° the potentials p' for the next stretch: those by which such a path was found, lowered by its distances
+pub record PathTaken (N : Net) (p' x : List ℕ) (limit : ℕ) (prev : List ℕ) (count d : ℕ) : Type 0 where
+  pub old : List ℕ
+  pub dist : List ℕ
+  pub gap : ℕ
+  pub ahead : PathAhead N old x limit dist prev count gap d
+  pub lowered : Lowered gap dist old 96 p'
+  pub long : length prev ≡ 96
+
+-- 2° its drums went along it, and left x'
+pub record Sent (N : Net) (x : List ℕ) (limit : ℕ) (p' x' prev : List ℕ) (count d : ℕ) : Type 0 where
+  pub taken : PathTaken N p' x limit prev count d
+  pub walked : Walked prev d count 1 x x'
 
 -- ---- the plan that is kept: that of the next split, with the drums beyond the incumbent's split taken back
 
@@ -101,6 +110,15 @@ pub record StretchReady (N : Net) (p x table : List ℕ) (y v limit : ℕ) (best
   pub entries : y + limit < length table
   pub small : (t : ℕ) → t ≤ limit → getD table (y + t) 0 ≤ 1000000000
   pub behind : best .split ≤ y
+
+-- the drums of a stretch from split y of freight v went along a path, and left x
+pub record ReviseReady (p x table prev : List ℕ) (count d y v : ℕ) (best : Incumbent) : Type 0 where
+  pub net : Net
+  pub plan : List ℕ
+  pub pots : List ℕ
+  pub limit : ℕ
+  pub ready : StretchReady net pots plan table y v limit best
+  pub sent : Sent net plan limit p x prev count d
 
 -- the plan that is kept for an incumbent of this stretch, with its potentials
 pub record Kept (N : Net) (y : ℕ) (best : Incumbent) (kept held : List ℕ) : Type 0 where

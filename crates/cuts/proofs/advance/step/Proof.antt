@@ -1,8 +1,11 @@
 -- `cuts::advance::step` meets its contract. Assumes nothing.
-use Rattle.cuts.proofs.Advancing.{advance-cut}
+use Rattle.cuts.proofs.Advancing.{advance-start, advance-cut}
 use borrow.Author.Needs.{needs}
 use Rattle.cuts.proofs.advance.step.Statement.{statement}
 use Rattle.cuts.proofs.advance.step.Tie as tie
+
+returns : tie.Need-returns
+returns c = advance-start (c .before .pre .0)
 
 forget-above-requires : tie.Need-forget-above-requires
 forget-above-requires c κs = search needs
@@ -25,22 +28,23 @@ element-copy-out-below c = search needs
 next-lane-requires : tie.Need-next-lane-requires
 next-lane-requires c κs = search needs
 
-returns : tie.Need-returns
-returns c = advance-cut (c .before .before .before .before .before .before .before .before .forget-above .ensures) (c .before .before .next-lane .ensures)
+returns-2 : tie.Need-returns-2
+returns-2 c = advance-cut (c .before .before .before .before .before .before .before .forget-above .ensures) (c .before .before .next-lane .ensures)
 
 reattach-requires : tie.Need-reattach-requires
 reattach-requires c κs = search needs
 
-returns-2 : tie.Need-returns-2
-returns-2 c =
+returns-3 : tie.Need-returns-3
+returns-3 c =
     let at-next-lane = c .before .before .before .before .before .before in
-    let at-forget-above = at-next-lane .before .before .before .before .before .before in
+    let at-forget-above = at-next-lane .before .before .before .before .before in
     advance-cut (at-forget-above .forget-above .ensures) (at-next-lane .next-lane .ensures)
 
 pub step-spec : {M : Type 1} → statement M
 step-spec =
     tie.close
     (tie.spec
+    returns
     forget-above-requires
     cast-k
     mul-part
@@ -48,6 +52,6 @@ step-spec =
     mul-below
     element-copy-out-below
     next-lane-requires
-    returns
+    returns-2
     reattach-requires
-    returns-2)
+    returns-3)

@@ -14,7 +14,7 @@ abbrev μ-loop : tie.MeasureT-loop
 μ-loop m n cost cap x pot parent limit prev₀ v₀ count₀ amount₀ prev v count amount = 95 - count
 
 loop-holds : tie.Need-loop-holds Inv-loop μ-loop
-loop-holds c = walk-start (c .before .pre .1)
+loop-holds c = walk-start (c .pre .1 .0) (c .pre .1 .1)
 
 mul-w : tie.Need-mul-w Inv-loop μ-loop
 mul-w c = search needs
@@ -26,10 +26,13 @@ cast-w : tie.Need-cast-w Inv-loop μ-loop
 cast-w c = search needs
 
 tied-requires : tie.Need-tied-requires Inv-loop μ-loop
-tied-requires c κs = let i = c .before .before .loop .inv in (c .before .before .before .before .pre .0, (i .source, i .terminal))
+tied-requires c κs = let i = c .before .before .loop .inv in (c .before .before .before .pre .0, (i .source, i .terminal))
+
+cast-stop : tie.Need-cast-stop Inv-loop μ-loop
+cast-stop c = search needs
 
 returns : tie.Need-returns Inv-loop μ-loop
-returns c = λ e. absurd (omega arith)
+returns c = (c .before .before .before .before .loop .inv .long, λ e. absurd (omega arith))
 
 cast-prev : tie.Need-cast-prev Inv-loop μ-loop
 cast-prev c = search needs
@@ -48,8 +51,10 @@ add-count c = search needs
 
 returns-2 : tie.Need-returns-2 Inv-loop μ-loop
 returns-2 c =
-    λ e. let k = c .before .before .before in
-    walk-end (k .before .before .before .loop .inv) (k .tied .ensures (omega (arith, c .before .before .if1 .left))) (c .before .smaller .ensures) (c .if2 .taken) (k .before .before .loop-test .taken)
+    let k = c .before .before .before in
+    let at-loop = k .before .before .before in
+    let t = k .tied .ensures (omega (arith, c .before .before .if1 .left)) in
+    let e = walk-end (at-loop .loop .inv) t (c .before .smaller .ensures) (c .if2 .taken) (k .before .before .loop-test .taken) in (e .long, λ z. e)
 
 loop-less : tie.Need-loop-less Inv-loop μ-loop
 loop-less c = search needs
@@ -61,7 +66,7 @@ loop-again c =
     walk-next (at-loop .loop .inv) (k .tied .ensures (omega (arith, c .before .before .if1 .left))) (c .before .smaller .ensures) (c .if2 .left)
 
 returns-3 : tie.Need-returns-3 Inv-loop μ-loop
-returns-3 c = λ e. absurd (omega arith)
+returns-3 c = (c .before .loop .inv .long, λ e. absurd (omega arith))
 
 pub follow-spec : {M : Type 1} → statement M
 follow-spec =
@@ -74,6 +79,7 @@ follow-spec =
     element-copy-out-w
     cast-w
     tied-requires
+    cast-stop
     returns
     cast-prev
     mul-prev
