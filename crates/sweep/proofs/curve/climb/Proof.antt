@@ -43,7 +43,9 @@ shared-slice-read-t48 : tie.Need-shared-slice-read-t48 Inv-loop μ-loop
 shared-slice-read-t48 c = let entry = c .before .before .before .before .before .before .before .before in omega (arith, entry .pre .0 .entries, entry .pre .0 .order)
 
 add-t49 : tie.Need-add-t49 Inv-loop μ-loop
-add-t49 c = let entry = c .before .before .before .before .before .before .before .before in let r = entry .pre .0 in omega (arith, start-most r, r .small (entry .args .course .lo) (omega arith) (r .order))
+add-t49 c =
+    let entry = c .before .before .before .before .before .before .before .before in
+    let r = entry .pre .0 in omega (arith, start-most r, r .small (entry .args .course .lo) (omega arith) (r .order))
 
 loop-holds : tie.Need-loop-holds Inv-loop μ-loop
 loop-holds c =
