@@ -111,10 +111,6 @@ pub fn solve(
         };
     }
     let mut kept = [0u32; 2048];
-    let size = Size {
-        sources: m,
-        terminals: n,
-    };
     let best = sweep(
         size,
         range.wide,

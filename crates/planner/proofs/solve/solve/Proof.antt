@@ -24,7 +24,7 @@ use Rattle.planner.proofs.solve.solve.Tie as tie
 -- the lent case, and what its tests left
 abbrev the : tie.Start → Case
 the s =
-    lent (s .args .m) (s .args .n) (s .args .run1) (s .args .run2) (now (s .args .costs)) (now (s .args .supplies)) (now (s .args .demands))
+    lent (s .args .size .sources) (s .args .size .terminals) (s .args .run1) (s .args .run2) (now (s .args .costs)) (now (s .args .supplies)) (now (s .args .demands))
     (now (s .args .ceilings)) (now (s .args .table)) (length (now (s .args .plan))) (length (now (s .args .splits))) (length (now (s .args .freights)))
 
 form : (s : tie.Start) → Formed (the s)
