@@ -30,7 +30,7 @@ fn row_wide(i: usize, cap: &[u32; 2048], demand: &[u32; 96]) -> bool
     2_147_483_648 <= all
 }
 
-// Is no ceiling below a demand?
+// Is no ceiling below a demand? Any answer false will do: other ways to the same answers are then taken.
 pub fn all_wide(m: usize, cap: &[u32; 2048], demand: &[u32; 96]) -> bool
     requires { ⌜ m ≤ 32 ⌝ }
     ensures { λ r. ⌜ (r ≡ true → AllWide m (now (cap .entry)) (now (demand .entry))) ⌝ }

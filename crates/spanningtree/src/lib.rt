@@ -6,7 +6,6 @@
 // Arrays have 128 cells, so that an index under % 128 is in bounds.
 pub mod entering;
 pub mod flows;
-pub mod leaving;
 pub mod parts;
 
 // No node.

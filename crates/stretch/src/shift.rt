@@ -62,7 +62,8 @@ fn shift_within(
     last
 }
 
-// The same; where ceilings are wide no lane fills, and the tables stay as they are.
+// The same; where ceilings are wide no lane fills, and the tables stay as they are. Any hint will do, and any tables that are at most the unit costs of lanes
+// with room: a cut is right whatever they are.
 pub fn shift(
     wide: bool,
     prev: &[u32; 96],
