@@ -1,5 +1,5 @@
-// Random cases, the same at each run, planned with the simplex and without it: step 1 by cheapest paths is what a plan of the simplex that
-// fails the check falls back to.
+// Random cases, the same at each run, planned as usual and three times more: without the simplex, with a drum more on a lane of its plan, which the
+// check must refuse, and with a node of its tree hung elsewhere, so that the climb falls back on the search. Every answer must be the same.
 mod draw;
 mod number;
 mod trial;
@@ -22,6 +22,9 @@ const CASES: u64 = 2_000;
 struct Tally {
     cases: u64,
     planned: u64,
+    passed: u64,
+    refused: u64,
+    climbed: u64,
     differences: u64,
 }
 
@@ -58,6 +61,19 @@ fn made_of(k: u64, most: u64) -> u64 {
     }
 }
 
+// A lane of the case, as the engine counts lanes.
+fn lane_of(x: u64, m: u64, n: u64) -> usize {
+    (below(x, m) % 32 * 64 + below(after(x), n) % 64) as usize
+}
+
+// A node of the case: a source, or a terminal.
+fn node_of(x: u64, m: u64, n: u64) -> usize {
+    if below(x, 2) == 0 {
+        return (below(after(x), m) % 32) as usize;
+    }
+    (32 + below(after(x), n) % 64) as usize
+}
+
 // Draws ceilings, 4,000 or one in four times narrow ones, and holds the case.
 fn hold_narrow(
     seed: u64,
@@ -74,6 +90,8 @@ fn hold_narrow(
         draw(seed, 60, 300, &mut ceilings);
     }
     hold_first(
+        lane_of(seed, size.m as u64, size.n as u64),
+        node_of(after(seed), size.m as u64, size.n as u64),
         size.m,
         size.n,
         size.lanes,
@@ -126,6 +144,9 @@ fn counted(t: Tally, s: Seen) -> Tally {
     Tally {
         cases: plus(t.cases, 1),
         planned: plus(t.planned, one_if(s.planned)),
+        passed: plus(t.passed, one_if(s.passed)),
+        refused: plus(t.refused, one_if(s.refused)),
+        climbed: plus(t.climbed, one_if(s.climbed)),
         differences: plus(t.differences, one_if(!s.agrees)),
     }
 }
@@ -134,6 +155,9 @@ fn run_cases() -> Tally {
     let mut t = Tally {
         cases: 0,
         planned: 0,
+        passed: 0,
+        refused: 0,
+        climbed: 0,
         differences: 0,
     };
     let mut x: u64 = 20_260_306;
@@ -154,7 +178,10 @@ fn say(name: &[u8], number: u64) {
 
 fn main() {
     let t = run_cases();
-    say(b"cases:        ", t.cases);
-    say(b"with a plan:  ", t.planned);
-    say(b"differences:  ", t.differences);
+    say(b"cases:                           ", t.cases);
+    say(b"with a plan:                     ", t.planned);
+    say(b"plans of the simplex that pass:  ", t.passed);
+    say(b"spoiled plans that are refused:  ", t.refused);
+    say(b"climbs on a spoiled tree:        ", t.climbed);
+    say(b"differences:                     ", t.differences);
 }

@@ -1,8 +1,9 @@
-// A case planned with the simplex and without: the answers and the cells written must be the same.
+// A case planned as usual, without the simplex, and with what it answers spoiled: the answers and the cells written must be the same.
 use crate::number::first_signed;
 use crate::number::same;
 use crate::number::same_signed;
 use planner::Answer;
+use split_range::trial::Trial;
 use test_draws::first_cells;
 
 // An answer in numbers: 0 for a plan and its split, total, freight and count of stops; else the refusal's number and place.
@@ -54,14 +55,160 @@ fn alike(a: Told, b: Told) -> bool {
     a.stops == b.stops
 }
 
-// What came of a case.
+// What came of a case: is there a plan, did the simplex's pass the check, did a spoiled one fail it, did a spoiled tree go on to the climb, and are
+// all answers the same?
 pub struct Seen {
     pub planned: bool,
+    pub passed: bool,
+    pub refused: bool,
+    pub climbed: bool,
     pub agrees: bool,
 }
 
-// Plans a case of m sources and n terminals both ways. A plan's cells are compared and the stops.
+// Whether a way gave the answer of another, cell by cell, and whether a plan of the simplex passed.
+struct Way {
+    agrees: bool,
+    passed: bool,
+}
+
+// Plans a case by a trial, and compares the answer, the plan's cells and the stops.
+fn held(
+    trial: Trial,
+    usual: Told,
+    m: usize,
+    n: usize,
+    run1: u64,
+    run2: u64,
+    costs: &[i64],
+    supplies: &[u64],
+    demands: &[u64],
+    ceilings: &[u64],
+    table: &[u64],
+    plan: &[u64],
+    splits: &[u64],
+    freights: &[i64],
+) -> Way {
+    let mut other_plan = [0u64; 2048];
+    let mut other_splits = [0u64; 4001];
+    let mut other_freights = [0i64; 4001];
+    let tried = planner::plan_by(
+        trial,
+        m,
+        n,
+        run1,
+        run2,
+        costs,
+        supplies,
+        demands,
+        ceilings,
+        table,
+        &mut other_plan,
+        &mut other_splits,
+        &mut other_freights,
+    );
+    let cells = same(plan, &other_plan);
+    let stops = same(splits, &other_splits);
+    let levels = same_signed(freights, &other_freights);
+    let answer = tried.answer;
+    let told = in_numbers(answer);
+    Way {
+        agrees: alike(usual, told) & cells & stops & levels,
+        passed: tried.passed,
+    }
+}
+
+fn trial(simplex: bool, lane: usize, node: usize) -> Trial {
+    Trial {
+        simplex,
+        lane,
+        node,
+    }
+}
+
+// Are all ways' answers the usual one, and did the simplex's plan pass with a lane spoiled, and with a node?
+struct Ways {
+    agree: bool,
+    spoiled: bool,
+    cut: bool,
+}
+
+// Plans a case without the simplex, with a lane of its plan spoiled, and with a node of its tree spoiled.
+fn others(
+    lane: usize,
+    node: usize,
+    usual: Told,
+    m: usize,
+    n: usize,
+    run1: u64,
+    run2: u64,
+    costs: &[i64],
+    supplies: &[u64],
+    demands: &[u64],
+    ceilings: &[u64],
+    table: &[u64],
+    plan: &[u64],
+    splits: &[u64],
+    freights: &[i64],
+) -> Ways {
+    let paths = held(
+        trial(false, 2048, 128),
+        usual,
+        m,
+        n,
+        run1,
+        run2,
+        costs,
+        supplies,
+        demands,
+        ceilings,
+        table,
+        plan,
+        splits,
+        freights,
+    );
+    let spoiled = held(
+        trial(true, lane, 128),
+        usual,
+        m,
+        n,
+        run1,
+        run2,
+        costs,
+        supplies,
+        demands,
+        ceilings,
+        table,
+        plan,
+        splits,
+        freights,
+    );
+    let cut = held(
+        trial(true, 2048, node),
+        usual,
+        m,
+        n,
+        run1,
+        run2,
+        costs,
+        supplies,
+        demands,
+        ceilings,
+        table,
+        plan,
+        splits,
+        freights,
+    );
+    Ways {
+        agree: paths.agrees & spoiled.agrees & cut.agrees & !paths.passed,
+        spoiled: spoiled.passed,
+        cut: cut.passed,
+    }
+}
+
+// Plans a case of m sources and n terminals as usual, and by the other ways.
 pub fn hold(
+    lane: usize,
+    node: usize,
     m: usize,
     n: usize,
     run1: u64,
@@ -75,11 +222,8 @@ pub fn hold(
     let mut plan = [0u64; 2048];
     let mut splits = [0u64; 4001];
     let mut freights = [0i64; 4001];
-    let mut other_plan = [0u64; 2048];
-    let mut other_splits = [0u64; 4001];
-    let mut other_freights = [0i64; 4001];
-    let quick = in_numbers(planner::plan_by(
-        true,
+    let usual = planner::plan_by(
+        trial(true, 2048, 128),
         m,
         n,
         run1,
@@ -92,9 +236,15 @@ pub fn hold(
         &mut plan,
         &mut splits,
         &mut freights,
-    ));
-    let slow = in_numbers(planner::plan_by(
-        false,
+    );
+    let passed = usual.passed;
+    let answer = usual.answer;
+    let told = in_numbers(answer);
+    let planned = told.number == 0;
+    let ways = others(
+        lane,
+        node,
+        told,
         m,
         n,
         run1,
@@ -104,21 +254,23 @@ pub fn hold(
         demands,
         ceilings,
         table,
-        &mut other_plan,
-        &mut other_splits,
-        &mut other_freights,
-    ));
-    let cells = same(&plan, &other_plan);
-    let stops = same(&splits, &other_splits);
-    let levels = same_signed(&freights, &other_freights);
+        &plan,
+        &splits,
+        &freights,
+    );
     Seen {
-        planned: quick.number == 0,
-        agrees: alike(quick, slow) & cells & stops & levels,
+        planned,
+        passed,
+        refused: passed & !ways.spoiled,
+        climbed: planned & ways.cut,
+        agrees: ways.agree,
     }
 }
 
 // The same of a case that lies in the first cells of longer arrays.
 pub fn hold_first(
+    lane: usize,
+    node: usize,
     m: usize,
     n: usize,
     lanes: usize,
@@ -131,6 +283,8 @@ pub fn hold_first(
     entries: usize,
 ) -> Seen {
     hold(
+        lane,
+        node,
         m,
         n,
         run,
