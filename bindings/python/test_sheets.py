@@ -217,6 +217,37 @@ class Files(Folder):
         self.refused("terminal 1 is named 'Rome', but 'Paris' in the tariff", LABELLED, ceilings=";Rome;Paris\nGrasse;1;1\nHolzminden;1;1\nLyon;1;1\n")
         self.refused("3 sources and 2 terminals", LABELLED, ceilings="1;2;3;4\n")
 
+    def test_runs_by_name(self):
+        """A least run that is named is that plant's: another order is refused, and what was taken as names is said."""
+        for runs in ("Holzminden;200\nGrasse;100\n", "plant;run\nHolzminden;2\nGrasse;1\n", "Holzminden;Grasse\n2;1\n", ";Holzminden;Grasse\nrun;2;1\n"):
+            self.refused("runs: the least run of plant 1 is named 'Holzminden', but 'Grasse' in the tariff; the order is the same in both", LABELLED, runs=runs)
+        for runs in ("Plant 2;2\nPlant 1;1\n", "plant;run\n2;2\n1;1\n", "Lyon;2\nGrasse;1\n"):
+            self.refused("runs: the least run of plant 1 is named ", LABELLED, runs=runs)
+            if "Lyon" not in runs:
+                self.refused("but plant 1 is due", "2,6,3\n5,3,3\n1,4,1\n3,2,\n", runs=runs)
+        turned = LABELLED.replace("Grasse", "Plant 2").replace("Holzminden", "Plant 1")
+        self.refused("named 'Plant 1', but 'Plant 2' in the tariff", turned, runs="Plant 1;1\nPlant 2;2\n")
+        for runs in ("Grasse;Holzminden\n1;2\n", "x;grasse ;Holzminden\nrun;1;2\n", "Plant 1;1\nPlant 2;2\n", "plant;run\n1;1\n2;2\n", "run;1;2\n", "least run\n1\n2\n"):
+            self.assertEqual(self.read(LABELLED, runs=runs).case.runs, (1, 2))
+        notes = self.read(LABELLED, runs="plant;run\nGrasse;1\nHolzminden;2\n").notes
+        self.assertEqual([note for note in notes if note.startswith("runs: ")], ["runs: row 1 taken as names", "runs: column A taken as names"])
+        bare = self.read("2,6,3\n5,3,3\n1,4,1\n3,2,\n", runs="Grasse;1\nHolzminden;2\n")
+        self.assertIn("runs: Holzminden taken as plant 2, which has no name in the tariff", bare.notes)
+
+    def test_numbers_are_no_names(self):
+        """A demand or a supply that is missing, or no number, makes no names of the numbers before it."""
+        bare = "2,6,3\n5,3,3\n1,4,1\n3,2,\n"
+        for demand in ("", "1E+1", "n/a", "?"):
+            self.refused("tariff!A4: the demand of terminal 1 is missing or no number", bare.replace("3,2,", f"{demand},2,"))
+            self.refused("tariff!A5: the demand of terminal 1", "Paris,Rome,supply\n" + bare.replace("3,2,", f"{demand},2,"))
+        self.refused("tariff!A4: the demand", bare.replace("3,2,", ",2,").replace("5,3,3", ",3,3"))
+        for row in ("2,6,", "2,6,x", "2,,"):
+            self.refused("tariff!C1: the supply is missing", bare.replace("2,6,3", row))
+            self.refused("tariff!D1: the supply is missing", "Grasse;" + row.replace(",", ";") + "\n" + LABELLED.split("\n", 2)[2])
+        codes = "x;7;8;supply\n1;2;6;3\n2;5;3;3\n3;1;4;1\ndemand;3;2;\n"
+        self.assertEqual(self.read(codes).case, A._replace(sources=["1", "2", "3"], terminals=["7", "8"]))
+        self.assertEqual(self.read(LABELLED.replace("demand", "")).case, NAMED)
+
     def test_command(self):
         tariff, table, out = self.path("t.csv", LABELLED), self.path("p.csv", TABLE), self.path("case.json")
         status, said = run("import", tariff, table, "-o", out)

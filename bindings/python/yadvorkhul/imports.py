@@ -73,25 +73,35 @@ def _covered(sheet: Sheet, names: int):
             raise BadSheet(f"{row[names].where}: row 1 has {counted(names, 'field')}, this row {_length(row)}; perhaps a name is missing there{comma}")
 
 
-def _even(sheet: Sheet, rows: List[List[Cell]]):
+def _even(sheet: Sheet, start: int):
     """The sources of a tariff in commas have as many fields each: one more may be a number that its comma parted."""
-    least = min(map(_length, rows), default=0)
+    rows = sheet.rows[start:-1]
+    least = min(sheet.fields[start : start + len(rows)], default=0)
     for row in rows if sheet.sign == "," else []:
         if _length(row) > least:
             raise BadSheet(f"{row[least].where}: this row has {counted(_length(row), 'field')}, another {least}; perhaps a comma parted a number of "
                            f"{_joined(sheet, row)[:40]!r}")
 
 
+def _bare(cells: List[Cell], last: Cell, *words: str) -> bool:
+    """Whether what would be names are numbers, and the cell at their end is not the word that says so."""
+    return not _named(cells) and any(map(is_number, cells)) and str(last.value).strip().lower() not in words
+
+
 def _tariff(sheet: Sheet, notes: Notes) -> Case:
     """Costs, supplies and demands with their names; the table is still to come."""
     if _named(sheet.rows[0][1:]):
         _covered(sheet, sheet.fields[0] if sheet.fields else len(sheet.rows[0]))
-    _even(sheet, sheet.rows[1 if _named(sheet.rows[0][1:]) else 0 : -1])
+    _even(sheet, 1 if _named(sheet.rows[0][1:]) else 0)
     if len(sheet.rows[0]) > 1 and _length(sheet.rows[0]) == 1 and not is_number(sheet.rows[0][0]):
         raise BadSheet(f"{sheet.rows[0][0].where}: a row with a title alone; the first row has the names or a source")
     top, left = not is_number(sheet.rows[0][-1]), not is_number(sheet.rows[-1][0])
-    if top and is_number(sheet.rows[0][0]) and all(is_number(cell) for cell in sheet.rows[0][:-1]):
-        raise BadSheet(f"{sheet.rows[0][-1].where}: the supply is missing; each source has its unit costs, then its supply")
+    if top and _bare(sheet.rows[0][1 if left else 0 : -1], sheet.rows[0][-1], "supply", "supplies"):
+        raise BadSheet(f"{sheet.rows[0][-1].where}: the supply is missing; each source has its unit costs, then its supply "
+                       "(where row 1 holds names that are numbers, write supply there)")
+    if left and _bare([row[0] for row in sheet.rows[1 if top else 0 : -1]], sheet.rows[-1][0], "demand", "demands"):
+        raise BadSheet(f"{sheet.rows[-1][0].where}: the demand of terminal 1 is missing or no number; the last row has the demands "
+                       "(where column A holds names that are numbers, write demand there)")
     found = _labelled(sheet, notes, top, left)
     if len(found.cells) < 2 or len(found.cells[0]) < 2:
         raise BadSheet(f"{sheet.name} is too small: sources with their supplies, then the demands, are wanted")
@@ -139,7 +149,33 @@ def _column(sheet: Sheet, notes: Notes) -> List[Cell]:
     return [row[-1] for row in rows]
 
 
-def _runs(sheet: Sheet, notes: Notes) -> Tuple[int, int]:
+def _plants(names: List[str], case: Case, sheet: Sheet, notes: Notes):
+    """Names of the least runs are those of the plants in the tariff, in its order; or `Plant 1` and `Plant 2`, or 1 and 2."""
+    known = [name.strip().lower() for name in case.sources or []]
+    default = lambda k: {f"plant {k}", str(k)} - set(known)
+    for k, name in enumerate(names, 1):
+        due = known[k - 1] if k <= len(known) else ""
+        told = name.strip().lower()
+        if told in ("", due) or told in default(k):
+            continue
+        if due or told in default(3 - k) or told in known:
+            other = f"{case.sources[k - 1]!r} in the tariff" if due else f"plant {k} is due"
+            raise BadSheet(f"{sheet.name}: the least run of plant {k} is named {name!r}, but {other}; the order is the same in both")
+        notes.say(f"{sheet.name}: {name} taken as plant {k}, which has no name in the tariff")
+
+
+def _run_names(sheet: Sheet, rows: List[List[Cell]], top: bool, notes: Notes) -> List[str]:
+    """The names of the two least runs: before each, or above each."""
+    if top:
+        _say_row(sheet, notes)
+    if len(rows[0]) > (2 if len(rows) == 1 else 1):
+        notes.say(f"{sheet.name}: column A taken as names")
+    if len(rows) == 2:
+        return [label(row[0]) for row in rows] if len(rows[0]) == 2 else []
+    return [label(cell) for cell in sheet.rows[0][-2:]] if top else []
+
+
+def _runs(sheet: Sheet, case: Case, notes: Notes) -> Tuple[int, int]:
     """Two least runs, below or beside each other, with or without names."""
     top = not is_number(sheet.rows[0][-1])
     if top:
@@ -147,6 +183,7 @@ def _runs(sheet: Sheet, notes: Notes) -> Tuple[int, int]:
     rows = sheet.rows[1:] if top else sheet.rows
     before = [row[0] for row in rows if len(row) > (2 if len(rows) == 1 else 1)]  # what is read as a name
     if (len(rows), len(rows[0]) if rows else 0) in ((2, 1), (2, 2), (1, 2), (1, 3)) and (top or not any(map(is_number, before))):
+        _plants(_run_names(sheet, rows, top, notes), case, sheet, notes)
         return (whole(rows[0][-1], notes), whole(rows[1][-1], notes)) if len(rows) == 2 else (whole(rows[0][-2], notes), whole(rows[0][-1], notes))
     raise BadSheet(f"{sheet.name}: two numbers are wanted, the least run of each plant, each with its name before it or without names")
 
@@ -204,7 +241,7 @@ def case_of(sheets: Dict[str, Sheet], notes: Notes) -> Case:
     case = _tariff(sheets["tariff"], notes)
     case = case._replace(table=[whole(cell, notes) for cell in _column(sheets["production"], notes)])
     if "runs" in sheets:
-        case = case._replace(runs=_runs(sheets["runs"], notes))
+        case = case._replace(runs=_runs(sheets["runs"], case, notes))
     if "ceilings" in sheets:
         ceilings = _ceilings(sheets["ceilings"], case, notes)
         case = case._replace(ceilings=ceilings if any(one != MOST_AMOUNT for row in ceilings for one in row) else None)
