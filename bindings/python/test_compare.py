@@ -1,6 +1,7 @@
 """Tests of what one drum more would change, of changes a line, and of two plans beside each other."""
 
 import contextlib
+import importlib.util
 import io
 import json
 import os
@@ -183,6 +184,56 @@ class Compared(unittest.TestCase):
         self.assertEqual(lanes, {(x, y) for xs, ys in zip(a.amounts, b.amounts) for x, y in zip(xs, ys) if x != y})
         self.assertEqual([row.other for row in found.results], [b.split, 6 - 1 - b.split, other.table[b.split], b.freight, b.total])
         self.assertTrue(all(one != two for _, one, two in found.prints))
+
+    def test_by_name(self):
+        """Sources and terminals in another order are the same ones: numbers stand under the name that they have in both."""
+        case = season()
+        turn = lambda names, k, l: [names[l] if i == k else names[k] if i == l else name for i, name in enumerate(names)]
+        for k, l, m, n in ((0, 1, 2, 5), (3, 29, 11, 7)):
+            both = lambda rows: [turn(row, k, l) for row in turn(rows, m, n)]
+            other = case._replace(costs=both(case.costs), ceilings=both(case.ceilings), demands=turn(case.demands, k, l), supplies=turn(case.supplies, m, n))
+            other = other._replace(sources=turn(case.sources, m, n), terminals=turn(case.terminals, k, l))
+            found = compare(side("a", case), side("b", other))
+            self.assertEqual((found.inputs, found.by_name, {row.more for row in found.results}), ([], ["sources", "terminals"], {0}))
+            self.assertEqual(len(set(found.prints[0][1:])), 2)
+            demands = list(other.demands)
+            demands[k] += 1
+            found = compare(side("a", case), side("b", other._replace(demands=demands)))
+            self.assertEqual(found.inputs, [(f"demand of {case.terminals[l]}", case.demands[l], case.demands[l] + 1)])
+            amounts = {(s, t): x for s, row in zip(other.sources, other._replace(demands=demands).plan().amounts) for t, x in zip(other.terminals, row)}
+            for row in found.lanes:
+                self.assertEqual(row.other, amounts[tuple(row.name.split(" to "))])
+            self.assertIn("numbers are matched by name", text_of(found))
+        refused = other._replace(costs=other.costs[1:])
+        self.assertEqual(compare(side("a", case), side("b", refused)).by_name, [])
+
+    def test_names_differ(self):
+        """Another name, title, currency or date is an input that differs, and a number stands under both names."""
+        one = A._replace(sources=["G", "H", "L"], terminals=["Paris", "Rome"], currency="EUR", date="1 May")
+        other = one._replace(terminals=["Elsewhere", "Rome"], currency="CHF", date="2 May", title="t", demands=[2, 2])
+        found = compare(side("a", one), side("b", other))
+        texts = [("title", None, "t"), ("currency", "EUR", "CHF"), ("date", "1 May", "2 May"), ("name of terminal 1", "Paris", "Elsewhere")]
+        self.assertEqual(found.inputs, texts + [("demand of Paris / Elsewhere", 3, 2)])
+        self.assertIn("EUR", text_of(found))
+        turned = one._replace(sources=["H", "G", "L"])
+        found = compare(side("a", one), side("b", turned))
+        self.assertEqual(found.inputs, [("name of plant 1", "G", "H"), ("name of plant 2", "H", "G")])
+        self.assertEqual([row.name for row in found.results[:2]], ["G / H makes", "H / G makes"])
+        small = Case([[1], [1]], [2, 2], [2], [0, 0, 0], sources=["X", "H"])
+        found = compare(side("a", one._replace(currency="", date="")), side("b", small))
+        self.assertEqual([row.name for row in found.inputs], ["name of plant 1", "sources", "terminals"])
+        self.assertEqual(found.results[0].name, "G / X makes")
+        said = text_of(compare(side("a", one), side("b\udcff", one._replace(title="\u202e\x1b[2J"))))
+        self.assertEqual(("\x1b" in said, "\\x1b[2J" in said, "b\\xff" in said), (False, True, True))
+
+    @unittest.skipUnless(importlib.util.find_spec("matplotlib") and importlib.util.find_spec("jinja2"), "the page needs Jinja2 and Matplotlib")
+    def test_names_on_the_page(self):
+        from yadvorkhul.pages import compare_page
+
+        one = A._replace(sources=["G", "H", "L"], terminals=["Paris", "Rome"], currency="<EUR>")
+        page = compare_page(compare(side("a", one), side("b", one._replace(terminals=["Rome", "Paris"], currency="CHF"))))
+        self.assertIn("<td><bdi>&lt;EUR&gt;</bdi></td><td><bdi>CHF</bdi></td><td></td>", page)
+        self.assertIn("The terminals stand in another order in B: numbers are matched by name", page)
 
     def test_refused_and_sizes(self):
         small = Case([[1], [1]], [2, 2], [9], [0, 0, 0])

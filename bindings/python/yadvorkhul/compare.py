@@ -2,7 +2,8 @@
 
 import os
 import re
-from typing import Any, Dict, List, NamedTuple, Optional, Tuple
+from itertools import zip_longest
+from typing import Any, Dict, List, NamedTuple, Optional, Tuple, Union
 
 from . import MOST_AMOUNT, Case, Plan, Refusal, Role
 from .cases import read_case as read_json
@@ -23,15 +24,15 @@ class Side(NamedTuple):
 
 
 class Row(NamedTuple):
-    """A number that both have."""
+    """A number or a text of each."""
 
     name: str
-    one: Optional[int]
-    other: Optional[int]
+    one: Union[int, str, None]
+    other: Union[int, str, None]
 
     @property
     def more(self) -> Optional[int]:
-        return None if self.one is None or self.other is None else self.other - self.one
+        return self.other - self.one if isinstance(self.one, int) and isinstance(self.other, int) else None
 
 
 class Compared(NamedTuple):
@@ -40,6 +41,7 @@ class Compared(NamedTuple):
     inputs: List[Row]  # that differ
     lanes: List[Row]  # that carry another amount
     alike: bool  # as many sources and terminals: only then numbers are compared one by one
+    by_name: List[str]  # what stands in another order in B, and is matched by its names: sources, terminals
     prints: List[Tuple[str, str, str]]  # fingerprints
 
 
@@ -154,6 +156,58 @@ def _differing(one: Dict, other: Dict) -> List[Row]:
     return found
 
 
+# names ---------------------------------------------------------------------------------------------------------------------------------
+
+
+def _order(ours: Optional[List[str]], theirs: Optional[List[str]], count: int, fixed: int = 0) -> List[int]:
+    """Where each of our names stands among theirs; as they are where the two do not have the same names, each once, the fixed ones first."""
+    ours, theirs = list(ours or []), list(theirs or [])
+    known = len(ours) == len(theirs) == len(set(ours)) == count and "" not in ours
+    if not known or set(ours) != set(theirs) or ours[:fixed] != theirs[:fixed]:
+        return list(range(count))
+    return [theirs.index(name) for name in ours]
+
+
+def _whole(case: Case) -> bool:
+    """Whether costs and ceilings have a number for each lane; a refused case may lack some."""
+    m, n = len(case.supplies), len(case.demands)
+    return all(len(rows) == m and all(len(row) == n for row in rows) for rows in (case.costs, case.ceilings) if rows is not None)
+
+
+def _ordered(side: Side, sources: List[int], terminals: List[int]) -> Side:
+    """The same case and plan with sources and terminals in this order. The plants, and so the splits, stay."""
+    pick = lambda rows: [[rows[i][j] for j in terminals] for i in sources]
+    case = side.case
+    case = case._replace(
+        costs=pick(case.costs),
+        supplies=[case.supplies[i] for i in sources],
+        demands=[case.demands[j] for j in terminals],
+        ceilings=pick(case.ceilings) if case.ceilings else None,
+        sources=case.sources and [case.sources[i] if i < len(case.sources) else "" for i in sources],
+        terminals=case.terminals and [case.terminals[j] if j < len(case.terminals) else "" for j in terminals],
+    )
+    return side._replace(case=case, plan=side.plan and side.plan._replace(amounts=pick(side.plan.amounts)))
+
+
+def _both(ours: Optional[List[str]], theirs: Optional[List[str]]) -> List[str]:
+    """A name for each place: that of the one that has one, or both where they differ."""
+    pairs = zip_longest(ours or [], theirs or [], fillvalue="")
+    return [a if a == b or not b else b if not a else f"{a} / {b}" for a, b in pairs]
+
+
+def _texts(one: Case, other: Case, terminals: bool) -> List[Row]:
+    """Title, currency and date that differ, and names that stand at one place and differ; of cases that are not alike, those of the plants."""
+    rows = [Row(field, getattr(one, field) or None, getattr(other, field) or None) for field in ("title", "currency", "date")]
+    sources = list(zip(one.sources or [], other.sources or []))
+    rows += [Row(f"name of {'plant' if i < 2 else 'depot'} {i + 1}", a, b) for i, (a, b) in enumerate(sources if terminals else sources[:2]) if a and b]
+    if terminals:
+        rows += [Row(f"name of terminal {j}", a, b) for j, (a, b) in enumerate(zip(one.terminals or [], other.terminals or []), 1) if a and b]
+    return [row for row in rows if row.one != row.other]
+
+
+# the whole -----------------------------------------------------------------------------------------------------------------------------
+
+
 def _results(one: Side, other: Side) -> List[Row]:
     def told(side: Side):
         if side.plan is None:
@@ -172,20 +226,38 @@ def _lanes(one: Side, other: Side) -> List[Row]:
     return _differing(amounts(one), amounts(other))
 
 
+def _matched(one: Side, other: Side) -> Tuple[Side, List[str]]:
+    """The other in the order of the first, where the same names stand in another order, and what was so matched."""
+    if not (_whole(one.case) and _whole(other.case)):
+        return other, []
+    sources = _order(one.case.sources, other.case.sources, len(other.case.supplies), 2)
+    terminals = _order(one.case.terminals, other.case.terminals, len(other.case.demands))
+    moved = [name for name, order in (("sources", sources), ("terminals", terminals)) if order != sorted(order)]
+    return (_ordered(other, sources, terminals) if moved else other), moved
+
+
 def compare(one: Side, other: Side) -> Compared:
-    """What differs between two cases and their plans."""
+    """What differs between two cases and their plans. Numbers are matched by name where both have the same names, else by place."""
     size = lambda side: (len(side.case.supplies), len(side.case.demands))
     alike = size(one) == size(other)
-    if alike:  # the names of the other where the first has none
-        named = {field: getattr(one.case, field) or getattr(other.case, field) for field in ("sources", "terminals")}
-        one = one._replace(case=one.case._replace(**named))
-    inputs = _differing(_numbers(one.case), _numbers(other.case)) if alike else []
-    if not alike:
-        inputs = [Row(name, a, b) for name, a, b in zip(("sources", "terminals"), size(one), size(other)) if a != b]
     prints = [("the case", fingerprint(one.case), fingerprint(other.case))]
     planned = [plan_fingerprint(side.case, side.plan) if side.plan else "" for side in (one, other)]
     prints.append(("the plan", planned[0], planned[1]))
-    return Compared((one, other), _results(one, other), inputs, _lanes(one, other) if alike else [], alike, prints)
+    other, moved = _matched(one, other) if alike else (other, [])
+    inputs = _texts(one.case, other.case, alike)
+    named = {field: _both(getattr(one.case, field), getattr(other.case, field)) for field in ("sources", "terminals")}
+    one, other = (side._replace(case=side.case._replace(**named)) for side in (one, other))
+    if alike:
+        inputs += _differing(_numbers(one.case), _numbers(other.case))
+    else:
+        inputs += [Row(name, a, b) for name, a, b in zip(("sources", "terminals"), size(one), size(other)) if a != b]
+    return Compared((one, other), _results(one, other), inputs, _lanes(one, other) if alike else [], alike, moved, prints)
+
+
+def by_name(found: Compared) -> str:
+    """Says what was matched by name; nothing where all stands in one order."""
+    what = " and ".join(found.by_name)
+    return f"The {what} stand in another order in B: numbers are matched by name; fingerprints go by the order." if what else ""
 
 
 def as_json(found: Compared) -> Dict:
@@ -196,4 +268,4 @@ def as_json(found: Compared) -> Dict:
         for told, print_ in zip(sides, both):
             told[what.replace("the ", "") + "_fingerprint"] = print_ or None
     parts = {name: [row(one) for one in getattr(found, name)] for name in ("results", "inputs", "lanes")}
-    return {"a": sides[0], "b": sides[1], "alike": found.alike, **parts}
+    return {"a": sides[0], "b": sides[1], "alike": found.alike, "matched_by_name": found.by_name, **parts}

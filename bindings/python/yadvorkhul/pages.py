@@ -325,6 +325,7 @@ def compare_page(found: "Compared") -> str:
     """The page of two cases beside each other, a `Compared`."""
     environment = _environment()
     _needed("matplotlib")
+    from .compare import by_name
     from .picture import two_curves
 
     planned = [side for side in found.sides if side.plan]
@@ -333,7 +334,13 @@ def compare_page(found: "Compared") -> str:
     drawn = two_curves([curve_of(side.plan, side.case.table) for side in planned], letters, plant=name) if planned else ""
     prints = [(what, spoken(one), spoken(other), one == other != "") for what, one, other in found.prints]
     return environment.get_template("compare.html").render(
-        title="Two plans beside each other", found=found, picture=drawn, prints=prints, version=__version__, script_source="'none'"
+        title="Two plans beside each other",
+        found=found,
+        by_name=by_name(found),
+        picture=drawn,
+        prints=prints,
+        version=__version__,
+        script_source="'none'",
     )
 
 

@@ -2,7 +2,7 @@
 
 import json
 
-from ..console import DONE, WrongUse, emit, say
+from ..console import DONE, WrongUse, emit, escaped, say
 from ..outputs import BadOutput, check_outputs, write_whole
 from ..words import grouped
 
@@ -36,7 +36,7 @@ def _signed(number) -> str:
 
 
 def _rows(rows, wide: int):
-    shown = lambda number: "\u2013" if number is None else grouped(number)
+    shown = lambda value: "\u2013" if value is None else value if isinstance(value, str) else grouped(value)
     lines = [f"{row.name:<{wide}} {shown(row.one):>14} {shown(row.other):>14} {_signed(row.more):>12}" for row in rows[:SHOWN]]
     if len(rows) > SHOWN:
         lines.append(f"... and {len(rows) - SHOWN:,} more (--json has all)")
@@ -45,6 +45,7 @@ def _rows(rows, wide: int):
 
 def text_of(found) -> str:
     """The comparison for a terminal."""
+    from ..compare import by_name
     from ..forms import spoken
 
     wide = max([24] + [len(row.name) for part in (found.results, found.inputs[:SHOWN], found.lanes[:SHOWN]) for row in part])
@@ -55,11 +56,12 @@ def text_of(found) -> str:
     for what, one, other in found.prints:
         both = f"the same, {spoken(one)}" if one else "none; neither has one"
         lines.append(f"fingerprint of {what}: " + (both if one == other else f"{spoken(one) or 'none'} / {spoken(other) or 'none'}"))
+    lines += [by_name(found)] if found.by_name else []
     lines += ["", "inputs that differ:" if found.inputs else "no input differs."] + _rows(found.inputs, wide)
     if all(side.plan for side in found.sides):
         lines += ["", "lanes that differ (drums):" if found.lanes else "no lane differs." if found.alike else "the lanes are not compared: the sizes differ."]
         lines += _rows(found.lanes, wide)
-    return "\n".join(lines) + "\n"
+    return "".join(escaped(line) + "\n" for line in lines)
 
 
 def run(arguments) -> int:
