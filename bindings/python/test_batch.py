@@ -232,6 +232,36 @@ class Files(unittest.TestCase):
         self.assertIn("a worker was ended from outside", said)
         self.assertTrue(os.path.exists(self.output + ".state"))
 
+    def test_two_at_once(self):
+        """Two runs on one file: the second is told so, and what the first writes is not touched."""
+        due = self.many()
+        first = self.begun()
+        status, said = told("batch", self.source, "--case", SEASON, "-o", self.output, "--cores", "1", "--plans")
+        running = first.poll() is None
+        first.communicate(timeout=240)
+        self.assertEqual((status, running), (2, True), said)
+        self.assertIn(f"{self.output} is being written by another run", said)
+        self.assertEqual((first.returncode, len(self.got())), (0, len(due)))
+        self.assertEqual([json.loads(one).get("split") for one in self.got()], [json.loads(one).get("split") for one in due])
+        self.assertFalse(os.path.exists(self.output + ".state"))
+
+    def test_state_over_nothing(self):
+        """The state is written over no file that was read, nor over one that is no state; over one that an earlier run left, it is."""
+        state = self.output + ".state"
+        shutil.copy(self.source, state)
+        for source, words in ((state, "is read as an input"), (self.source, "is no state of a batch")):
+            status, said = told("batch", source, "--case", SEASON, "-o", self.output, "--cores", "1")
+            self.assertEqual((status, os.path.exists(self.output)), (2, False), said)
+            self.assertIn(words, said)
+            with open(state, encoding="utf-8") as stream:
+                self.assertEqual(stream.read(), "\n".join(self.lines) + "\n")
+        os.unlink(state)
+        begin(Batch(self.source, self.output, A, True))
+        os.unlink(self.output)
+        self.assertEqual(told("batch", self.source, "--case", SEASON, "-o", self.output, "--cores", "1")[0], 0)
+        self.assertEqual(self.got(), self.due)
+        self.assertEqual(told("batch", self.source, "--case", SEASON, "-o", self.path("b.jsonl"), "--summary", self.path("b.jsonl.state"))[0], 2)
+
     def test_parent_killed(self):
         """No worker outlives its parent."""
         self.many()

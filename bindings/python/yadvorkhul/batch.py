@@ -10,10 +10,11 @@
 """
 
 import collections
+import contextlib
 import hashlib
 import json
 import os
-from typing import Callable, Dict, Iterable, Iterator, List, NamedTuple, Optional
+from typing import Callable, Dict, Iterable, Iterator, List, NamedTuple, Optional, TextIO
 
 from . import Case, Refusal
 from .again import Again, NotAChange
@@ -126,24 +127,63 @@ def _whole_lines(path: str) -> int:
     return count
 
 
-def begin(batch: Batch) -> int:
-    """How many lines are answered already. Answers to something else are not touched."""
+def _lock(state: TextIO, batch: Batch):
+    """From here on, while the state is open, this run alone writes the answers."""
+    import fcntl
+
+    try:
+        fcntl.lockf(state, fcntl.LOCK_EX | fcntl.LOCK_NB)
+        mine = os.path.samestat(os.fstat(state.fileno()), os.stat(batch.state))
+    except (BlockingIOError, PermissionError, FileNotFoundError):
+        mine = False
+    if not mine:
+        raise CannotGoOn(f"{batch.output} is being written by another run; let it end, or name another file")
+
+
+def _before(state: TextIO) -> object:
+    """What a state says; None where it is not JSON."""
+    try:
+        return json.load(state)
+    except ValueError:
+        return None
+
+
+def _enter(state: TextIO, batch: Batch, identity: Dict):
+    """Begins the answers. A file that is no state of a batch is not written over."""
+    before = _before(state)
+    if state.tell() and not (isinstance(before, dict) and before.get("form") == FORM):
+        raise CannotGoOn(f"{batch.state} is there already, and is no state of a batch; name another file for the answers, or take it away")
+    state.seek(0)
+    state.truncate()
+    json.dump(identity, state)
+    state.flush()
+    with open(batch.output, "xb"):
+        pass
+
+
+@contextlib.contextmanager
+def held(batch: Batch) -> Iterator[int]:
+    """How many lines are answered already; until the end no other run writes the answers. Answers to something else are not touched."""
     identity = _identity(batch)
-    if not os.path.exists(batch.output):
-        with open(batch.state, "w", encoding="utf-8") as out:
-            json.dump(identity, out)
-        with open(batch.output, "xb"):
-            return 0
-    if not os.path.exists(batch.state):
-        raise CannotGoOn(f"{batch.output} is there already, and is not unfinished; name another file, or take it away")
-    with open(batch.state, encoding="utf-8") as stream:
-        try:
-            before = json.load(stream)
-        except ValueError:
-            before = None
-    if before != identity:
-        raise CannotGoOn(f"{batch.output} holds answers to other lines, another case or another form; name another file, or take it away")
-    return _whole_lines(batch.output)
+    finished = f"{batch.output} is there already, and is not unfinished; name another file, or take it away"
+    if os.path.exists(batch.output) and not os.path.exists(batch.state):
+        raise CannotGoOn(finished)
+    with open(os.open(batch.state, os.O_RDWR | os.O_CREAT, 0o666), "r+", encoding="utf-8", errors="replace") as state:
+        _lock(state, batch)
+        if not os.path.exists(batch.output):
+            _enter(state, batch, identity)
+        elif not os.fstat(state.fileno()).st_size:  # another run ended meanwhile
+            os.unlink(batch.state)
+            raise CannotGoOn(finished)
+        elif _before(state) != identity:
+            raise CannotGoOn(f"{batch.output} holds answers to other lines, another case or another form; name another file, or take it away")
+        yield _whole_lines(batch.output)
+
+
+def begin(batch: Batch) -> int:
+    """The same for one who is alone: how many lines are answered already."""
+    with held(batch) as done:
+        return done
 
 
 def _lines(path: str) -> Iterator[str]:

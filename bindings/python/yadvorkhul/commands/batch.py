@@ -53,17 +53,17 @@ def _heard():
 
 def _went_on(batch, total: int, cores: int, heard):
     """Answers what is left, from where an earlier run was stopped."""
-    from ..batch import begin, run
+    from ..batch import held, run
 
-    done = begin(batch)
-    if done:
-        say(f"{batch.output} has {done:,} answers; going on from there")
-    bar = _bar(total, done)
-    try:
-        return run(batch, done, cores, bar.update if bar is not None else None, lambda: bool(heard))
-    finally:
-        if bar is not None:
-            bar.close()
+    with held(batch) as done:
+        if done:
+            say(f"{batch.output} has {done:,} answers; going on from there")
+        bar = _bar(total, done)
+        try:
+            return run(batch, done, cores, bar.update if bar is not None else None, lambda: bool(heard))
+        finally:
+            if bar is not None:
+                bar.close()
 
 
 def _stopped(stopped, output: str, heard) -> int:
@@ -81,9 +81,9 @@ def run(arguments) -> int:
     from ._given import json_case
 
     try:
-        check_outputs([arguments.output, arguments.summary], [path for path in (arguments.lines, arguments.case) if path])
         case = json_case(arguments.case) if arguments.case else None
         batch = Batch(arguments.lines, arguments.output, case, arguments.plans)
+        check_outputs([batch.output, batch.state, arguments.summary], [path for path in (arguments.lines, arguments.case) if path])
         with _heard() as heard:
             count = _went_on(batch, count_lines(arguments.lines), _cores(arguments.cores), heard)
     except Stopped as stopped:
