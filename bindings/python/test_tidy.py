@@ -45,14 +45,45 @@ class Tidy(unittest.TestCase):
             (b"\n" + self.data + b"\n", "empty lines left out: 2"),
             (self.data.rstrip(b"\n"), "the last line had no end"),
             (b"\xef\xbb\xbf" + self.data, "byte order mark"),
+            (self.data.replace(b"\n", b"\r"), "line ends CR: "),
+            (self.data.decode().encode("utf-16"), "UTF-16 made plain text"),
+            (self.data.decode().replace("\n", "\r\n").encode("utf-16-be"), "UTF-16 made plain text"),
         ):
             path = self.path(spoiled)
-            self.assertEqual(run("flow", path, "1", TABLE)[0], 1, said)
+            status, _, told = run("flow", path, "1", TABLE)
+            self.assertEqual((status, "`flow --tidy` would put right: " in told, said in told), (1, True, True))
             status, printed, told = run("flow", path, "1", TABLE, "--tidy")
             self.assertEqual((status, printed), due[:2])
             self.assertIn("tidied: ", told)
             self.assertIn(said, told)
-        self.assertEqual(tidied(self.data), (self.data, []))
+        self.assertEqual(tidied(self.data)[:2], (self.data, []))
+
+    def test_lines_of_the_file(self):
+        """A refusal after tidying says that its line is of the tidied text, and which line of the file that was."""
+        lines = self.data.split(b"\n")
+        wrong = next(k for k, line in enumerate(lines) if line.startswith(b"a ")) + 1
+        lines[wrong - 1] += b" x"
+        path = self.path(b"\n\n\n" + b"\r\n".join(lines))
+        status, _, told = run("flow", path, "1", TABLE, "--tidy")
+        self.assertEqual(status, 1)
+        self.assertIn(f"line {wrong} of the network file {path} as tidied is not of the form", told)
+        self.assertIn(f"Line {wrong} of the tidied text is line {wrong + 3} of the file.", told)
+        self.assertNotIn("would put right", told)
+
+    def test_too_long(self):
+        """A file that is too long is not read whole, so it is not tidied: a number cut short is no number."""
+        ends = self.data.rstrip(b"\n").replace(b"\n", b"\r\n")
+        comment = b"c" + b"x" * (65_537 - len(ends) - 3) + b"\r\n"
+        status, printed, told = run("flow", self.path(comment + ends + b"00\r\n"), "1", TABLE, "--tidy")
+        self.assertEqual((status, "is longer than 65,536 bytes" in told), (1, True), printed + told)
+
+    def test_other_files(self):
+        """Of a workbook nothing is promised; a long line is cut."""
+        status, _, told = run("flow", self.path(b"PK\x03\x04" + bytes(range(256))), "1", TABLE)
+        self.assertEqual((status, "would put right" in told), (1, False))
+        status, _, told = run("flow", self.path(self.data + b"a 1 2 " + b"9" * 60_000 + b"\n"), "1", TABLE)
+        self.assertEqual((status, len(told) < 1_000), (1, True))
+        self.assertIn("\u2026", told)
 
     def test_numbers_are_not_touched(self):
         """What is wrong in a number stays refused."""

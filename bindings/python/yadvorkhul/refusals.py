@@ -25,6 +25,7 @@ _ADVICE = {
     23: "Lower the run or raise that plant's supply; 0 is no run.",
     26: "Give one ceiling for each lane, in the order of the costs; 4,000 where there is none.",
     27: "Look for a terminal, a depot or a plant with a least run whose lanes together are too narrow, then for groups of them; raise a ceiling or lower a run.",
+    32: "Look at that entry; use a larger coin if it is right.",
 }
 
 _HIGH_ADVICE = "Give a high entry for each low one, not below it."
@@ -249,6 +250,9 @@ def explain_case(refusal: Refusal, case: Optional[Case], tariff: Optional[File] 
         sentence = _entry_sentence(place, production, "production") if production else f"the entry of split {place} is above 1,000,000,000."
         facts = [(f"entry of split {place}", grouped(case.table[place]))]
         spot = _field_spot(production, place + 1, 1)
+    elif number == 32:
+        sentence = f"the entry of split {place} is above 9,999,999,999, which no file can hold."
+        facts = [(f"entry of split {place}", grouped(case.table[place]))]
     elif number == 23:
         sentence = f"the least run of plant {place} is above its supply."
         facts = [("least run", grouped(case.runs[place - 1])), ("supply", grouped(case.supplies[place - 1]))]
@@ -292,7 +296,7 @@ def _line_spot(file: File, number: int, cause: str) -> Spot:
     data = file.data
     low = sum(len(line) + 1 for line in data.split(b"\n")[: number - 1])
     end = data.find(b"\n", low)
-    high = len(data) if end < 0 else end
+    high = min(len(data) if end < 0 else end, low + 2 * _WIDE)
     return Spot(file, low, number, 1, _name(data, low), cause, _lines(data, low, max(high, low + 1)))
 
 

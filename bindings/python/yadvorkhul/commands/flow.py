@@ -10,7 +10,7 @@ from ..console import DONE, emit
 from ..files import LONGEST, NETWORK, PRODUCTION, FileRefusal, flow_files, handed, open_file, read_table
 from ..networks import FlowRefusal
 from ..refusals import explain_network
-from ._flow_more import draw, hint, more_of, tidy
+from ._flow_more import draw, hint, more_of, say_line, tidy
 from ._given import json_of
 from ._say import emit_json, emit_refusal, told
 
@@ -41,10 +41,7 @@ def _explained(number: int, place: int, network, arc: str, table) -> int:
         refusal = FileRefusal(number, place, table)
     elif number == 30:
         entries = read_table(table)
-    status = told(explain_network(refusal, network, _place(arc), entries, arc or '""'))
-    if number == 29:
-        hint(network)
-    return status
+    return told(explain_network(refusal, network, _place(arc), entries, arc or '""'))
 
 
 def _as_json(network, arc: str, table):
@@ -53,7 +50,7 @@ def _as_json(network, arc: str, table):
 
 
 def run(arguments) -> int:
-    network, table = tidy(open_file(NETWORK, arguments.network), arguments), open_file(PRODUCTION, arguments.table)
+    (network, lines), table = tidy(open_file(NETWORK, arguments.network), arguments), open_file(PRODUCTION, arguments.table)
     printed = flow_files(handed(network), os.fsencode(arguments.arc), handed(table))
     if not printed.number and arguments.drawing:
         entries = read_table(table)
@@ -64,4 +61,10 @@ def run(arguments) -> int:
         _as_json(network, arguments.arc, table)
     else:
         emit(printed.text)
-    return _explained(printed.number, printed.place, network, arguments.arc, table) if printed.number else DONE
+    if not printed.number:
+        return DONE
+    status = _explained(printed.number, printed.place, network, arguments.arc, table)
+    if printed.number == 29:
+        say_line(lines, printed.place)
+        hint(network)
+    return status
