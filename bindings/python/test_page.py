@@ -179,6 +179,7 @@ class Pages(unittest.TestCase):
         self.assertEqual(self.text("#within"), "3")
         self.assertEqual(self.table("#minima tbody tr")[1][0], "1")
         self.assertEqual(self.table("#minima tbody tr")[1][5:], ["+1", "3.03\u00a0%"])
+        self.assertEqual(self.text("#alternative"), "Best alternative: Plant 1 makes 1 (+1, 3.03\u00a0%).")
 
     def test_report(self):
         tariff, production = example("report", "rates.csv")
@@ -193,6 +194,7 @@ class Pages(unittest.TestCase):
         self.check_forced(case, case.plan())
         self.assertGreater(len(self.texts("#lanes td.full")), 3)
         self.assertIn("1,075 to 1,115", [row[0] for row in self.table("#minima tbody tr")])
+        self.assertRegex(self.text("#alternative"), r"^Best alternative: Grasse [0-9,]+( to [0-9,]+)? \(\+[0-9,]+, 0\.[0-9]+\u00a0%\)\.$")
 
     def test_large(self):
         case = large()
@@ -204,6 +206,7 @@ class Pages(unittest.TestCase):
         tied = Case(**{**A, "table": [99, 20, 24, 21]})
         self.check_plan("tie", tied, page(tied))
         self.assertEqual((self.text("#ties"), self.text("#within")), ("2", "1, 3"))
+        self.assertEqual(self.text("#alternative"), "Best alternative: Plant 1 makes 3 (the same total).")
         single = Case(**{**A, "supplies": [3, 1, 1]})
         self.check_plan("single", single, page(single))
         flat = Case([[1, 1]] * 2, [6, 6], [3, 3], [5] * 7)

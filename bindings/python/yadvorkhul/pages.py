@@ -21,7 +21,7 @@ from .files import File, plan_text, read_case
 from .forms import fingerprint, plan_fingerprint, spoken
 from .outputs import shown
 from .refusals import explain
-from .words import counted, grouped, increase, percent
+from .words import counted, grouped, percent
 
 if TYPE_CHECKING:
     from .batch import Summary
@@ -260,7 +260,7 @@ def _environment():
         loader=jinja2.FileSystemLoader(TEMPLATES), autoescape=True, trim_blocks=True, lstrip_blocks=True, undefined=jinja2.StrictUndefined
     )
     environment.filters.update(number=grouped, signs=_signs, isolated=_isolated, apart=_apart, path=shown)
-    environment.globals.update(percent=percent, increase=increase, counted=counted)
+    environment.globals.update(percent=percent, counted=counted)
     return environment
 
 
