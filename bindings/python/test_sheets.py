@@ -323,6 +323,10 @@ class Books(Folder):
         self.assertEqual(import_book(self.path("t.xlsx", template())).case, EXAMPLE)
         self.assertEqual(run("template", "-o", self.path("u.xlsx"))[0], 0)
         self.assertEqual(import_book(self.path("u.xlsx")).case, EXAMPLE)
+        filled = self.path("u.xlsx", export_book(A, A.plan()))
+        status, said = run("template", "-o", filled)
+        self.assertEqual((status, import_book(filled).case), (2, A))
+        self.assertIn("u.xlsx is there already; name another file, or take it away", said)
 
     def test_round_trip(self):
         """Import, export, import: the same case."""
@@ -336,6 +340,15 @@ class Books(Folder):
         for _ in range(4):
             names = draw.sample(odd, 5)
             self.same(A._replace(sources=names[:3], terminals=names[3:]))
+
+    def test_high_entry(self):
+        """An entry that import would not take is refused by export, with its split."""
+        case = A._replace(table=[10_000_000_000, 20, 24, 20], runs=(1, 0))
+        out = self.path("high.xlsx")
+        status, said = run("export", self.path("high.json", case_json(case)), "-o", out)
+        self.assertEqual((status, os.path.exists(out)), (1, False))
+        self.assertIn("Refusal 32: the entry of split 0 is above 9,999,999,999, which no file can hold. Look at that entry; use a larger coin if it is right.", said)
+        self.same(case._replace(table=[9_999_999_999, 20, 24, 20]))
 
     def test_no_formula(self):
         """A name is text, whatever it begins with."""

@@ -11,6 +11,7 @@ from typing import Any, List, Optional, Sequence
 from . import MOST_AMOUNT, Case, Plan
 from .certificate import Cells, base_formula, bound_formula, certificate, rise_formula, shown_formula, why
 from .curve import curve_of
+from .files import write_case
 from .forms import fingerprint, plan_fingerprint
 from .sheets import INSTALL, BadSheet, column_name
 
@@ -317,7 +318,8 @@ def _certificate_sheet(book, case: Case, plan: Plan, place: _Place, sources, ter
 
 
 def export_book(case: Case, plan: Plan) -> bytes:
-    """A workbook of a case and its plan."""
+    """A workbook of a case and its plan; or refusal 32 of the proved writer, by an entry that could not be imported again."""
+    write_case(case)
     book, place = _openpyxl().Workbook(), _Place(case)
     book.remove(book.active)
     m, n = place.m, place.n

@@ -1,7 +1,9 @@
 """Writes a workbook to fill in."""
 
+import os
+
 from ..console import DONE, WrongUse, say
-from ..outputs import BadOutput, check_outputs, write_whole
+from ..outputs import BadOutput, check_outputs, shown, write_whole
 
 ORDER = 4
 SUMMARY = "write a workbook to fill in, with a small case in it"
@@ -17,6 +19,8 @@ def run(arguments) -> int:
 
     try:
         check_outputs([arguments.output], [])
+        if os.path.isfile(arguments.output):  # perhaps one that is filled in
+            raise BadOutput(f"{shown(arguments.output)} is there already; name another file, or take it away")
     except BadOutput as error:
         raise WrongUse(str(error)) from error
     write_whole(arguments.output, template())
