@@ -465,6 +465,11 @@ class Pictures(unittest.TestCase):
         self.assertIn(b"<svg", due)
         self.assertEqual(self.picture(b"axes.facecolor: red\nfont.size: 40\naxes.titlesize: 40\nsvg.fonttype: path\nbackend: nothing\n"), due)
 
+    def test_long_name(self):
+        """A name of any length: the page has it whole, the picture its beginning."""
+        shown = page({**A, "sources": ["x" * 5_000]})
+        self.assertEqual((shown.count("drums that " + "x" * 39 + "\u2026 makes"), "x" * 5_000 in shown), (2, True))
+
     def test_settings_that_are_no_text(self):
         self.assertEqual(self.picture(b"\xff\xfe\x00"), self.picture(None))
 

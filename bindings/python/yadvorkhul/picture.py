@@ -16,6 +16,7 @@ MARK = 6  # points that the mark of a rival is wide
 MOST_LABELS = 6  # of rivals that get their numbers in the picture
 BEHIND = dict(facecolor="white", edgecolor="none", alpha=0.8, pad=0.8)  # of a label
 MOST_DOTS = 60  # splits that are drawn one by one
+MOST_NAME = 40  # letters of a name beside an axis
 
 
 def _lines(axes, curve: Curve, values, color, width=1.6):
@@ -114,8 +115,9 @@ def _drawn(figure) -> str:
 
 
 def _axis(axes, plant: str):
-    """What the splits are, by the name of the plant."""
-    shown = "".join(c if c.isprintable() else " " for c in plant)
+    """What the splits are, by the name of the plant, or by the beginning of a long one."""
+    short = plant if len(plant) <= MOST_NAME else plant[: MOST_NAME - 1] + "\u2026"
+    shown = "".join(c if c.isprintable() else " " for c in short)
     axes.set_xlabel(f"drums that {shown} makes", fontsize=9, color=INK, parse_math=False)
 
 
