@@ -266,7 +266,9 @@ module _ {N : Net} {p : List ℕ} {i all : ℕ} (small : N .n ≤ 64) (few : N .
       free-at = record { sources = few; terminals = small; source = ha; terminal = bit-place (N .n) all j (t .fits) set-bit }
 
       here : PartedTo N p (i * 64 + j) o f x s w d
-      here = part-over (q .parted) (λ a b c d y v. lane a b c d (omega (arith, q .most, free-at .terminal)) (omega (arith, q .most, free-at .terminal)) (omega (arith, q .most, free-at .terminal))) (omega (arith, left-low 64 (q .past) g (q .fits)))
+      here =
+          part-over (q .parted) (λ a b c d y v. lane a b c d (omega (arith, q .most, free-at .terminal)) (omega (arith, q .most, free-at .terminal)) (omega (arith, q .most, free-at .terminal)))
+          (omega (arith, left-low 64 (q .past) g (q .fits)))
         where
           lane : (a b : ℕ) → a < N .m → b < N .n → a ≡ i → q .hi ≤ b → b < j → ¬ TightLane N p a b
           lane a b c d z y u = rw z (t .loose b d (left-none 64 (q .past) g (q .fits) b y u))

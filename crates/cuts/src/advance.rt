@@ -325,7 +325,8 @@ fn cut_until(
 }
 
 // The path of the tree, for as many drums as the task has at most, into prev: cuts are made until it leads over open and tight arcs, or the tree is given
-// up. Where ceilings are wide the unit costs are the table by source. Any potentials will do under which what was slack is slack.
+// up. Where ceilings are wide the unit costs are the table by source. Any potentials will do under which what was slack is slack: the
+// freight of a slack plan is the least at its split under each.
 pub fn advance(
     task: Task,
     cost: &[u32; 2048],

@@ -96,7 +96,8 @@ fn write(
     columns[j * 32 + i] = cell;
 }
 
-// The lane of an arc from w to v that drums went over. Any two tables will do that are at most the unit costs of lanes with room.
+// The lane of an arc from w to v that drums went over. Any two tables will do that are at most the unit costs of lanes with
+// room: potentials that rise by less leave a slack plan slack.
 pub fn renew(
     v: usize,
     w: usize,

@@ -12,6 +12,7 @@ use engine_arrays::work::raise_rows;
 use engine_arrays::work::supplied;
 use engine_arrays::work::wanted;
 use size::limits::Size;
+use spanningtree::NONE;
 use split_range::begin::begin;
 use split_range::trial::Trial;
 use sweep::curve::sweep;
@@ -38,17 +39,17 @@ pub fn solve(
     freights: &mut [i64],
 ) -> Tried
     requires { ⌜ OnBalance
-        (lent (size .sources) (size .terminals) run1 run2 (now costs) (now supplies) (now demands) (now ceilings) (now table) (length (now plan)) (length (now splits))
-        (length (now freights)))
+        (lent (size .sources) (size .terminals) run1 run2 (now costs) (now supplies) (now demands) (now ceilings) (now table)
+        (length (now plan)) (length (now splits)) (length (now freights)))
         made ⌝ }
     ensures { λ r. ⌜ Answered
-        (lent (size .sources) (size .terminals) run1 run2 (now (costs .entry)) (now (supplies .entry)) (now (demands .entry)) (now (ceilings .entry)) (now (table .entry))
-        (length (now (plan .entry))) (length (now (splits .entry))) (length (now (freights .entry))))
+        (lent (size .sources) (size .terminals) run1 run2 (now (costs .entry)) (now (supplies .entry)) (now (demands .entry))
+        (now (ceilings .entry)) (now (table .entry)) (length (now (plan .entry))) (length (now (splits .entry))) (length (now (freights .entry))))
         (outcome (r .answer)) (slices (now (plan .entry)) (now (splits .entry)) (now (freights .entry)))
         (slices (now (plan .exit)) (now (splits .exit)) (now (freights .exit))) ⌝ }
     ensures { λ r. ⌜ Climbed
-        (lent (size .sources) (size .terminals) run1 run2 (now (costs .entry)) (now (supplies .entry)) (now (demands .entry)) (now (ceilings .entry)) (now (table .entry))
-        (length (now (plan .entry))) (length (now (splits .entry))) (length (now (freights .entry))))
+        (lent (size .sources) (size .terminals) run1 run2 (now (costs .entry)) (now (supplies .entry)) (now (demands .entry))
+        (now (ceilings .entry)) (now (table .entry)) (length (now (plan .entry))) (length (now (splits .entry))) (length (now (freights .entry))))
         (outcome (r .answer)) ⌝ }
 {
     let m = size.sources;
@@ -64,7 +65,7 @@ pub fn solve(
     let mut x = [0u32; 2048];
     let mut serves = [0u32; 64];
     let mut pot = [0u32; 96];
-    let mut parent = [96u32; 128];
+    let mut parent = [NONE; 128];
     let mut sources_below = [0u32; 128];
     let mut terminals_below = [0u64; 128];
     let range = begin(

@@ -6,6 +6,7 @@ use lastsplit::reach::all_wide;
 use lastsplit::reach::last;
 use paths::search::smaller;
 use size::limits::Size;
+use spanningtree::NONE;
 
 // Whether there is a plan, and the first and the last split; and, of which nothing is promised, whether no ceiling is below its terminal's demand
 // and whether the simplex's plan passed.
@@ -62,7 +63,7 @@ pub fn begin(
         sources_below,
         terminals_below,
     );
-    let passed = parent[1] != 96;
+    let passed = parent[1] != NONE;
     if first.found {
         let split = first.split;
         let top = smaller(supply[0], made - run1);

@@ -10,8 +10,6 @@ ghost use Rattle.firstsplit.specs.inner.FirstPlan.{FirstPlan};
 ghost use Rattle.split_range.specs.inner.QuickPlan.{Quick};
 ghost use Rattle.split_range.specs.inner.Range.{BeginReady};
 use super::trial::Trial;
-use super::trial::spoil_plan;
-use super::trial::spoil_tree;
 use bounded::solve::solve as solve_within;
 use firstsplit::base::First;
 use firstsplit::base::first_plan;
@@ -19,6 +17,8 @@ use simplex::solve::solve;
 use size::limits::Size;
 use slackcheck::check::good;
 use slackcheck::serving::all_servers;
+use spanningtree::NONE;
+use std::num::wrapping_add_u32;
 
 // The first split within the supplies and the least runs.
 fn first_split(run0: u32, supply1: u32, made: u32) -> u32
@@ -85,6 +85,24 @@ fn simplex_at(
     }
 }
 
+// One drum more on a lane.
+fn spoil_plan(lane: usize, x: &mut [u32; 2048])
+    requires { ⌜ length (now x) ≡ 2048 ⌝ }
+    ensures { λ _. ⌜ length (now (x .exit)) ≡ 2048 ⌝ }
+{
+    if 2048 <= lane {
+        return;
+    }
+    x[lane] = wrapping_add_u32(x[lane], 1);
+}
+
+// A node that is attached to plant 1.
+fn spoil_tree(node: usize, parent: &mut [u32; 128]) {
+    if node < 128 {
+        parent[node] = 0;
+    }
+}
+
 // A cheapest plan at the first split within the supplies and the least runs, where the simplex finds one that passes the check.
 fn quick_plan(
     trial: Trial,
@@ -105,8 +123,8 @@ fn quick_plan(
 ) -> First
     requires { ⌜ CheckReady (size .sources) (size .terminals) (cells (now cost)) ⌝ }
     requires { ⌜ run0 ≤ made ⌝ }
-    ensures { λ r. ⌜ Quick (size .sources) (size .terminals) (now (cost .entry)) (now (cap .entry)) (now (x .entry)) (now (supply .entry)) (now (demand .entry)) run0 made
-        (now (pot .exit)) (now (x .exit)) (now (serves .exit)) (r .found) (r .split) ⌝ }
+    ensures { λ r. ⌜ Quick (size .sources) (size .terminals) (now (cost .entry)) (now (cap .entry)) (now (x .entry))
+        (now (supply .entry)) (now (demand .entry)) run0 made (now (pot .exit)) (now (x .exit)) (now (serves .exit)) (r .found) (r .split) ⌝ }
 {
     let split = first_split(run0, supply[1], made);
     simplex_at(
@@ -160,8 +178,8 @@ pub fn cheapest_first(
     terminals_below: &mut [u64; 128],
 ) -> First
     requires { ⌜ BeginReady (size .sources) (size .terminals) (now cost) (now cap) (now supply) (now demand) run0 run1 made ⌝ }
-    ensures { λ r. ⌜ FirstPlan (net (size .sources) (size .terminals) (now (cost .entry)) (now (cap .entry)) (now (x .entry))) (λ i. get (now (supply .entry)) i)
-        (now (demand .entry)) run0 run1 made (now (pot .exit)) (now (x .exit)) (r .found) (r .split) ⌝ }
+    ensures { λ r. ⌜ FirstPlan (net (size .sources) (size .terminals) (now (cost .entry)) (now (cap .entry)) (now (x .entry)))
+        (λ i. get (now (supply .entry)) i) (now (demand .entry)) run0 run1 made (now (pot .exit)) (now (x .exit)) (r .found) (r .split) ⌝ }
     ensures { λ r. ⌜ Covers (size .sources) (size .terminals) (now (x .exit)) (now (serves .exit)) ⌝ }
 {
     if trial.simplex {
@@ -186,7 +204,7 @@ pub fn cheapest_first(
             return first;
         }
     }
-    parent[1] = 96;
+    parent[1] = NONE;
     *x = [0u32; 2048];
     *serves = [0u32; 64];
     first_plan(
