@@ -1,6 +1,6 @@
 -- How the later tests decide: what the functions of tests 7 to 11 find is what the definitions say. Assumes nothing.
 use mathlib.Core.Path.{_≡_, refl, sym, ap, _∙_}
-use mathlib.Core.Bool.{Bool, true, false, cond}
+use mathlib.Core.Bool.{Bool, true, false, cond, _||_}
 use mathlib.Core.Option.{none, some}
 use Prim.Native.Nat.{ℕ, _+_, _-_, _*_}
 use native.Mathlib.Omega.{arith}
@@ -10,6 +10,9 @@ use Rattle.transport.specs.Sum.{sum}
 use Rattle.problem.specs.Case.{Case, supply, demand, allDemand, depotStock, made, steps}
 use Rattle.problem.specs.Outcome.{Outcome, refused, _orElse_, formRefusal, refusalOf, test7, test8, test9, test11}
 use Rattle.problem.specs.inner.LentTests.{entriesRefusal, splitsRefusal, Amounts, Within}
+use Rattle.size.specs.Size.{checkedOf}
+use Rattle.size.specs.declared.limits.Size.{Size}
+use Rattle.size.specs.declared.limits.Checked.the-variants.{Fits, Refused}
 use Rattle.validation.specs.Verdict.{madeOf}
 use Rattle.validation.specs.declared.tests.Made.the-variants.{Drums, Unbalanced}
 use Rattle.planner.specs.inner.Ready.{OnBalance}
@@ -17,6 +20,24 @@ use Rattle.problem.proofs.TestsPassed.{first-decides, first-passes, second-pass
 use Rattle.problem.proofs.TestParts.{met, unmet}
 use Rattle.problem.proofs.Promise.{from7, from8, from9}
 use Rattle.planner.proofs.EngineAnswer.{OnSplits, Accepts, order, inside}
+
+-- ---- the size
+
+-- a size that fits has the two numbers that were checked
+pub size-is : (m n : ℕ) (z : Size) → checkedOf m n ≡ Fits z → (m ≡ z .sources) × (n ≡ z .terminals)
+unfolding checkedOf
+size-is m n z e = go (ltb m 2 || ltb 32 m) (ltb n 1 || ltb 64 n) e
+  where
+    go : (a b : Bool) → cond a (Refused 1) (cond b (Refused 2) (Fits (record { sources = m; terminals = n }))) ≡ Fits z → (m ≡ z .sources) × (n ≡ z .terminals)
+    go true b e = let w : _≡_ {A = ℕ} 0 1 = cc in absurd (omega arith)
+    go false true e = let w : _≡_ {A = ℕ} 0 1 = cc in absurd (omega arith)
+    go false false e =
+        let w : _≡_ {A = Size} (record { sources = m; terminals = n }) z = cc in
+        (ap (λ (s : Size). s .sources) w, ap (λ (s : Size). s .terminals) w)
+
+-- what is so of equal numbers is so of these
+pub of-size : (m n m' n' : ℕ) → (m ≡ m') × (n ≡ n') → (P : ℕ → ℕ → Type 0) → P m' n' → P m n
+of-size m n m' n' e P p = rw (e .0) (rw (e .1) p)
 
 -- ---- the tests before the balance
 

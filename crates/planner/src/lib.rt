@@ -3,6 +3,7 @@ ghost use lib.ListN.{length};
 ghost use Rattle.problem.specs.Case.{lent};
 ghost use Rattle.planner.specs.Answer.{outcome, slices, Answered};
 use crate::solve::solve;
+use size::limits::Checked;
 use size::limits::Size;
 use split_range::trial::Trial;
 use validation::tests::Made;
@@ -33,6 +34,66 @@ pub struct Tried {
     pub passed: bool,
 }
 
+// Plans a lent case of this size, or refuses it.
+fn plan_sized(
+    trial: Trial,
+    size: Size,
+    run1: u64,
+    run2: u64,
+    costs: &[i64],
+    supplies: &[u64],
+    demands: &[u64],
+    ceilings: &[u64],
+    table: &[u64],
+    plan: &mut [u64],
+    splits: &mut [u64],
+    freights: &mut [i64],
+) -> Tried
+    ensures { λ r. ⌜ Answered
+        (lent (size .sources) (size .terminals) run1 run2 (now (costs .entry)) (now (supplies .entry)) (now (demands .entry)) (now (ceilings .entry)) (now (table .entry))
+        (length (now (plan .entry))) (length (now (splits .entry))) (length (now (freights .entry))))
+        (outcome (r .answer)) (slices (now (plan .entry)) (now (splits .entry)) (now (freights .entry)))
+        (slices (now (plan .exit)) (now (splits .exit)) (now (freights .exit))) ⌝ }
+{
+    if let Verdict::Refused(number, place) = form_test(
+        size.sources,
+        size.terminals,
+        run1,
+        run2,
+        costs,
+        supplies,
+        demands,
+        ceilings,
+        table,
+    ) {
+        return Tried {
+            answer: Answer::Refused { number, place },
+            passed: false,
+        };
+    }
+    match made_of(run1, run2, supplies, demands) {
+        Made::Unbalanced(number) => Tried {
+            answer: Answer::Refused { number, place: 0 },
+            passed: false,
+        },
+        Made::Drums(made) => solve(
+            trial,
+            size,
+            run1,
+            run2,
+            costs,
+            supplies,
+            demands,
+            ceilings,
+            table,
+            made,
+            plan,
+            splits,
+            freights,
+        ),
+    }
+}
+
 // Plans a lent case, or refuses it by a number and a place. However step 1 is tried, the answer is the same.
 pub fn plan_by(
     trial: Trial,
@@ -55,33 +116,14 @@ pub fn plan_by(
         (outcome (r .answer)) (slices (now (plan .entry)) (now (splits .entry)) (now (freights .entry)))
         (slices (now (plan .exit)) (now (splits .exit)) (now (freights .exit))) ⌝ }
 {
-    if let Verdict::Refused(number, place) = form_test(
-        m,
-        n,
-        run1,
-        run2,
-        costs,
-        supplies,
-        demands,
-        ceilings,
-        table,
-    ) {
-        return Tried {
-            answer: Answer::Refused { number, place },
-            passed: false,
-        };
-    }
-    match made_of(run1, run2, supplies, demands) {
-        Made::Unbalanced(number) => Tried {
+    match Size::checked(m, n) {
+        Checked::Refused(number) => Tried {
             answer: Answer::Refused { number, place: 0 },
             passed: false,
         },
-        Made::Drums(made) => solve(
+        Checked::Fits(size) => plan_sized(
             trial,
-            Size {
-                sources: m,
-                terminals: n,
-            },
+            size,
             run1,
             run2,
             costs,
@@ -89,7 +131,6 @@ pub fn plan_by(
             demands,
             ceilings,
             table,
-            made,
             plan,
             splits,
             freights,

@@ -1,62 +1,30 @@
 -- `planner::plan_by` meets its contract. Assumes nothing.
 use borrow.Author.Needs.{needs}
 use mathlib.Core.Path.{_≡_, sym, ap, _∙_}
-use mathlib.Core.Option.{none}
 use lib.ListN.{length}
 use denote.Ref.{now}
-use Rattle.problem.specs.Outcome.{formRefusal}
 use Rattle.problem.specs.Case.{Case, lent}
-use Rattle.validation.specs.Verdict.{verdict}
+use Rattle.validation.proofs.FormTests.{by-size}
+use Rattle.planner.specs.Answer.{outcome, slices, Answered}
 use Rattle.planner.proofs.EngineAnswer.{refuses}
-use Rattle.planner.proofs.LaterTests.{form-decides, amounts, unbalanced, on-balance}
+use Rattle.planner.proofs.LaterTests.{form-decides, size-is, of-size}
 use Rattle.planner.proofs.plan_by.Statement.{statement}
 use Rattle.planner.proofs.plan_by.Tie as tie
 
--- the lent case
-abbrev the : tie.Start → Case
-the s =
-    lent (s .args .m) (s .args .n) (s .args .run1) (s .args .run2) (now (s .args .costs)) (now (s .args .supplies)) (now (s .args .demands))
-    (now (s .args .ceilings)) (now (s .args .table)) (length (now (s .args .plan))) (length (now (s .args .splits))) (length (now (s .args .freights)))
-
--- past the tests before the balance
-passed : (c : tie.After-enum-told) → formRefusal (the (c .before .before .before .before .before .before .before .before .before)) ≡ none
-passed c = sym (c .before .before .form-test .ensures _ _ _) ∙ ap verdict (c .enum-told .given .1)
-
-form-test-requires : tie.Need-form-test-requires
-form-test-requires c κs = search needs
+checked-requires : tie.Need-checked-requires
+checked-requires c κs = search needs
 
 enum-known-number : tie.Need-enum-known-number
 enum-known-number c = search needs
 
+enum-known-size : tie.Need-enum-known-size
+enum-known-size c = search needs
+
+plan-sized-requires : tie.Need-plan-sized-requires
+plan-sized-requires c κs = search needs
+
 returns : tie.Need-returns
-returns c = refuses _ _ _ _ (form-decides _ _ (sym (c .before .before .before .form-test .ensures _ _ _) ∙ ap verdict (c .before .number .given .1)))
-
-enum-told : tie.Need-enum-told
-enum-told c = search needs
-
-made-of-requires : tie.Need-made-of-requires
-made-of-requires c κs = amounts (the (c .before .before .before .before .before .before .before .before .before)) (passed c)
-
-enum-known-number-2 : tie.Need-enum-known-number-2
-enum-known-number-2 c = search needs
-
-enum-known-made : tie.Need-enum-known-made
-enum-known-made c = search needs
-
-solve-requires : tie.Need-solve-requires
-solve-requires c κs =
-    let at-made = c .before .before .before .before in
-    let at-made-of = at-made .before .before in
-    let at-enum-told = at-made-of .before in
-    let entry = at-enum-told .before .before .before .before .before .before .before .before .before in
-    on-balance (the entry) (passed at-enum-told) _ (sym (at-made-of .made-of .ensures) ∙ at-made .made .given .1)
-
-returns-2 : tie.Need-returns-2
-returns-2 c =
-    let at-made-of = c .before .before .before in
-    let at-enum-told = at-made-of .before in
-    let entry = at-enum-told .before .before .before .before .before .before .before .before .before in
-    refuses _ _ _ _ (unbalanced (the entry) (passed at-enum-told) _ (sym (at-made-of .made-of .ensures) ∙ c .before .number2 .given .1))
+returns c = refuses _ _ _ _ (form-decides _ _ (by-size _ _ (sym (c .before .before .before .checked .ensures) ∙ c .before .number .given .1)))
 
 same-length : tie.Need-same-length
 same-length c = search needs
@@ -67,23 +35,34 @@ same-length-2 c = search needs
 same-length-3 : tie.Need-same-length-3
 same-length-3 c = search needs
 
-returns-3 : tie.Need-returns-3
-returns-3 c = search needs
+returns-2 : tie.Need-returns-2
+returns-2 c =
+    let at-plan-sized = c .before .before .before .before .before in
+    let at-size = at-plan-sized .before .before .before .before .before in
+    let at-checked = at-size .before .before in
+    let entry = at-checked .before .before .before .before .before .before .before in
+    of-size _ _ _ _ (size-is _ _ _ (sym (at-checked .checked .ensures) ∙ at-size .size .given .1))
+    (λ a b.
+      Answered
+      (lent a b (entry .args .run1) (entry .args .run2) (now (entry .args .costs)) (now (entry .args .supplies)) (now (entry .args .demands))
+      (now (entry .args .ceilings)) (now (entry .args .table)) (length (now (entry .args .plan))) (length (now (entry .args .splits)))
+      (length (now (entry .args .freights))))
+      (outcome (at-plan-sized .plan-sized .result .answer))
+      (slices (now (entry .args .plan)) (now (entry .args .splits)) (now (entry .args .freights)))
+      (slices (at-plan-sized .plan-sized .last .1 .1 .1 .1 .1 .1 .1 .1 .1 .0) (at-plan-sized .plan-sized .last .1 .1 .1 .1 .1 .1 .1 .1 .1 .1 .0)
+      (at-plan-sized .plan-sized .last .1 .1 .1 .1 .1 .1 .1 .1 .1 .1 .1 .0)))
+    (at-plan-sized .plan-sized .ensures)
 
 pub plan-by-spec : {M : Type 1} → statement M
 plan-by-spec =
     tie.close
     (tie.spec
-    form-test-requires
+    checked-requires
     enum-known-number
+    enum-known-size
+    plan-sized-requires
     returns
-    enum-told
-    made-of-requires
-    enum-known-number-2
-    enum-known-made
-    solve-requires
-    returns-2
     same-length
     same-length-2
     same-length-3
-    returns-3)
+    returns-2)
