@@ -28,10 +28,11 @@ pub enum Answer {
     },
 }
 
-// The answer, and whether a plan of the simplex passed the check in step 1.
+// The answer, whether a plan of the simplex passed the check in step 1, and how many stretches of the climb were searched for.
 pub struct Tried {
     pub answer: Answer,
     pub passed: bool,
+    pub searched: u64,
 }
 
 // Plans a lent case of this size, or refuses it.
@@ -69,12 +70,14 @@ fn plan_sized(
         return Tried {
             answer: Answer::Refused { number, place },
             passed: false,
+            searched: 0,
         };
     }
     match made_of(run1, run2, supplies, demands) {
         Made::Unbalanced(number) => Tried {
             answer: Answer::Refused { number, place: 0 },
             passed: false,
+            searched: 0,
         },
         Made::Drums(made) => solve(
             trial,
@@ -120,6 +123,7 @@ pub fn plan_by(
         Checked::Refused(number) => Tried {
             answer: Answer::Refused { number, place: 0 },
             passed: false,
+            searched: 0,
         },
         Checked::Fits(size) => plan_sized(
             trial,

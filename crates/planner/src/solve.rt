@@ -93,6 +93,7 @@ pub fn solve(
                 place: 0,
             },
             passed,
+            searched: 0,
         };
     }
     let lo = range.lo;
@@ -109,6 +110,7 @@ pub fn solve(
         return Tried {
             answer: Answer::Refused { number, place },
             passed,
+            searched: 0,
         };
     }
     let mut kept = [0u32; 2048];
@@ -144,5 +146,6 @@ pub fn solve(
             stops,
         },
         passed,
+        searched: best.searched,
     }
 }

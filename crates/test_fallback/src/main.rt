@@ -26,6 +26,8 @@ struct Tally {
     refused: u64,
     climbed: u64,
     differences: u64,
+    searched: u64,
+    recovered: u64,
 }
 
 // The size of a case: sources, terminals, lanes.
@@ -148,6 +150,8 @@ fn counted(t: Tally, s: Seen) -> Tally {
         refused: plus(t.refused, one_if(s.refused)),
         climbed: plus(t.climbed, one_if(s.climbed)),
         differences: plus(t.differences, one_if(!s.agrees)),
+        searched: plus(t.searched, s.searched),
+        recovered: plus(t.recovered, s.recovered),
     }
 }
 
@@ -159,6 +163,8 @@ fn run_cases() -> Tally {
         refused: 0,
         climbed: 0,
         differences: 0,
+        searched: 0,
+        recovered: 0,
     };
     let mut x: u64 = 20_260_306;
     let mut k: u64 = 0;
@@ -183,5 +189,7 @@ fn main() {
     say(b"plans of the simplex that pass:  ", t.passed);
     say(b"spoiled plans that are refused:  ", t.refused);
     say(b"climbs on a spoiled tree:        ", t.climbed);
+    say(b"stretches searched for:          ", t.searched);
+    say(b"the same on a spoiled tree:      ", t.recovered);
     say(b"differences:                     ", t.differences);
 }

@@ -56,19 +56,22 @@ fn alike(a: Told, b: Told) -> bool {
 }
 
 // What came of a case: is there a plan, did the simplex's pass the check, did a spoiled one fail it, did a spoiled tree go on to the climb, and are
-// all answers the same?
+// all answers the same? How many stretches were searched for as usual, and on a spoiled tree?
 pub struct Seen {
     pub planned: bool,
     pub passed: bool,
     pub refused: bool,
     pub climbed: bool,
     pub agrees: bool,
+    pub searched: u64,
+    pub recovered: u64,
 }
 
-// Whether a way gave the answer of another, cell by cell, and whether a plan of the simplex passed.
+// Whether a way gave the answer of another, cell by cell, whether a plan of the simplex passed, and how many stretches were searched for.
 struct Way {
     agrees: bool,
     passed: bool,
+    searched: u64,
 }
 
 // Plans a case by a trial, and compares the answer, the plan's cells and the stops.
@@ -114,6 +117,7 @@ fn held(
     Way {
         agrees: alike(usual, told) & cells & stops & levels,
         passed: tried.passed,
+        searched: tried.searched,
     }
 }
 
@@ -125,11 +129,13 @@ fn trial(simplex: bool, lane: usize, node: usize) -> Trial {
     }
 }
 
-// Are all ways' answers the usual one, and did the simplex's plan pass with a lane spoiled, and with a node?
+// Are all ways' answers the usual one, did the simplex's plan pass with a lane spoiled, and with a node, and how many stretches were searched for with
+// a node spoiled?
 struct Ways {
     agree: bool,
     spoiled: bool,
     cut: bool,
+    searched: u64,
 }
 
 // Plans a case without the simplex, with a lane of its plan spoiled, and with a node of its tree spoiled.
@@ -202,6 +208,7 @@ fn others(
         agree: paths.agrees & spoiled.agrees & cut.agrees & !paths.passed,
         spoiled: spoiled.passed,
         cut: cut.passed,
+        searched: cut.searched,
     }
 }
 
@@ -238,6 +245,7 @@ pub fn hold(
         &mut freights,
     );
     let passed = usual.passed;
+    let searched = usual.searched;
     let answer = usual.answer;
     let told = in_numbers(answer);
     let planned = told.number == 0;
@@ -264,6 +272,8 @@ pub fn hold(
         refused: passed & !ways.spoiled,
         climbed: planned & ways.cut,
         agrees: ways.agree,
+        searched,
+        recovered: ways.searched,
     }
 }
 

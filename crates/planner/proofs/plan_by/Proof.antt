@@ -43,14 +43,14 @@ returns-2 c =
     let entry = at-checked .before .before .before .before .before .before .before in
     of-size _ _ _ _ (size-is _ _ _ (sym (at-checked .checked .ensures) ∙ at-size .size .given .1))
     (λ a b.
-      Answered
-      (lent a b (entry .args .run1) (entry .args .run2) (now (entry .args .costs)) (now (entry .args .supplies)) (now (entry .args .demands))
-      (now (entry .args .ceilings)) (now (entry .args .table)) (length (now (entry .args .plan))) (length (now (entry .args .splits)))
-      (length (now (entry .args .freights))))
-      (outcome (at-plan-sized .plan-sized .result .answer))
-      (slices (now (entry .args .plan)) (now (entry .args .splits)) (now (entry .args .freights)))
-      (slices (at-plan-sized .plan-sized .last .1 .1 .1 .1 .1 .1 .1 .1 .1 .0) (at-plan-sized .plan-sized .last .1 .1 .1 .1 .1 .1 .1 .1 .1 .1 .0)
-      (at-plan-sized .plan-sized .last .1 .1 .1 .1 .1 .1 .1 .1 .1 .1 .1 .0)))
+    Answered
+    (lent a b (entry .args .run1) (entry .args .run2) (now (entry .args .costs)) (now (entry .args .supplies)) (now (entry .args .demands))
+    (now (entry .args .ceilings)) (now (entry .args .table)) (length (now (entry .args .plan))) (length (now (entry .args .splits)))
+    (length (now (entry .args .freights))))
+    (outcome (at-plan-sized .plan-sized .result .answer))
+    (slices (now (entry .args .plan)) (now (entry .args .splits)) (now (entry .args .freights)))
+    (slices (at-plan-sized .plan-sized .last .1 .1 .1 .1 .1 .1 .1 .1 .1 .0) (at-plan-sized .plan-sized .last .1 .1 .1 .1 .1 .1 .1 .1 .1 .1 .0)
+    (at-plan-sized .plan-sized .last .1 .1 .1 .1 .1 .1 .1 .1 .1 .1 .1 .0)))
     (at-plan-sized .plan-sized .ensures)
 
 pub plan-by-spec : {M : Type 1} → statement M
