@@ -227,7 +227,8 @@ class Files(Folder):
                 self.refused("but plant 1 is due", "2,6,3\n5,3,3\n1,4,1\n3,2,\n", runs=runs)
         turned = LABELLED.replace("Grasse", "Plant 2").replace("Holzminden", "Plant 1")
         self.refused("named 'Plant 1', but 'Plant 2' in the tariff", turned, runs="Plant 1;1\nPlant 2;2\n")
-        for runs in ("Grasse;Holzminden\n1;2\n", "x;grasse ;Holzminden\nrun;1;2\n", "Plant 1;1\nPlant 2;2\n", "plant;run\n1;1\n2;2\n", "run;1;2\n", "least run\n1\n2\n"):
+        named = ("Grasse;Holzminden\n1;2\n", "x;Grasse ;Holzminden\nrun;1;2\n", "Plant 1;1\nPlant 2;2\n", "plant;run\n1;1\n2;2\n")
+        for runs in (*named, "run;1;2\n", "least run\n1\n2\n"):
             self.assertEqual(self.read(LABELLED, runs=runs).case.runs, (1, 2))
         notes = self.read(LABELLED, runs="plant;run\nGrasse;1\nHolzminden;2\n").notes
         self.assertEqual([note for note in notes if note.startswith("runs: ")], ["runs: row 1 taken as names", "runs: column A taken as names"])
@@ -335,6 +336,8 @@ class Books(Folder):
         self.same(NAMED._replace(runs=(1, 1), ceilings=[[3, 4000], [4000, 2], [0, 4000]], title="=A1", currency="EUR", date="2026-11-17"))
         self.same(A._replace(sources=["Grasse"]))
         self.same(A._replace(terminals=["", "Rome"]))
+        for names in (["Plant 2", "Plant 1"], ["Plant 2"], ["", "Plant 1"], ["a", "A"], ["2", "1"]):
+            self.same(A._replace(sources=names, runs=(1, 0)))
         odd = ["=1+1", "+5", "-x", "@SUM(A1)", "'quoted", " both ends ", "_x0041_", "\u6771\u4eac", 'a"b;c,d', "2026", "0012"]
         draw = random.Random(4)
         for _ in range(4):
@@ -347,7 +350,7 @@ class Books(Folder):
         out = self.path("high.xlsx")
         status, said = run("export", self.path("high.json", case_json(case)), "-o", out)
         self.assertEqual((status, os.path.exists(out)), (1, False))
-        self.assertIn("Refusal 32: the entry of split 0 is above 9,999,999,999, which no file can hold. Look at that entry; use a larger coin if it is right.", said)
+        self.assertIn("Refusal 32: the entry of split 0 is above 9,999,999,999, which no file can hold. Look at that entry;", said)
         self.same(case._replace(table=[9_999_999_999, 20, 24, 20]))
 
     def test_no_formula(self):

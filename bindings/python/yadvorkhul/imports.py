@@ -151,15 +151,14 @@ def _column(sheet: Sheet, notes: Notes) -> List[Cell]:
 
 def _plants(names: List[str], case: Case, sheet: Sheet, notes: Notes):
     """Names of the least runs are those of the plants in the tariff, in its order; or `Plant 1` and `Plant 2`, or 1 and 2."""
-    known = [name.strip().lower() for name in case.sources or []]
-    default = lambda k: {f"plant {k}", str(k)} - set(known)
-    for k, name in enumerate(names, 1):
+    known = [name.strip() for name in case.sources or []]
+    default = lambda k: {f"plant {k}", str(k)}
+    for k, name in enumerate(map(str.strip, names), 1):
         due = known[k - 1] if k <= len(known) else ""
-        told = name.strip().lower()
-        if told in ("", due) or told in default(k):
+        if name in ("", due) or name.lower() in default(k) and not (due and name in known):
             continue
-        if due or told in default(3 - k) or told in known:
-            other = f"{case.sources[k - 1]!r} in the tariff" if due else f"plant {k} is due"
+        if due or name.lower() in default(3 - k) or name in known:
+            other = f"{due!r} in the tariff" if due else f"plant {k} is due"
             raise BadSheet(f"{sheet.name}: the least run of plant {k} is named {name!r}, but {other}; the order is the same in both")
         notes.say(f"{sheet.name}: {name} taken as plant {k}, which has no name in the tariff")
 

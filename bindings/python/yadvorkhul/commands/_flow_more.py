@@ -7,7 +7,7 @@ from ..outputs import BadOutput, check_outputs, write_whole
 
 
 def more_of(parser):
-    parser.add_argument("--tidy", action="store_true", help="put CR LF, CR, UTF-16, tabs, blanks at the ends and empty lines of the network right first, and say so")
+    parser.add_argument("--tidy", action="store_true", help="put CR LF, CR, UTF-16, tabs, outer blanks and empty lines of the network right first, and say so")
     parser.add_argument("--drawing", metavar="SVG", help="write a drawing of the network with its flow (needs graphviz)")
 
 
