@@ -51,8 +51,8 @@ fn plan_sized(
     freights: &mut [i64],
 ) -> Tried
     ensures { λ r. ⌜ Answered
-        (lent (size .sources) (size .terminals) run1 run2 (now (costs .entry)) (now (supplies .entry)) (now (demands .entry)) (now (ceilings .entry)) (now (table .entry))
-        (length (now (plan .entry))) (length (now (splits .entry))) (length (now (freights .entry))))
+        (lent (size .sources) (size .terminals) run1 run2 (now (costs .entry)) (now (supplies .entry)) (now (demands .entry))
+        (now (ceilings .entry)) (now (table .entry)) (length (now (plan .entry))) (length (now (splits .entry))) (length (now (freights .entry))))
         (outcome (r .answer)) (slices (now (plan .entry)) (now (splits .entry)) (now (freights .entry)))
         (slices (now (plan .exit)) (now (splits .exit)) (now (freights .exit))) ⌝ }
 {
@@ -97,7 +97,8 @@ fn plan_sized(
     }
 }
 
-// Plans a lent case, or refuses it by a number and a place. However step 1 is tried, the answer is the same.
+// Plans a lent case, or refuses it by a number and a place. However step 1 is tried, the answer is the same. Any count and flag will do beside the
+// answer: trials alone read them.
 pub fn plan_by(
     trial: Trial,
     m: usize,

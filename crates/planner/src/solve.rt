@@ -22,7 +22,8 @@ use validation::tests::splits_test;
 use validation::tests::sum_of;
 
 // Prepares the working arrays with raised costs, has the engine find the first and the last split, tests 27, 9 and 11, has the engine sweep
-// the splits, copies the plan out and lowers total and freight. How step 1 is tried does not show in the answer.
+// the splits, copies the plan out and lowers total and freight. How step 1 is tried does not show in the answer. Any
+// count and flag will do beside it: trials alone read them.
 pub fn solve(
     trial: Trial,
     size: Size,
