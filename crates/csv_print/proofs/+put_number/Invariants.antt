@@ -1,0 +1,5 @@
+-- `csv_print::put_number` ends: the number falls. Assumes nothing.
+use Rattle.csv_print.proofs.+put_number.Given as goal
+
+abbrev pub decreases-put_number : goal.decreases-put_number
+decreases-put_number l = l.n

@@ -1,0 +1,11 @@
+-- `slackcheck::check::row_good` meets its contract. Assumes nothing.
+use Rattle.std.proofs.Common.{◌-◌}
+use Rattle.residual.specs.inner.Cells.{cells}
+use Rattle.slackcheck.proofs.Checking.{RowTo}
+use Rattle.slackcheck.proofs.check.row_good.Given as goal
+
+abbrev pub invariant-loop-j : goal.invariant-loop-j
+invariant-loop-j l = RowTo l.n (cells l.cost) (cells l.cap) (cells l.x) l.pot l.i l.signs l.all l.sent l.j
+
+abbrev pub decreases-loop-j : goal.decreases-loop-j
+decreases-loop-j l = l.n - l.j
