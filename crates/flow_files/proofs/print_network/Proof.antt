@@ -50,8 +50,8 @@ print-flow-requires : tie.Need-print-flow-requires
 print-flow-requires c κs =
     let at-answer2 = c.before.before.before.before.before.before in
     let at-cheapest-flow = at-answer2.before.before.before.before.before.before.before in
-    network_cut _ _ _ _ _ refl refl refl refl refl at-cheapest-flow.cheapest_flow_lem.ensures.0 _ (ap outcome at-answer2.answer2.given.1) _
-    (count_known _ at-cheapest-flow.cheapest_flow_lem.ensures.1 at-answer2.answer2.given.1)
+    network_cut _ _ _ _ _ refl refl refl refl refl at-cheapest-flow.cheapest_flow.ensures.0 _ (ap outcome at-answer2.answer2.given.1) _
+    (count_known _ at-cheapest-flow.cheapest_flow.ensures.1 at-answer2.answer2.given.1)
 
 same_length : tie.Need-same-length
 same_length c = search rules
@@ -60,7 +60,7 @@ returns : tie.Need-returns
 returns c =
     let at-answer = c.before.before.before.before.before in
     let at-cheapest-flow = at-answer.before.before.before.before.before.before.before in
-    network_refused _ _ _ _ _ refl refl refl refl refl at-cheapest-flow.cheapest_flow_lem.ensures.0 (ap outcome at-answer.answer.given.1) c.before.before.print-refusal.ensures
+    network_refused _ _ _ _ _ refl refl refl refl refl at-cheapest-flow.cheapest_flow.ensures.0 (ap outcome at-answer.answer.given.1) c.before.before.print-refusal.ensures
 
 same-length-2 : tie.Need-same-length-2
 same-length-2 c = search rules
@@ -70,8 +70,8 @@ returns-2 c =
     let at-known-told2 = c.before.before.before.before.before.before.before.before in
     let at-answer2 = at-known-told2.before in
     let at-cheapest-flow = at-answer2.before.before.before.before.before.before.before in
-    network_flow _ _ _ _ _ refl refl refl refl refl at-cheapest-flow.cheapest_flow_lem.ensures.0 _ (ap outcome at-answer2.answer2.given.1) _
-    (count_known _ at-cheapest-flow.cheapest_flow_lem.ensures.1 at-answer2.answer2.given.1)
+    network_flow _ _ _ _ _ refl refl refl refl refl at-cheapest-flow.cheapest_flow.ensures.0 _ (ap outcome at-answer2.answer2.given.1) _
+    (count_known _ at-cheapest-flow.cheapest_flow.ensures.1 at-answer2.answer2.given.1)
     (rw (read_back at-answer2.answer2.given.0.0 at-known-told2.known-told2.given.0.1) at c.before.before.print-flow.ensures)
 
 pub print-network-spec : {M : Type 1} → statement M

@@ -32,7 +32,7 @@ handed_on-requires : tie.Need-handed_on-requires
 handed_on-requires c κs = search rules
 
 returns : tie.Need-returns
-returns c = rw c.handed_on_lem.ensures (tariff_refused _ _ _ _ _ _ _ _ _ c.before.enum_told.given.1 c.before.before.before.before.read_table.ensures.answered)
+returns c = rw c.handed_on.ensures (tariff_refused _ _ _ _ _ _ _ _ _ c.before.enum_told.given.1 c.before.before.before.before.read_table.ensures.answered)
 
 entry-blank-requires : tie.Need-entry-blank-requires
 entry-blank-requires c κs = search rules

@@ -66,7 +66,7 @@ returns c =
     let at-at-most = at-cheapest-flow.before.before.before.before.before.before in
     let entry = at-at-most.before.before.before.before in
     let a = at-at-most.at_most in
-    let w = at-cheapest-flow.cheapest_flow_lem.ensures in
+    let w = at-cheapest-flow.cheapest_flow.ensures in
     let room = entry.args.room in
     let h : a.result ≤ 64 = omega (arith, a.ensures, at_most_64 room) in
     found _ _ _ room _ _ _ _ _ (part_length _ 0 h ∙ a.ensures) (part_length _ 0 h ∙ a.ensures) (part_length _ 0 h ∙ a.ensures) (part_length _ (pos 0) h ∙ a.ensures)

@@ -14,7 +14,7 @@ returns-then-not-fits c = c.loop-k.invariant
 pub loop-k-preserved : goal.loop-k-preserved
 loop-k-preserved c = (
   omega (arith, c.loop-k-test.true),
-  above_joined c.loop-k.invariant.1 (c.fits2.ensures (not-false _ c.if-not-fits.false)),
+  above_joined c.loop-k.invariant.1 (c.fits.ensures c.if-not-fits.false),
 )
 
 pub returns : goal.returns

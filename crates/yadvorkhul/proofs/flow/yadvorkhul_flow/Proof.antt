@@ -44,7 +44,7 @@ returns-3 c =
     let at-if2 = at-cheapest-flow.before.before.before.before.before.before in
     let at-if1 = at-if2.before in
     let t = at-tell-flow.tell-flow.ensures in
-    let w = at-cheapest-flow.cheapest_flow_lem.ensures in
+    let w = at-cheapest-flow.cheapest_flow.ensures in
     by_flow _ _ _ _ _ _ _ _ _ _ _ _ at-if1.if1.false at-if2.if2.false w.1 w.0 t.0 t.1 t.2
 
 pub yadvorkhul-flow-spec : {M : Type 1} → statement M

@@ -1,0 +1,11 @@
+-- `csv_table::table::scan` meets its contract. Assumes nothing.
+use Prim.Native.Nat.{◌-◌}
+use lib.ListN.{length}
+use Rattle.csv_table.proofs.FieldLoop.{Along}
+use Rattle.csv_table.proofs.table.scan.Given as goal
+
+abbrev pub invariant-loop-value : goal.invariant-loop-value
+invariant-loop-value l = Along l.kind l.s l.initial.cells l.cells l.t l.at
+
+abbrev pub decreases-loop-value : goal.decreases-loop-value
+decreases-loop-value l = length l.s - l.at

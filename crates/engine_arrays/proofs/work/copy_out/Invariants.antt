@@ -1,0 +1,11 @@
+-- `engine_arrays::work::copy_out` meets its contract. The invariant: the first k cells are copied. Assumes nothing.
+use Prim.Native.Nat.{◌-◌}
+use lib.ListN.{length}
+use Rattle.engine_arrays.proofs.CellCopies.{Copying}
+use Rattle.engine_arrays.proofs.work.copy_out.Given as goal
+
+abbrev pub invariant-loop-k : goal.invariant-loop-k
+invariant-loop-k l = Copying l.cells l.at l.k l.initial.to l.to
+
+abbrev pub decreases-loop-k : goal.decreases-loop-k
+decreases-loop-k l = length l.cells - l.k
