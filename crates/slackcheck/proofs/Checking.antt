@@ -4,7 +4,6 @@ use native.Mathlib.Decide.{ℕ_discrete, dec_lt}
 use lib.ListN.{length-replicate, get_or-replicate}
 use lib.Pow.{pow-lt}
 use lib.Bits.{bit_or, or_lt}
-use Rattle.transport.specs.Sum.{sum}
 use Rattle.transport.specs.Plan.{Table, row, col}
 use Rattle.transport.specs.Curve.{amounts_at}
 use Rattle.residual.specs.inner.Cells.{cells}

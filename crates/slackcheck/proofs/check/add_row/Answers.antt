@@ -1,5 +1,5 @@
 -- `slackcheck::check::add_row` meets its contract. Assumes nothing.
-use Rattle.std.proofs.Common.{◌-◌, arith}
+use Rattle.std.proofs.Common.{arith}
 use Rattle.slackcheck.proofs.Checking.{add_start, add_fits, add_next, add_end}
 use Rattle.slackcheck.proofs.check.add_row.Goals as goal
 

@@ -1,5 +1,5 @@
 -- `slackcheck::check::column_sums` meets its contract. Assumes nothing.
-use Rattle.std.proofs.Common.{◌≡◌, ◌-◌, arith}
+use Rattle.std.proofs.Common.{◌≡◌, arith}
 use Rattle.slackcheck.proofs.Checking.{few_fewer, got_none}
 use Rattle.slackcheck.proofs.check.column_sums.Goals as goal
 

@@ -1,5 +1,5 @@
 -- `slackcheck::check::columns_good` meets its contract. Assumes nothing.
-use Rattle.std.proofs.Common.{◌-◌, sym, ◌∙◌, true≢false, arith, below_more}
+use Rattle.std.proofs.Common.{sym, ◌∙◌, true≢false, arith, below_more}
 use Rattle.slackcheck.proofs.check.columns_good.Goals as goal
 
 pub column_sums-got-requires : goal.column_sums-got-requires

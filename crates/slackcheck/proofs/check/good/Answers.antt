@@ -1,6 +1,5 @@
 -- `slackcheck::check::good` meets its contract. Assumes nothing.
 use Rattle.std.proofs.Common.{sym, true≢false}
-use Rattle.slackcheck.proofs.Checking.{not_false}
 use Rattle.slackcheck.proofs.check.good.Goals as goal
 
 pub returns-then-not-levels_good : goal.returns-then-not-levels_good

@@ -1,5 +1,5 @@
 -- `slackcheck::check::levels_good` meets its contract. Assumes nothing.
-use Rattle.std.proofs.Common.{◌-◌, sym, true≢false, arith, below_more}
+use Rattle.std.proofs.Common.{sym, true≢false, arith, below_more}
 use Rattle.slackcheck.proofs.check.levels_good.Goals as goal
 
 pub loop-v-init : goal.loop-v-init

@@ -1,5 +1,5 @@
 -- `slackcheck::check::row_good` meets its contract. Assumes nothing.
-use Rattle.std.proofs.Common.{◌-◌, arith}
+use Rattle.std.proofs.Common.{arith}
 use Rattle.slackcheck.proofs.Checking.{row_start, row_next, row_end}
 use Rattle.slackcheck.proofs.check.row_good.Goals as goal
 

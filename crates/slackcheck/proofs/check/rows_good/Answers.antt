@@ -1,6 +1,5 @@
 -- `slackcheck::check::rows_good` meets its contract. Assumes nothing.
-use Rattle.std.proofs.Common.{◌+◌, ◌-◌, sym, true≢false, arith, below_more}
-use Rattle.slackcheck.proofs.Checking.{not_false}
+use Rattle.std.proofs.Common.{◌+◌, sym, true≢false, arith, below_more}
 use Rattle.slackcheck.proofs.check.rows_good.Goals as goal
 
 pub loop-i-init : goal.loop-i-init

@@ -1,5 +1,5 @@
 -- `slackcheck::serving::all_servers` meets its contract. Assumes nothing.
-use Rattle.std.proofs.Common.{◌-◌, arith}
+use Rattle.std.proofs.Common.{arith}
 use Rattle.slackcheck.proofs.Checking.{servers_start, servers_end}
 use Rattle.slackcheck.proofs.serving.all_servers.Goals as goal
 

@@ -1,5 +1,4 @@
 -- `slackcheck::serving::serve_row` meets its contract. Assumes nothing.
-use Rattle.std.proofs.Common.{◌-◌}
 use Rattle.residual.proofs.Bits.{power_fits}
 use Rattle.slackcheck.proofs.Checking.{serve_start, serve_next, serve_end}
 use Rattle.slackcheck.proofs.serving.serve_row.Goals as goal
