@@ -1,5 +1,7 @@
 // Random small cases with two tables, the same at each run: the splits that can be the cheapest, and the smallest and the largest least
 // total, against every table between the bounds.
+#![tactic(auto)]
+
 mod brute;
 mod case;
 mod draw;

@@ -1,4 +1,6 @@
 // For programs that hold two things to each other: repeatable draws, answers and cells compared, and how often each number was met.
+#![tactic(auto)]
+
 use planner::Answer;
 use validation::tests::Verdict;
 

@@ -1,5 +1,7 @@
 // Random cases, the same at each run, planned as usual and three times more: without the simplex, with a drum more on a lane of its plan, which the
 // check must refuse, and with a node of its tree attached elsewhere, so that the climb falls back on the search. Every answer must be the same.
+#![tactic(auto)]
+
 mod draw;
 mod number;
 mod trial;

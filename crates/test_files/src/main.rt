@@ -1,5 +1,7 @@
 // Runs pairs of files through the planner's file reader, and holds each answer to the refusal and place that the scope gives.
 // The pairs stand in the file `stdin`, a row each; its first lines say how a row is read.
+#![tactic(auto)]
+
 mod report;
 mod trial;
 

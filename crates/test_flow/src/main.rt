@@ -1,5 +1,7 @@
 // Random small networks, the same at each run: parallel arcs, ceilings of 0, costs below 0, supplies at the named arc's ends and elsewhere, ties, and
 // networks without a flow. The answer of `cheapest_flow` is held to all flows; that with a lent slice of arc structs to it and to the arcs drawn.
+#![tactic(auto)]
+
 mod brute;
 mod draw;
 mod file;

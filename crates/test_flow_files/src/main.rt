@@ -1,5 +1,7 @@
 // Runs damaged network files through `flow_files`, and holds each answer to the refusal and place, or the total, that is expected.
 // The files stand in the file `stdin`, a row each; its first lines say how a row is read.
+#![tactic(auto)]
+
 mod trial;
 
 use crate::trial::{CASES, DIFFERENCES, trial};

@@ -1,4 +1,6 @@
 // Further stored runs of the command `plan`, one after the other; `stdout` has what each prints.
+#![tactic(auto)]
+
 use plan_command::file::plan_paths;
 
 fn main() {

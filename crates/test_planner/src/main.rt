@@ -1,5 +1,7 @@
 // Runs the planner on the fixed cases of the scope and on random small cases, and holds each answer to the
 // refusals as the scope has them and to a listing of all plans.
+#![tactic(auto)]
+
 ghost use Rattle.std.specs.Prelude.{◌≡◌, length};
 
 mod fixed;

@@ -1,4 +1,5 @@
 // Stored runs of `bounds` and `flow`: asked for help, refused, and files of the longest length, of one byte more, and that cannot be read.
+#![tactic(auto)]
 
 // Runs of `bounds` that are refused.
 fn bounds() {

@@ -1,4 +1,6 @@
 // The report's example, 4.2, with the square-root rates as its production table: split, total, freight and count of stops, as planned.
+#![tactic(auto)]
+
 ghost use Rattle.std.specs.Prelude.{◌≡◌, pos, length};
 ghost use Rattle.planner.specs.Answer.{outcome};
 ghost use Rattle.problem.specs.Outcome.{planned};

@@ -1,4 +1,6 @@
 // Random cases written as files, read again and written again: the case is the same, and so are the bytes. Then refusals 32 and 33 at their edges.
+#![tactic(auto)]
+
 mod draw;
 mod edge;
 mod trial;

@@ -1,5 +1,7 @@
 // Runs random histories of depot and reader on two stores alike but for production entries, in the case and its marks, and holds what they get of
 // the one to what they get of the other: answers, refusals, and each lent cell.
+#![tactic(auto)]
+
 ghost use Rattle.std.specs.Prelude.{◌≡◌, length};
 
 use crate::calls::{call_both, plan_both};

@@ -1,4 +1,6 @@
 // Further stored runs of the command `tidy`, one after the other, each with its two new files written to standard output behind it.
+#![tactic(auto)]
+
 use plan_command::rewriting::{show_path, tidy_paths};
 
 // Runs `tidy` on a case, and shows the new files.

@@ -1,5 +1,7 @@
 // Runs random histories of calls by roles on working cases of several sizes, and holds each answer, each plan and all that is shown to a plain model that
 // keeps whole copies; and tries stores that hold no working case, or garbage.
+#![tactic(auto)]
+
 ghost use Rattle.std.specs.Prelude.{◌≡◌, length};
 
 use crate::closed::{all_refused, litter, plan_shown, spoilt_heads};
