@@ -2,6 +2,8 @@
 #![tactic(auto)]
 
 use planner::Answer;
+use std::io;
+use std::io::Write;
 use validation::tests::Verdict;
 
 pub mod draws;
@@ -157,8 +159,8 @@ pub fn count(tally: &mut [u64; 128], number: u64) {
     }
 }
 
-pub fn line(name: &[u8], x: u64) {
-    io::write_all(1, name);
-    io::print_decimal(1, x);
-    io::write_all(1, b"\n");
+pub fn line(rt: &impl Print, name: &[u8], x: u64) -> io::Result<()> {
+    let mut out = io::writer(rt);
+    out.write_all(name)?;
+    writeln!(out, "{x}")
 }

@@ -6,6 +6,7 @@ mod draw;
 mod number;
 mod trial;
 
+use std::io;
 use crate::draw::{deal, draw_costs, sum};
 use crate::trial::{Seen, hold_first};
 use test_draws::{after, below, draw, minus, one_if, plus};
@@ -172,20 +173,18 @@ fn run_cases() -> Tally {
     t
 }
 
-fn say(name: &[u8], number: u64) {
-    io::write_all(1, name);
-    io::print_decimal(1, number);
-    io::write_all(1, b"\n");
+fn say(rt: &impl Print, name: &str, number: u64) -> io::Result<()> {
+    println!(rt; "{name}{number}")
 }
 
-fn main() {
+fn main(rt: HostRuntime) -> io::Result<()> {
     let t = run_cases();
-    say(b"cases:                           ", t.cases);
-    say(b"with a plan:                     ", t.planned);
-    say(b"plans of the simplex that pass:  ", t.passed);
-    say(b"spoiled plans that are refused:  ", t.refused);
-    say(b"climbs on a spoiled tree:        ", t.climbed);
-    say(b"stretches searched for:          ", t.searched);
-    say(b"the same on a spoiled tree:      ", t.recovered);
-    say(b"differences:                     ", t.differences);
+    say(&rt, "cases:                           ", t.cases)?;
+    say(&rt, "with a plan:                     ", t.planned)?;
+    say(&rt, "plans of the simplex that pass:  ", t.passed)?;
+    say(&rt, "spoiled plans that are refused:  ", t.refused)?;
+    say(&rt, "climbs on a spoiled tree:        ", t.climbed)?;
+    say(&rt, "stretches searched for:          ", t.searched)?;
+    say(&rt, "the same on a spoiled tree:      ", t.recovered)?;
+    say(&rt, "differences:                     ", t.differences)
 }
