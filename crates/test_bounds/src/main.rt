@@ -9,9 +9,9 @@ mod expect;
 mod number;
 mod trial;
 
-use std::io;
 use crate::draw::{draw_above, draw_costs};
 use crate::trial::{Seen, hold_first};
+use std::io;
 use test_draws::{after, at, below, draw, one_if, plus};
 
 const CASES: u64 = 3_000;

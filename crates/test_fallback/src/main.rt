@@ -6,9 +6,9 @@ mod draw;
 mod number;
 mod trial;
 
-use std::io;
 use crate::draw::{deal, draw_costs, sum};
 use crate::trial::{Seen, hold_first};
+use std::io;
 use test_draws::{after, below, draw, minus, one_if, plus};
 
 const CASES: u64 = 2_000;

@@ -9,9 +9,9 @@ mod lent;
 mod number;
 mod trial;
 
-use std::io;
 use crate::draw::{disturb, draw_amounts, draw_ends, fill_supplies};
 use crate::trial::{Seen, hold};
+use std::io;
 use test_draws::{after, at, below, draw, first_cells, one_if, plus};
 
 const NETWORKS: u64 = 4_000;

@@ -57,7 +57,13 @@ fn hold(rt: &impl Print, tally: &mut [u64; 32], row: &[u8], text: &[u8]) -> io::
 }
 
 // Asks for the flow of two files and a text.
-fn ask(rt: &impl Print, tally: &mut [u64; 32], row: &[u8], network: &[u8], table: &[u8]) -> io::Result<()> {
+fn ask(
+    rt: &impl Print,
+    tally: &mut [u64; 32],
+    row: &[u8],
+    network: &[u8],
+    table: &[u8],
+) -> io::Result<()> {
     let mut text = [0u8; 4096];
     let printed = flow_files(network, field(row, 1), table, &mut text);
     let length = printed.length;

@@ -11,7 +11,12 @@ fn say(rt: &impl Print, texts: Texts) -> io::Result<()> {
 }
 
 // Case A, whose splits are 1 to 3, with a table.
-fn edge(rt: &impl Print, table: &[u64], tariff: &mut [u8], production: &mut [u8]) -> io::Result<()> {
+fn edge(
+    rt: &impl Print,
+    table: &[u64],
+    tariff: &mut [u8],
+    production: &mut [u8],
+) -> io::Result<()> {
     let costs = [2i64, 6, 5, 3, 1, 4];
     let supplies = [3u64, 3, 1];
     let demands = [3u64, 2];

@@ -89,7 +89,12 @@ fn run_history(from: u64, a: &mut [u64], b: &mut [u64], heard: &mut [u64; 128]) 
     seed
 }
 
-fn report(rt: &impl Print, ready: &[u64; 128], planner: &[u64; 128], heard: &[u64; 128]) -> io::Result<()> {
+fn report(
+    rt: &impl Print,
+    ready: &[u64; 128],
+    planner: &[u64; 128],
+    heard: &[u64; 128],
+) -> io::Result<()> {
     line(rt, b"stores made ready:          ", ready[0])?;
     line(rt, b"a planner tells them apart: ", planner[100])?;
     line(rt, b"depot and reader, done:     ", heard[0])?;

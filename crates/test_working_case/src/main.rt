@@ -179,7 +179,13 @@ fn run_history(
     seed
 }
 
-fn report(rt: &impl Print, calls: &[u64; 128], plans: &[u64; 128], marked: &[u64; 128], shown: &[u64; 128]) -> io::Result<()> {
+fn report(
+    rt: &impl Print,
+    calls: &[u64; 128],
+    plans: &[u64; 128],
+    marked: &[u64; 128],
+    shown: &[u64; 128],
+) -> io::Result<()> {
     line(rt, b"done:                   ", calls[0])?;
     line(rt, b"refused 4:              ", calls[4])?;
     line(rt, b"refused 5:              ", calls[5])?;
