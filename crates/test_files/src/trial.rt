@@ -44,7 +44,7 @@ fn edit_of(row: &[u8], name: &[u8], own: u64) -> Edit {
             put: 4,
         };
     }
-    if kind == b"files" {
+    if kind == b"files".as_slice() {
         return Edit {
             at: 0,
             cut: 65_537,
@@ -68,13 +68,13 @@ fn write_edited(file: &mut [u8], base: &[u8], row: &[u8], e: Edit) -> usize {
 
 // Whether a text is the header of a plan or, where the answer is a refusal, the whole text of it.
 fn reads(text: &[u8], answer: &[u8]) -> bool {
-    if answer == b"plan" {
-        return first(text, 29) == b"source,terminal,amount,cost\r\n";
+    if answer == b"plan".as_slice() {
+        return first(text, 29) == b"source,terminal,amount,cost\r\n".as_slice();
     }
     let record = after(text, 15);
-    if first(text, 15) == b"refusal,place\r\n" {
+    if first(text, 15) == b"refusal,place\r\n".as_slice() {
         if first(record, answer.len()) == answer {
-            return after(record, answer.len()) == b"\r\n";
+            return after(record, answer.len()) == b"\r\n".as_slice();
         }
     }
     false

@@ -26,7 +26,7 @@ fn begins(text: &[u8], head: &[u8], part: &[u8], tail: &[u8]) -> bool {
 
 // Whether a text is a flow of the total, or the refusal, that is expected.
 fn reads(text: &[u8], answer: &[u8]) -> bool {
-    if first(answer, 5) == b"flow," {
+    if first(answer, 5) == b"flow,".as_slice() {
         return begins(
             text,
             b"total\r\n",

@@ -81,7 +81,7 @@ fn first_outside(s: &[u64], low: u64, high: u64) -> u64 {
 }
 
 // The number of a refusal and its place; number 0 where the tests pass.
-#[derive(Drop)]
+#[derive(Clone, Copy)]
 pub struct Verdict {
     pub number: u64,
     pub place: u64,
