@@ -4,7 +4,7 @@
 pub mod find;
 
 // An arc as its line says it: the numbers of its two nodes, from 1, its ceiling and its cost.
-#[derive(Drop)]
+#[derive(Clone, Copy)]
 pub struct Arc {
     pub start: u64,
     pub end: u64,

@@ -14,7 +14,7 @@ pub mod judge;
 mod solve;
 
 // A plan was found, or the case is refused.
-#[derive(Drop)]
+#[derive(Clone, Copy)]
 pub enum Answer {
     Planned {
         split: u64,

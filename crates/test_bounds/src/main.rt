@@ -1,5 +1,7 @@
 // Random small cases with two tables, the same at each run: the splits that can be the cheapest, and the smallest and the largest least
 // total, against every table between the bounds.
+#![tactic(auto)]
+
 mod brute;
 mod case;
 mod draw;
@@ -9,6 +11,7 @@ mod trial;
 
 use crate::draw::{draw_above, draw_costs};
 use crate::trial::{Seen, hold_first};
+use std::io;
 use test_draws::{after, at, below, draw, one_if, plus};
 
 const CASES: u64 = 3_000;
@@ -139,21 +142,19 @@ fn run_cases() -> Tally {
     t
 }
 
-fn say(name: &[u8], number: u64) {
-    io::write_all(1, name);
-    io::print_decimal(1, number);
-    io::write_all(1, b"\n");
+fn say(rt: &impl Print, name: &str, number: u64) -> io::Result<()> {
+    println!(rt; "{name}{number}")
 }
 
-fn main() {
+fn main(rt: HostRuntime) -> io::Result<()> {
     let t = run_cases();
-    say(b"cases:                 ", t.cases);
-    say(b"answered:              ", t.known);
-    say(b"refused:               ", t.refused);
-    say(b"refused by 28:         ", t.wrong_high);
-    say(b"refused by 11:         ", t.short);
-    say(b"tables tried:          ", t.tables);
-    say(b"splits:                ", t.splits);
-    say(b"can be the cheapest:   ", t.possible);
-    say(b"differences:           ", t.differences);
+    say(&rt, "cases:                 ", t.cases)?;
+    say(&rt, "answered:              ", t.known)?;
+    say(&rt, "refused:               ", t.refused)?;
+    say(&rt, "refused by 28:         ", t.wrong_high)?;
+    say(&rt, "refused by 11:         ", t.short)?;
+    say(&rt, "tables tried:          ", t.tables)?;
+    say(&rt, "splits:                ", t.splits)?;
+    say(&rt, "can be the cheapest:   ", t.possible)?;
+    say(&rt, "differences:           ", t.differences)
 }

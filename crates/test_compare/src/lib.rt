@@ -1,5 +1,9 @@
 // For programs that hold two things to each other: repeatable draws, answers and cells compared, and how often each number was met.
+#![tactic(auto)]
+
 use planner::Answer;
+use std::io;
+use std::io::Write;
 use validation::tests::Verdict;
 
 pub mod draws;
@@ -155,8 +159,8 @@ pub fn count(tally: &mut [u64; 128], number: u64) {
     }
 }
 
-pub fn line(name: &[u8], x: u64) {
-    io::write_all(1, name);
-    io::print_decimal(1, x);
-    io::write_all(1, b"\n");
+pub fn line(rt: &impl Print, name: &[u8], x: u64) -> io::Result<()> {
+    let mut out = io::writer(rt);
+    out.write_all(name)?;
+    writeln!(out, "{x}")
 }

@@ -1,4 +1,5 @@
 // For programs of random trials: numbers that stay within 64 bits, the generator, and repeatable draws.
+#![tactic(auto)]
 
 // a + b, at most the largest number.
 pub fn plus(a: u64, b: u64) -> u64 {

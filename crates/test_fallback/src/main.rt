@@ -1,11 +1,14 @@
 // Random cases, the same at each run, planned as usual and three times more: without the simplex, with a drum more on a lane of its plan, which the
 // check must refuse, and with a node of its tree attached elsewhere, so that the climb falls back on the search. Every answer must be the same.
+#![tactic(auto)]
+
 mod draw;
 mod number;
 mod trial;
 
 use crate::draw::{deal, draw_costs, sum};
 use crate::trial::{Seen, hold_first};
+use std::io;
 use test_draws::{after, below, draw, minus, one_if, plus};
 
 const CASES: u64 = 2_000;
@@ -170,20 +173,18 @@ fn run_cases() -> Tally {
     t
 }
 
-fn say(name: &[u8], number: u64) {
-    io::write_all(1, name);
-    io::print_decimal(1, number);
-    io::write_all(1, b"\n");
+fn say(rt: &impl Print, name: &str, number: u64) -> io::Result<()> {
+    println!(rt; "{name}{number}")
 }
 
-fn main() {
+fn main(rt: HostRuntime) -> io::Result<()> {
     let t = run_cases();
-    say(b"cases:                           ", t.cases);
-    say(b"with a plan:                     ", t.planned);
-    say(b"plans of the simplex that pass:  ", t.passed);
-    say(b"spoiled plans that are refused:  ", t.refused);
-    say(b"climbs on a spoiled tree:        ", t.climbed);
-    say(b"stretches searched for:          ", t.searched);
-    say(b"the same on a spoiled tree:      ", t.recovered);
-    say(b"differences:                     ", t.differences);
+    say(&rt, "cases:                           ", t.cases)?;
+    say(&rt, "with a plan:                     ", t.planned)?;
+    say(&rt, "plans of the simplex that pass:  ", t.passed)?;
+    say(&rt, "spoiled plans that are refused:  ", t.refused)?;
+    say(&rt, "climbs on a spoiled tree:        ", t.climbed)?;
+    say(&rt, "stretches searched for:          ", t.searched)?;
+    say(&rt, "the same on a spoiled tree:      ", t.recovered)?;
+    say(&rt, "differences:                     ", t.differences)
 }

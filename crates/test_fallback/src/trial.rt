@@ -5,7 +5,7 @@ use split_range::trial::Trial;
 use test_draws::first_cells;
 
 // An answer in numbers: 0 for a plan and its split, total, freight and count of stops; else the refusal's number and place.
-#[derive(Drop)]
+#[derive(Clone, Copy)]
 pub struct Told {
     pub number: u64,
     pub place: u64,

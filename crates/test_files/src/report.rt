@@ -1,34 +1,31 @@
 // The counts of the tally, a line each.
 use crate::trial::{CASES, DIFFERENCES};
+use std::io;
 use test_rows::tally::cell;
 
-fn say(name: &[u8], n: u64) {
-    io::write_all(1, name);
-    io::print_decimal(1, n);
-    io::write_all(1, b"\n");
+fn say(rt: &impl Print, name: &str, n: u64) -> io::Result<()> {
+    println!(rt; "{name}{n}")
 }
 
 // The count of a refusal that was given.
-fn say_refused(number: u64, n: u64) {
+fn say_refused(rt: &impl Print, number: u64, n: u64) -> io::Result<()> {
     if n == 0 {
-        return;
+        return Ok(());
     }
-    io::write_all(1, b"refused ");
-    io::print_decimal(1, number);
-    say(b": ", n);
+    print!(rt; "refused {number}")?;
+    say(rt, ": ", n)
 }
 
-fn say_all_refused(tally: &[u64; 32]) {
-    let mut k: usize = 1;
-    while k < CASES {
-        say_refused(k as u64, cell(tally, k));
-        k += 1;
+fn say_all_refused(rt: &impl Print, tally: &[u64; 32]) -> io::Result<()> {
+    for k in 1..CASES {
+        say_refused(rt, k as u64, cell(tally, k))?;
     }
+    Ok(())
 }
 
-pub fn report(tally: &[u64; 32]) {
-    say(b"planned: ", cell(tally, 0));
-    say_all_refused(tally);
-    say(b"cases: ", cell(tally, CASES));
-    say(b"differences: ", cell(tally, DIFFERENCES));
+pub fn report(rt: &impl Print, tally: &[u64; 32]) -> io::Result<()> {
+    say(rt, "planned: ", cell(tally, 0))?;
+    say_all_refused(rt, tally)?;
+    say(rt, "cases: ", cell(tally, CASES))?;
+    say(rt, "differences: ", cell(tally, DIFFERENCES))
 }

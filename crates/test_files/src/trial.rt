@@ -1,6 +1,7 @@
 // One trial: the files of a row, and the answer expected.
-use check::same;
 use plan_files::planned::plan_files;
+use std::io;
+use std::io::Write;
 use test_rows::parts::{after, before, field, first, number};
 use test_rows::tally::count;
 use test_rows::text::add;
@@ -36,14 +37,14 @@ fn room() -> [u8; 65537] {
 // The edit of one of case A's files: the row's own, all of it by the field `own`, or none.
 fn edit_of(row: &[u8], name: &[u8], own: u64) -> Edit {
     let kind = field(row, 1);
-    if same(kind, name) {
+    if kind == name {
         return Edit {
             at: number(field(row, 2)) as usize,
             cut: number(field(row, 3)) as usize,
             put: 4,
         };
     }
-    if same(kind, b"files") {
+    if kind == b"files".as_slice() {
         return Edit {
             at: 0,
             cut: 65_537,
@@ -67,13 +68,13 @@ fn write_edited(file: &mut [u8], base: &[u8], row: &[u8], e: Edit) -> usize {
 
 // Whether a text is the header of a plan or, where the answer is a refusal, the whole text of it.
 fn reads(text: &[u8], answer: &[u8]) -> bool {
-    if same(answer, b"plan") {
-        return same(first(text, 29), b"source,terminal,amount,cost\r\n");
+    if answer == b"plan".as_slice() {
+        return first(text, 29) == b"source,terminal,amount,cost\r\n".as_slice();
     }
     let record = after(text, 15);
-    if same(first(text, 15), b"refusal,place\r\n") {
-        if same(first(record, answer.len()), answer) {
-            return same(after(record, answer.len()), b"\r\n");
+    if first(text, 15) == b"refusal,place\r\n".as_slice() {
+        if first(record, answer.len()) == answer {
+            return after(record, answer.len()) == b"\r\n".as_slice();
         }
     }
     false
@@ -106,8 +107,8 @@ fn stays(tariff: &[u8], production: &[u8]) -> bool {
     else {
         return false;
     };
-    if same(first(&t, a), tariff) {
-        return same(first(&p, b), production);
+    if first(&t, a) == tariff {
+        return first(&p, b) == production;
     }
     false
 }
@@ -124,9 +125,9 @@ fn rewritten(tariff: &[u8], production: &[u8], plan: &[u8]) -> bool {
     else {
         return false;
     };
-    let mut text = io::buffer();
+    let mut text = [0u8; 4096];
     let length = plan_files(first(&t, a), first(&p, b), &mut text).length;
-    if same(first(&text, length), plan) {
+    if first(&text, length) == plan {
         return stays(first(&t, a), first(&p, b));
     }
     false
@@ -149,7 +150,7 @@ fn comes_back(g: Given, tariff: &[u8], production: &[u8], plan: &[u8]) -> Given 
 
 // Plans two files, and holds the answer to the row's.
 fn plan_both(row: &[u8], tariff: &[u8], production: &[u8]) -> Given {
-    let mut text = io::buffer();
+    let mut text = [0u8; 4096];
     let printed = plan_files(tariff, production, &mut text);
     let length = printed.length;
     let plan = first(&text, length);
@@ -177,24 +178,21 @@ fn run_files(row: &[u8]) -> Given {
 }
 
 // Writes a row that is answered otherwise.
-fn say_difference(row: &[u8], g: Given) {
-    io::write_all(1, b"difference: ");
-    io::write_all(1, row);
-    io::write_all(1, b" given ");
-    io::print_decimal(1, g.number);
-    io::write_all(1, b",");
-    io::print_decimal(1, g.place);
-    io::write_all(1, b"\n");
+fn say_difference(rt: &impl Print, row: &[u8], g: Given) -> io::Result<()> {
+    let mut out = io::writer(rt);
+    out.write_all(b"difference: ")?;
+    out.write_all(row)?;
+    writeln!(out, " given {},{}", g.number, g.place)
 }
 
 // Runs a row, and counts it, its answer, and a difference, which it writes.
-pub fn trial(tally: &mut [u64; 32], row: &[u8]) {
+pub fn trial(rt: &impl Print, tally: &mut [u64; 32], row: &[u8]) -> io::Result<()> {
     let g = run_files(row);
     count(tally, CASES);
     count(tally, g.number as usize);
     if g.right {
-        return;
+        return Ok(());
     }
     count(tally, DIFFERENCES);
-    say_difference(row, g);
+    say_difference(rt, row, g)
 }

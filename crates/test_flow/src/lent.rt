@@ -11,7 +11,7 @@ use flow_structs::cheapest_flow;
 use test_draws::plus;
 
 // The answer, and the arcs as they came back.
-#[derive(Drop)]
+#[derive(Clone, Copy)]
 pub struct Lent {
     pub answer: Answer,
     pub arcs: [Arc; 6],

@@ -1,5 +1,7 @@
 // Random small networks, the same at each run: parallel arcs, ceilings of 0, costs below 0, supplies at the named arc's ends and elsewhere, ties, and
 // networks without a flow. The answer of `cheapest_flow` is held to all flows; that with a lent slice of arc structs to it and to the arcs drawn.
+#![tactic(auto)]
+
 mod brute;
 mod draw;
 mod file;
@@ -9,6 +11,7 @@ mod trial;
 
 use crate::draw::{disturb, draw_amounts, draw_ends, fill_supplies};
 use crate::trial::{Seen, hold};
+use std::io;
 use test_draws::{after, at, below, draw, first_cells, one_if, plus};
 
 const NETWORKS: u64 = 4_000;
@@ -105,17 +108,15 @@ fn run_networks() -> Tally {
     t
 }
 
-fn say(name: &[u8], number: u64) {
-    io::write_all(1, name);
-    io::print_decimal(1, number);
-    io::write_all(1, b"\n");
+fn say(rt: &impl Print, name: &str, number: u64) -> io::Result<()> {
+    println!(rt; "{name}{number}")
 }
 
-fn main() {
+fn main(rt: HostRuntime) -> io::Result<()> {
     let t = run_networks();
-    say(b"networks:              ", t.networks);
-    say(b"with a flow:           ", t.carried);
-    say(b"refused by 27:         ", t.none);
-    say(b"flows tried:           ", t.flows);
-    say(b"differences:           ", t.differences);
+    say(&rt, "networks:              ", t.networks)?;
+    say(&rt, "with a flow:           ", t.carried)?;
+    say(&rt, "refused by 27:         ", t.none)?;
+    say(&rt, "flows tried:           ", t.flows)?;
+    say(&rt, "differences:           ", t.differences)
 }

@@ -216,7 +216,7 @@ pub fn hold(
     named: usize,
     table: &[u64],
 ) -> Seen {
-    let mut file = io::buffer();
+    let mut file = [0u8; 4096];
     let size = write_network(&mut file, starts, ends, ceilings, costs, supplies);
     let best = try_amounts(starts, ends, ceilings, costs, supplies, named, table);
     ask(

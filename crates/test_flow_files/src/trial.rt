@@ -1,6 +1,7 @@
 // One trial: the files of a row, and the answer expected.
-use check::same;
 use flow_files::flow_files;
+use std::io;
+use std::io::Write;
 use test_rows::parts::{after, field, first};
 use test_rows::tally::count;
 use test_rows::text::add;
@@ -13,19 +14,19 @@ pub const DIFFERENCES: usize = 26;
 // Whether a text begins with three parts.
 fn begins(text: &[u8], head: &[u8], part: &[u8], tail: &[u8]) -> bool {
     let rest = after(text, head.len());
-    if !same(first(text, head.len()), head) {
+    if first(text, head.len()) != head {
         return false;
     }
-    if !same(first(rest, part.len()), part) {
+    if first(rest, part.len()) != part {
         return false;
     }
     let last = after(rest, part.len());
-    same(first(last, tail.len()), tail)
+    first(last, tail.len()) == tail
 }
 
 // Whether a text is a flow of the total, or the refusal, that is expected.
 fn reads(text: &[u8], answer: &[u8]) -> bool {
-    if same(first(answer, 5), b"flow,") {
+    if first(answer, 5) == b"flow,".as_slice() {
         return begins(
             text,
             b"total\r\n",
@@ -37,30 +38,37 @@ fn reads(text: &[u8], answer: &[u8]) -> bool {
 }
 
 // Writes a row that is answered otherwise, with what was answered.
-fn say_difference(row: &[u8], text: &[u8]) {
-    io::write_all(1, b"difference: ");
-    io::write_all(1, row);
-    io::write_all(1, b" given ");
-    io::write_all(1, text);
+fn say_difference(rt: &impl Print, row: &[u8], text: &[u8]) -> io::Result<()> {
+    let mut out = io::writer(rt);
+    out.write_all(b"difference: ")?;
+    out.write_all(row)?;
+    out.write_all(b" given ")?;
+    out.write_all(text)
 }
 
 // Holds the printed text to the row's answer.
-fn hold(tally: &mut [u64; 32], row: &[u8], text: &[u8]) {
+fn hold(rt: &impl Print, tally: &mut [u64; 32], row: &[u8], text: &[u8]) -> io::Result<()> {
     count(tally, CASES);
     if reads(text, field(row, 0)) {
-        return;
+        return Ok(());
     }
     count(tally, DIFFERENCES);
-    say_difference(row, text);
+    say_difference(rt, row, text)
 }
 
 // Asks for the flow of two files and a text.
-fn ask(tally: &mut [u64; 32], row: &[u8], network: &[u8], table: &[u8]) {
-    let mut text = io::buffer();
+fn ask(
+    rt: &impl Print,
+    tally: &mut [u64; 32],
+    row: &[u8],
+    network: &[u8],
+    table: &[u8],
+) -> io::Result<()> {
+    let mut text = [0u8; 4096];
     let printed = flow_files(network, field(row, 1), table, &mut text);
     let length = printed.length;
     count(tally, printed.number as usize);
-    hold(tally, row, first(&text, length));
+    hold(rt, tally, row, first(&text, length))
 }
 
 // Room for the longest file that is read, and one byte more.
@@ -69,10 +77,10 @@ fn room() -> [u8; 65537] {
 }
 
 // Runs a row: the answer, the arc's place, the table file and the network file.
-pub fn trial(tally: &mut [u64; 32], row: &[u8]) {
+pub fn trial(rt: &impl Print, tally: &mut [u64; 32], row: &[u8]) -> io::Result<()> {
     let mut network = room();
     let mut table = room();
     let n = add(&mut network, 0, field(row, 3));
     let t = add(&mut table, 0, field(row, 2));
-    ask(tally, row, first(&network, n), first(&table, t));
+    ask(rt, tally, row, first(&network, n), first(&table, t))
 }

@@ -2,7 +2,7 @@
 use test_compare::{below, next};
 
 // Kinds: 0 demand, 1 supply, 2 unit cost, 3 entry, 4 set mark, 5 go back.
-#[derive(Drop)]
+#[derive(Clone, Copy)]
 pub struct Request {
     pub kind: u64,
     pub role: usize,

@@ -2,7 +2,7 @@
 use crate::draws::{Request, drawn, small_cost};
 use test_compare::below;
 
-#[derive(Drop)]
+#[derive(Clone, Copy)]
 pub struct Copy {
     pub m: usize,
     pub n: usize,

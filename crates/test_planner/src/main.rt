@@ -1,5 +1,7 @@
 // Runs the planner on the fixed cases of the scope and on random small cases, and holds each answer to the
 // refusals as the scope has them and to a listing of all plans.
+#![tactic(auto)]
+
 ghost use Rattle.std.specs.Prelude.{◌≡◌, length};
 
 mod fixed;
@@ -11,9 +13,11 @@ mod trial;
 use crate::fixed::run_fixed;
 use crate::report::report;
 use crate::trial::{close, run_small};
+use std::io;
 use test_cases::random::next_case;
 use test_referee::bench::TALLY;
 use test_referee::cells::fill;
+use test_rows::input::read_full;
 
 const RANDOM_CASES: u64 = 10_000;
 
@@ -35,19 +39,19 @@ fn run_random(b: &mut [u64]) {
     }
 }
 
-fn run_trials(b: &mut [u64], table: &[u8]) {
+fn run_trials(rt: &impl Print, b: &mut [u64], table: &[u8]) -> io::Result<()> {
     run_fixed(b, table);
-    io::write_all(1, b"fixed\n");
-    report(b, 25);
+    println!(rt; "fixed")?;
+    report(rt, b, 25)?;
     fill(b, TALLY, 50, 0, 0);
     run_random(b);
-    io::write_all(1, b"random\n");
-    report(b, 0);
+    println!(rt; "random")?;
+    report(rt, b, 0)
 }
 
-fn main() {
-    let mut table = io::large_buffer();
-    let size = io::read_full(0, &mut table);
+fn main(rt: HostRuntime) -> io::Result<()> {
+    let mut table = [0u8; 65536];
+    let size = read_full(&mut rt.reader(), &mut table);
     let mut b = new_bench();
-    run_trials(&mut b, &table[..size]);
+    run_trials(&rt, &mut b, &table[..size])
 }

@@ -1,4 +1,6 @@
 // What the trials found, a line for each count of the tally.
+use std::io;
+use std::io::Write;
 use test_referee::bench::TALLY;
 use test_referee::cells::{at, plus};
 
@@ -13,29 +15,30 @@ const SHOWN: [u64; LINES] = [
 ];
 
 // Writes line k of the names and its count.
-fn say(names: &[u8], b: &[u64], k: usize) {
+fn say(rt: &impl Print, names: &[u8], b: &[u64], k: usize) -> io::Result<()> {
     if k < LINES {
         let start = k * WIDTH;
         let end = start + WIDTH;
         if end <= names.len() {
-            io::write_all(1, &names[start..end]);
-            io::print_decimal(1, at(b, plus(TALLY, SHOWN[k])));
-            io::write_all(1, b"\n");
+            let mut out = io::writer(rt);
+            out.write_all(&names[start..end])?;
+            writeln!(out, "{}", at(b, plus(TALLY, SHOWN[k])))?;
         }
     }
+    Ok(())
 }
 
 // Writes the tally from line `first` on.
-fn say_from(names: &[u8], b: &[u64], first: usize) {
-    let mut k = first;
-    while k < LINES {
-        say(names, b, k);
-        k += 1;
+fn say_from(rt: &impl Print, names: &[u8], b: &[u64], first: usize) -> io::Result<()> {
+    for k in first..LINES {
+        say(rt, names, b, k)?;
     }
+    Ok(())
 }
 
-pub fn report(b: &[u64], first: usize) {
+pub fn report(rt: &impl Print, b: &[u64], first: usize) -> io::Result<()> {
     say_from(
+        rt,
         b"planned:                 refused 1:               refused 2:               refused 3:               \
           refused 4:               refused 5:               refused 6:               refused 7:               \
           refused 8:               refused 9:               refused 11:              refused 23:              \
@@ -46,5 +49,5 @@ pub fn report(b: &[u64], first: usize) {
           first difference: check  ",
         b,
         first,
-    );
+    )
 }

@@ -67,7 +67,7 @@ pub const ROOM: u64 = 4_100;
 pub const ZERO: u64 = 500_000_000_000;
 
 // The sizes of a case, the lengths of its slices and its least runs.
-#[derive(Drop)]
+#[derive(Clone, Copy)]
 pub struct Sizes {
     pub m: u64,
     pub n: u64,

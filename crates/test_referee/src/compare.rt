@@ -8,7 +8,7 @@ use crate::money::signed_at;
 use crate::paper::{Span, Verdict};
 
 // An answer, number 0 for a plan, and how many splits share the least total, which the planner does not say.
-#[derive(Drop)]
+#[derive(Clone, Copy)]
 pub struct Told {
     pub number: u64,
     pub place: u64,

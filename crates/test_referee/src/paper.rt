@@ -3,7 +3,7 @@ use crate::bench::{BEST, CEILINGS, COSTS, DEMANDS, ROOM, SUPPLIES, Sizes, TABLE,
 use crate::cells::{NONE, at, given, larger, line, minus, part, plus, smaller, times};
 
 // All demands, what must leave depots and plants, d, ℓ, u and how many splits there are.
-#[derive(Drop)]
+#[derive(Clone, Copy)]
 pub struct Span {
     pub all: u64,
     pub leaves: u64,
@@ -81,7 +81,7 @@ fn first_outside(s: &[u64], low: u64, high: u64) -> u64 {
 }
 
 // The number of a refusal and its place; number 0 where the tests pass.
-#[derive(Drop)]
+#[derive(Clone, Copy)]
 pub struct Verdict {
     pub number: u64,
     pub place: u64,

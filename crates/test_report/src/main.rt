@@ -1,4 +1,6 @@
 // The report's example, 4.2, with the square-root rates as its production table: split, total, freight and count of stops, as planned.
+#![tactic(auto)]
+
 ghost use Rattle.std.specs.Prelude.{◌≡◌, pos, length};
 ghost use Rattle.planner.specs.Answer.{outcome};
 ghost use Rattle.problem.specs.Outcome.{planned};
@@ -6,6 +8,7 @@ ghost use Rattle.problem.specs.Plans.{stops};
 ghost use Rattle.test_report.specs.Report.{report};
 
 use planner::Answer;
+use std::io;
 
 // Plans the example: split 180, total 2,161, freight 820.
 fn answer() -> Answer
@@ -36,17 +39,16 @@ fn answer() -> Answer
     )
 }
 
-fn say(text: &[u8]) {
-    io::write_all(libc::STDOUT_FILENO, text);
+fn say(rt: &impl Print, text: &str) -> io::Result<()> {
+    print!(rt; "{text}")
 }
 
 // Writes a number and the text after it.
-fn say_number(n: u64, after: &[u8]) {
-    io::print_decimal(libc::STDOUT_FILENO, n);
-    say(after);
+fn say_number(rt: &impl Print, n: u64, after: &str) -> io::Result<()> {
+    print!(rt; "{n}{after}")
 }
 
-fn main() {
+fn main(rt: HostRuntime) -> io::Result<()> {
     let planned = answer();
     match planned {
         Answer::Planned {
@@ -55,16 +57,16 @@ fn main() {
             freight,
             stops,
         } => {
-            say(b"split,total,freight,stops\r\n");
-            say_number(split, b",");
-            say_number(csv_print::magnitude(total), b",");
-            say_number(csv_print::magnitude(freight), b",");
-            say_number(stops as u64, b"\r\n");
+            say(&rt, "split,total,freight,stops\r\n")?;
+            say_number(&rt, split, ",")?;
+            say_number(&rt, csv_print::magnitude(total), ",")?;
+            say_number(&rt, csv_print::magnitude(freight), ",")?;
+            say_number(&rt, stops as u64, "\r\n")
         }
         Answer::Refused { number, place } => {
-            say(b"refusal,place\r\n");
-            say_number(number, b",");
-            say_number(place, b"\r\n");
+            say(&rt, "refusal,place\r\n")?;
+            say_number(&rt, number, ",")?;
+            say_number(&rt, place, "\r\n")
         }
     }
 }

@@ -2,7 +2,6 @@
 ghost use Rattle.std.specs.Prelude.{◌≤◌};
 
 use crate::draw::{costs_of, drawn, numbers_of};
-use check::same;
 use csv_case::case::{CaseAnswer, read_case};
 use write_case::rewrite::rewrite_files;
 use write_case::{Texts, write_case};
@@ -53,8 +52,8 @@ fn equal_costs(a: &[i64], b: &[i64]) -> bool {
 
 // Whether two files are written again as they are.
 fn again(tariff: &[u8], production: &[u8]) -> bool {
-    let mut t = io::buffer();
-    let mut p = io::buffer();
+    let mut t = [0u8; 4096];
+    let mut p = [0u8; 4096];
     let texts = rewrite_files(tariff, production, &mut t, &mut p);
     let Texts::Written {
         tariff: a,
@@ -63,8 +62,8 @@ fn again(tariff: &[u8], production: &[u8]) -> bool {
     else {
         return false;
     };
-    if same(bytes(&t, a), tariff) {
-        return same(bytes(&p, b), production);
+    if bytes(&t, a) == tariff {
+        return bytes(&p, b) == production;
     }
     false
 }
@@ -132,8 +131,8 @@ fn stays(
     demands: &[u64],
     table: &[u64],
 ) -> bool {
-    let mut t = io::buffer();
-    let mut p = io::buffer();
+    let mut t = [0u8; 4096];
+    let mut p = [0u8; 4096];
     let texts = write_case(m, n, costs, supplies, demands, table, &mut t, &mut p);
     let Texts::Written {
         tariff: a,

@@ -7,7 +7,7 @@ use crate::parts::{after, before, byte, number};
 const TURNS: u64 = 200_000;
 
 // Where a text is read: the offset, where the repeat begins, how often it is to be read, and the byte read, if one was.
-#[derive(Drop)]
+#[derive(Clone, Copy)]
 struct Reader {
     at: usize,
     back: usize,

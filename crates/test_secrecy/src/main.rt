@@ -1,8 +1,11 @@
 // Runs random histories of depot and reader on two stores alike but for production entries, in the case and its marks, and holds what they get of
 // the one to what they get of the other: answers, refusals, and each lent cell.
+#![tactic(auto)]
+
 ghost use Rattle.std.specs.Prelude.{◌≡◌, length};
 
 use crate::calls::{call_both, plan_both};
+use std::io;
 use test_compare::{below, count, line, next, passed};
 use validation::tests::Verdict;
 
@@ -86,34 +89,37 @@ fn run_history(from: u64, a: &mut [u64], b: &mut [u64], heard: &mut [u64; 128]) 
     seed
 }
 
-fn report(ready: &[u64; 128], planner: &[u64; 128], heard: &[u64; 128]) {
-    line(b"stores made ready:          ", ready[0]);
-    line(b"a planner tells them apart: ", planner[100]);
-    line(b"depot and reader, done:     ", heard[0]);
-    line(b"refused 4:                  ", heard[4]);
-    line(b"refused 23:                 ", heard[23]);
-    line(b"refused 24:                 ", heard[24]);
-    line(b"refused 31:                 ", heard[31]);
-    line(b"heard differently:          ", heard[100]);
+fn report(
+    rt: &impl Print,
+    ready: &[u64; 128],
+    planner: &[u64; 128],
+    heard: &[u64; 128],
+) -> io::Result<()> {
+    line(rt, b"stores made ready:          ", ready[0])?;
+    line(rt, b"a planner tells them apart: ", planner[100])?;
+    line(rt, b"depot and reader, done:     ", heard[0])?;
+    line(rt, b"refused 4:                  ", heard[4])?;
+    line(rt, b"refused 23:                 ", heard[23])?;
+    line(rt, b"refused 24:                 ", heard[24])?;
+    line(rt, b"refused 31:                 ", heard[31])?;
+    line(rt, b"heard differently:          ", heard[100])
 }
 
-fn run_all(a: &mut [u64], b: &mut [u64]) {
+fn run_all(rt: &impl Print, a: &mut [u64], b: &mut [u64]) -> io::Result<()> {
     let mut ready = [0u64; 128];
     let mut planner = [0u64; 128];
     let mut heard = [0u64; 128];
     let mut seed: u64 = 20_260_212;
-    let mut k: u64 = 0;
-    while k < HISTORIES {
+    for _ in 0..HISTORIES {
         prepare_both(seed, a, b, &mut ready);
         count(&mut planner, plan_both(1, a, b));
         seed = run_history(next(seed), a, b, &mut heard);
-        k += 1;
     }
-    report(&ready, &planner, &heard);
+    report(rt, &ready, &planner, &heard)
 }
 
-fn main() {
+fn main(rt: HostRuntime) -> io::Result<()> {
     let mut store = new_store();
     let mut other = new_store();
-    run_all(&mut store, &mut other);
+    run_all(&rt, &mut store, &mut other)
 }

@@ -1,10 +1,13 @@
 // Runs random histories of calls by roles on working cases of several sizes, and holds each answer, each plan and all that is shown to a plain model that
 // keeps whole copies; and tries stores that hold no working case, or garbage.
+#![tactic(auto)]
+
 ghost use Rattle.std.specs.Prelude.{◌≡◌, length};
 
 use crate::closed::{all_refused, litter, plan_shown, spoilt_heads};
 use crate::plans::{plan_both, plan_mark_both};
 use crate::seen::seen;
+use std::io;
 use test_compare::{agreed, below, count, line, next, passed};
 use test_history::draws::{Request, drawn, next_request};
 use test_history::model::{Copy, edited, first_case, times};
@@ -176,41 +179,45 @@ fn run_history(
     seed
 }
 
-fn report(calls: &[u64; 128], plans: &[u64; 128], marked: &[u64; 128], shown: &[u64; 128]) {
-    line(b"done:                   ", calls[0]);
-    line(b"refused 4:              ", calls[4]);
-    line(b"refused 5:              ", calls[5]);
-    line(b"refused 23:             ", calls[23]);
-    line(b"refused 24:             ", calls[24]);
-    line(b"refused 25:             ", calls[25]);
-    line(b"refused 31:             ", calls[31]);
-    line(b"planned:                ", plans[0]);
-    line(b"plan refused 7:         ", plans[7]);
-    line(b"plan refused 8:         ", plans[8]);
-    line(b"plan refused 9:         ", plans[9]);
-    line(b"plan refused 27:        ", plans[27]);
-    line(b"marks planned:          ", marked[0]);
-    line(b"mark refused 24:        ", marked[24]);
-    line(b"mark refused 25:        ", marked[25]);
-    line(b"shown as it should be:  ", shown[0]);
-    line(b"calls that differ:      ", calls[100]);
-    line(b"plans that differ:      ", plans[100]);
-    line(b"marks that differ:      ", marked[100]);
-    line(b"shown otherwise:        ", shown[100]);
+fn report(
+    rt: &impl Print,
+    calls: &[u64; 128],
+    plans: &[u64; 128],
+    marked: &[u64; 128],
+    shown: &[u64; 128],
+) -> io::Result<()> {
+    line(rt, b"done:                   ", calls[0])?;
+    line(rt, b"refused 4:              ", calls[4])?;
+    line(rt, b"refused 5:              ", calls[5])?;
+    line(rt, b"refused 23:             ", calls[23])?;
+    line(rt, b"refused 24:             ", calls[24])?;
+    line(rt, b"refused 25:             ", calls[25])?;
+    line(rt, b"refused 31:             ", calls[31])?;
+    line(rt, b"planned:                ", plans[0])?;
+    line(rt, b"plan refused 7:         ", plans[7])?;
+    line(rt, b"plan refused 8:         ", plans[8])?;
+    line(rt, b"plan refused 9:         ", plans[9])?;
+    line(rt, b"plan refused 27:        ", plans[27])?;
+    line(rt, b"marks planned:          ", marked[0])?;
+    line(rt, b"mark refused 24:        ", marked[24])?;
+    line(rt, b"mark refused 25:        ", marked[25])?;
+    line(rt, b"shown as it should be:  ", shown[0])?;
+    line(rt, b"calls that differ:      ", calls[100])?;
+    line(rt, b"plans that differ:      ", plans[100])?;
+    line(rt, b"marks that differ:      ", marked[100])?;
+    line(rt, b"shown otherwise:        ", shown[100])
 }
 
-fn run_all(store: &mut [u64]) {
+fn run_all(rt: &impl Print, store: &mut [u64]) -> io::Result<()> {
     let mut calls = [0u64; 128];
     let mut plans = [0u64; 128];
     let mut marked = [0u64; 128];
     let mut shown = [0u64; 128];
     let mut seed: u64 = 20_260_204;
-    let mut k: u64 = 0;
-    while k < HISTORIES {
+    for _ in 0..HISTORIES {
         seed = run_history(seed, store, &mut calls, &mut plans, &mut marked, &mut shown);
-        k += 1;
     }
-    report(&calls, &plans, &marked, &shown);
+    report(rt, &calls, &plans, &marked, &shown)
 }
 
 // Stores with garbage behind their head.
@@ -225,7 +232,7 @@ fn run_litter(store: &mut [u64], tally: &mut [u64; 128]) {
 }
 
 // A case of 2 sources and 1 terminal, then garbage behind its head.
-fn run_garbage(store: &mut [u64]) {
+fn run_garbage(rt: &impl Print, store: &mut [u64]) -> io::Result<()> {
     let mut tally = [0u64; 128];
     let costs = [1i64, 2];
     let ones = [1u64, 1];
@@ -233,13 +240,13 @@ fn run_garbage(store: &mut [u64]) {
     let entered = passed(roles::enter(2, 1, 0, 0, &costs, &ones, &one, &ones, &ones, store));
     count(&mut tally, entered);
     run_litter(store, &mut tally);
-    line(b"garbage as it is shown: ", tally[0]);
-    line(b"garbage otherwise:      ", tally[100]);
+    line(rt, b"garbage as it is shown: ", tally[0])?;
+    line(rt, b"garbage otherwise:      ", tally[100])
 }
 
-fn main() {
+fn main(rt: HostRuntime) -> io::Result<()> {
     let mut store = new_store();
-    line(b"a store of sevens:      ", all_refused(&mut store));
-    run_all(&mut store);
-    run_garbage(&mut store);
+    line(&rt, b"a store of sevens:      ", all_refused(&mut store))?;
+    run_all(&rt, &mut store)?;
+    run_garbage(&rt, &mut store)
 }

@@ -12,7 +12,7 @@ ghost use Rattle.validation.specs.Verdict.{found, verdict, made_of};
 use size::limits::{Checked, Size};
 
 // What a test says of a case: it passes, or the refusal's number and place.
-#[derive(Drop)]
+#[derive(Clone, Copy)]
 pub enum Verdict {
     Passed,
     Refused(u64, u64),
