@@ -1,5 +1,5 @@
 // The arguments that a program was called with, as bytes.
-ghost use Rattle.std.specs.Prelude.{◌≡◌, ◌≤◌, length};
+ghost use Rattle.std.specs.Prelude.{◌≡◌, ◌↔◌, ◌≤◌, codes, length, IsTrue};
 
 use std::env::{Env, FillError};
 
@@ -35,4 +35,11 @@ pub fn argument(rt: &impl Env, place: usize, room: &mut [u8]) -> usize
         Ok(length) => length,
         Err(_) => 0,
     }
+}
+
+// Is an argument the word for help?
+pub fn is_help(word: &[u8]) -> bool
+    ensures { IsTrue result ↔ (word.now ≡ codes "--help") }
+{
+    word == b"--help".as_slice()
 }
