@@ -1,4 +1,6 @@
 // From three files, a tariff and the low and the high entries of a production table, to what is printed of the splits.
+#![tactic(auto)]
+
 ghost use Rattle.std.specs.Prelude.{◌≡◌, min, ◌≤◌, length, take};
 ghost use Rattle.csv_answers.specs.Bounds.{bounds_text, MarksFit};
 ghost use Rattle.csv_case.specs.CaseFiles.{case_answer};

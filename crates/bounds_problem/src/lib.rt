@@ -1,4 +1,6 @@
 // Production cost known between two bounds: the definitions, the curve from the stops, and which splits can be the cheapest by it.
+#![tactic(auto)]
+
 pub mod curve;
 pub mod settle;
 

@@ -1,4 +1,6 @@
 // Production cost known between two bounds: which splits can be the cheapest, and what the least total can be.
+#![tactic(auto)]
+
 ghost use Rattle.bounds_problem.specs.Answers.{outcome, lowCase, Answered};
 
 use crate::judge::judge;

@@ -1,4 +1,6 @@
 // Prints a plan as CSV into a lent slice, as far as there is room.
+#![tactic(auto)]
+
 ghost use Rattle.std.specs.Prelude.{◌+◌, ◌*◌, ◌≤◌, ◌<◌, ◌^◌};
 ghost use Rattle.csv_print.specs.Text.{row_text, lanes_text, plan_text};
 ghost use Rattle.csv_print.specs.inner.Writing.{Written, Printable, Fits, Says, PlanWritten};

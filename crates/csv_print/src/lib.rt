@@ -1,5 +1,7 @@
 // Prints as CSV into a lent slice, as far as there is room. The writers of bytes, fields and records ask for an offset far below 2^64, so that no
 // sum overflows: the crates of texts above this one alone call them, and meet it.
+#![tactic(auto)]
+
 ghost use Rattle.std.specs.Prelude.{[], ◌∷◌, ◌≤◌, ◌<◌, ◌^◌, ◌≡◌, pos, nat_abs, length};
 ghost use Rattle.csv_print.specs.Text.{decimal, signed_text, field_text, record_text, refusal_text};
 ghost use Rattle.csv_print.specs.inner.Writing.{Written, Narrow, NarrowCosts, Says};

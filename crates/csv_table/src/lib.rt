@@ -1,3 +1,5 @@
 // Reads a CSV file as a table of integers.
+#![tactic(auto)]
+
 pub mod store;
 pub mod table;

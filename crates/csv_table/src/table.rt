@@ -19,7 +19,7 @@ pub enum Table {
 
 // What is counted on the way: the records before this one, the fields of this one, the fields that each is to have (0 where that is not known
 // yet), the first record with another count (0 where there is none), and all fields; and whether this record has a minus.
-#[derive(Drop)]
+#[derive(Clone, Copy)]
 pub struct Tally {
     pub records: usize,
     pub fields: usize,

@@ -16,7 +16,7 @@ use treepath::follow::follow;
 
 // The node whose arc is taken to end the tree's path, NONE where none is known; and whether the last cut left the potentials as they were. Nothing is
 // promised of either.
-#[derive(Drop)]
+#[derive(Clone, Copy)]
 pub struct Hint {
     pub node: u32,
     pub flat: bool,
@@ -24,7 +24,7 @@ pub struct Hint {
 
 // What a stretch goes by: the size of the case, how many drums it is to send at most, whether no ceiling was found to be below a demand, and a hint. The
 // last two decide how cuts are made, and show in no answer.
-#[derive(Drop)]
+#[derive(Clone, Copy)]
 pub struct Task {
     pub size: Size,
     pub limit: u32,

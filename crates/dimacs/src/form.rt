@@ -12,7 +12,7 @@ pub enum Form {
 }
 
 // What is known of the lines before: whether the p line was there, what it says, and how many a lines there were.
-#[derive(Drop)]
+#[derive(Clone, Copy)]
 pub struct Tally {
     pub opened: bool,
     pub nodes: u64,

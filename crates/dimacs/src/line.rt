@@ -5,7 +5,7 @@ ghost use Rattle.dimacs.specs.inner.LineReader.{MinRead, LineRead, WholeLine};
 
 use crate::bytes::{Number, Signed, byte_at, read_field, read_signed_field, skip_spaces};
 
-#[derive(Drop)]
+#[derive(Clone, Copy)]
 pub enum Line {
     Comment,
     Problem {

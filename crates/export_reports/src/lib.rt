@@ -1,5 +1,7 @@
 // What callers outside Rattle are told of an answer: a number, a report and the worth. `yadvorkhul` alone calls these functions, after it has looked at the
 // lengths of both: by a short one nothing may be planned.
+#![tactic(auto)]
+
 ghost use Rattle.std.specs.Prelude.{◌≡◌, ◌≤◌, length};
 ghost use Rattle.transport.specs.Curve.{written};
 ghost use Rattle.planner.specs.Answer.{outcome};

@@ -7,7 +7,7 @@ use crate::Arc;
 use flow_network::Answer;
 
 // The answer, how many arcs are to be written, and the arrays that have their numbers.
-#[derive(Drop)]
+#[derive(Clone, Copy)]
 pub struct Found {
     pub answer: Answer,
     pub count: usize,

@@ -1,4 +1,6 @@
 // From a network file, the text that names an arc, and the file of that arc's table to what is printed of the cheapest flow.
+#![tactic(auto)]
+
 ghost use Rattle.std.specs.Prelude.{◌≡◌};
 ghost use Rattle.plan_files.specs.Printed.{Told};
 ghost use Rattle.flow_problem.specs.Answer.{refused};

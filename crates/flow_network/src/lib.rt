@@ -1,4 +1,6 @@
 // The least-cost flow of a network in DIMACS form, by way of the planner.
+#![tactic(auto)]
+
 ghost use Rattle.std.specs.Prelude.{◌≡◌, ◌||◌, ltb};
 ghost use Rattle.flow_problem.specs.Promise.{Answered};
 ghost use Rattle.flow_network.specs.declared.Answer.TheVariants as answers;
@@ -12,7 +14,7 @@ mod carry;
 mod judge;
 
 // A flow was found, with its total and the count of the file's arcs, or the file is refused.
-#[derive(Drop)]
+#[derive(Clone, Copy)]
 pub enum Answer {
     Carried { total: i64, arcs: u64 },
     Refused { number: u64, place: u64 },

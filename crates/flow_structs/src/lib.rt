@@ -1,4 +1,6 @@
 // The least-cost flow of a network in DIMACS form, with the arcs in a lent slice of structs.
+#![tactic(auto)]
+
 ghost use Rattle.std.specs.Prelude.{◌≡◌, ◌≤◌, length};
 ghost use Rattle.transport.specs.Curve.{written};
 ghost use Rattle.flow_network.specs.Answer.{outcome};

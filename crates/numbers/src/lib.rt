@@ -1,4 +1,6 @@
 // Numbers that a text names.
+#![tactic(auto)]
+
 ghost use Rattle.std.specs.Prelude.{◌≡◌};
 ghost use Rattle.numbers.specs.Short.{short_of};
 

@@ -1,2 +1,4 @@
 // Plans the case that two CSV files are, and prints the plan.
+#![tactic(auto)]
+
 pub mod planned;

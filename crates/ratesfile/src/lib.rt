@@ -1,4 +1,6 @@
 // The production file of square-root rates, from the text of a number to the bytes of the file.
+#![tactic(auto)]
+
 ghost use Rattle.std.specs.Prelude.{◌≡◌};
 ghost use Rattle.csv_print.specs.inner.Writing.{Written};
 ghost use Rattle.ratesfile.specs.File.{rates_text, file_text};

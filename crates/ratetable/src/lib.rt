@@ -1,4 +1,6 @@
 // Square-root rates, for a house that has no production table of its own: 100 times the square root of plant 1's output, rounded down.
+#![tactic(auto)]
+
 ghost use Rattle.std.specs.Prelude.{◌≡◌, length};
 ghost use Rattle.ratetable.specs.Rate.{RateTable, filled_of, cells_after};
 

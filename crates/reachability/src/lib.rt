@@ -1,2 +1,4 @@
 // Ways over free lanes, which cost nothing.
+#![tactic(auto)]
+
 pub mod reach;

@@ -7,7 +7,7 @@ ghost use Rattle.reachability.specs.inner.Reachability.{AheadAt, Shut, LookedBac
 
 // The terminals that a source other than the start may serve; the terminals of these and the sources that are not reached yet, and the sources
 // that are and are to be looked at, a bit for each; is the goal reached?
-#[derive(Drop)]
+#[derive(Clone, Copy)]
 pub struct Front {
     pub supplied: u64,
     pub terminals: u64,

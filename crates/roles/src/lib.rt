@@ -1,5 +1,7 @@
 // The working case as it is offered: the table of roles is read before each operation on it, and each is done only where the table allows it.
 // Entering makes a working case and takes no role.
+#![tactic(auto)]
+
 ghost use Rattle.std.specs.Prelude.{◌≡◌, not, length};
 ghost use Rattle.validation.specs.Verdict.{verdict};
 ghost use Rattle.planner.specs.Answer.{outcome, slices};

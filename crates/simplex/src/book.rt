@@ -5,7 +5,7 @@ use super::price::SHUT;
 use spanningtree::flows::lane;
 
 // The sources that still have drums, a bit for each, and how many nodes are attached.
-#[derive(Drop)]
+#[derive(Clone, Copy)]
 pub struct Placed {
     pub open: u32,
     pub count: u32,

@@ -2,7 +2,7 @@
 ghost use Rattle.std.specs.Prelude.{◌≡◌};
 ghost use Rattle.size.specs.Size.{checked_of};
 
-#[derive(Drop)]
+#[derive(Clone, Copy)]
 pub struct Size {
     pub sources: usize,
     pub terminals: usize,

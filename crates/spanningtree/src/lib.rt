@@ -4,6 +4,8 @@
 // Nodes: source i is node i, terminal j is node 32 + j, 96 stands for none. The tree hangs from source 0: parent[v] is the node above v,
 // sources_below[v] and terminals_below[v] have the sources and the terminals of the part that hangs from v, v with it, a bit for each.
 // Arrays have 128 cells, so that an index under % 128 is in bounds.
+#![tactic(auto)]
+
 pub mod entering;
 pub mod flows;
 pub mod parts;

@@ -18,7 +18,7 @@ use spanningtree::NONE;
 
 // A path from plant 1 to plant 2: how many arcs it has, and δ, how many drums can go along it. Of the other fields nothing is promised: 1 where it was
 // searched for, else 0; the node on it whose lane can bear no more, NONE where there is none; whether the last cut left the potentials as they were.
-#[derive(Drop)]
+#[derive(Clone, Copy)]
 pub struct Path {
     pub count: u32,
     pub delta: u32,

@@ -1,2 +1,4 @@
 // The tests that a lent case must pass, but for those that need its range of splits.
+#![tactic(auto)]
+
 pub mod tests;

@@ -1,5 +1,7 @@
 // A working case with marks 1 to 8, in a lent store. Not offered, since no operation here asks for a role: callers have `roles`, where the table of
 // roles is read before each of them.
+#![tactic(auto)]
+
 ghost use Rattle.std.specs.Prelude.{◌≡◌, length};
 ghost use Rattle.validation.specs.Verdict.{verdict};
 ghost use Rattle.planner.specs.Answer.{outcome, slices};

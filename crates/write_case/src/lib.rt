@@ -1,4 +1,6 @@
 // A case written out as its two files.
+#![tactic(auto)]
+
 ghost use Rattle.std.specs.Prelude.{◌≡◌, ℕ};
 ghost use Rattle.planner.specs.Judge.{judged, free_case};
 ghost use Rattle.write_case.specs.Writing.{entries_refusal, CaseWritten};

@@ -1,4 +1,6 @@
 // The planner for callers outside Rattle: numbers and slices only.
+#![tactic(auto)]
+
 mod rates;
 mod told;
 
