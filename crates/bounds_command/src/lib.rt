@@ -1,17 +1,20 @@
 // The command `bounds`: reads a tariff and two production files, of the low and the high entries, writes which splits can be the cheapest, or
 // the refusal, to standard output, and says what a refusal means on standard error.
+#![tactic(auto)]
+
 ghost use Rattle.std.specs.Prelude.{◌≡◌, ◌≤◌, length};
 
 use bounds_files::{bounds_files, low_stands};
-use check::same;
 use csv_table::table::tariff_stands;
 use file_causes::amounts::say_high;
 use file_causes::refusal::explain_file;
 use file_io::about::told_version;
+use file_io::arguments::{argument, argument_count, argument_room, is_help};
 use file_io::file::{file_room, first, read_file};
 use file_io::message::{say, say_with};
 use plan_command::refusal::{explain, explain_table};
 use plan_files::planned::Printed;
+use std::io;
 
 // Room for the longest text: no text is longer (`bounds_files/TextRoom.text-fits`).
 fn text_room() -> [u8; 172286]
@@ -28,21 +31,25 @@ fn whole(room: &[u8], end: usize) -> &[u8]
 }
 
 // Writes the usage text to standard error.
-fn usage() {
-    say(b"usage: bounds [TARIFF LOW HIGH]\n");
+fn usage(err: &impl Print) -> io::Result<()> {
+    say(err, b"usage: bounds [TARIFF LOW HIGH]\n")?;
     say(
+        err,
         b"Tells which splits can be the cheapest where each production entry is known between a low and a high one only.\n",
-    );
+    )?;
     say(
+        err,
         b"Reads three CSV files, tariff.csv, low.csv and high.csv of the current folder where none are named.\n",
-    );
+    )?;
     say(
+        err,
         b"Writes the smallest and the largest least total and a record for each split, or a refusal with its place, to standard output.\n",
-    );
+    )
 }
 
 // Refusals 20 to 22 of the low or the high file.
 fn explain_entries(
+    err: &impl Print,
     number: u64,
     place: u64,
     low: &[u8],
@@ -50,17 +57,35 @@ fn explain_entries(
     low_path: &[u8],
     high_path: &[u8],
     low_good: bool,
-) {
-    say_with(b"Refusal ", number, b": ");
+) -> io::Result<()> {
+    say_with(err, b"Refusal ", number, b": ")?;
     if low_good {
-        explain_file(number, place, false, b"the high file ", high_path, high, 1);
-        return;
+        return explain_file(
+            err,
+            number,
+            place,
+            false,
+            b"the high file ",
+            high_path,
+            high,
+            1,
+        );
     }
-    explain_file(number, place, false, b"the low file ", low_path, low, 1);
+    explain_file(
+        err,
+        number,
+        place,
+        false,
+        b"the low file ",
+        low_path,
+        low,
+        1,
+    )
 }
 
 // Says what a refusal means; nothing of an answer. The low file's entries are those of the case.
 fn explain_three(
+    err: &impl Print,
     printed: Printed,
     tariff: &[u8],
     low: &[u8],
@@ -68,13 +93,14 @@ fn explain_three(
     tariff_path: &[u8],
     low_path: &[u8],
     high_path: &[u8],
-) {
+) -> io::Result<()> {
     let number = printed.number;
     let place = printed.place;
     match number {
         6 | 9 => {
-            say_with(b"Refusal ", number, b": ");
+            say_with(err, b"Refusal ", number, b": ")?;
             explain_table(
+                err,
                 number,
                 place,
                 b"the low file ",
@@ -82,15 +108,16 @@ fn explain_three(
                 low,
                 tariff,
                 printed.terminals as u64,
-            );
+            )
         }
         28 => {
-            say(b"Refusal 28: ");
-            say_high(place, high_path, low, high);
+            say(err, b"Refusal 28: ")?;
+            say_high(err, place, high_path, low, high)
         }
         20..=22 => {
             if tariff_stands(tariff) {
-                explain_entries(
+                return explain_entries(
+                    err,
                     number,
                     place,
                     low,
@@ -99,87 +126,93 @@ fn explain_three(
                     high_path,
                     low_stands(tariff, low),
                 );
-                return;
             }
-            explain(printed, tariff, low, tariff_path, low_path);
+            explain(err, printed, tariff, low, tariff_path, low_path)
         }
-        _ => explain(printed, tariff, low, tariff_path, low_path),
+        _ => explain(err, printed, tariff, low, tariff_path, low_path),
     }
 }
 
 // Answers three files' bytes.
 fn answer(
+    rt: &HostRuntime,
     tariff: &[u8],
     low: &[u8],
     high: &[u8],
     tariff_path: &[u8],
     low_path: &[u8],
     high_path: &[u8],
-) {
+) -> io::Result<()> {
+    let err = rt.stderr();
     let mut text = text_room();
     let printed = bounds_files(tariff, low, high, &mut text);
     let length = printed.length;
-    if !io::write_all(libc::STDOUT_FILENO, whole(&text, length)) {
-        say(b"Standard output could not be written.\n");
+    if rt.write_all(whole(&text, length)).is_err() {
+        say(&err, b"Standard output could not be written.\n")?;
     }
-    explain_three(printed, tariff, low, high, tariff_path, low_path, high_path);
+    explain_three(
+        &err,
+        printed,
+        tariff,
+        low,
+        high,
+        tariff_path,
+        low_path,
+        high_path,
+    )
 }
 
 // Answers the files of three paths.
-pub fn answer_paths(tariff_path: &[u8], low_path: &[u8], high_path: &[u8]) {
+pub fn answer_paths(
+    rt: &HostRuntime,
+    tariff_path: &[u8],
+    low_path: &[u8],
+    high_path: &[u8],
+) -> io::Result<()> {
     let mut tariff = file_room();
     let mut low = file_room();
     let mut high = file_room();
-    let t = read_file(tariff_path, &mut tariff);
-    let l = read_file(low_path, &mut low);
-    let h = read_file(high_path, &mut high);
+    let t = read_file(rt, tariff_path, &mut tariff);
+    let l = read_file(rt, low_path, &mut low);
+    let h = read_file(rt, high_path, &mut high);
     answer(
+        rt,
         first(&tariff, t),
         first(&low, l),
         first(&high, h),
         tariff_path,
         low_path,
         high_path,
-    );
+    )
 }
 
 // Answers the files of three paths, unless one is the word for help.
-fn answer_or_help(tariff: &[u8], low: &[u8], high: &[u8]) {
-    if same(tariff, b"--help") {
-        usage();
-        return;
+fn answer_or_help(rt: &HostRuntime, tariff: &[u8], low: &[u8], high: &[u8]) -> io::Result<()> {
+    if is_help(tariff) || is_help(low) || is_help(high) {
+        return usage(&rt.stderr());
     }
-    if same(low, b"--help") {
-        usage();
-        return;
-    }
-    if same(high, b"--help") {
-        usage();
-        return;
-    }
-    answer_paths(tariff, low, high);
+    answer_paths(rt, tariff, low, high)
 }
 
 // Answers the files that the three arguments name.
-fn with_arguments() {
-    let mut tariff = io::buffer();
-    let mut low = io::buffer();
-    let mut high = io::buffer();
-    let t = os::arg(1, &mut tariff);
-    let l = os::arg(2, &mut low);
-    let h = os::arg(3, &mut high);
-    answer_or_help(first(&tariff, t), first(&low, l), first(&high, h));
+fn with_arguments(rt: &HostRuntime) -> io::Result<()> {
+    let mut tariff = argument_room();
+    let mut low = argument_room();
+    let mut high = argument_room();
+    let t = argument(rt, 1, &mut tariff);
+    let l = argument(rt, 2, &mut low);
+    let h = argument(rt, 3, &mut high);
+    answer_or_help(rt, first(&tariff, t), first(&low, l), first(&high, h))
 }
 
 // Answers the files that three arguments name or, without arguments, those of the current folder.
-pub fn run() {
-    if told_version(b"bounds") {
-        return;
+pub fn run(rt: &HostRuntime) -> io::Result<()> {
+    if told_version(rt, b"bounds")? {
+        return Ok(());
     }
-    let arguments = os::arg_count();
-    match arguments {
-        0 | 1 => answer_paths(b"tariff.csv", b"low.csv", b"high.csv"),
-        4 => with_arguments(),
-        _ => usage(),
+    match argument_count(rt) {
+        0 | 1 => answer_paths(rt, b"tariff.csv", b"low.csv", b"high.csv"),
+        4 => with_arguments(rt),
+        _ => usage(&rt.stderr()),
     }
 }

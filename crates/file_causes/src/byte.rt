@@ -9,6 +9,7 @@ use file_io::place::{
 };
 use file_io::shown::hex;
 use file_io::text::{has, rest, starts};
+use std::io;
 
 // A letter of the Latin alphabet, or a byte of a letter that is none of these.
 fn is_letter(b: u8) -> bool {
@@ -85,98 +86,105 @@ fn is_signed_last(bytes: &[u8], at: usize) -> bool {
 }
 
 // A record that a minus makes one of unit costs, at its end.
-fn said_minus(bytes: &[u8], at: usize) -> bool {
+fn said_minus(err: &impl Print, bytes: &[u8], at: usize) -> io::Result<bool> {
     if is_signed_end(bytes, at) {
         say(
+            err,
             b"an empty last field, as the demands have, in a record with a minus; it can stand only before a unit cost",
-        );
-        return true;
+        )?;
+        return Ok(true);
     }
     if is_signed_last(bytes, at) {
         say(
+            err,
             b"the end of a record whose last number has a minus; it can stand only before a unit cost",
-        );
-        return true;
+        )?;
+        return Ok(true);
     }
-    false
+    Ok(false)
 }
 
 // Says what an empty field is.
-fn say_empty(bytes: &[u8], at: usize) {
+fn say_empty(err: &impl Print, bytes: &[u8], at: usize) -> io::Result<()> {
     if in_header(bytes, at) {
-        say(
+        return say(
+            err,
             b"an empty field, perhaps of a header line; the files have none (`yadvorkhul import` reads such files)",
         );
-        return;
     }
     if (byte_at(bytes, at) == 13) & (byte_before(bytes, at, 1) != 44) {
-        say(b"a blank line; the files have none");
-        return;
+        return say(err, b"a blank line; the files have none");
     }
-    say(b"an empty field; only the last field of the demands is empty");
+    say(
+        err,
+        b"an empty field; only the last field of the demands is empty",
+    )
 }
 
 // A comma, CR or quote: after a digit or a quote a comma is part of a number, at the start of a field they leave it empty.
-fn said_empty(bytes: &[u8], at: usize) -> bool {
+fn said_empty(err: &impl Print, bytes: &[u8], at: usize) -> io::Result<bool> {
     let back = byte_before(bytes, at, 1);
     if (byte_at(bytes, at) == 44) & (is_digit(back) | (back == 34)) {
-        say(b"a decimal comma; numbers are whole");
-        return true;
+        say(err, b"a decimal comma; numbers are whole")?;
+        return Ok(true);
     }
-    if said_minus(bytes, at) {
-        return true;
+    if said_minus(err, bytes, at)? {
+        return Ok(true);
     }
     if is_empty(bytes, at) {
-        say_empty(bytes, at);
-        return true;
+        say_empty(err, bytes, at)?;
+        return Ok(true);
     }
-    false
+    Ok(false)
 }
 
 // A sign before a number, or a digit too many.
-fn said_rest(bytes: &[u8], at: usize, byte: u8) -> bool {
+fn said_rest(err: &impl Print, bytes: &[u8], at: usize, byte: u8) -> io::Result<bool> {
     match byte {
-        45 => say(b"a minus; it can stand only before a unit cost"),
-        43 => say(b"a plus; a number has digits alone"),
+        45 => say(err, b"a minus; it can stand only before a unit cost")?,
+        43 => say(err, b"a plus; a number has digits alone")?,
         48..=57 => {
             if !is_digit(byte_before(bytes, at, 1)) {
-                return false;
+                return Ok(false);
             }
-            say(b"a number of more than ten digits");
+            say(err, b"a number of more than ten digits")?;
         }
-        _ => return false,
+        _ => return Ok(false),
     }
-    true
+    Ok(true)
 }
 
 // A byte that is told by what it is alone.
-fn said_alone(bytes: &[u8], at: usize, byte: u8) -> bool {
-    if said_sign(rest(bytes, at)) {
-        return true;
+fn said_alone(err: &impl Print, bytes: &[u8], at: usize, byte: u8) -> io::Result<bool> {
+    if said_sign(err, rest(bytes, at))? {
+        return Ok(true);
     }
     if is_letter(byte) & (record_at(bytes, at) == 1) {
         say(
+            err,
             b"a letter, perhaps of a header line; the files have none (`yadvorkhul import` reads such files)",
-        );
-        return true;
+        )?;
+        return Ok(true);
     }
-    said_rest(bytes, at, byte)
+    said_rest(err, bytes, at, byte)
 }
 
 // A byte that parts records, fields or a number.
-fn said_parting(bytes: &[u8], at: usize, byte: u8) -> bool {
+fn said_parting(err: &impl Print, bytes: &[u8], at: usize, byte: u8) -> io::Result<bool> {
     match byte {
         10 => say(
+            err,
             b"a line that ends in LF without CR; records end in CR LF (`yadvorkhul import` reads such files)",
-        ),
+        )?,
         59 => say(
+            err,
             b"a semicolon; fields are parted by commas (`yadvorkhul import` reads such files)",
-        ),
-        46 => say(b"a decimal point; numbers are whole"),
-        13 | 34 | 44 => return said_empty(bytes, at),
-        _ => return said_alone(bytes, at, byte),
+        )?,
+        46 => say(err, b"a decimal point; numbers are whole")?,
+        13 | 34 | 44 => return said_empty(err, bytes, at),
+        _ => return said_alone(err, bytes, at, byte),
     }
-    true
+    Ok(true)
 }
 
 // Is it a 0 after a minus?
@@ -185,98 +193,102 @@ fn is_signed_zero(bytes: &[u8], at: usize) -> bool {
 }
 
 // A 0 that begins a number, or follows a minus.
-fn said_zero(bytes: &[u8], at: usize) -> bool {
+fn said_zero(err: &impl Print, bytes: &[u8], at: usize) -> io::Result<bool> {
     if leads(bytes, at) {
-        say_in_front(bytes, at);
-        return true;
+        say_in_front(err, bytes, at)?;
+        return Ok(true);
     }
     if is_signed_zero(bytes, at) {
-        say(b"a 0 after a minus; 0 has none");
-        return true;
+        say(err, b"a 0 after a minus; 0 has none")?;
+        return Ok(true);
     }
-    false
+    Ok(false)
 }
 
 // A place that tells the cause by itself: after the demands, before a number, at the start of the file.
-fn said_place(bytes: &[u8], at: usize) -> bool {
+fn said_place(err: &impl Print, bytes: &[u8], at: usize) -> io::Result<bool> {
     if is_after_demands(bytes, at) {
         say(
+            err,
             b"more after the record of the demands, which is the last: it alone has an empty last field",
-        );
-        return true;
+        )?;
+        return Ok(true);
     }
-    if said_zero(bytes, at) {
-        return true;
+    if said_zero(err, bytes, at)? {
+        return Ok(true);
     }
     if (at == 0) & starts(bytes, b"\xEF\xBB\xBF") {
         say(
+            err,
             b"a byte order mark; save the file as plain text without one (`yadvorkhul import` reads such files)",
-        );
-        return true;
+        )?;
+        return Ok(true);
     }
-    false
+    Ok(false)
 }
 
 // The byte itself, where nothing tells more.
-fn say_byte(byte: u8) {
+fn say_byte(err: &impl Print, byte: u8) -> io::Result<()> {
     match byte {
-        0 => say(b"NUL"),
-        13 => say(b"CR"),
+        0 => say(err, b"NUL")?,
+        13 => say(err, b"CR")?,
         33..=126 => {
             let text = [byte];
-            say(&text);
+            say(err, &text)?;
         }
         _ => {
-            say_with(b"byte ", byte as u64, b" (hexadecimal ");
-            say(&hex(byte));
-            say(b")");
-            return;
+            say_with(err, b"byte ", byte as u64, b" (hexadecimal ")?;
+            say(err, &hex(byte))?;
+            return say(err, b")");
         }
     }
-    say_with(b" (byte ", byte as u64, b")");
+    say_with(err, b" (byte ", byte as u64, b")")
 }
 
 // A number with 0 in front in a production file may be the end of one with a comma: 99,00.
-fn said_comma(tariff: bool, bytes: &[u8], at: usize) -> bool {
+fn said_comma(err: &impl Print, tariff: bool, bytes: &[u8], at: usize) -> io::Result<bool> {
     if tariff {
-        return false;
+        return Ok(false);
     }
     if byte_at(bytes, at) != 48 {
-        return false;
+        return Ok(false);
     }
-    said_entry(bytes, record_at(bytes, at))
+    said_entry(err, bytes, record_at(bytes, at))
 }
 
 // A CR that no LF follows, or the end of the file.
-fn said_end(bytes: &[u8], at: usize) -> bool {
+fn said_end(err: &impl Print, bytes: &[u8], at: usize) -> io::Result<bool> {
     if (byte_before(bytes, at, 1) == 13) & (byte_at(bytes, at) != 10) {
         say(
+            err,
             b"a line that ends in CR without LF; records end in CR LF (`yadvorkhul import` reads such files)",
-        );
-        return true;
+        )?;
+        return Ok(true);
     }
     if bytes.len() <= at {
         say(
+            err,
             b"the end of the file; a tariff ends in the record of the demands and its empty last field, a production table in an entry",
-        );
-        return true;
+        )?;
+        return Ok(true);
     }
-    false
+    Ok(false)
 }
 
 // Says what stands at the place of refusal 21, of a tariff or a production file.
-pub fn say_cause(tariff: bool, bytes: &[u8], at: usize) {
-    if said_whole(tariff, bytes, at) || said_end(bytes, at) {
-        return;
+pub fn say_cause(err: &impl Print, tariff: bool, bytes: &[u8], at: usize) -> io::Result<()> {
+    if said_whole(err, tariff, bytes, at)? || said_end(err, bytes, at)? {
+        return Ok(());
     }
     let byte = byte_at(bytes, at);
-    if said_comma(tariff, bytes, at) {
-        return;
+    if said_comma(err, tariff, bytes, at)? {
+        return Ok(());
     }
-    if said_number(bytes, at) || said_place(bytes, at) {
-        return;
+    if said_number(err, bytes, at)? || said_place(err, bytes, at)? {
+        return Ok(());
     }
-    if !said_parting(bytes, at, byte) {
-        say_byte(byte);
+    if !said_parting(err, bytes, at, byte)? {
+        say_byte(err, byte)?;
     }
+    Ok(())
 }

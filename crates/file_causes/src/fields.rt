@@ -6,6 +6,7 @@ use file_io::file::first;
 use file_io::message::{say, say_name};
 use file_io::place::{byte_at, field_at, field_start, is_digit, record_at, record_end};
 use file_io::text::{last_of, rest};
+use std::io;
 
 // The bytes of a record, without its line end.
 fn record_text(bytes: &[u8], record: u64) -> &[u8] {
@@ -73,21 +74,24 @@ fn has_groups(text: &[u8]) -> bool {
 }
 
 // Says that an entry has a comma in it; false where the record is no such entry.
-pub fn said_entry(bytes: &[u8], record: u64) -> bool {
+pub fn said_entry(err: &impl Print, bytes: &[u8], record: u64) -> io::Result<bool> {
     let text = record_text(bytes, record);
     if has_decimal(text) {
-        say(b"a decimal comma in ");
-        say_name(text);
-        say(b"; numbers are whole");
-        return true;
+        say(err, b"a decimal comma in ")?;
+        say_name(err, text)?;
+        say(err, b"; numbers are whole")?;
+        return Ok(true);
     }
     if has_groups(text) {
-        say(b"a comma in ");
-        say_name(text);
-        say(b", between thousands or of a decimal; a number has digits alone");
-        return true;
+        say(err, b"a comma in ")?;
+        say_name(err, text)?;
+        say(
+            err,
+            b", between thousands or of a decimal; a number has digits alone",
+        )?;
+        return Ok(true);
     }
-    false
+    Ok(false)
 }
 
 // A text without a minus in front.
@@ -123,66 +127,79 @@ fn field_before(bytes: &[u8], at: usize) -> &[u8] {
 }
 
 // Says that a number has 0 in front; two or three digits after a comma may be the end of a number.
-pub fn say_in_front(bytes: &[u8], at: usize) {
+pub fn say_in_front(err: &impl Print, bytes: &[u8], at: usize) -> io::Result<()> {
     let head = field_before(bytes, at);
     let text = rest(first(bytes, record_end(bytes, record_at(bytes, at))), at);
     let tail = first(text, head_length(text));
-    say(b"a number with 0 in front, perhaps an item code");
+    say(err, b"a number with 0 in front, perhaps an item code")?;
     if is_head(head) & is_tail(tail) {
-        say(b", or the end of ");
-        say_name(head);
-        say_name(tail);
-        say(b" with a comma in it; a number has digits alone");
+        say(err, b", or the end of ")?;
+        say_name(err, head)?;
+        say_name(err, tail)?;
+        say(err, b" with a comma in it; a number has digits alone")?;
     }
+    Ok(())
 }
 
 // The cause in a record of a tariff that has too few fields, by the first record.
-fn say_fewer(text: &[u8]) {
+fn say_fewer(err: &impl Print, text: &[u8]) -> io::Result<()> {
     if said_parted(
+        err,
         b"the end of a record that has too few fields, or record 1 has one too many, perhaps by a comma in ",
         text,
-    ) {
-        return;
+    )? {
+        return Ok(());
     }
-    say(b"the end of a record that has too few fields");
+    say(err, b"the end of a record that has too few fields")
 }
 
 // A record that has a field too many; true where a number with a comma in it is named.
-fn said_more(tariff: bool, text: &[u8]) -> bool {
+fn said_more(err: &impl Print, tariff: bool, text: &[u8]) -> io::Result<bool> {
     if tariff {
-        if said_parted(b"a field too many, perhaps by a comma in ", text) {
-            return true;
+        if said_parted(err, b"a field too many, perhaps by a comma in ", text)? {
+            return Ok(true);
         }
     }
     say(
+        err,
         b"a field too many, perhaps after a decimal comma or one between thousands; numbers are whole and have digits alone",
-    );
-    false
+    )?;
+    Ok(false)
 }
 
 // Says what stands at the place of refusal 22; true where it is a number of the record, with a comma in it.
-pub fn said_fields_cause(tariff: bool, bytes: &[u8], record: u64, more: bool) -> bool {
-    if said_whole(tariff, bytes, 0) {
-        return false;
+pub fn said_fields_cause(
+    err: &impl Print,
+    tariff: bool,
+    bytes: &[u8],
+    record: u64,
+    more: bool,
+) -> io::Result<bool> {
+    if said_whole(err, tariff, bytes, 0)? {
+        return Ok(false);
     }
     if !tariff {
-        if said_entry(bytes, record) {
-            return true;
+        if said_entry(err, bytes, record)? {
+            return Ok(true);
         }
     }
     if more {
-        return said_more(tariff, record_text(bytes, record));
+        return said_more(err, tariff, record_text(bytes, record));
     }
-    say_fewer(record_text(bytes, 1));
-    false
+    say_fewer(err, record_text(bytes, 1))?;
+    Ok(false)
 }
 
 // Marks that number.
-pub fn say_fields_spot(tariff: bool, bytes: &[u8], record: u64) {
+pub fn say_fields_spot(
+    err: &impl Print,
+    tariff: bool,
+    bytes: &[u8],
+    record: u64,
+) -> io::Result<()> {
     let low = field_start(bytes, record, 1);
     if tariff {
-        say_parted_spot(bytes, low, record_text(bytes, record));
-        return;
+        return say_parted_spot(err, bytes, low, record_text(bytes, record));
     }
-    say_spot(bytes, low, record_end(bytes, record));
+    say_spot(err, bytes, low, record_end(bytes, record))
 }

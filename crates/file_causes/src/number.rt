@@ -4,6 +4,7 @@ use file_io::file::first;
 use file_io::message::{say, say_name};
 use file_io::place::{byte_at, byte_before, is_digit};
 use file_io::text::{rest, starts};
+use std::io;
 
 // Is the byte so many bytes before an end a digit?
 fn digit_back(before: &[u8], back: usize) -> bool {
@@ -45,55 +46,62 @@ fn blank_width(text: &[u8]) -> usize {
 }
 
 // A point or a comma between digits.
-fn said_mark(mark: u8, before: &[u8], after: &[u8]) -> bool {
+fn said_mark(err: &impl Print, mark: u8, before: &[u8], after: &[u8]) -> io::Result<bool> {
     if !parts_thousands(before, after) {
-        return false;
+        return Ok(false);
     }
     match mark {
         46 => say(
+            err,
             b"a point, of a decimal point or between thousands; numbers are whole and have digits alone",
-        ),
+        )?,
         44 => say(
+            err,
             b"a comma within quotes, a decimal comma or one between thousands; numbers are whole and have digits alone",
-        ),
-        _ => return false,
+        )?,
+        _ => return Ok(false),
     }
-    true
+    Ok(true)
 }
 
 // Says what is wrong with the number at an offset; false where the signs beside it do not tell it.
-pub fn said_number(bytes: &[u8], at: usize) -> bool {
+pub fn said_number(err: &impl Print, bytes: &[u8], at: usize) -> io::Result<bool> {
     let before = first(bytes, at);
     let text = rest(bytes, at);
     if byte_at(text, 0) == 9 {
-        say(b"a tab; fields are parted by commas (`yadvorkhul import` reads such files)");
-        return true;
+        say(
+            err,
+            b"a tab; fields are parted by commas (`yadvorkhul import` reads such files)",
+        )?;
+        return Ok(true);
     }
     let width = blank_width(text);
     if 0 < width {
         if parts_thousands(before, rest(text, width)) {
             say(
+                err,
                 b"a sign that parts thousands; a number has digits alone (`yadvorkhul import` reads such files)",
-            );
-            return true;
+            )?;
+            return Ok(true);
         }
     }
-    said_mark(byte_at(text, 0), before, rest(text, 1))
+    said_mark(err, byte_at(text, 0), before, rest(text, 1))
 }
 
 // Says that a space, a minus that is not the plain one, or a dash stands first; false where none does.
-pub fn said_sign(text: &[u8]) -> bool {
+pub fn said_sign(err: &impl Print, text: &[u8]) -> io::Result<bool> {
     if 0 < space_width(text) {
-        say(b"a space; a number has digits alone");
-        return true;
+        say(err, b"a space; a number has digits alone")?;
+        return Ok(true);
     }
     if starts(text, b"\xE2\x88\x92") | starts(text, b"\xE2\x80\x93") {
         say(
+            err,
             b"a minus or a dash that is not the plain one (byte 45), which can stand only before a unit cost",
-        );
-        return true;
+        )?;
+        return Ok(true);
     }
-    false
+    Ok(false)
 }
 
 // Does a comma that parts thousands stand at an offset?
@@ -139,22 +147,25 @@ fn plus(a: usize, b: usize) -> usize {
 }
 
 // Says some words and the first number of a text whose thousands a comma parts, as 1,234; false where there is none.
-pub fn said_parted(words: &[u8], text: &[u8]) -> bool {
+pub fn said_parted(err: &impl Print, words: &[u8], text: &[u8]) -> io::Result<bool> {
     let at = before_comma(text);
     if text.len() <= at {
-        return false;
+        return Ok(false);
     }
     let before = first(text, at);
-    say(words);
-    say_name(rest(before, digits_from(before)));
-    say_name(first(rest(text, at), 4));
-    say(b", between thousands or of a decimal; a number has digits alone");
-    true
+    say(err, words)?;
+    say_name(err, rest(before, digits_from(before)))?;
+    say_name(err, first(rest(text, at), 4))?;
+    say(
+        err,
+        b", between thousands or of a decimal; a number has digits alone",
+    )?;
+    Ok(true)
 }
 
 // Marks that number in its line, where the text begins at an offset of a file.
-pub fn say_parted_spot(bytes: &[u8], low: usize, text: &[u8]) {
+pub fn say_parted_spot(err: &impl Print, bytes: &[u8], low: usize, text: &[u8]) -> io::Result<()> {
     let at = before_comma(text);
     let from = digits_from(first(text, at));
-    say_spot(bytes, plus(low, from), plus(low, plus(at, 4)));
+    say_spot(err, bytes, plus(low, from), plus(low, plus(at, 4)))
 }

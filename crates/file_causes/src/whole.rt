@@ -4,6 +4,7 @@ use file_io::file::first;
 use file_io::message::say;
 use file_io::place::{field_at, next, record_at, record_end};
 use file_io::text::{has, last_of, rest, starts};
+use std::io;
 
 // How many bytes are 0 among every other of the first 64, from the first or the second on.
 fn zeros_of(bytes: &[u8], from: usize) -> u64 {
@@ -31,44 +32,48 @@ fn is_wide(bytes: &[u8]) -> bool {
 }
 
 // A workbook.
-fn said_book(words: &[u8], bytes: &[u8]) -> bool {
+fn said_book(err: &impl Print, words: &[u8], bytes: &[u8]) -> io::Result<bool> {
     if starts(bytes, b"PK\x03\x04") {
-        say(words);
+        say(err, words)?;
         say(
+            err,
             b"the beginning of a workbook (PK), whatever the file is called; `yadvorkhul import` reads such files",
-        );
-        return true;
+        )?;
+        return Ok(true);
     }
     if starts(bytes, b"\xD0\xCF\x11\xE0") {
-        say(words);
+        say(err, words)?;
         say(
+            err,
             b"the beginning of an old workbook (.xls), whatever the file is called; save it as .xlsx, which `yadvorkhul import` reads",
-        );
-        return true;
+        )?;
+        return Ok(true);
     }
-    false
+    Ok(false)
 }
 
 // Says some words and what a file is by its first bytes, a workbook or UTF-16; false where it is neither.
-pub fn said_other(words: &[u8], bytes: &[u8]) -> bool {
-    if said_book(words, bytes) {
-        return true;
+pub fn said_other(err: &impl Print, words: &[u8], bytes: &[u8]) -> io::Result<bool> {
+    if said_book(err, words, bytes)? {
+        return Ok(true);
     }
     if starts(bytes, b"\xFF\xFE") | starts(bytes, b"\xFE\xFF") {
-        say(words);
+        say(err, words)?;
         say(
+            err,
             b"a byte order mark of UTF-16; save the file as plain text, or: `yadvorkhul import` reads such files",
-        );
-        return true;
+        )?;
+        return Ok(true);
     }
     if is_wide(bytes) {
-        say(words);
+        say(err, words)?;
         say(
+            err,
             b"text in UTF-16 (every other byte is 0); save the file as plain text, or: `yadvorkhul import` reads such files",
-        );
-        return true;
+        )?;
+        return Ok(true);
     }
-    false
+    Ok(false)
 }
 
 // Is a file that should be a tariff, and was read to its end, a single column?
@@ -77,21 +82,25 @@ fn is_column(bytes: &[u8], at: usize) -> bool {
 }
 
 // The other file of the pair; false where it is not.
-fn said_swapped(tariff: bool, bytes: &[u8], at: usize) -> bool {
+fn said_swapped(err: &impl Print, tariff: bool, bytes: &[u8], at: usize) -> io::Result<bool> {
     if tariff {
         if is_column(bytes, at) {
             say(
+                err,
                 b"the end of a single column, which is a production table; perhaps the two files are swapped",
-            );
-            return true;
+            )?;
+            return Ok(true);
         }
-        return false;
+        return Ok(false);
     }
     if tariff_stands(bytes) {
-        say(b"a tariff, with several fields in each record; perhaps the two files are swapped");
-        return true;
+        say(
+            err,
+            b"a tariff, with several fields in each record; perhaps the two files are swapped",
+        )?;
+        return Ok(true);
     }
-    false
+    Ok(false)
 }
 
 // Does a byte end a line?
@@ -119,35 +128,37 @@ fn lacks_comma(bytes: &[u8], text: &[u8]) -> bool {
 }
 
 // Says so of a tariff that was read to its end, or to a blank line there.
-fn said_last_comma(bytes: &[u8], at: usize) -> bool {
+fn said_last_comma(err: &impl Print, bytes: &[u8], at: usize) -> io::Result<bool> {
     let text = first(bytes, text_end(bytes));
     if (at <= text.len()) & (at < bytes.len()) {
-        return false;
+        return Ok(false);
     }
     if !lacks_comma(bytes, text) {
-        return false;
+        return Ok(false);
     }
     if bytes.len() <= at {
         say(
+            err,
             b"the end of the file where the demands lack their last comma: that record ends in an empty field",
-        );
-        return true;
+        )?;
+        return Ok(true);
     }
     say(
+        err,
         b"a blank line after demands that lack their last comma: that record ends in an empty field",
-    );
-    true
+    )?;
+    Ok(true)
 }
 
 // Says what the file is, by the place of its refusal; false where the bytes as a whole do not tell it.
-pub fn said_whole(tariff: bool, bytes: &[u8], at: usize) -> bool {
+pub fn said_whole(err: &impl Print, tariff: bool, bytes: &[u8], at: usize) -> io::Result<bool> {
     if tariff {
-        if said_last_comma(bytes, at) {
-            return true;
+        if said_last_comma(err, bytes, at)? {
+            return Ok(true);
         }
     }
-    if said_other(b"", bytes) {
-        return true;
+    if said_other(err, b"", bytes)? {
+        return Ok(true);
     }
-    said_swapped(tariff, bytes, at)
+    said_swapped(err, tariff, bytes, at)
 }

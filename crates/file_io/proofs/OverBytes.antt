@@ -1,10 +1,6 @@
 -- A value carried over the bytes of a text: from one byte to the next, and at the end. Assumes nothing.
-use mathlib.Core.Path.{◌≡◌, refl, sym, ap, ◌∙◌}
-use mathlib.Core.List.{List, ◌∷◌}
-use Prim.Native.Nat.{ℕ, ◌+◌, ◌≤◌, ◌<◌}
-use native.Mathlib.Numerals.{add-one}
-use lib.ListN.{length, get_or, drop, drop_of_length-le}
-use lib.Seq.{drop-cons}
+use Rattle.std.proofs.Common.{◌≡◌, refl, sym, ap, ◌∙◌, List, ◌∷◌, ℕ, ◌+◌, ◌≤◌, ◌<◌, length, get_or, drop, add-one, drop-cons}
+use Rattle.std.proofs.lemmas.List.{drop_all}
 use Rattle.file_io.specs.inner.Over.{over}
 
 ahead : (l : List ℕ) (i : ℕ) → i < length l → drop i l ≡ get_or l i 0 ∷ drop (i + 1) l
@@ -19,4 +15,4 @@ module _ {A : Type 0} (f : A → ℕ → A) (l : List ℕ) (i : ℕ) where
 
   pub over_done : (a : A) → length l ≤ i → over f a (drop i l) ≡ a
   unfolding over
-  over_done a h = ap (λ (x : List ℕ). over f a x) (drop_of_length-le l h)
+  over_done a h = ap (λ (x : List ℕ). over f a x) (drop_all i l h)

@@ -1,27 +1,20 @@
 -- Going over the bytes of a file one by one. Assumes nothing.
-use mathlib.Core.Path.{◌≡◌, refl, sym, ap, ◌∙◌}
-use mathlib.Core.Bool.{Bool, true, false, cond, ◌&&◌}
-use mathlib.Core.List.{List, ◌∷◌}
-use Prim.Native.Nat.{ℕ, ◌+◌, ◌≤◌, ◌<◌}
-use native.Mathlib.Numerals.{add-one}
-use native.Mathlib.Omega.{arith}
-use borrow.Author.Tests.{eq-eqb, eqb-true}
-use lib.Dec.{eqb}
-use lib.ListN.{length, get_or, drop, drop_of_length-le}
-use lib.Seq.{drop-cons}
+use Rattle.std.proofs.Common.{◌≡◌, refl, sym, ap, ◌∙◌, Bool, true, false, cond, ◌&&◌, eqb, List, ◌∷◌, ℕ, ◌+◌, ◌≤◌, ◌<◌, length, get_or, drop, add-one, drop-cons, eq-eqb}
+use Rattle.std.proofs.lemmas.Bool.{eqb-true}
+use Rattle.std.proofs.lemmas.List.{drop_all}
 use Rattle.file_io.specs.inner.Places.{record_after, field_after, record_over, field_over, end_from, start_from}
 
 module _ (l : List ℕ) (i : ℕ) where
   ahead : i < length l → drop i l ≡ get_or l i 0 ∷ drop (i + 1) l
   ahead h = rw (add-one, drop-cons l i 0 h) refl
 
-  pub record-next : (r r' : ℕ) → i < length l → r' ≡ record_after r (get_or l i 0) → record_over r (drop i l) ≡ record_over r' (drop (i + 1) l)
+  pub record_next : (r r' : ℕ) → i < length l → r' ≡ record_after r (get_or l i 0) → record_over r (drop i l) ≡ record_over r' (drop (i + 1) l)
   unfolding record_over
-  record-next r r' h e = ap (λ (x : List ℕ). record_over r x) (ahead h) ∙ ap (λ (x : ℕ). record_over x (drop (i + 1) l)) (sym e)
+  record_next r r' h e = ap (λ (x : List ℕ). record_over r x) (ahead h) ∙ ap (λ (x : ℕ). record_over x (drop (i + 1) l)) (sym e)
 
-  pub record-done : (r : ℕ) → length l ≤ i → record_over r (drop i l) ≡ r
+  pub record_done : (r : ℕ) → length l ≤ i → record_over r (drop i l) ≡ r
   unfolding record_over
-  record-done r h = ap (λ (x : List ℕ). record_over r x) (drop_of_length-le l h)
+  record_done r h = ap (λ (x : List ℕ). record_over r x) (drop_all i l h)
 
   pub field_next : (f f' : ℕ) → i < length l → f' ≡ field_after f (get_or l i 0) → field_over f (drop i l) ≡ field_over f' (drop (i + 1) l)
   unfolding field_over
@@ -29,7 +22,7 @@ module _ (l : List ℕ) (i : ℕ) where
 
   pub field_done : (f : ℕ) → length l ≤ i → field_over f (drop i l) ≡ f
   unfolding field_over
-  field_done f h = ap (λ (x : List ℕ). field_over f x) (drop_of_length-le l h)
+  field_done f h = ap (λ (x : List ℕ). field_over f x) (drop_all i l h)
 
   module _ (wanted here : ℕ) where
     -- the record's end is found here, is farther on, or is not there
@@ -52,7 +45,7 @@ module _ (l : List ℕ) (i : ℕ) where
 
     pub end_done : length l ≤ i → end_from wanted i here (drop i l) ≡ i
     unfolding end_from
-    end_done h = ap (λ (x : List ℕ). end_from wanted i here x) (drop_of_length-le l h)
+    end_done h = ap (λ (x : List ℕ). end_from wanted i here x) (drop_all i l h)
 
     module _ (field part : ℕ) where
       pub start_here : i < length l → here ≡ wanted → part ≡ field → start_from wanted field i here part (drop i l) ≡ i
@@ -79,4 +72,4 @@ module _ (l : List ℕ) (i : ℕ) where
 
       pub start_done : length l ≤ i → start_from wanted field i here part (drop i l) ≡ i
       unfolding start_from
-      start_done h = ap (λ (x : List ℕ). start_from wanted field i here part x) (drop_of_length-le l h)
+      start_done h = ap (λ (x : List ℕ). start_from wanted field i here part x) (drop_all i l h)

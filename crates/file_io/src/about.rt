@@ -1,30 +1,29 @@
 // The version that the programs print.
+use crate::arguments::{argument, argument_count, argument_room};
 use crate::file::first;
-use check::same;
+use std::env::Env;
+use std::io;
 
 // Writes a program's name and the version, as 1.0.0, to standard output.
-fn print_version(name: &[u8]) {
+fn print_version(out: &impl Print, name: &[u8]) -> io::Result<()> {
     let number = version::number();
-    io::write_all(libc::STDOUT_FILENO, name);
-    io::write_all(libc::STDOUT_FILENO, b" ");
-    io::print_decimal(libc::STDOUT_FILENO, number / 10_000);
-    io::write_all(libc::STDOUT_FILENO, b".");
-    io::print_decimal(libc::STDOUT_FILENO, number / 100 % 100);
-    io::write_all(libc::STDOUT_FILENO, b".");
-    io::print_decimal(libc::STDOUT_FILENO, number % 100);
-    io::write_all(libc::STDOUT_FILENO, b"\n");
+    let major = number / 10_000;
+    let minor = number / 100 % 100;
+    let patch = number % 100;
+    out.write_all(name)?;
+    println!(out; " {major}.{minor}.{patch}")
 }
 
 // Where the one argument is the word for the version it is printed, and all is said.
-pub fn told_version(name: &[u8]) -> bool {
-    if os::arg_count() != 2 {
-        return false;
+pub fn told_version(rt: &(impl Env + Print), name: &[u8]) -> io::Result<bool> {
+    if argument_count(rt) != 2 {
+        return Ok(false);
     }
-    let mut word = io::buffer();
-    let length = os::arg(1, &mut word);
-    if !same(first(&word, length), b"--version") {
-        return false;
+    let mut word = argument_room();
+    let length = argument(rt, 1, &mut word);
+    if first(&word, length) != b"--version".as_slice() {
+        return Ok(false);
     }
-    print_version(name);
-    true
+    print_version(rt, name)?;
+    Ok(true)
 }

@@ -1,8 +1,11 @@
 // Reads a file into room that is lent.
-ghost use Rattle.std.specs.Prelude.{◌≡◌, pos, length, replicate, take};
-ghost use Rattle.std.specs.Int.Signed.{lt_z};
-ghost use Rattle.io.specs.Counts.{clamp_len};
+ghost use Rattle.std.specs.Prelude.{◌≡◌, is_none, length, min, replicate, take, unwrap_or};
 ghost use Rattle.file_io.specs.inner.Reading.{Told};
+
+use std::fs::File;
+use std::io::Read;
+use std::rt::Files;
+use std::str;
 
 // Room for the longest file that is read, and one byte more.
 pub fn file_room() -> [u8; 65537]
@@ -29,18 +32,19 @@ struct Taken {
     pub ends: bool,
 }
 
-// What a read at an offset of the room tells, by what it answered.
-fn after_read(got: isize, at: usize, room: &[u8]) -> Taken
-    ensures { Told (lt_z got (pos 0)) (clamp_len got (length room.now)) at (length room.now) result.at result.ends }
+// What a read at an offset of the room tells, by how many bytes it brought; none where it failed.
+#[tactic(auto, unfolding(crate::specs::inner::Reading::taken_after, crate::specs::inner::Reading::ends_after))]
+fn after_read(got: Option<usize>, at: usize, room: &[u8]) -> Taken
+    ensures { Told (is_none got) (min (unwrap_or got 0) (length room.now)) at (length room.now) result.at result.ends }
 {
     let size = room.len();
-    let more = io::count(got, room);
-    if got < 0 {
+    let Some(count) = got else {
         return Taken {
             at: size,
             ends: true,
         };
-    }
+    };
+    let more = count.min(size);
     if more == 0 {
         return Taken { at, ends: true };
     }
@@ -63,13 +67,13 @@ fn after_read(got: isize, at: usize, room: &[u8]) -> Taken
 }
 
 // Reads to the end of the file or of the room, and gives how many bytes there are; the whole room where a read fails.
-fn read_all(fd: i32, room: &mut [u8]) -> usize
+fn read_all(file: &mut impl Read, room: &mut [u8]) -> usize
     ensures { length room.new ≡ length room.old }
 {
     let size = room.len();
     let mut at: usize = 0;
     while at < size {
-        let got = libc::read(fd, &mut room[at..]);
+        let got = file.read(&mut room[at..]).ok();
         let taken = after_read(got, at, room);
         if taken.ends {
             return taken.at;
@@ -79,15 +83,16 @@ fn read_all(fd: i32, room: &mut [u8]) -> usize
     at
 }
 
-// Reads a file, and gives how many bytes of the room it takes: the whole room where it is not opened, not read or too long.
-pub fn read_file(path: &[u8], room: &mut [u8]) -> usize
+// Reads a file, and gives how many bytes of the room it takes: the whole room where it is not opened, not read or too long. A path that is
+// not text in UTF-8 opens no file.
+pub fn read_file(rt: &impl Files, path: &[u8], room: &mut [u8]) -> usize
     ensures { length room.new ≡ length room.old }
 {
-    let fd = os::open_read(path);
-    if fd < 0 {
+    let Ok(path) = str::from_utf8(path) else {
         return room.len();
+    };
+    match File::open(rt, path) {
+        Ok(mut file) => read_all(&mut file, room),
+        Err(_) => room.len(),
     }
-    let size = read_all(fd, room);
-    libc::close(fd);
-    size
 }

@@ -1,5 +1,8 @@
 // The bytes of files, where in a file a byte stands, and sentences on standard error. It decides nothing.
+#![tactic(auto)]
+
 pub mod about;
+pub mod arguments;
 pub mod file;
 pub mod message;
 pub mod place;

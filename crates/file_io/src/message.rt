@@ -1,83 +1,79 @@
-// Text, numbers and names on standard error.
+// Text, numbers and names on standard error, or wherever else they are to be printed.
 use crate::shown::{escape, left_of};
+use std::io;
 
-pub fn say(text: &[u8]) {
-    io::write_all(libc::STDERR_FILENO, text);
+pub fn say(err: &impl Print, text: &[u8]) -> io::Result<()> {
+    err.write_all(text)
 }
 
-pub fn say_number(n: u64) {
-    io::print_decimal(libc::STDERR_FILENO, n);
+pub fn say_number(err: &impl Print, n: u64) -> io::Result<()> {
+    err.print(n)
 }
 
 // A number between two texts.
-pub fn say_with(before: &[u8], n: u64, after: &[u8]) {
-    say(before);
-    say_number(n);
-    say(after);
+pub fn say_with(err: &impl Print, before: &[u8], n: u64, after: &[u8]) -> io::Result<()> {
+    say(err, before)?;
+    say_number(err, n)?;
+    say(err, after)
 }
 
 // The last three digits of a number, after a comma.
-fn say_group(n: u64) {
-    say(b",");
-    say_number(n / 100 % 10);
-    say_number(n / 10 % 10);
-    say_number(n % 10);
+fn say_group(err: &impl Print, n: u64) -> io::Result<()> {
+    say(err, b",")?;
+    say_number(err, n / 100 % 10)?;
+    say_number(err, n / 10 % 10)?;
+    say_number(err, n % 10)
 }
 
-fn say_thousands(n: u64) {
+fn say_thousands(err: &impl Print, n: u64) -> io::Result<()> {
     if n < 1000 {
-        say_number(n);
-        return;
+        return say_number(err, n);
     }
-    say_number(n / 1000);
-    say_group(n);
+    say_number(err, n / 1000)?;
+    say_group(err, n)
 }
 
-fn say_millions(n: u64) {
+fn say_millions(err: &impl Print, n: u64) -> io::Result<()> {
     if n < 1_000_000 {
-        say_thousands(n);
-        return;
+        return say_thousands(err, n);
     }
-    say_thousands(n / 1000);
-    say_group(n);
+    say_thousands(err, n / 1000)?;
+    say_group(err, n)
 }
 
 // A number in groups of three digits; no number of a file has more than four of them.
-pub fn say_grouped(n: u64) {
+pub fn say_grouped(err: &impl Print, n: u64) -> io::Result<()> {
     if n < 1_000_000_000 {
-        say_millions(n);
-        return;
+        return say_millions(err, n);
     }
-    say_millions(n / 1000);
-    say_group(n);
+    say_millions(err, n / 1000)?;
+    say_group(err, n)
 }
 
 // So many of a thing, in the singular where it is one.
-pub fn say_count(n: u64, one: &[u8], more: &[u8]) {
-    say_grouped(n);
+pub fn say_count(err: &impl Print, n: u64, one: &[u8], more: &[u8]) -> io::Result<()> {
+    say_grouped(err, n)?;
     if n == 1 {
-        say(one);
-        return;
+        say(err, one)
+    } else {
+        say(err, more)
     }
-    say(more);
 }
 
 // A byte as it is where so many are shown from it on, else as \xNN.
-fn say_byte(byte: u8, left: usize) {
+fn say_byte(err: &impl Print, byte: u8, left: usize) -> io::Result<()> {
     if left == 0 {
-        let text = escape(byte);
-        say(&text);
-        return;
+        return say(err, &escape(byte));
     }
-    let text = [byte];
-    say(&text);
+    say(err, &[byte])
 }
 
 // A name or a path, with nothing in it that a terminal would obey.
-pub fn say_name(name: &[u8]) {
+pub fn say_name(err: &impl Print, name: &[u8]) -> io::Result<()> {
     let mut left: usize = 0;
     for i in 0..name.len() {
         left = left_of(&name[i..], left);
-        say_byte(name[i], left);
+        say_byte(err, name[i], left)?;
     }
+    Ok(())
 }

@@ -29,6 +29,7 @@ fn is_unseen(p: u32) -> bool
 }
 
 // Is a character not shown, by its number in Unicode?
+#[tactic(auto, unfolding(crate::specs::inner::Shown::hidden))]
 fn is_hidden(p: u32) -> bool
     ensures { result ≡ hidden p }
 {
@@ -70,12 +71,14 @@ fn four(b: u8, c: u8, d: u8, e: u8) -> u32
 }
 
 // Do these bytes make one character that is shown?
+#[tactic(auto, unfolding(crate::specs::inner::Shown::is_two))]
 fn shows_two(b: u8, c: u8) -> bool
     ensures { result ≡ is_two b c }
 {
     is_within(192, wide(b), 223) & goes_on(c) & !is_hidden(two(b, c))
 }
 
+#[tactic(auto, unfolding(crate::specs::inner::Shown::is_three))]
 fn shows_three(b: u8, c: u8, d: u8) -> bool
     ensures { result ≡ is_three b c d }
 {
@@ -83,6 +86,7 @@ fn shows_three(b: u8, c: u8, d: u8) -> bool
     is_within(224, wide(b), 239) & goes_on(c) & goes_on(d) & (2047 < p) & !is_hidden(p)
 }
 
+#[tactic(auto, unfolding(crate::specs::inner::Shown::is_four))]
 fn shows_four(b: u8, c: u8, d: u8, e: u8) -> bool
     ensures { result ≡ is_four b c d e }
 {
@@ -92,6 +96,7 @@ fn shows_four(b: u8, c: u8, d: u8, e: u8) -> bool
 }
 
 // Is a byte a letter, a digit or another sign of ASCII, or a space?
+#[tactic(auto, unfolding(crate::specs::inner::Shown::plain))]
 fn is_plain(b: u8) -> bool
     ensures { result ≡ plain b }
 {
@@ -99,6 +104,7 @@ fn is_plain(b: u8) -> bool
 }
 
 // How many of four bytes make one character that is shown as it is; 0 where the first is not.
+#[tactic(auto, unfolding(crate::specs::inner::Shown::shown_width))]
 fn width_of(b: u8, c: u8, d: u8, e: u8) -> usize
     ensures { result ≡ shown_width b c d e }
 {

@@ -5,7 +5,6 @@ ghost use Rattle.file_io.specs.inner.Places.{byte_back};
 
 use crate::file::first;
 use crate::place::byte_before;
-use check::same;
 
 // The bytes after the first n; none where there are no more.
 pub fn rest(s: &[u8], n: usize) -> &[u8]
@@ -30,7 +29,7 @@ pub fn starts(s: &[u8], word: &[u8]) -> bool
     ensures { (result ≡ true → take (length word.now) s.now ≡ word.now) ×
         (take (length word.now) s.now ≡ word.now → result ≡ true) }
 {
-    same(first(s, word.len()), word)
+    first(s, word.len()) == word
 }
 
 fn found_after(found: bool, wanted: u8, byte: u8) -> bool

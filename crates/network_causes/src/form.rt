@@ -7,45 +7,43 @@ use file_io::file::first;
 use file_io::message::{say, say_with};
 use file_io::place::field_start;
 use file_io::text::{has, last_of, rest, starts};
+use std::io;
 
 // The file ends before a line that is missing.
-fn say_missing(before: &[u8]) {
+fn say_missing(err: &impl Print, before: &[u8]) -> io::Result<()> {
     if lines_of(before, b'p') == 0 {
-        say(b"the end of the file before the p line");
-        return;
+        return say(err, b"the end of the file before the p line");
     }
     say_with(
+        err,
         b"the end of the file after ",
         lines_of(before, b'a'),
         b" of ",
-    );
-    say_said(before);
-    say(b" a lines");
+    )?;
+    say_said(err, before)?;
+    say(err, b" a lines")
 }
 
 // A line that is one by itself, and may not stand after those before it.
-fn say_order(kind: u8, before: &[u8]) {
+fn say_order(err: &impl Print, kind: u8, before: &[u8]) -> io::Result<()> {
     if kind == b'p' {
-        say(b"a second p line");
-        return;
+        return say(err, b"a second p line");
     }
     if lines_of(before, b'p') == 0 {
-        say(b"a line before the p line");
-        return;
+        return say(err, b"a line before the p line");
     }
     if kind == b'n' {
-        say(b"an n line after the first a line");
-        return;
+        return say(err, b"an n line after the first a line");
     }
-    say(b"an a line more than the p line says");
+    say(err, b"an a line more than the p line says")
 }
 
 // What a line of a kind looks like, and how many fields it has.
-fn say_shape(kind: u8) {
+fn say_shape(err: &impl Print, kind: u8) -> io::Result<()> {
     match kind {
-        b'p' => say(b"p min NODES ARCS"),
-        b'n' => say(b"n NODE SUPPLY"),
-        _ => say(b"a START END 0 CEILING COST"),
+        b'p' => say(err, b"p min NODES ARCS"),
+        b'n' => say(err, b"n NODE SUPPLY"),
+        _ => say(err, b"a START END 0 CEILING COST"),
     }
 }
 
@@ -58,104 +56,94 @@ fn wanted(kind: u8) -> u64 {
 }
 
 // Another count of fields, a minus, or another field.
-fn say_fields(kind: u8, line: &[u8]) {
+fn say_fields(err: &impl Print, kind: u8, line: &[u8]) -> io::Result<()> {
     if fields_of(line) != wanted(kind) {
-        say(b"another count of fields than in ");
-        say_shape(kind);
-        return;
+        say(err, b"another count of fields than in ")?;
+        return say_shape(err, kind);
     }
     if has(line, b'-') {
-        say(b"a minus; it can stand only before a supply or a cost");
-        return;
+        return say(err, b"a minus; it can stand only before a supply or a cost");
     }
-    say(b"a field that is not as in ");
-    say_shape(kind);
+    say(err, b"a field that is not as in ")?;
+    say_shape(err, kind)
 }
 
 // A number that is none, by its digits.
-fn say_number_cause(kind: u8, line: &[u8]) {
+fn say_number_cause(err: &impl Print, kind: u8, line: &[u8]) -> io::Result<()> {
     if has_zero(line) {
-        say(b"a number with 0 in front");
-        return;
+        return say(err, b"a number with 0 in front");
     }
     if has_long(line) {
-        say(b"a number of more than ten digits");
-        return;
+        return say(err, b"a number of more than ten digits");
     }
     if has(line, b'.') | has(line, b',') {
-        say(b"a fraction; numbers are whole");
-        return;
+        return say(err, b"a fraction; numbers are whole");
     }
-    say_fields(kind, line);
+    say_fields(err, kind, line)
 }
 
 // A line that begins as one does.
-fn say_kind(kind: u8, line: &[u8], before: &[u8]) {
+fn say_kind(err: &impl Print, kind: u8, line: &[u8], before: &[u8]) -> io::Result<()> {
     let read = read_line(line);
     match read {
         Line::Wrong => {
             if starts(line, b"p max") {
-                say(b"p max; networks are p min");
-                return;
+                return say(err, b"p max; networks are p min");
             }
-            say_number_cause(kind, line);
+            say_number_cause(err, kind, line)
         }
-        _ => say_order(kind, before),
+        _ => say_order(err, kind, before),
     }
 }
 
 // A line that begins as none does.
-fn say_other(line: &[u8]) {
+fn say_other(err: &impl Print, line: &[u8]) -> io::Result<()> {
     if starts(line, b"\xEF\xBB\xBF") {
-        say(b"a byte order mark; save the file as plain text without one");
-        return;
+        return say(
+            err,
+            b"a byte order mark; save the file as plain text without one",
+        );
     }
     if starts(line, b"PK\x03\x04") {
-        say(
+        return say(
+            err,
             b"the beginning of a workbook (PK), whatever the file is called; a network is a text file",
         );
-        return;
     }
-    say(b"a line that begins with none of c, p, n and a");
+    say(err, b"a line that begins with none of c, p, n and a")
 }
 
 // A line that ends in LF: CR, tab, spaces at an end, then its first byte.
-fn say_whole(line: &[u8], before: &[u8]) {
+fn say_whole(err: &impl Print, line: &[u8], before: &[u8]) -> io::Result<()> {
     if line.len() == 0 {
-        say(b"a blank line");
-        return;
+        return say(err, b"a blank line");
     }
     if last_of(line) == 13 {
-        say(b"a line that ends in CR LF; lines end in LF alone");
-        return;
+        return say(err, b"a line that ends in CR LF; lines end in LF alone");
     }
     if has(line, 9) {
-        say(b"a tab; fields are parted by spaces");
-        return;
+        return say(err, b"a tab; fields are parted by spaces");
     }
     if (line[0] == 32) | (last_of(line) == 32) {
-        say(b"a space at an end of the line");
-        return;
+        return say(err, b"a space at an end of the line");
     }
     match line[0] {
-        b'p' | b'n' | b'a' => say_kind(line[0], line, before),
-        _ => say_other(line),
+        b'p' | b'n' | b'a' => say_kind(err, line[0], line, before),
+        _ => say_other(err, line),
     }
 }
 
 // Says the cause of refusal 29 at a line.
-pub fn say_line_cause(bytes: &[u8], number: u64) {
+pub fn say_line_cause(err: &impl Print, bytes: &[u8], number: u64) -> io::Result<()> {
     let at = field_start(bytes, number, 1);
     let before = first(bytes, at);
     let after = rest(bytes, at);
     let length = line_end(after, 0);
     if length < after.len() {
-        say_whole(first(after, length), before);
-        return;
+        return say_whole(err, first(after, length), before);
     }
     if 0 < length {
-        say(b"a last line without LF");
-        return;
+        return say(err, b"a last line without LF");
     }
-    say_missing(before);
+    say_missing(err, before)
 }

@@ -9,6 +9,7 @@ use dimacs::line::{Line, read_line};
 use file_io::message::{say, say_name, say_number, say_with};
 use file_io::place::next;
 use numbers::{Short, read_short};
+use std::io;
 
 // The offset after the line that begins at an offset: after its LF, or the end.
 fn line_after(bytes: &[u8], at: usize) -> usize
@@ -48,11 +49,7 @@ fn counts_of(bytes: &[u8]) -> Counts {
 
 fn node_of(line: Line) -> u64 {
     match line {
-        Line::Node {
-            id,
-            minus: _,
-            supply: _,
-        } => id,
+        Line::Node { id, .. } => id,
         _ => 0,
     }
 }
@@ -71,9 +68,9 @@ fn lines_for(bytes: &[u8], id: u64) -> u64 {
 }
 
 // Says how many arcs the p line says.
-pub fn say_said(bytes: &[u8]) {
+pub fn say_said(err: &impl Print, bytes: &[u8]) -> io::Result<()> {
     let counts = counts_of(bytes);
-    say_number(counts.arcs);
+    say_number(err, counts.arcs)
 }
 
 // Sums that stay at the largest number.
@@ -91,74 +88,82 @@ fn no_node(id: u64, nodes: u64) -> bool {
 }
 
 // Says the cause of an n line; false where it is within the limits.
-fn say_node(bytes: &[u8], nodes: u64, id: u64) -> bool {
+fn say_node(err: &impl Print, bytes: &[u8], nodes: u64, id: u64) -> io::Result<bool> {
     if no_node(id, nodes) {
-        say_with(b"an n line for node ", id, b"; nodes are numbered 1 to ");
-        say_number(nodes);
-        return true;
+        say_with(
+            err,
+            b"an n line for node ",
+            id,
+            b"; nodes are numbered 1 to ",
+        )?;
+        say_number(err, nodes)?;
+        return Ok(true);
     }
     if 1 < lines_for(bytes, id) {
-        say_with(b"two n lines for node ", id, b"");
-        return true;
+        say_with(err, b"two n lines for node ", id, b"")?;
+        return Ok(true);
     }
-    false
+    Ok(false)
 }
 
-fn say_arc_node(arc: u64, id: u64, nodes: u64) {
-    say_with(b"arc ", arc, b", at node ");
-    say_with(b"", id, b"; nodes are numbered 1 to ");
-    say_number(nodes);
+fn say_arc_node(err: &impl Print, arc: u64, id: u64, nodes: u64) -> io::Result<()> {
+    say_with(err, b"arc ", arc, b", at node ")?;
+    say_with(err, b"", id, b"; nodes are numbered 1 to ")?;
+    say_number(err, nodes)
 }
 
 // The ends of an arc.
-fn say_ends(arc: u64, nodes: u64, start: u64, end: u64) -> bool {
+fn say_ends(err: &impl Print, arc: u64, nodes: u64, start: u64, end: u64) -> io::Result<bool> {
     if no_node(start, nodes) {
-        say_arc_node(arc, start, nodes);
-        return true;
+        say_arc_node(err, arc, start, nodes)?;
+        return Ok(true);
     }
     if no_node(end, nodes) {
-        say_arc_node(arc, end, nodes);
-        return true;
+        say_arc_node(err, arc, end, nodes)?;
+        return Ok(true);
     }
     if start == end {
-        say_with(b"arc ", arc, b", from node ");
-        say_with(b"", start, b" to itself");
-        return true;
+        say_with(err, b"arc ", arc, b", from node ")?;
+        say_with(err, b"", start, b" to itself")?;
+        return Ok(true);
     }
-    false
+    Ok(false)
 }
 
 // The lower bound, the ceiling and the cost of an arc.
-fn say_amounts(arc: u64, low: u64, ceiling: u64, minus: bool, cost: u64) -> bool {
+fn say_amounts(
+    err: &impl Print,
+    arc: u64,
+    low: u64,
+    ceiling: u64,
+    minus: bool,
+    cost: u64,
+) -> io::Result<bool> {
     if 0 < low {
-        say_with(b"arc ", arc, b", with a lower bound of ");
-        say_with(b"", low, b"; lower bounds are 0");
-        return true;
+        say_with(err, b"arc ", arc, b", with a lower bound of ")?;
+        say_with(err, b"", low, b"; lower bounds are 0")?;
+        return Ok(true);
     }
     if 4000 < ceiling {
-        say_with(b"arc ", arc, b", with a ceiling of ");
-        say_with(b"", ceiling, b"; ceilings go up to 4,000");
-        return true;
+        say_with(err, b"arc ", arc, b", with a ceiling of ")?;
+        say_with(err, b"", ceiling, b"; ceilings go up to 4,000")?;
+        return Ok(true);
     }
     if 1_000_000 < cost {
-        say_with(b"arc ", arc, b", with a cost of ");
+        say_with(err, b"arc ", arc, b", with a cost of ")?;
         if minus {
-            say(b"-");
+            say(err, b"-")?;
         }
-        say_with(b"", cost, b"; costs are from -1,000,000 to 1,000,000");
-        return true;
+        say_with(err, b"", cost, b"; costs are from -1,000,000 to 1,000,000")?;
+        return Ok(true);
     }
-    false
+    Ok(false)
 }
 
 // Says the cause of a line, the last of so many arcs; false where it is within the limits.
-fn say_line(bytes: &[u8], nodes: u64, arc: u64, line: Line) -> bool {
+fn say_line(err: &impl Print, bytes: &[u8], nodes: u64, arc: u64, line: Line) -> io::Result<bool> {
     match line {
-        Line::Node {
-            id,
-            minus: _,
-            supply: _,
-        } => say_node(bytes, nodes, id),
+        Line::Node { id, .. } => say_node(err, bytes, nodes, id),
         Line::Arc {
             start,
             end,
@@ -167,43 +172,36 @@ fn say_line(bytes: &[u8], nodes: u64, arc: u64, line: Line) -> bool {
             minus,
             cost,
         } => {
-            if say_ends(arc, nodes, start, end) {
-                return true;
+            if say_ends(err, arc, nodes, start, end)? {
+                return Ok(true);
             }
-            say_amounts(arc, low, ceiling, minus, cost)
+            say_amounts(err, arc, low, ceiling, minus, cost)
         }
-        _ => false,
+        _ => Ok(false),
     }
 }
 
 // The count of arcs with a line.
-fn arcs_after(arcs: u64, line: Line) -> u64 {
+fn arcs_after(arcs: u64, line: &Line) -> u64 {
     match line {
-        Line::Arc {
-            start: _,
-            end: _,
-            low: _,
-            ceiling: _,
-            minus: _,
-            cost: _,
-        } => next(arcs),
+        Line::Arc { .. } => next(arcs),
         _ => arcs,
     }
 }
 
 // The first line that is out of the limits.
-fn say_lines(bytes: &[u8], nodes: u64) -> bool {
+fn say_lines(err: &impl Print, bytes: &[u8], nodes: u64) -> io::Result<bool> {
     let mut at: usize = 0;
     let mut arcs: u64 = 0;
     while at < bytes.len() {
         let line = line_at(bytes, at);
-        arcs = arcs_after(arcs, line);
-        if say_line(bytes, nodes, arcs, line) {
-            return true;
+        arcs = arcs_after(arcs, &line);
+        if say_line(err, bytes, nodes, arcs, line)? {
+            return Ok(true);
         }
         at = line_after(bytes, at);
     }
-    false
+    Ok(false)
 }
 
 // What a node has, and what is taken there.
@@ -234,14 +232,7 @@ fn amount_after(a: Amount, id: u64, line: Line) -> Amount {
                 takes: a.takes,
             }
         }
-        Line::Arc {
-            start: _,
-            end,
-            low: _,
-            ceiling,
-            minus: _,
-            cost: _,
-        } => {
+        Line::Arc { end, ceiling, .. } => {
             if end != id {
                 return a;
             }
@@ -266,34 +257,28 @@ fn amount_of(bytes: &[u8], id: u64) -> u64 {
 }
 
 // The first of at most 32 nodes whose amount is above 4,000.
-fn say_nodes(bytes: &[u8], nodes: u64) -> bool {
+fn say_nodes(err: &impl Print, bytes: &[u8], nodes: u64) -> io::Result<bool> {
     for i in 0..nodes {
         let id = next(i);
         let amount = amount_of(bytes, id);
         if 4000 < amount {
             say_with(
+                err,
                 b"node ",
                 id,
                 b", whose supply and the ceilings of the arcs into it come to ",
-            );
-            say_with(b"", amount, b"; amounts go up to 4,000");
-            return true;
+            )?;
+            say_with(err, b"", amount, b"; amounts go up to 4,000")?;
+            return Ok(true);
         }
     }
-    false
+    Ok(false)
 }
 
 // The ceiling of an arc by its place from 1.
 fn ceiling_in(line: Line) -> u64 {
     match line {
-        Line::Arc {
-            start: _,
-            end: _,
-            low: _,
-            ceiling,
-            minus: _,
-            cost: _,
-        } => ceiling,
+        Line::Arc { ceiling, .. } => ceiling,
         _ => 0,
     }
 }
@@ -303,7 +288,7 @@ fn ceiling_of(bytes: &[u8], place: u64) -> u64 {
     let mut arcs: u64 = 0;
     while at < bytes.len() {
         let line = line_at(bytes, at);
-        arcs = arcs_after(arcs, line);
+        arcs = arcs_after(arcs, &line);
         if arcs == place {
             return ceiling_in(line);
         }
@@ -313,33 +298,33 @@ fn ceiling_of(bytes: &[u8], place: u64) -> u64 {
 }
 
 // The first of the table's entries that is above 1,000,000,000; cells after them hold 0.
-fn say_entries(entries: &[u64]) {
+fn say_entries(err: &impl Print, entries: &[u64]) -> io::Result<()> {
     for i in 0..entries.len() {
         if 1_000_000_000 < entries[i] {
-            say_with(
+            return say_with(
+                err,
                 b"the table's entry for a flow of ",
                 i as u64,
                 b", above 1,000,000,000",
             );
-            return;
         }
     }
+    Ok(())
 }
 
 // The table of an arc.
-fn say_table(place: u64, ceiling: u64, table: &[u8]) {
+fn say_table(err: &impl Print, place: u64, ceiling: u64, table: &[u8]) -> io::Result<()> {
     let mut entries = entry_cells();
     let read = read_entries(table, &mut entries);
     let Entries::Read { count } = read else {
-        return;
+        return Ok(());
     };
     if count as u64 != next(ceiling) {
-        say_with(b"a table of ", count as u64, b" entries for arc ");
-        say_with(b"", place, b", whose ceiling is ");
-        say_with(b"", ceiling, b"; it wants one for each flow from 0");
-        return;
+        say_with(err, b"a table of ", count as u64, b" entries for arc ")?;
+        say_with(err, b"", place, b", whose ceiling is ")?;
+        return say_with(err, b"", ceiling, b"; it wants one for each flow from 0");
     }
-    say_entries(&entries);
+    say_entries(err, &entries)
 }
 
 fn place_of(arc: &[u8]) -> u64 {
@@ -351,32 +336,41 @@ fn place_of(arc: &[u8]) -> u64 {
 }
 
 // The arc that is named, then its table.
-fn say_named(bytes: &[u8], arcs: u64, arc: &[u8], table: &[u8]) {
+fn say_named(
+    err: &impl Print,
+    bytes: &[u8],
+    arcs: u64,
+    arc: &[u8],
+    table: &[u8],
+) -> io::Result<()> {
     let place = place_of(arc);
     if (place < 1) | (arcs < place) {
-        say(b"arc ");
-        say_name(arc);
-        say_with(b" as the named one; the file has ", arcs, b"");
-        return;
+        say(err, b"arc ")?;
+        say_name(err, arc)?;
+        return say_with(err, b" as the named one; the file has ", arcs, b"");
     }
-    say_table(place, ceiling_of(bytes, place), table);
+    say_table(err, place, ceiling_of(bytes, place), table)
 }
 
 // Says what is out of the limits.
-pub fn say_limits_cause(bytes: &[u8], arc: &[u8], table: &[u8]) {
+pub fn say_limits_cause(
+    err: &impl Print,
+    bytes: &[u8],
+    arc: &[u8],
+    table: &[u8],
+) -> io::Result<()> {
     let counts = counts_of(bytes);
     let nodes = counts.nodes;
     let arcs = counts.arcs;
     if (32 < nodes) | (64 < arcs) {
-        say_with(b"a network of ", nodes, b" nodes and ");
-        say_with(b"", arcs, b" arcs; there are at most 32 and 64");
-        return;
+        say_with(err, b"a network of ", nodes, b" nodes and ")?;
+        return say_with(err, b"", arcs, b" arcs; there are at most 32 and 64");
     }
-    if say_lines(bytes, nodes) {
-        return;
+    if say_lines(err, bytes, nodes)? {
+        return Ok(());
     }
-    if say_nodes(bytes, nodes) {
-        return;
+    if say_nodes(err, bytes, nodes)? {
+        return Ok(());
     }
-    say_named(bytes, arcs, arc, table);
+    say_named(err, bytes, arcs, arc, table)
 }

@@ -14,6 +14,7 @@ pub struct Counted {
 }
 
 // Was a number with 0 in front found before this byte, or is it found with it?
+#[tactic(auto, unfolding(crate::specs::inner::Words::found))]
 fn is_found(state: u8, byte: u8) -> bool
     ensures { result ≡ found state byte }
 {
@@ -21,6 +22,7 @@ fn is_found(state: u8, byte: u8) -> bool
 }
 
 // Is a byte a 0 that is first in its number?
+#[tactic(auto, unfolding(crate::specs::inner::Words::leading))]
 fn is_leading(state: u8, byte: u8) -> bool
     ensures { result ≡ leading state byte }
 {
@@ -28,6 +30,7 @@ fn is_leading(state: u8, byte: u8) -> bool
 }
 
 // Is a byte a minus behind a space?
+#[tactic(auto, unfolding(crate::specs::inner::Words::signing))]
 fn is_minus(state: u8, byte: u8) -> bool
     ensures { result ≡ signing state byte }
 {
@@ -35,6 +38,7 @@ fn is_minus(state: u8, byte: u8) -> bool
 }
 
 // Where a number with 0 in front is looked for: 0 elsewhere, 1 after a space, 2 after a minus behind one, 3 after a 0 that is first, 4 found.
+#[tactic(auto, unfolding(crate::specs::inner::Words::zero_after))]
 fn zero_after(state: u8, byte: u8) -> u8
     ensures { result ≡ zero_after state byte }
 {
@@ -65,6 +69,7 @@ pub fn has_zero(line: &[u8]) -> bool
 }
 
 // How many digits stand up to a byte; more than ten are not counted.
+#[tactic(auto, unfolding(crate::specs::inner::Words::long_after))]
 fn long_after(digits: u64, byte: u8) -> u64
     ensures { result ≡ long_after digits byte }
 {
@@ -89,6 +94,7 @@ pub fn has_long(line: &[u8]) -> bool
 }
 
 // Is a byte the first of a field?
+#[tactic(auto, unfolding(crate::specs::inner::Words::begins_field))]
 fn begins_field(fresh: bool, byte: u8) -> bool
     ensures { result ≡ begins_field fresh byte }
 {
@@ -96,6 +102,7 @@ fn begins_field(fresh: bool, byte: u8) -> bool
 }
 
 // One more field where a byte is its first.
+#[tactic(auto, unfolding(crate::specs::inner::Words::field_after_byte))]
 fn field_after(c: Counted, byte: u8) -> Counted
     ensures { result ≡ field_after_byte c byte }
 {
@@ -126,6 +133,7 @@ pub fn fields_of(line: &[u8]) -> u64
 }
 
 // Is a byte the first of a line, and of this kind?
+#[tactic(auto, unfolding(crate::specs::inner::Words::begins_line))]
 fn begins_line(fresh: bool, kind: u8, byte: u8) -> bool
     ensures { result ≡ begins_line kind fresh byte }
 {
@@ -133,6 +141,7 @@ fn begins_line(fresh: bool, kind: u8, byte: u8) -> bool
 }
 
 // One more line where its first byte is of this kind.
+#[tactic(auto, unfolding(crate::specs::inner::Words::line_after_byte))]
 fn line_after(c: Counted, kind: u8, byte: u8) -> Counted
     ensures { result ≡ line_after_byte kind c byte }
 {

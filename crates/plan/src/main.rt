@@ -1,4 +1,9 @@
 // Plans the two files of the current folder; the stored run is case A.
-fn main() {
-    plan_command::run();
+#![tactic(auto)]
+
+use anyhow::Result;
+
+fn main(rt: HostRuntime) -> Result<()> {
+    plan_command::run(&rt)?;
+    Ok(())
 }

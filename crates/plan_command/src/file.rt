@@ -5,6 +5,7 @@ use crate::refusal::explain;
 use file_io::file::{file_room, first, read_file};
 use file_io::message::say;
 use plan_files::planned::plan_files;
+use std::io;
 
 // Room for the longest plan: the header, the production record and 2,048 lanes.
 fn text_room() -> [u8; 174265]
@@ -14,26 +15,41 @@ fn text_room() -> [u8; 174265]
 }
 
 // Plans two files' bytes, and writes the answer.
-pub fn answer(tariff: &[u8], production: &[u8], tariff_path: &[u8], production_path: &[u8]) {
+pub fn answer(
+    rt: &HostRuntime,
+    tariff: &[u8],
+    production: &[u8],
+    tariff_path: &[u8],
+    production_path: &[u8],
+) -> io::Result<()> {
+    let err = rt.stderr();
     let mut text = text_room();
     let printed = plan_files(tariff, production, &mut text);
     let length = printed.length;
-    if !io::write_all(libc::STDOUT_FILENO, first(&text, length)) {
-        say(b"Standard output could not be written.\n");
+    if rt.write_all(first(&text, length)).is_err() {
+        say(&err, b"Standard output could not be written.\n")?;
     }
-    explain(printed, tariff, production, tariff_path, production_path);
+    explain(
+        &err,
+        printed,
+        tariff,
+        production,
+        tariff_path,
+        production_path,
+    )
 }
 
 // Plans the files of two paths.
-pub fn plan_paths(tariff_path: &[u8], production_path: &[u8]) {
+pub fn plan_paths(rt: &HostRuntime, tariff_path: &[u8], production_path: &[u8]) -> io::Result<()> {
     let mut tariff = file_room();
     let mut production = file_room();
-    let t = read_file(tariff_path, &mut tariff);
-    let p = read_file(production_path, &mut production);
+    let t = read_file(rt, tariff_path, &mut tariff);
+    let p = read_file(rt, production_path, &mut production);
     answer(
+        rt,
         first(&tariff, t),
         first(&production, p),
         tariff_path,
         production_path,
-    );
+    )
 }

@@ -1,19 +1,26 @@
 // The production file of square-root rates for a given output of plant 1; the stored run is the report's plant, `rates 200`.
+#![tactic(auto)]
+
 ghost use Rattle.std.specs.Prelude.{◌≡◌, length};
 
-fn say(text: &[u8]) {
-    io::write_all(libc::STDERR_FILENO, text);
-}
+use anyhow::Result;
+use file_io::about::told_version;
+use file_io::arguments::{argument, argument_count, argument_room};
+use file_io::file::first;
+use file_io::message::say;
+use std::io;
 
 // Writes the usage text to standard error.
-fn usage() {
-    say(b"usage: rates OUTPUT\n");
+fn usage(err: &impl Print) -> io::Result<()> {
+    say(err, b"usage: rates OUTPUT\n")?;
     say(
+        err,
         b"Writes a production file to standard output: for each output of plant 1 from 0 to OUTPUT, 100 times its square root, rounded down.\n",
-    );
+    )?;
     say(
+        err,
         b"OUTPUT is plant 1's supply in the tariff file, a number of one to four digits, at most 4,000.\n",
-    );
+    )
 }
 
 // Room for the longest file.
@@ -24,27 +31,32 @@ fn text_room() -> [u8; 24006]
 }
 
 // Writes the file for an output that a text names, or the usage text.
-fn print(text: &[u8]) {
+fn print(rt: &HostRuntime, text: &[u8]) -> io::Result<()> {
     let mut file = text_room();
     let size = ratesfile::put_file(&mut file, text);
     if size == 0 {
-        usage();
-        return;
+        return usage(&rt.stderr());
     }
-    if !io::write_all(libc::STDOUT_FILENO, &file[..size]) {
-        say(b"Standard output could not be written.\n");
+    if rt.write_all(&file[..size]).is_err() {
+        say(&rt.stderr(), b"Standard output could not be written.\n")?;
     }
+    Ok(())
 }
 
-fn main() {
-    if file_io::about::told_version(b"rates") {
-        return;
+// Prints the version, the file for the one argument, or the usage text.
+fn run(rt: &HostRuntime) -> io::Result<()> {
+    if told_version(rt, b"rates")? {
+        return Ok(());
     }
-    if os::arg_count() != 2 {
-        usage();
-        return;
+    if argument_count(rt) != 2 {
+        return usage(&rt.stderr());
     }
-    let mut argument = io::buffer();
-    let size = os::arg(1, &mut argument);
-    print(&argument[..size]);
+    let mut room = argument_room();
+    let size = argument(rt, 1, &mut room);
+    print(rt, first(&room, size))
+}
+
+fn main(rt: HostRuntime) -> Result<()> {
+    run(&rt)?;
+    Ok(())
 }

@@ -1,5 +1,5 @@
 -- Where in a file a byte stands: records and fields from 1, by the line ends and the commas before it. Assumes nothing.
-use Rattle.std.specs.Prelude.{Bool, cond, ◌&&◌, List, [], ◌∷◌, ℕ, suc, ◌+◌, ◌-◌, eqb, ltb, get_or, take}
+use Rattle.std.specs.Prelude.{cond, ◌&&◌, List, [], ◌∷◌, ℕ, ◌+◌, ◌-◌, eqb, ltb, get_or}
 
 -- the number after n, in 64 bits; the largest stands for itself
 abbrev pub next_number : ℕ → ℕ

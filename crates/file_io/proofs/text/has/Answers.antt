@@ -1,0 +1,10 @@
+-- A byte is found in the bytes up to here, or is looked for in those after.
+use Rattle.std.proofs.Common.{sym, ◌∙◌}
+use Rattle.file_io.proofs.OverBytes.{over_next, over_done}
+use Rattle.file_io.proofs.text.has.Goals as goal
+
+pub loop-i-preserved : goal.loop-i-preserved
+loop-i-preserved c = c.loop-i.invariant ∙ over_next _ _ _ _ _ c.loop-i-test.true c.found_after-found.ensures
+
+pub returns : goal.returns
+returns c = sym (c.loop-i.invariant ∙ over_done _ _ _ _ c.loop-i-test.false)
