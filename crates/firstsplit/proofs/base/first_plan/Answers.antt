@@ -8,12 +8,12 @@ send_depots-requires c = record { base_ready = c.requires.base_ready; le_m = c.r
 
 pub send_plants-requires : goal.send_plants-requires
 send_plants-requires c =
-    let d = c.send_depots.ensures in record { le_m = c.requires.le_m; plants_ready = c.requires.plants_ready; sending = sending_again _ (d.0.sending c.if-send_depots.true); covers = d.1 }
+    let d = c.send_depots.ensures in record { le_m = c.requires.le_m; plants_ready = c.requires.plants_ready; sending = sending_again _ (d.depots_done.sending c.if-send_depots.true); covers = d.covers_2 }
 
 pub returns-then-send_depots : goal.returns-then-send_depots
 returns-then-send_depots c =
-    let q = c.send_plants.ensures in record { first_plan = record { unmet = _; done = first_again _ q.0 }; covers_2 = q.1 }
+    let q = c.send_plants.ensures in record { first_plan = record { unmet = _; done = first_again _ q.first_done }; covers_2 = q.covers_2 }
 
 pub returns : goal.returns
 returns c =
-    let d = c.send_depots.ensures in record { first_plan = record { unmet = _; done = depots_none c.args.run0 c.args.run1 c.args.made d.0 c.if-send_depots.false }; covers_2 = d.1 }
+    let d = c.send_depots.ensures in record { first_plan = record { unmet = _; done = depots_none c.args.run0 c.args.run1 c.args.made d.depots_done c.if-send_depots.false }; covers_2 = d.covers_2 }

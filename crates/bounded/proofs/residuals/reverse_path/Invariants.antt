@@ -1,0 +1,11 @@
+-- `bounded::residuals::reverse_path` is safe and ends. Assumes nothing.
+use Rattle.std.proofs.Common.{◌≤◌}
+use Rattle.bounded.proofs.residuals.reverse_path.Given as goal
+
+abbrev pub invariant-loop-left : goal.invariant-loop-left
+invariant-loop-left l =
+    l.left ≤ 96
+
+abbrev pub decreases-loop-left : goal.decreases-loop-left
+decreases-loop-left l =
+    l.left

@@ -1,0 +1,20 @@
+-- `split_range::quick::cheapest_first` meets its contract. Assumes nothing.
+use Rattle.std.proofs.Common.{ℕ, ◌+◌, ◌*◌, arith}
+use lib.ListN.{length-replicate, get_or-replicate}
+use Rattle.augment.proofs.LaneMarks.{cover_none}
+use Rattle.split_range.proofs.SplitRange.{plants_ready, base_ready}
+use Rattle.firstsplit.proofs.FirstSplit.{first_again}
+use Rattle.split_range.proofs.quick.cheapest_first.Goals as goal
+
+pub returns-then-first : goal.returns-then-first
+returns-then-first c =
+    let q = c.quick_plan-first.ensures in record { first_plan = rw c.if-first.true (q.plan c.if-first.true _ c.requires); covers = q.covers c.if-first.true }
+
+pub first_plan-requires : goal.first_plan-requires
+first_plan-requires c =
+    let r = c.requires in record { le_m = r.plants; plants_ready = plants_ready r; base_ready = base_ready r (length-replicate {A = ℕ} 2048 0) (λ k h. get_or-replicate {A = ℕ} 2048 k 0 0 h); covers = cover_none (length-replicate {A = ℕ} 64 0)
+              (λ i j a b. get_or-replicate {A = ℕ} 2048 (i * 64 + j) 0 0 (omega (arith, r.sources, r.terminals))) (λ j h. get_or-replicate {A = ℕ} 64 j 0 0 h)
+              r.terminals }
+
+pub returns : goal.returns
+returns c = let q = c.first_plan.ensures in record { first_plan = record { unmet = q.first_plan.unmet; done = first_again _ q.first_plan.done }; covers = q.covers_2 }
