@@ -1,6 +1,6 @@
 -- A file of the form is accepted, with its records. Assumes nothing.
 use mathlib.Core.Path.{◌≡◌, refl, ap, sym, ◌∙◌, subst}
-use mathlib.Core.Bool.{Bool, true, false, ◌||◌, true≢false, false≢true}
+use mathlib.Core.Bool.{Bool, true, false, ◌||◌, true≢false}
 use mathlib.Core.Option.{Option, none, some}
 use mathlib.Core.List.{List, [], ◌∷◌, ◌++◌, map, append_assoc, append-nil}
 use Prim.Native.Nat.{ℕ, zero, suc, ◌+◌, ◌*◌, ◌-◌, ◌≤◌, ◌<◌}
@@ -9,8 +9,8 @@ use lib.IntN.{ℤ, pos}
 use lib.ListN.{length, get_or}
 use Rattle.csv_form.specs.declared.Kind.{Kind}
 use Rattle.csv_form.specs.declared.Kind.TheVariants.{Tariff, Production}
-use Rattle.csv_form.specs.Form.{Mark, digit, minus, quote, comma, cr, lf, other, mark, State, field, field_or_empty, record_or_end, opened, bare, quoted}
-use Rattle.csv_form.specs.Form.{zeroBare, zeroQuoted, closed, minusBare, minusQuoted, bare_cost, quoted_cost, closed_cost, line_end, last_line_end, done}
+use Rattle.csv_form.specs.Form.{Mark, digit, minus, quote, comma, cr, lf, other, mark, State, field, field_or_empty, record_or_end, opened, bare}
+use Rattle.csv_form.specs.Form.{zeroBare, zeroQuoted, closed, minusBare, minusQuoted, bare_cost, closed_cost, line_end, last_line_end, done}
 use Rattle.csv_form.specs.Form.{step, leading, more, after_comma, after_line, in_tariff, place_of, may_end, is_production}
 use Rattle.csv_form.specs.Records.{Reading, reading, run, absorb, records_at_end, row_with, rows_with, is_first, is_source, Form, whole, broken, form_of}
 use Rattle.csv_form.specs.Records as machine

@@ -1,9 +1,9 @@
 -- What the automaton accepts is a file of the form, with the records that it has: by the fields that the reader takes, one after the other. With
 -- `Accepted.accepted` the automaton accepts exactly these files. Assumes nothing.
 use mathlib.Core.Path.{◌≡◌, refl, ap, sym, ◌∙◌, subst}
-use mathlib.Core.Bool.{Bool, true, false, ◌||◌, true≢false, false≢true}
+use mathlib.Core.Bool.{Bool, true, false, ◌||◌, true≢false}
 use mathlib.Core.List.{List, [], ◌∷◌, ◌++◌, map, append_assoc}
-use Prim.Native.Nat.{ℕ, zero, suc, ◌+◌, ◌-◌, ◌≤◌, ◌<◌}
+use Prim.Native.Nat.{ℕ, zero, suc, ◌-◌, ◌≤◌, ◌<◌}
 use native.Mathlib.Omega.{arith}
 use lib.IntN.{ℤ, pos}
 use lib.ListN.{length, drop}
@@ -16,10 +16,10 @@ use Rattle.csv_form.specs.declared.after.After.TheVariants as afters
 use Rattle.csv_form.specs.Form.{field}
 use Rattle.csv_form.specs.Records.{reading, run, row_with, rows_with, is_first, Form, whole, broken, form_of}
 use Rattle.csv_form.specs.Records as machine
-use Rattle.csv_form.specs.inner.Reader.{field_at, after_at, on_field, on_after, field_ends, after_ends, FieldRead, AfterRead, at_field, Known}
+use Rattle.csv_form.specs.inner.Reader.{field_at, after_at, on_after, FieldRead, AfterRead, at_field, Known}
 use Rattle.csv_form.proofs.FieldAnswers.{means_field}
 use Rattle.csv_form.proofs.AfterAnswers.{means_after}
-use Rattle.csv_grammar.specs.Grammar.{Each, Field, IsField, IsPlain, signed, number_in, value_after, field_text, record_text, Row, fields_of, row_text}
+use Rattle.csv_grammar.specs.Grammar.{Each, Field, IsPlain, signed, number_in, value_after, field_text, record_text, Row, row_text}
 use Rattle.csv_grammar.specs.Grammar.{numbers_in, SourceRow, PlainRow, IsSource, line_end, lines_before, IsTariff, IsProduction, HasForm}
 use Rattle.csv_grammar.proofs.Accepted.{Fields, RowOf, same_signed, accepted}
 use Rattle.csv_grammar.proofs.FieldTexts.{FieldText, field_text_lem, AfterText, after_text}

@@ -1,13 +1,13 @@
 -- The bytes of a field that the reader takes, and of what stands after it. Assumes nothing.
 use mathlib.Core.Path.{◌≡◌, refl, ap, sym, ◌∙◌, subst}
-use mathlib.Core.Bool.{Bool, true, false, ◌||◌, true≢false, false≢true}
+use mathlib.Core.Bool.{Bool, true, false, true≢false, false≢true}
 use mathlib.Core.List.{List, [], ◌∷◌, ◌++◌, map, append_assoc}
 use Prim.Native.Nat.{ℕ, zero, suc, ◌+◌, ◌*◌, ◌-◌, ◌≤◌, ◌<◌}
 use native.Mathlib.Omega.{arith}
 use native.Mathlib.Decide.{ℕ_discrete, dec_lt}
 use native.Mathlib.Numerals.{add-one}
 use borrow.Author.Tests.{eqb-true, eq-eqb, ne_eqb, lt-ltb, le-ltb, ltb-true}
-use lib.Dec.{eqb, ltb}
+use lib.Dec.{eqb}
 use lib.ListN.{length, get_or, drop, drop_of_length-le}
 use lib.Seq.{drop-cons}
 use Rattle.csv_form.specs.declared.Kind.{Kind}
@@ -16,13 +16,13 @@ use Rattle.csv_form.specs.declared.field.Field as answer
 use Rattle.csv_form.specs.declared.field.Field.TheVariants as answers
 use Rattle.csv_form.specs.declared.after.After.{After}
 use Rattle.csv_form.specs.declared.after.After.TheVariants as afters
-use Rattle.csv_form.specs.Form.{digit, mark}
-use Rattle.csv_form.specs.inner.Reader.{digit_or10, is_minus, pick_field, number_from, number_at, digits_to, digits_from, valued, number_of, signed_at}
-use Rattle.csv_form.specs.inner.Reader.{close_quote, field_at, at_last, cost_at, last_at, demand_at, comma_at, line_at, record_at, plain_at, after_at}
-use Rattle.csv_form.proofs.ByteMarks.{mark_digit, below_ten, above_ten, inside, past, minus_byte}
+use Rattle.csv_form.specs.Form.{mark}
+use Rattle.csv_form.specs.inner.Reader.{digit_or10, is_minus, pick_field, number_from, number_at, digits_from, valued, number_of, signed_at}
+use Rattle.csv_form.specs.inner.Reader.{close_quote, field_at, at_last, last_at, comma_at, line_at, record_at, after_at}
+use Rattle.csv_form.proofs.ByteMarks.{mark_digit, below_ten, above_ten, inside, minus_byte}
 use Rattle.csv_form.proofs.AfterAnswers.{present, cost_yes, cost_no, last_no, last_more, last_end, demand_past, demand_return, demand_other, line_more}
 use Rattle.csv_form.proofs.AfterAnswers.{line_end_lem, record-no, record-yes, plain_past, plain_comma, plain_return, plain_none}
-use Rattle.csv_grammar.specs.Grammar.{Each, Digit, IsNumber, value_after, Field, IsField, digit_text, sign_text, in_quotes, field_text, line_end}
+use Rattle.csv_grammar.specs.Grammar.{Each, Digit, IsNumber, value_after, Field, IsField, digit_text, sign_text, field_text, line_end}
 
 -- ---- bytes
 byte_at : (s : List ℕ) (at b : ℕ) → at < length s → get_or s at 0 ≡ b → drop at s ≡ b ∷ drop (at + 1) s

@@ -18,8 +18,8 @@ use Rattle.dimacs.specs.declared.line.Line as line-answer
 use Rattle.dimacs.specs.declared.line.Line.TheVariants as lines
 use Rattle.dimacs.specs.Arc.{Arc}
 use Rattle.dimacs.specs.Bytes.{◌>>=◌}
-use Rattle.dimacs.specs.Form.{ArcLine, NodeLine, file, Stage, opening, reading, is_empty, only_if, step, Form, whole_if, at_end, form_of}
-use Rattle.dimacs.specs.Lines.{supply_in, any_of, no_node, twice, bad_arc}
+use Rattle.dimacs.specs.Form.{ArcLine, NodeLine, file, Stage, opening, reading, is_empty, only_if, step, whole_if, at_end, form_of}
+use Rattle.dimacs.specs.Lines.{supply_in, any_of, twice, bad_arc}
 use Rattle.dimacs.specs.inner.LineReader.{on_line}
 use Rattle.dimacs.specs.inner.FormReader.{tally_of, end_of}
 use Rattle.dimacs.specs.inner.Stored.{node_in, arc_in, no_line, arc_on, HeldBy, ArcsRead, listed_node, no_cell, NodesRead, flagged, stage_of, nodes_in, arcs_in, supplies_in, LinesKept, ReadAs}

@@ -11,7 +11,7 @@ use lib.ListN.{get_or, get_or-map}
 use borrow.Author.Tests.{eq-eqb, ne_eqb}
 use Rattle.transport.proofs.Sums.{sum_ext}
 use Rattle.dimacs.specs.Arc.{Arc, arc}
-use Rattle.flow_problem.specs.Network.{Network, arc_count, arc_at, start, end, ceiling, at, entering}
+use Rattle.flow_problem.specs.Network.{Network, arc_count, arc_at, end, ceiling, at, entering}
 use Rattle.flow_problem.specs.inner.Reduce.{node, lane_cost, lane_ceiling, want}
 use Rattle.flow_case.specs.inner.Build.{into, want_in, lane_in, cost_in}
 use Rattle.flow_problem.proofs.SoundNetwork.{Proper}

@@ -16,7 +16,7 @@ use Rattle.transport.specs.Sum.{sum}
 use Rattle.problem.specs.Integer.{eq_z}
 use Rattle.transport.proofs.Differences.{by_sign, sub_add, sub_pos, pos_sub}
 use Rattle.dimacs.specs.Arc.{Arc, arc}
-use Rattle.flow_problem.specs.Network.{Network, arc_count, arc_at, start, end, ceiling, cost, supply, entering, amount}
+use Rattle.flow_problem.specs.Network.{Network, arc_count, arc_at, ceiling, supply, entering, amount}
 use Rattle.flow_problem.specs.inner.Reduce.{node, stock, lane_cost, lane_ceiling, want}
 use Rattle.flow_case.specs.inner.Build.{into, want_in, lane_in, cost_in, have_in, over_at, under_at}
 use Rattle.flow_problem.specs.inner.Sound.{uneven}

@@ -16,7 +16,7 @@ use Rattle.transport.specs.Listing.{up_from, select, least}
 use Rattle.transport.proofs.ListMembers.{flat_in, flat_out, select_in, select_out, up_from_in, up_from_out, least_le, least_in_lem as least-in-list}
 use Rattle.problem.specs.Integer.{eq_z, minℤ, leastℤ}
 use Rattle.dimacs.specs.Arc.{Arc, arc}
-use Rattle.flow_problem.specs.Network.{Network, ceiling, listed, Flow, flow_total, NoFlow}
+use Rattle.flow_problem.specs.Network.{Network, listed, Flow, flow_total, NoFlow}
 use Rattle.dimacs.specs.Lines.{any_of}
 use Rattle.flow_problem.specs.Answer.{CheapestFlow, any_below, amount_lists, lost, flows, least_total, named_flow, carried, refused, flow_outcome}
 use Rattle.problem.proofs.TestsPassed.{either_first, either_second}

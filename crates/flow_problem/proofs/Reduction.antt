@@ -17,7 +17,7 @@ use Rattle.transport.specs.Plan.{by_row, row, col}
 use Rattle.transport.proofs.Sums.{sum_ext, sum_at}
 use Rattle.problem.specs.Integer.{sumℤ}
 use Rattle.flow_problem.specs.Answer.{CheapestFlow}
-use Rattle.flow_problem.specs.Network.{Network, arc_count, start, end, ceiling, cost, listed, Flow, own_cost, flow_total, NoFlow, cells}
+use Rattle.flow_problem.specs.Network.{Network, arc_count, start, end, ceiling, cost, listed, Flow, own_cost, flow_total, NoFlow}
 use Rattle.problem.specs.Case.{Case, supply as supplyOf, entry}
 use Rattle.problem.specs.Freight.{rates_by_row, freightℤ}
 use Rattle.problem.specs.Plans.{freight_of, row_sum, column_sum, MeetsTP, plan_total}

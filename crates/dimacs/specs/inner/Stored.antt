@@ -1,5 +1,5 @@
 -- What the cells hold of the lines read so far: contracts of the reader's inner functions. Assumes nothing.
-use Rattle.std.specs.Prelude.{◌≡◌, ◌⊎◌, Bool, false, ◌||◌, List, [], ◌∷◌, ℕ, suc, min, ◌≤◌, ◌<◌, ◌^◌, eqb, ltb, ℤ, pos, length, get_or}
+use Rattle.std.specs.Prelude.{◌≡◌, ◌⊎◌, Bool, ◌||◌, List, [], ◌∷◌, ℕ, suc, min, ◌≤◌, ◌<◌, ◌^◌, eqb, ltb, ℤ, pos, length, get_or}
 use Rattle.std.proofs.Math.Option.{none, some}
 use Rattle.std.proofs.Math.IntN.{sub_ℕ}
 use Rattle.dimacs.specs.declared.line.Line as line-answer
@@ -10,7 +10,7 @@ use Rattle.dimacs.specs.declared.store.Reading as reading-answer
 use Rattle.dimacs.specs.declared.store.Reading.TheVariants as readings
 use Rattle.dimacs.specs.Arc.{Arc, arc}
 use Rattle.dimacs.specs.Bytes.{◌>>=◌}
-use Rattle.dimacs.specs.Form.{pieces, ArcLine, NodeLine, line_of, File, Stage, opening, reading, step, Form, whole, broken, form_of}
+use Rattle.dimacs.specs.Form.{pieces, ArcLine, NodeLine, line_of, File, Stage, opening, reading, step, whole, broken, form_of}
 use Rattle.dimacs.specs.Lines.{supply_in, any_of, no_node, twice, bad_arc}
 use Rattle.csv_form.specs.Records.{signed as with_sign}
 

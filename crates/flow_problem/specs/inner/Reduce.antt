@@ -1,7 +1,7 @@
 -- Section 5 of the report: the case that a network with a named arc becomes, and the way between its plans and the flows. Nodes are sources (plant 1
 -- the node where the named arc ends, plant 2 the one where it starts), arcs are terminals; the named arc's terminal has demand 0, so that a network of
 -- the named arc alone is a case too. Assumes nothing.
-use Rattle.std.specs.Prelude.{cond, ◌||◌, List, [], ◌∷◌, ◌++◌, ℕ, zero, suc, ◌+◌, ◌-◌, eqb, ltb, ℤ, pos, nat_abs}
+use Rattle.std.specs.Prelude.{cond, ◌||◌, List, [], ◌++◌, ℕ, zero, suc, ◌+◌, ◌-◌, eqb, ltb, ℤ, pos, nat_abs}
 use Rattle.transport.specs.Plan.{by_row, row}
 use Rattle.flow_problem.specs.Network.{cells, Network, arc_count, start, end, ceiling, cost, listed, amount}
 use Rattle.problem.specs.Case.{Case}

@@ -1,6 +1,5 @@
 -- `csv_answers::bounds::put_marks` meets its contract. Assumes nothing.
 use mathlib.Core.Path.{refl}
-use Prim.Native.Nat.{◌-◌}
 use native.Mathlib.Omega.{arith}
 use Rattle.csv_answers.specs.Bounds.{marks_text}
 use Rattle.csv_print.proofs.DecimalTexts.{each_start, each_next, each_end, written_length}

@@ -1,6 +1,5 @@
 -- `dimacs::bytes::skip_spaces` meets its contract. Assumes nothing.
 use mathlib.Core.Path.{refl, ap, ◌∙◌}
-use Prim.Native.Nat.{◌-◌}
 use native.Mathlib.Omega.{arith}
 use lib.ListN.{length, length-drop}
 use Rattle.dimacs.proofs.LineOffsets.{there, spaces_more, spaces_stop}

@@ -1,5 +1,4 @@
 -- `dimacs::form::line_end` meets its contract. Assumes nothing.
-use Prim.Native.Nat.{◌-◌}
 use Rattle.dimacs.proofs.FileLines.{along_start, along_next, along_lf, along_end}
 use Rattle.dimacs.proofs.form.line_end.Goals as goal
 

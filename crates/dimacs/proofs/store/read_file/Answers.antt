@@ -1,6 +1,5 @@
 -- `dimacs::store::read_file` meets its contract. Assumes nothing.
 use mathlib.Core.Path.{sym, ap, subst, ◌∙◌}
-use Prim.Native.Nat.{◌-◌}
 use native.Mathlib.Omega.{arith}
 use Rattle.dimacs.specs.declared.form.Form.{Form}
 use Rattle.dimacs.specs.declared.store.Reading.{Reading}
@@ -18,7 +17,7 @@ line_end-e-requires c = c.loop-t.invariant.so_far.upto
 pub returns-then-at-e : goal.returns-then-at-e
 returns-then-at-e c =
     let k = c.loop-t.invariant in
-    let e = c.line_end_lem.ensures in
+    let e = c.line_end-e.ensures in
     record {
       reads = (
         no_lf _ _ _ _ _ k.so_far e c.if-s-e.true c.if-at-e.true,
@@ -33,23 +32,23 @@ returns-then-s-e c =
           subst (λ (z : Reading). ReadAs c.args.s.now z k.starts k.ends k.ceilings k.costs k.gives k.takes k.marks)
           (sym (c.with_flags.ensures ∙ ap (λ (z : Form). flagged z k.odd k.bad) c.at_end.ensures))
           (kept_ends _ _ _ _ _ _ _ _ k.t k.line k.odd k.bad k.invariant.so_far.stage k.invariant.so_far.stands
-          (form_ends _ _ _ _ _ k.invariant.so_far c.line_end_lem.ensures c.if-s-e.true c.if-at-e.false)
-          (stage_ends _ _ _ _ _ k.invariant.so_far c.line_end_lem.ensures c.if-s-e.true) k.invariant.arc_lines k.invariant.node_lines);
+          (form_ends _ _ _ _ _ k.invariant.so_far c.line_end-e.ensures c.if-s-e.true c.if-at-e.false)
+          (stage_ends _ _ _ _ _ k.invariant.so_far c.line_end-e.ensures c.if-s-e.true) k.invariant.arc_lines k.invariant.node_lines);
     }
 
 pub slice_bounds-read_line-count : goal.slice_bounds-read_line-count
-slice_bounds-read_line-count c = omega (arith, c.line_end_lem.ensures.from)
+slice_bounds-read_line-count c = omega (arith, c.line_end-e.ensures.from)
 
 pub slice_bounds-read_line-start : goal.slice_bounds-read_line-start
-slice_bounds-read_line-start c = omega (arith, c.line_end_lem.ensures.from)
+slice_bounds-read_line-start c = omega (arith, c.line_end-e.ensures.from)
 
 pub slice_bounds-read_line-end : goal.slice_bounds-read_line-end
-slice_bounds-read_line-end c = omega (arith, c.line_end_lem.ensures.upto)
+slice_bounds-read_line-end c = omega (arith, c.line_end-e.ensures.upto)
 
 pub returns-in_default : goal.returns-in_default
 returns-in_default c =
     let k = c.loop-t.invariant in
-    let e = c.line_end_lem.ensures in
+    let e = c.line_end-e.ensures in
     let l = c.if-s-e.false in
     let w = c.read_line-l.ensures in
     let q = sym c.with_line-n.ensures ∙ c.in_default.is in
@@ -67,14 +66,14 @@ overflow_add-at c =
 
 pub overflow_add-line : goal.overflow_add-line
 overflow_add-line c =
-    omega (arith, c.well_formed.0.0, c.well_formed.0.1, c.loop-t.invariant.so_far.numbered, c.line_end_lem.ensures.from, c.if-s-e.false)
+    omega (arith, c.well_formed.0.0, c.well_formed.0.1, c.loop-t.invariant.so_far.numbered, c.line_end-e.ensures.from, c.if-s-e.false)
 
 pub loop-t-smaller : goal.loop-t-smaller
 loop-t-smaller c =
-    omega (arith, c.line_end_lem.ensures.from, c.if-s-e.false)
+    omega (arith, c.line_end-e.ensures.from, c.if-s-e.false)
 
 pub loop-t-preserved : goal.loop-t-preserved
 loop-t-preserved c =
-    let f = form_on _ _ _ _ _ c.loop-t.invariant.so_far c.line_end_lem.ensures c.if-s-e.false _ c.read_line-l.ensures _
+    let f = form_on _ _ _ _ _ c.loop-t.invariant.so_far c.line_end-e.ensures c.if-s-e.false _ c.read_line-l.ensures _
     (sym c.with_line-n.ensures ∙ c.in-On.is) in
     kept_on c.loop-t.invariant f.0 c.read_line-l.result f.1 c.store_node-odd.ensures c.store_arc-bad.ensures

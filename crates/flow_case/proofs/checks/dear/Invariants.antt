@@ -1,0 +1,14 @@
+-- `flow_case::checks::dear` meets its contract. Assumes nothing.
+use mathlib.Core.Path.{◌≡◌}
+use Prim.Native.Nat.{◌-◌, ◌≤◌}
+use lib.ListN.{length}
+use mathlib.Core.Bool.{false}
+use Rattle.flow_problem.specs.Answer.{any_below}
+use Rattle.flow_case.specs.inner.Build.{dear_at}
+use Rattle.flow_case.proofs.checks.dear.Given as goal
+
+abbrev pub invariant-loop-i : goal.invariant-loop-i
+invariant-loop-i l = (l.i ≤ length l.table) × (any_below l.i (dear_at l.table) ≡ false)
+
+abbrev pub decreases-loop-i : goal.decreases-loop-i
+decreases-loop-i l = length l.table - l.i
