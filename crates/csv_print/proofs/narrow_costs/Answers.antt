@@ -40,11 +40,10 @@ pub loop-k-smaller : goal.loop-k-smaller
 loop-k-smaller c = omega (arith, c.loop-k-test.true)
 
 pub loop-k-preserved : goal.loop-k-preserved
-loop-k-preserved c =
-    (
-      omega (arith, c.loop-k-test.true),
-      λ i h. elim (ℕ_discrete i c.loop-k.k) [ yes z ↦ rw z (omega (arith, c.if-magnitude-gt2147483647.false, size (goal.at.loop-k-preserved c).After-magnitude)) | no z ↦ c.loop-k.invariant.1 i (omega arith) ],
-    )
+loop-k-preserved c = (
+  omega (arith, c.loop-k-test.true),
+  λ i h. elim (ℕ_discrete i c.loop-k.k) [ yes z ↦ rw z (omega (arith, c.if-magnitude-gt2147483647.false, size (goal.at.loop-k-preserved c).After-magnitude)) | no z ↦ c.loop-k.invariant.1 i (omega arith) ],
+)
 
 pub returns : goal.returns
 returns c = record { yes = λ e. record { there = omega (arith, c.if-s-count.false); below = λ k h. c.loop-k.invariant.1 k (omega arith) }; no = λ e p. true≢false e }

@@ -14,11 +14,14 @@ goal_node c = (c.search-found.ensures c.args.limit c.requires.send_ready.positiv
 
 pub returns-then-goal-eq96 : goal.returns-then-goal-eq96
 returns-then-goal-eq96 c =
-    let q = (c.search-found.ensures c.args.limit c.requires.send_ready.positive).searched in record { send_done = record {
+    let q = (c.search-found.ensures c.args.limit c.requires.send_ready.positive).searched in record {
+      send_done = record {
         bound = q.bound;
         found = λ h. absurd (omega (arith, c.if-goal-eq96.true));
         none = λ e. record { labels = _; stuck = q.stuck e; same_x = refl; same_p = refl };
-      }; covers_2 = c.requires.covers }
+      };
+      covers_2 = c.requires.covers;
+    }
 
 pub measure-way-requires : goal.measure-way-requires
 measure-way-requires c =
@@ -68,15 +71,18 @@ returns c =
     let q = (c.search-found.ensures c.args.limit c.requires.send_ready.positive).searched in
     let hg : c.search-found.result.goal < 96 = omega (arith, q.bound, c.if-goal-eq96.false) in
     let way = c.measure-way.ensures in
-    let small = c.smaller-amount.ensures in record { send_done = record {
+    let small = c.smaller-amount.ensures in record {
+      send_done = record {
         bound = q.bound;
         found = λ h.
             let r = route c.args.m c.args.n c.args.cost.now c.requires.send_ready.sound.sources h q in
             delivered c.requires.send_ready q h refl c.lower.ensures (omega (arith, small, way.width r))
             (pushed c.requires.send_ready q h refl (way.arcs r) (omega (arith, small, way.width r)) c.push.ensures.walked);
         none = λ e. absurd (c.if-goal-eq96.false e);
-      }; covers_2 = cover_walk c.requires.send_ready.sound.terminals _ _ _ _ _ _
+      };
+      covers_2 = cover_walk c.requires.send_ready.sound.terminals _ _ _ _ _ _
           (mark_ready c.requires.send_ready q hg {d = 0} refl
           (c.measure-way.ensures.arcs (route c.args.m c.args.n c.args.cost.now c.requires.send_ready.sound.sources hg q))
           (omega arith))
-          c.requires.covers c.push.ensures.walked c.push.ensures.marks }
+          c.requires.covers c.push.ensures.walked c.push.ensures.marks;
+    }

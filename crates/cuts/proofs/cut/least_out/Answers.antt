@@ -77,14 +77,13 @@ pub loop-left-smaller : goal.loop-left-smaller
 loop-left-smaller c = omega (arith, rest_less c.loop-left-test.true)
 
 pub loop-left-preserved : goal.loop-left-preserved
-loop-left-preserved c =
-    (
-      out_next c.loop-left.invariant.0 c.loop-left-test.true (fits (goal.at.loop-left-preserved c).In-loop-left) c.nearer-far.ensures
-          (let s = c.requires in
-          let i = count_trailing_zeros 64 c.loop-left.left in
-          omega (arith, s.costs i (out_in c.loop-left.invariant.0 c.loop-left-test.true (fits (goal.at.loop-left-preserved c).In-loop-left)), s.high i (omega (arith, place (goal.at.loop-left-preserved c).In-loop-left)))),
-      omega (arith, rest_less c.loop-left-test.true, c.loop-left.invariant.1),
-    )
+loop-left-preserved c = (
+  out_next c.loop-left.invariant.0 c.loop-left-test.true (fits (goal.at.loop-left-preserved c).In-loop-left) c.nearer-far.ensures
+      (let s = c.requires in
+      let i = count_trailing_zeros 64 c.loop-left.left in
+      omega (arith, s.costs i (out_in c.loop-left.invariant.0 c.loop-left-test.true (fits (goal.at.loop-left-preserved c).In-loop-left)), s.high i (omega (arith, place (goal.at.loop-left-preserved c).In-loop-left)))),
+  omega (arith, rest_less c.loop-left-test.true, c.loop-left.invariant.1),
+)
 
 pub returns : goal.returns
 returns c = out_end c.loop-left.invariant.0 c.loop-left-test.false

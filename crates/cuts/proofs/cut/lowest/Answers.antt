@@ -26,15 +26,14 @@ overflow_add-low c =
     )
 
 pub counted-key-requires : goal.counted-key-requires
-counted-key-requires c =
-    (
-      c.loop-b-test.true,
-      omega (
-        arith,
-        c.requires.most c.loop-b.b,
-        c.requires.weights (c.args.at + c.loop-b.b) (omega (arith, c.requires.nodes, c.loop-b-test.true)),
-      ),
-    )
+counted-key-requires c = (
+  c.loop-b-test.true,
+  omega (
+    arith,
+    c.requires.most c.loop-b.b,
+    c.requires.weights (c.args.at + c.loop-b.b) (omega (arith, c.requires.nodes, c.loop-b-test.true)),
+  ),
+)
 
 pub lower-far-requires : goal.lower-far-requires
 lower-far-requires c =

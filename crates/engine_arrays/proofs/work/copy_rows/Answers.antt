@@ -48,12 +48,11 @@ pub loop-i-smaller : goal.loop-i-smaller
 loop-i-smaller c = omega arith
 
 pub loop-i-preserved : goal.loop-i-preserved
-loop-i-preserved c =
-    (
-      move_next _ _ c.loop-i.invariant.0 c.requires.1 c.loop-i.invariant.2 refl (fits (goal.at.loop-i-preserved c).In-loop-i) c.copy_into.ensures,
-      omega arith,
-      row_start _ _ _ c.loop-i.invariant.2,
-    )
+loop-i-preserved c = (
+  move_next _ _ c.loop-i.invariant.0 c.requires.1 c.loop-i.invariant.2 refl (fits (goal.at.loop-i-preserved c).In-loop-i) c.copy_into.ensures,
+  omega arith,
+  row_start _ _ _ c.loop-i.invariant.2,
+)
 
 pub returns : goal.returns
 returns c =

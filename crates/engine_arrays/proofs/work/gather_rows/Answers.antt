@@ -55,12 +55,11 @@ pub loop-i-smaller : goal.loop-i-smaller
 loop-i-smaller c = omega arith
 
 pub loop-i-preserved : goal.loop-i-preserved
-loop-i-preserved c =
-    (
-      move_next _ _ c.loop-i.invariant.0 (omega arith) refl c.loop-i.invariant.2 (inside (goal.at.loop-i-preserved c).In-loop-i) c.copy_out.ensures,
-      omega arith,
-      row_start _ _ _ c.loop-i.invariant.2,
-    )
+loop-i-preserved c = (
+  move_next _ _ c.loop-i.invariant.0 (omega arith) refl c.loop-i.invariant.2 (inside (goal.at.loop-i-preserved c).In-loop-i) c.copy_out.ensures,
+  omega arith,
+  row_start _ _ _ c.loop-i.invariant.2,
+)
 
 pub shape_of-to : goal.shape_of-to
 shape_of-to c = c.loop-i.invariant.0.long

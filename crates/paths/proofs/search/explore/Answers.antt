@@ -85,9 +85,12 @@ bounds-dist-v c =
 pub relax-next-requires : goal.relax-next-requires
 relax-next-requires c =
     let near = explore_near c.requires.search_ready.sound (c.loop-pass.invariant 1 (omega arith)).exploring c.choose-v.ensures in
-    let hv : c.choose-v.result < 96 = omega (arith, near.bound, c.if-v-eq96.false) in record { relax_ready = relax_ready c.requires.search_ready.sound (c.loop-pass.invariant 1 (omega arith)).exploring.searching c.requires.search_ready.ceilings
+    let hv : c.choose-v.result < 96 = omega (arith, near.bound, c.if-v-eq96.false) in record {
+      relax_ready = relax_ready c.requires.search_ready.sound (c.loop-pass.invariant 1 (omega arith)).exploring.searching c.requires.search_ready.ceilings
           (c.loop-pass.invariant 1 (omega arith)).exploring.most c.requires.covers.within hv (near.fresh hv).1
-          (simp length-set (c.loop-pass.invariant 1 (omega arith)).exploring.long_key); tags = c.requires.plan_tagged.tags }
+          (simp length-set (c.loop-pass.invariant 1 (omega arith)).exploring.long_key);
+      tags = c.requires.plan_tagged.tags;
+    }
 
 pub loop-pass-preserved : goal.loop-pass-preserved
 loop-pass-preserved c limit o =

@@ -113,18 +113,16 @@ gather_rows-requires c =
     let f = form (goal.at.gather_rows-requires c).Start in (f.few_sources, f.few_terminals, (room (goal.at.gather_rows-requires c).In_default).plan_room)
 
 pub lowered-total-requires : goal.lowered-total-requires
-lowered-total-requires c =
-    (
-      total_moderate (passed (goal.at.lowered-total-requires c).In_default) (prepared (goal.at.lowered-total-requires c).After-wanted-wants) (c.sweep-best.ensures _ _ (c.begin-range.ensures.begun (not-false _ c.if-not-range.false))),
-      omega (arith, few (goal.at.lowered-total-requires c).Start, sum_is (goal.at.lowered-total-requires c).After-sum_of-added),
-    )
+lowered-total-requires c = (
+  total_moderate (passed (goal.at.lowered-total-requires c).In_default) (prepared (goal.at.lowered-total-requires c).After-wanted-wants) (c.sweep-best.ensures _ _ (c.begin-range.ensures.begun (not-false _ c.if-not-range.false))),
+  omega (arith, few (goal.at.lowered-total-requires c).Start, sum_is (goal.at.lowered-total-requires c).After-sum_of-added),
+)
 
 pub lowered-freight-requires : goal.lowered-freight-requires
-lowered-freight-requires c =
-    (
-      freight_moderate (passed (goal.at.lowered-freight-requires c).In_default) (prepared (goal.at.lowered-freight-requires c).After-wanted-wants) (c.sweep-best.ensures _ _ (c.begin-range.ensures.begun (not-false _ c.if-not-range.false))),
-      omega (arith, few (goal.at.lowered-freight-requires c).Start, sum_is (goal.at.lowered-freight-requires c).After-sum_of-added),
-    )
+lowered-freight-requires c = (
+  freight_moderate (passed (goal.at.lowered-freight-requires c).In_default) (prepared (goal.at.lowered-freight-requires c).After-wanted-wants) (c.sweep-best.ensures _ _ (c.begin-range.ensures.begun (not-false _ c.if-not-range.false))),
+  omega (arith, few (goal.at.lowered-freight-requires c).Start, sum_is (goal.at.lowered-freight-requires c).After-sum_of-added),
+)
 
 pub returns : goal.returns
 returns c =
@@ -133,7 +131,10 @@ returns c =
     let e = sum_is (goal.at.returns c).After-sum_of-added in
     let o = w.ensures _ _ (c.begin-range.ensures.begun (not-false _ c.if-not-range.false)) in
     let ok = passed (goal.at.returns c).In_default in
-    let arrays = prepared (goal.at.returns c).After-wanted-wants in record { answered = told
+    let arrays = prepared (goal.at.returns c).After-wanted-wants in record {
+      answered = told
           (read_back c.lowered-total.result c.lowered-total.type_inv ∙ c.lowered-total.ensures ∙ ap (λ (v : ℕ). sub_ℕ w.result.total v) e)
           (read_back c.lowered-freight.result c.lowered-freight.type_inv ∙ c.lowered-freight.ensures ∙ ap (λ (v : ℕ). sub_ℕ w.result.freight v) e)
-          (answered ok arrays o _ _ g.0 g.1 g.2 refl e); climbed = climbed _ (case_stretches ok arrays o) }
+          (answered ok arrays o _ _ g.0 g.1 g.2 refl e);
+      climbed = climbed _ (case_stretches ok arrays o);
+    }

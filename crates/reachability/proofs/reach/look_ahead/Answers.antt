@@ -127,14 +127,17 @@ look_back-now-requires c =
 
 pub returns-then-now : goal.returns-then-now
 returns-then-now c =
-    let d = c.look_back-now.ensures in record { looked_ahead = record {
+    let d = c.look_back-now.ensures in record {
+      looked_ahead = record {
         known = rw d.looked_back.same c.loop-rest.invariant.known;
         found = d.looked_back.found;
         reaching = λ e. absurd (true≢false (sym c.if-now.true ∙ e));
         aiming = λ e. absurd (true≢false (sym c.if-now.true ∙ e));
         shut = λ e. absurd (true≢false (sym c.if-now.true ∙ e));
         fewer = λ e. absurd (true≢false (sym c.if-now.true ∙ e));
-      }; covers_2 = d.covers_2 }
+      };
+      covers_2 = d.covers_2;
+    }
 
 pub loop-rest-smaller-else-now : goal.loop-rest-smaller-else-now
 loop-rest-smaller-else-now c =
@@ -161,11 +164,14 @@ loop-rest-preserved c =
     (ahead_skip s.ahead_at s.i_value _ c.loop-rest.invariant c.highest-j.ensures (c.has_room.ensures.full c.if-has_room.false))
 
 pub returns : goal.returns
-returns c = let s = c.requires in let q = c.loop-rest.invariant in record { looked_ahead = record {
+returns c = let s = c.requires in let q = c.loop-rest.invariant in record {
+  looked_ahead = record {
     known = q.known;
     found = λ e. absurd (false≢true e);
     reaching = λ e. q.reaching;
     aiming = λ e. q.aiming;
     shut = λ e. ahead_end s.ahead_at s.i_value q (omega (arith, c.loop-rest-test.false));
     fewer = λ e. q.moved.fewer;
-  }; covers_2 = q.covers }
+  };
+  covers_2 = q.covers;
+}

@@ -80,13 +80,16 @@ bounds-prev-goal c = omega (arith, goal_low (goal.at.bounds-prev-goal c).In-loop
 pub returns-then-has_room : goal.returns-then-has_room
 returns-then-has_room c =
     let s = c.requires in
-    let q = c.loop-rest.invariant in record { looked_back = record {
+    let q = c.loop-rest.invariant in record {
+      looked_back = record {
         same = refl;
         found = λ e. back_found s.reach_at q c.loop-rest-test.true c.if-x-i-gt0.true (c.has_room.ensures.room c.if-has_room.true);
         reaching = λ e. absurd (true≢false e);
         aiming = λ e. absurd (true≢false e);
         back = λ e. absurd (true≢false e);
-      }; covers_2 = q.covers }
+      };
+      covers_2 = q.covers;
+    }
 
 pub overflow_cast-sources : goal.overflow_cast-sources
 overflow_cast-sources c = omega (arith, source (goal.at.overflow_cast-sources c).In-loop-rest)
@@ -132,10 +135,13 @@ loop-rest-preserved c =
     (cover_drop s.reach_at.sources (back_source s.reach_at q p) s.reach_at.terminal q.covers (omega (arith, c.if-x-i-gt0.false)) s.reach_at.terminals c.drop_source.ensures)
 
 pub returns : goal.returns
-returns c = let s = c.requires in let q = c.loop-rest.invariant in record { looked_back = record {
+returns c = let s = c.requires in let q = c.loop-rest.invariant in record {
+  looked_back = record {
     same = refl;
     found = λ e. absurd (false≢true e);
     reaching = λ e. q.at.reaching;
     aiming = λ e. q.aiming;
     back = λ e. back_end s.reach_at q (omega (arith, c.loop-rest-test.false));
-  }; covers_2 = q.covers }
+  };
+  covers_2 = q.covers;
+}

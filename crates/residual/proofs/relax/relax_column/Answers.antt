@@ -204,7 +204,11 @@ loop-rest-preserved c =
 pub returns : goal.returns
 returns c =
     let i = c.loop-rest.invariant in
-    let s = c.requires.column_ready in record { by_index = λ m n cap a.
+    let s = c.requires.column_ready in record {
+      by_index = λ m n cap a.
           pass_column
           (column_skip c.args.cost.now cap (c.args.v - 32) a.covers a.sources (omega (arith, s.low)) (i.labels m n cap a) i.most
-          (λ w h o. left_end i.left (omega (arith, c.loop-rest-test.false)) w h)) s.low a.sources a.sources; rekeyed = i.keys; next = next_most i.named i.most }
+          (λ w h o. left_end i.left (omega (arith, c.loop-rest-test.false)) w h)) s.low a.sources a.sources;
+      rekeyed = i.keys;
+      next = next_most i.named i.most;
+    }

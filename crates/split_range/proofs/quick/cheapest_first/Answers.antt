@@ -12,9 +12,14 @@ returns-then-first c =
 
 pub first_plan-requires : goal.first_plan-requires
 first_plan-requires c =
-    let r = c.requires in record { le_m = r.plants; plants_ready = plants_ready r; base_ready = base_ready r (length-replicate {A = ℕ} 2048 0) (λ k h. get_or-replicate {A = ℕ} 2048 k 0 0 h); covers = cover_none (length-replicate {A = ℕ} 64 0)
-              (λ i j a b. get_or-replicate {A = ℕ} 2048 (i * 64 + j) 0 0 (omega (arith, r.sources, r.terminals))) (λ j h. get_or-replicate {A = ℕ} 64 j 0 0 h)
-              r.terminals }
+    let r = c.requires in record {
+      le_m = r.plants;
+      plants_ready = plants_ready r;
+      base_ready = base_ready r (length-replicate {A = ℕ} 2048 0) (λ k h. get_or-replicate {A = ℕ} 2048 k 0 0 h);
+      covers = cover_none (length-replicate {A = ℕ} 64 0)
+          (λ i j a b. get_or-replicate {A = ℕ} 2048 (i * 64 + j) 0 0 (omega (arith, r.sources, r.terminals))) (λ j h. get_or-replicate {A = ℕ} 64 j 0 0 h)
+          r.terminals;
+    }
 
 pub returns : goal.returns
 returns c = let q = c.first_plan.ensures in record { first_plan = record { unmet = q.first_plan.unmet; done = first_again _ q.first_plan.done }; covers = q.covers_2 }

@@ -57,12 +57,11 @@ pub loop-j-preserved : goal.loop-j-preserved
 loop-j-preserved c = (omega arith, more _ _ _ c.loop-j.invariant.1 (sym (lane (goal.at.loop-j-preserved c).After-out_of_range) ∙ c.if-out_of_range.false))
 
 pub loop-i-preserved : goal.loop-i-preserved
-loop-i-preserved c =
-    (
-      omega arith,
-      omega (arith, suc-mul c.loop-i.i c.args.n, add-one c.loop-i.i),
-      λ k h. c.loop-j.invariant.1 k (omega arith),
-    )
+loop-i-preserved c = (
+  omega arith,
+  omega (arith, suc-mul c.loop-i.i c.args.n, add-one c.loop-i.i),
+  λ k h. c.loop-j.invariant.1 k (omega arith),
+)
 
 pub returns-then-out_of_range : goal.returns-then-out_of_range
 returns-then-out_of_range c =
