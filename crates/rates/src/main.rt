@@ -7,8 +7,11 @@ use anyhow::Result;
 use file_io::about::told_version;
 use file_io::arguments::{argument, argument_count, argument_room};
 use file_io::file::first;
-use file_io::message::say;
 use std::io;
+
+fn say(err: &impl Print, text: &[u8]) -> io::Result<()> {
+    err.write_all(text)
+}
 
 // Writes the usage text to standard error.
 fn usage(err: &impl Print) -> io::Result<()> {

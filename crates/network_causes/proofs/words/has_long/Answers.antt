@@ -1,5 +1,5 @@
 -- How many digits stand up to here, counted on from here.
-use Rattle.std.proofs.Common.{◌≡◌, ℕ, sym, ap, ◌∙◌, ltb}
+use Rattle.std.proofs.Common.{ℕ, sym, ap, ◌∙◌, ltb}
 use Rattle.file_io.proofs.OverBytes.{over_next, over_done}
 use Rattle.network_causes.proofs.words.has_long.Goals as goal
 

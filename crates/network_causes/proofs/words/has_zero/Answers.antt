@@ -1,5 +1,5 @@
 -- Where a number with 0 in front is looked for, up to here and on from here.
-use Rattle.std.proofs.Common.{◌≡◌, ℕ, sym, ap, ◌∙◌, eqb}
+use Rattle.std.proofs.Common.{ℕ, sym, ap, ◌∙◌, eqb}
 use Rattle.file_io.proofs.OverBytes.{over_next, over_done}
 use Rattle.network_causes.proofs.words.has_zero.Goals as goal
 

@@ -1,5 +1,5 @@
 -- The lines of the kind up to here, counted on from here.
-use Rattle.std.proofs.Common.{◌≡◌, ℕ, sym, ap, ◌∙◌}
+use Rattle.std.proofs.Common.{sym, ap, ◌∙◌}
 use Rattle.file_io.proofs.OverBytes.{over_next, over_done}
 use Rattle.network_causes.specs.declared.words.Counted.{Counted}
 use Rattle.network_causes.proofs.words.lines_of.Goals as goal
