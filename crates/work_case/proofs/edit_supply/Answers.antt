@@ -1,0 +1,17 @@
+-- `work_case::edit_supply` meets its contract. Assumes nothing.
+use mathlib.Core.Path.{sym, ◌∙◌}
+use Rattle.work_store.proofs.OpenStore.{opened}
+use Rattle.work_store.proofs.CallPromise.{by_closed, by_work}
+use Rattle.work_store.proofs.EditLaws.{supply_faithful}
+use Rattle.work_case.proofs.edit_supply.Goals as goal
+
+pub put_supply-requires : goal.put_supply-requires
+put_supply-requires c = opened _ _ _ (sym c.open_store.ensures ∙ c.in-Held.is)
+
+pub returns-in-Closed : goal.returns-in-Closed
+returns-in-Closed c = by_closed _ _ (sym c.open_store.ensures ∙ c.in-Closed.is)
+
+pub returns-in-Held : goal.returns-in-Held
+returns-in-Held c =
+    by_work _ (supply_faithful _ _) _ _ _ _ _ (sym c.open_store.ensures ∙ c.in-Held.is)
+    c.put_supply.ensures
