@@ -72,13 +72,13 @@ module _ (gives takes starts ends ceilings : List ℕ) (costs : List ℤ) (A : A
   pub proper_of : Proper network
   proper_of = record {
     starts = λ j l. let q : j < length starts = omega (arith, counted) in omega (arith, ap (λ (a : Arc). a.start) (arc_of j q), A.start_low j q, A.start_high j q);
-    ends = λ j l. let q : j < length starts = omega (arith, counted) in omega (arith, ap (λ (a : Arc). a.end) (arc_of j q), A.End-low j q, A.end_high j q);
+    ends = λ j l. let q : j < length starts = omega (arith, counted) in omega (arith, ap (λ (a : Arc). a.end) (arc_of j q), A.end_low j q, A.end_high j q);
     apart = λ j l e.
         let q : j < length starts = omega (arith, counted) in
-        A.apart j q (omega (arith, e, ap (λ (a : Arc). a.start) (arc_of j q), ap (λ (a : Arc). a.end) (arc_of j q), A.start_low j q, A.End-low j q));
+        A.apart j q (omega (arith, e, ap (λ (a : Arc). a.start) (arc_of j q), ap (λ (a : Arc). a.end) (arc_of j q), A.start_low j q, A.end_low j q));
     ceilings = λ j l. let q : j < length starts = omega (arith, counted) in omega (arith, ap (λ (a : Arc). a.ceiling) (arc_of j q), A.ceiling_most j q);
     starts_numbered = λ j l. let q : j < length starts = omega (arith, counted) in omega (arith, ap (λ (a : Arc). a.start) (arc_of j q), A.start_low j q);
-    ends_numbered = λ j l. let q : j < length starts = omega (arith, counted) in omega (arith, ap (λ (a : Arc). a.end) (arc_of j q), A.End-low j q);
+    ends_numbered = λ j l. let q : j < length starts = omega (arith, counted) in omega (arith, ap (λ (a : Arc). a.end) (arc_of j q), A.end_low j q);
     costs_low = λ j l.
         let q : j < length starts = omega (arith, counted) in
         ap (λ (a : Arc). lt_z a.cost (neg_ℤ (pos 1000000))) (arc_of j q) ∙ (inside_parts (get_or costs j (pos 0)) (A.cost_inside j q)).0;
@@ -133,13 +133,13 @@ module _ (gives takes haves starts ends ceilings : List ℕ) (costs : List ℤ) 
   top_is = ap (λ (a : Arc). a.ceiling) (arc_at_lem named N.place)
 
   pub w_in : w < length gives
-  w_in = omega (arith, A.End-low named N.place, A.end_high named N.place)
+  w_in = omega (arith, A.end_low named N.place, A.end_high named N.place)
 
   pub v_in : v < length gives
   v_in = omega (arith, A.start_low named N.place, A.start_high named N.place)
 
   apart : v ≢ w
-  apart e = A.apart named N.place (omega (arith, e, A.start_low named N.place, A.End-low named N.place))
+  apart e = A.apart named N.place (omega (arith, e, A.start_low named N.place, A.end_low named N.place))
 
   pub nodes_in : (s : ℕ) → s < length gives → node_of w v s < length gives
   nodes_in s l = node_below w v (length gives) w_in v_in apart s l

@@ -127,7 +127,7 @@ module _ (f : File) (nodes arcs : ℕ) (odd bad : Bool) (tails heads caps : List
             ∙ sym (ap (λ (b : Bool). b || (ltb 64 (length f.arcs) || (none_named || (twice f.supplies || any_of (bad_arc f.nodes) f.arcs)))) (lt-ltb 32 f.nodes l))
         | no l ↦
             ap₂ (λ (o b : Bool). ltb 32 f.nodes || (ltb 64 (length f.arcs) || (o || b)))
-            (R.Node-Lines.flag ∙ ap (λ (k : ℕ). any_of (λ (v : NodeLine). no_node k v.id) f.supplies || twice f.supplies) (let e : min f.nodes 32 ≡ f.nodes = omega arith in e))
+            (R.node_lines.flag ∙ ap (λ (k : ℕ). any_of (λ (v : NodeLine). no_node k v.id) f.supplies || twice f.supplies) (let e : min f.nodes 32 ≡ f.nodes = omega arith in e))
             R.arc_lines.flag
             ∙ ap (λ (b : Bool). ltb 32 f.nodes || (ltb 64 (length f.arcs) || b)) (or_regroup none_named (twice f.supplies) (any_of (bad_arc f.nodes) f.arcs))
       ]
@@ -197,10 +197,10 @@ module _ (f : File) (nodes arcs : ℕ) (odd bad : Bool) (tails heads caps : List
     P = take (arcs - 0) (drop 0 prices)
 
     long_g : length G ≡ nodes
-    long_g = part_long nodes gives (omega (arith, few_nodes, R.Node-Lines.gives_long))
+    long_g = part_long nodes gives (omega (arith, few_nodes, R.node_lines.gives_long))
 
     long_t : length T ≡ nodes
-    long_t = part_long nodes takes (omega (arith, few_nodes, R.Node-Lines.takes_long))
+    long_t = part_long nodes takes (omega (arith, few_nodes, R.node_lines.takes_long))
 
     long_s : length S ≡ arcs
     long_s = part_long arcs tails (omega (arith, few_arcs, R.arc_lines.starts_long))
@@ -236,7 +236,7 @@ module _ (f : File) (nodes arcs : ℕ) (odd bad : Bool) (tails heads caps : List
         ∙ cells_ext f.nodes (λ i. sub_ℕ (get_or G i 0) (get_or T i 0)) (λ i. supply_in (suc i) f.supplies)
         (λ i l.
         let q : i < nodes = omega (arith, R.nodes_are) in
-        ap₂ (λ (a b : ℕ). sub_ℕ a b) (part_at 0 nodes gives i q) (part_at 0 nodes takes i q) ∙ R.Node-Lines.supply i (omega (arith, few_nodes))))
+        ap₂ (λ (a b : ℕ). sub_ℕ a b) (part_at 0 nodes gives i q) (part_at 0 nodes takes i q) ∙ R.node_lines.supply i (omega (arith, few_nodes))))
         ∙ ap (λ (a : List Arc). record { nodes = f.nodes; supplies = cells f.nodes (λ i. supply_in (suc i) f.supplies); arcs = a })
         (ap (λ (n : ℕ). cells n (λ j. arc (get_or S j 0) (get_or E j 0) (get_or C j 0) (get_or P j (pos 0)))) (long_s ∙ R.arcs_are)
         ∙ ext_get_or (arc 0 0 0 (pos 0)) (cells (length f.arcs) (λ j. arc (get_or S j 0) (get_or E j 0) (get_or C j 0) (get_or P j (pos 0)))) (map (λ (v : ArcLine). v.arc) f.arcs)
@@ -273,8 +273,8 @@ module _ (f : File) (nodes arcs : ℕ) (odd bad : Bool) (tails heads caps : List
     given_good = record {
       few = omega (arith, long_g, few_nodes);
       takes_long = long_t ∙ sym long_g;
-      gives_small = λ k l. let q : k < nodes = omega (arith, l, long_g) in omega (arith, part_at 0 nodes gives k q, (R.Node-Lines.small k (omega (arith, few_nodes))).0);
-      takes_small = λ k l. let q : k < nodes = omega (arith, l, long_t) in omega (arith, part_at 0 nodes takes k q, (R.Node-Lines.small k (omega (arith, few_nodes))).1);
+      gives_small = λ k l. let q : k < nodes = omega (arith, l, long_g) in omega (arith, part_at 0 nodes gives k q, (R.node_lines.small k (omega (arith, few_nodes))).0);
+      takes_small = λ k l. let q : k < nodes = omega (arith, l, long_t) in omega (arith, part_at 0 nodes takes k q, (R.node_lines.small k (omega (arith, few_nodes))).1);
     }
 
     -- the count that is told is the file's

@@ -21,12 +21,12 @@ returns-then-out_of_limits c =
 pub slice_bounds-judge-end : goal.slice_bounds-judge-end
 slice_bounds-judge-end c =
     let h = read_whole c.read_file-reading.ensures c.in-Whole.is in
-    omega (arith, few_nodes h.0 _ _ _ _ _ _ _ _ _ _ _ h.2 (sym c.if-out_of_limits.false ∙ c.out_of_limits.ensures), h.2.Node-Lines.gives_long)
+    omega (arith, few_nodes h.0 _ _ _ _ _ _ _ _ _ _ _ h.2 (sym c.if-out_of_limits.false ∙ c.out_of_limits.ensures), h.2.node_lines.gives_long)
 
 pub slice_bounds-judge-end-in-Whole : goal.slice_bounds-judge-end-in-Whole
 slice_bounds-judge-end-in-Whole c =
     let h = read_whole c.read_file-reading.ensures c.in-Whole.is in
-    omega (arith, few_nodes h.0 _ _ _ _ _ _ _ _ _ _ _ h.2 (sym c.if-out_of_limits.false ∙ c.out_of_limits.ensures), h.2.Node-Lines.takes_long)
+    omega (arith, few_nodes h.0 _ _ _ _ _ _ _ _ _ _ _ h.2 (sym c.if-out_of_limits.false ∙ c.out_of_limits.ensures), h.2.node_lines.takes_long)
 
 pub slice_bounds-judge-end-in-Whole-2 : goal.slice_bounds-judge-end-in-Whole-2
 slice_bounds-judge-end-in-Whole-2 c =

@@ -1,10 +1,9 @@
 -- What a network in slices is answered, once the file's own limits are passed: contracts. Assumes nothing.
-use Rattle.std.specs.Prelude.{◌≡◌, Bool, true, false, not, ◌||◌, List, ℕ, ◌+◌, ◌-◌, ◌≤◌, ◌<◌, eqb, ltb, ℤ, pos, length, get_or}
+use Rattle.std.specs.Prelude.{◌≡◌, Bool, true, false, not, ◌||◌, List, ℕ, ◌+◌, ◌-◌, ◌<◌, eqb, ltb, ℤ, pos, length, get_or}
 use Rattle.std.specs.Int.Signed.{lt_z}
-use Rattle.transport.specs.Sum.{sum}
 use Rattle.transport.specs.Curve.{written}
 use Rattle.flow_problem.specs.Network.{Network, arc_count, amount}
-use Rattle.flow_case.specs.inner.Build.{AtMostAll, have_in, under_at, dear_at}
+use Rattle.flow_case.specs.inner.Build.{have_in, dear_at}
 use Rattle.flow_problem.specs.Answer.{CheapestFlow, any_below, Room, too_short, bad_name, flows, least_total, Outcome, carried, refused, flow_outcome}
 use Rattle.flow_problem.specs.Promise.{Slices, room_of}
 

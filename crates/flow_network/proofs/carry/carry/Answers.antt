@@ -10,7 +10,7 @@ use Rattle.flow_network.proofs.carry.carry.Goals as goal
 
 pub overflow_sub-w : goal.overflow_sub-w
 overflow_sub-w c =
-    omega (arith, c.requires.arcs.End-low c.args.named c.requires.named.place)
+    omega (arith, c.requires.arcs.end_low c.args.named c.requires.named.place)
 
 pub overflow_sub-v : goal.overflow_sub-v
 overflow_sub-v c =
