@@ -1,0 +1,28 @@
+-- `export_reports::tell` meets its contract: the cells written one after another are those of the report. Assumes nothing.
+use mathlib.Core.Path.{◌≡◌, sym, ap, ap₂, ◌∙◌}
+use lib.IntN.{ℤ}
+use lib.ListN.{set}
+use Rattle.transport.specs.Curve.{written}
+use Rattle.planner.specs.Answer.{outcome}
+use Rattle.export_reports.specs.Report.{number_of, report_of, worth_of}
+use Rattle.export_reports.proofs.Reports.{two_written, one_written}
+use Rattle.problem.proofs.MachineIntegers.{read_back}
+use Rattle.export_reports.proofs.tell.Goals as goal
+
+pub returns-in-Planned : goal.returns-in-Planned
+returns-in-Planned c =
+    let e : c.args.answer ≡ _ = c.in-Planned.is in (
+      sym (ap (λ a. number_of (outcome a)) e),
+      two_written c.args.report.now _ _ c.requires.0 ∙ sym (ap (λ a. written (report_of (outcome a)) c.args.report.now) e),
+      ap₂ (λ (x y : ℤ). set (set c.args.worth.now 0 x) 1 y) (read_back c.in-Planned.total c.known_told-1.given.1.0.1)
+          (read_back c.in-Planned.freight c.known_told-1.given.1.1.0.1)
+          ∙ two_written c.args.worth.now _ _ c.requires.1 ∙ sym (ap (λ a. written (worth_of (outcome a)) c.args.worth.now) e),
+    )
+
+pub returns-in-Refused : goal.returns-in-Refused
+returns-in-Refused c =
+    let e : c.args.answer ≡ _ = c.in-Refused.is in (
+      sym (ap (λ a. number_of (outcome a)) e),
+      one_written c.args.report.now _ c.requires.0 ∙ sym (ap (λ a. written (report_of (outcome a)) c.args.report.now) e),
+      sym (ap (λ a. written (worth_of (outcome a)) c.args.worth.now) e),
+    )
