@@ -1,6 +1,9 @@
 -- `export_reports::tell` meets its contract: the cells written one after another are those of the report. Assumes nothing.
 use mathlib.Core.Path.{◌≡◌, sym, ap, ap₂, ◌∙◌}
 use lib.IntN.{ℤ}
+use lib.Signed.{mag}
+use Prim.Native.Nat.{◌<◌, ◌^◌}
+use native.Mathlib.Omega.{arith}
 use lib.ListN.{set}
 use Rattle.transport.specs.Curve.{written}
 use Rattle.planner.specs.Answer.{outcome}
@@ -11,11 +14,13 @@ use Rattle.export_reports.proofs.tell.Goals as goal
 
 pub returns-in-Planned : goal.returns-in-Planned
 returns-in-Planned c =
+    let total_fits : mag c.in-Planned.total < 2 ^ 63 = omega arith in
+    let freight_fits : mag c.in-Planned.freight < 2 ^ 63 = omega arith in
     let e : c.args.answer ≡ _ = c.in-Planned.is in (
       sym (ap (λ a. number_of (outcome a)) e),
       two_written c.args.report.now _ _ c.requires.0 ∙ sym (ap (λ a. written (report_of (outcome a)) c.args.report.now) e),
-      ap₂ (λ (x y : ℤ). set (set c.args.worth.now 0 x) 1 y) (read_back c.in-Planned.total c.known_told-1.given.1.0.1)
-          (read_back c.in-Planned.freight c.known_told-1.given.1.1.0.1)
+      ap₂ (λ (x y : ℤ). set (set c.args.worth.now 0 x) 1 y) (read_back c.in-Planned.total total_fits)
+          (read_back c.in-Planned.freight freight_fits)
           ∙ two_written c.args.worth.now _ _ c.requires.1 ∙ sym (ap (λ a. written (worth_of (outcome a)) c.args.worth.now) e),
     )
 

@@ -1,6 +1,9 @@
 -- `export_reports::bounds::tell_bounds` meets its contract: the cells written one after another are those of the report. Assumes nothing.
 use mathlib.Core.Path.{◌≡◌, sym, ap, ap₂, ◌∙◌}
 use lib.IntN.{ℤ}
+use lib.Signed.{mag}
+use Prim.Native.Nat.{◌<◌, ◌^◌}
+use native.Mathlib.Omega.{arith}
 use lib.ListN.{set}
 use Rattle.transport.specs.Curve.{written}
 use Rattle.bounds_problem.specs.Answers.{outcome}
@@ -11,11 +14,13 @@ use Rattle.export_reports.proofs.bounds.tell_bounds.Goals as goal
 
 pub returns-in-Known : goal.returns-in-Known
 returns-in-Known c =
+    let smallest_fits : mag c.in-Known.smallest < 2 ^ 63 = omega arith in
+    let largest_fits : mag c.in-Known.largest < 2 ^ 63 = omega arith in
     let e : c.args.answer ≡ _ = c.in-Known.is in (
       sym (ap (λ a. number_of (outcome a)) e),
       two_written c.args.report.now _ _ c.requires.0 ∙ sym (ap (λ a. written (report_of (outcome a)) c.args.report.now) e),
-      ap₂ (λ (x y : ℤ). set (set c.args.worth.now 0 x) 1 y) (read_back c.in-Known.smallest c.known_told-1.given.1.1.0.1)
-          (read_back c.in-Known.largest c.known_told-1.given.1.1.1.0.1)
+      ap₂ (λ (x y : ℤ). set (set c.args.worth.now 0 x) 1 y) (read_back c.in-Known.smallest smallest_fits)
+          (read_back c.in-Known.largest largest_fits)
           ∙ two_written c.args.worth.now _ _ c.requires.1 ∙ sym (ap (λ a. written (worth_of (outcome a)) c.args.worth.now) e),
     )
 
