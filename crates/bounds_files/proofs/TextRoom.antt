@@ -1,22 +1,22 @@
 -- The text that is printed of three files has at most 172,286 bytes. Assumes nothing.
-use mathlib.Core.Path.{◌≡◌, refl, sym, ap, subst}
+use mathlib.Core.Path.{◌≡◌, refl, ap, subst}
 use mathlib.Core.Bool.{Bool, true, false, cond}
-use mathlib.Core.Option.{Option, none, some}
+use mathlib.Core.Option.{none, some}
 use mathlib.Core.List.{List, [], ◌∷◌, ◌++◌, map}
 use Prim.Native.Nat.{ℕ, zero, suc, ◌+◌, ◌*◌, ◌≤◌, ◌<◌, ◌^◌}
 use native.Mathlib.Nat.{mul-suc}
 use native.Mathlib.Omega.{arith}
 use borrow.Author.Tests.{ltb-false}
 use lib.Dec.{eqb, ltb}
-use lib.IntN.{ℤ, pos, negsuc, sub_ℕ, nat_abs, ◌+ℤ◌}
+use lib.IntN.{ℤ, pos, negsuc, sub_ℕ, nat_abs}
 use lib.Signed.{le_z}
 use lib.ListN.{length, get_or, length-append}
 use Rattle.transport.specs.Listing.{up_from}
 use Rattle.transport.proofs.Differences.{by_sign}
-use Rattle.csv_print.specs.Text.{decimal, signed_text, field_text, record_text, each, refusal_header, refusal_text}
+use Rattle.csv_print.specs.Text.{signed_text, field_text, record_text, each, refusal_header, refusal_text}
 use Rattle.csv_print.proofs.DecimalTexts.{decimal_short, decimal_below}
 use Rattle.csv_answers.specs.Bounds.{totals_header, splits_header, marks_text, bounds_text}
-use Rattle.problem.specs.Integer.{minℤ, Above}
+use Rattle.problem.specs.Integer.{minℤ}
 use Rattle.problem.specs.Case.{Case, supply, entry, least_split}
 use Rattle.problem.specs.Plans.{least_freight_at}
 use Rattle.problem.specs.Outcome.{first_from}
@@ -34,7 +34,7 @@ use Rattle.bounds_problem.specs.Answers.{Outcome, known, refused, badEntry, plac
 use Rattle.bounds_problem.specs.inner.Heights.{height}
 use Rattle.bounds_problem.proofs.PlannedCase.{Ready}
 use Rattle.bounds_files.specs.Bounded.{case_outcome, files_then, files_outcome, FilesPrinted}
-use Rattle.bounds_files.proofs.BoundsPrinting.{Splits, split_count, marks_long}
+use Rattle.bounds_files.proofs.BoundsPrinting.{split_count, marks_long}
 
 -- ---- texts
 

@@ -13,13 +13,11 @@ use lib.ListN.{length, get_or, take, drop, length-map, get_or-map, get_or-append
 use lib.Seq.{length-sets, sets-eq, take_at, take_all, length-take-le}
 use Rattle.csv_print.specs.Text.{refusal_text}
 use Rattle.csv_answers.specs.inner.FlowFits.{FlowFits}
-use Rattle.csv_form.specs.declared.Kind.TheVariants.{Production}
 use Rattle.csv_case.specs.declared.case.Entries.{Entries}
 use Rattle.csv_case.specs.declared.case.Entries.TheVariants as entries
 use Rattle.plan_files.specs.declared.planned.Printed.{Printed}
-use Rattle.csv_table.specs.Files.{table_of}
 use Rattle.plan_files.specs.Printed.{Told}
-use Rattle.csv_case.specs.Entries.{entries_of, entries_for, EntriesStored}
+use Rattle.csv_case.specs.Entries.{entries_of, EntriesStored}
 use Rattle.dimacs.specs.Arc.{Arc, arc}
 use Rattle.dimacs.specs.Form.{File, Form, whole, broken, form_of}
 use Rattle.dimacs.specs.Lines.{any_of}

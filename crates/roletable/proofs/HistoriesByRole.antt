@@ -5,20 +5,19 @@ use mathlib.Core.Bool.{Bool, true, false, ◌||◌, ◌&&◌}
 use mathlib.Core.Option.{Option, none, some}
 use mathlib.Core.List.{List, [], ◌∷◌, ◌++◌}
 use Prim.Native.Nat.{ℕ}
-use native.Mathlib.Omega.{arith}
 use Rattle.problem.specs.Outcome.{Outcome, refused, refuse_if, ◌or_else◌}
 use Rattle.planner.specs.Answer.{Slices}
 use Rattle.work_store.specs.State.{Draft, State, entered}
 use Rattle.work_store.specs.Calls.{Call, run}
 use Rattle.work_store.specs.Store.{held_in, sources, terminals, writes}
 use Rattle.work_store.specs.Promise.{answer_to, steps, cells_unless, Performed, Entered}
-use Rattle.work_plans.specs.Planning.{outcome_in, outcome_unless, PlannedFrom, PlannedUnless}
+use Rattle.work_plans.specs.Planning.{outcome_in, outcome_unless, PlannedFrom}
 use Rattle.work_plans.specs.History.{Leads, start, then}
 use Rattle.work_plans.proofs.Histories.{held_last, plans_afresh}
 use Rattle.roletable.specs.Roles.{barred, barred_first}
 use Rattle.roletable.specs.Deeds.{work, plan, column, first, test31}
 use Rattle.roletable.specs.Promise.{answer_by, unless_held, steps_by, PerformedBy, PlannedBy}
-use Rattle.roletable.specs.Secrecy.{Asked, act, tariff, table, planning, mark_planning, limits, marks, Heard, Made, Did, By, Goes}
+use Rattle.roletable.specs.Secrecy.{Asked, act, tariff, table, planning, mark_planning, limits, marks, Heard, Made, By, Goes}
 use Rattle.roletable.specs.History.{let_in, work_of, calls_of}
 use Rattle.roletable.proofs.Allowed.{told_first}
 

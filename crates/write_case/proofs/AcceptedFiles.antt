@@ -1,14 +1,14 @@
 -- W-213's sentence: any accepted pair of files, read and written, comes out as the two texts of its case, and read again it is that case; a pair that
 -- is not accepted is refused as planning refuses it. Assumes nothing.
 use mathlib.Core.Path.{◌≡◌, refl, ap, sym, ◌∙◌}
-use mathlib.Core.Option.{Option, none, some}
+use mathlib.Core.Option.{Option, none}
 use mathlib.Core.List.{List, ◌++◌}
 use Prim.Native.Nat.{ℕ, ◌+◌, ◌≤◌}
 use native.Mathlib.Omega.{arith}
 use lib.IntN.{ℤ}
 use lib.ListN.{length, drop}
 use lib.Seq.{sets, sets-eq}
-use Rattle.problem.specs.Outcome.{Outcome, planned, refused, outcome_of}
+use Rattle.problem.specs.Outcome.{Outcome, planned, refused}
 use Rattle.problem.specs.Case.{Case}
 use Rattle.planner.specs.Judge.{case_refusal}
 use Rattle.problem.proofs.RefusalNumbers.{planned_passes}
@@ -19,7 +19,7 @@ use Rattle.plan_files.specs.Printed.{file_case, outcome_for, file_outcome}
 use Rattle.case_texts.specs.Texts.{tariff_text, production_text}
 use Rattle.write_case.specs.declared.Texts.{Texts}
 use Rattle.write_case.specs.declared.Texts.TheVariants as answers
-use Rattle.write_case.specs.Writing.{write_refusal, refusal, file_refusal, unless_refused, TextsTold, FilesRewritten}
+use Rattle.write_case.specs.Writing.{write_refusal, refusal, file_refusal, unless_refused, FilesRewritten}
 use Rattle.write_case.proofs.RoundTrip.{tariff_short, production_short}
 use Rattle.write_case.proofs.OneForm.{accepted_passes, read_passes, read_again, read_written, same_refusal}
 

@@ -1,6 +1,9 @@
 -- `bounds_files::print_case` meets its contract. Assumes nothing.
 use mathlib.Core.Path.{◌≡◌, ap}
 use lib.ListN.{length}
+use lib.Signed.{mag}
+use Prim.Native.Nat.{◌<◌, ◌^◌}
+use native.Mathlib.Omega.{arith}
 use Rattle.bounds_problem.specs.Answers.{outcome}
 use Rattle.problem.proofs.MachineIntegers.{read_back}
 use Rattle.bounds_files.proofs.BoundsPrinting.{known_ready, by_known, by_refusal}
@@ -21,7 +24,7 @@ returns-in-Refused c =
 
 pub returns-in-Known : goal.returns-in-Known
 returns-in-Known c =
-    let d = c.answer-in-Known-1.given.0 in
-    let k = c.known_told-in-Known-1.given in
+    let least : mag c.in-Known.smallest < 2 ^ 63 = omega arith in
+    let most : mag c.in-Known.largest < 2 ^ 63 = omega arith in
     by_known c.possible_splits-answer.ensures (ap outcome c.in-Known.is) (cells (goal.at.returns-in-Known c).After-stop_cells-answers)
-    (rw (read_back d.1.1.0 k.1.1.0.1, read_back d.1.1.1.0 k.1.1.1.0.1) at c.print_known.ensures)
+    (rw (read_back c.in-Known.smallest least, read_back c.in-Known.largest most) at c.print_known.ensures)
