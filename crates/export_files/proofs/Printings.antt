@@ -17,7 +17,6 @@ use Rattle.dimacs.specs.Form.{Form, whole, broken, form_of}
 use Rattle.plan_files.specs.declared.planned.Printed.{Printed}
 use Rattle.plan_files.specs.Printed as printed
 use Rattle.plan_files.specs.Printed.{file_case, file_outcome, outcome_text, OutcomePrinted, FilesPrinted}
-use Rattle.csv_case.specs.Entries.{entries_of}
 use Rattle.bounds_files.specs.Bounded as bounded
 use Rattle.flow_files.specs.Printing as carried
 use Rattle.export_reports.specs.Report.{number_of, short_report}

@@ -7,7 +7,6 @@ use native.Mathlib.Omega.{arith}
 use lib.Dec.{ltb}
 use lib.IntN.{ℤ}
 use lib.ListN.{length, set, take}
-use lib.Seq.{sets}
 use borrow.Author.Tests.{lt-ltb, le-ltb}
 use Rattle.transport.specs.Curve.{written}
 use Rattle.size.specs.declared.limits.Size.{Size}
@@ -16,7 +15,7 @@ use Rattle.size.specs.declared.limits.Checked.TheVariants as checks
 use Rattle.size.specs.Size.{checked_of}
 use Rattle.validation.proofs.FormTests.{Limits, in_limits}
 use Rattle.csv_form.specs.declared.Kind.TheVariants.{Production}
-use Rattle.csv_table.specs.Files.{table_of, stands}
+use Rattle.csv_table.specs.Files.{table_of}
 use Rattle.csv_case.specs.declared.case.CaseAnswer.{CaseAnswer}
 use Rattle.csv_case.specs.declared.case.CaseAnswer.TheVariants as answers
 use Rattle.csv_case.specs.declared.case.Entries.{Entries}

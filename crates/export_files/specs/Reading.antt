@@ -1,6 +1,6 @@
 -- What a caller outside Rattle is told of the numbers that files hold: a number, the numbers in lent slices, their counts or a refusal's place
 -- in another. Assumes nothing.
-use Rattle.std.specs.Prelude.{◌≡◌, Bool, true, false, cond, ◌||◌, List, [], ◌∷◌, ℕ, min, ◌*◌, ltb, ℤ, length, take}
+use Rattle.std.specs.Prelude.{◌≡◌, Bool, cond, ◌||◌, List, [], ◌∷◌, ℕ, min, ◌*◌, ltb, ℤ, length, take}
 use Rattle.std.proofs.lemmas.List.Edits.{sets}
 use Rattle.transport.specs.Curve.{written}
 use Rattle.size.specs.declared.limits.Checked.{Checked}
