@@ -33,7 +33,7 @@ class Version(unittest.TestCase):
         paths = [os.path.join(ROOT, "target", "bin", name) for name in PROGRAMS]
         built = [path for path in paths if os.path.exists(path) and os.path.getmtime(path) > source]
         if not built:
-            self.skipTest("no program is built of this version's source: rt check " + " ".join(PROGRAMS))
+            self.skipTest("no program is built of this version's source: tools/programs " + " ".join(PROGRAMS))
         for path in built:
             self.assertEqual(said(path, "--version"), (0, f"{os.path.basename(path)} {yadvorkhul.__version__}\n", ""))
 

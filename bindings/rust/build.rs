@@ -43,10 +43,12 @@ fn prove() -> PathBuf {
 fn below_archive(root: &Path) -> Vec<String> {
     let text = std::fs::read_to_string(root.join("crates.txt")).expect("crates.txt in the repository's root");
     let lines: Vec<(&str, &str)> = text.lines().filter_map(|line| line.split('#').next()?.split_once(':')).collect();
+    // a line is `name: ..`, or `name staticlib: ..`
+    let is_of = |head: &str, name: &str| head.split_whitespace().next() == Some(name);
     let mut names = vec![String::from("yadvorkhul")];
     let mut seen = 0;
     while seen < names.len() {
-        let below = lines.iter().find(|(name, _)| name.trim() == names[seen]).map_or("", |(_, below)| *below);
+        let below = lines.iter().find(|(head, _)| is_of(head, &names[seen])).map_or("", |(_, below)| *below);
         let more: Vec<String> =
             below.split_whitespace().map(String::from).filter(|name| !names.contains(name)).collect();
         names.extend(more);
