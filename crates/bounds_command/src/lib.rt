@@ -16,7 +16,7 @@ use plan_command::refusal::{explain, explain_table};
 use plan_files::planned::Printed;
 use std::io;
 
-// Room for the longest text: no text is longer (`bounds_files/TextRoom.text-fits`).
+// Room for the longest text: no text is longer (`bounds_files/TextRoom.text_fits`).
 fn text_room() -> [u8; 172286]
     ensures { 172286 ≡ length result }
 {
