@@ -85,7 +85,7 @@ impl Front {
 }
 
 /// Looks for a way from source i to terminal j over free lanes, by terminals that a source after i may serve; the nodes before go into prev.
-fn roam(
+fn reach(
     i: usize,
     j: usize,
     ways: &Ways,
@@ -127,7 +127,7 @@ fn resend(
     let mut prev = [0u32; 96];
     let mut left = amount;
     while 0 < left {
-        if !roam(i, j, ways, free, x, supplied, serves, &mut prev) {
+        if !reach(i, j, ways, free, x, supplied, serves, &mut prev) {
             break;
         }
         let (count, part) = measure(&prev, i, 32 + j, left, x, free);

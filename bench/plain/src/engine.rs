@@ -1,4 +1,4 @@
-//! Search, send, step 1 and the climb, as in crates/{residual,paths,augment,reachability,canonical,firstsplit,lastsplit,range,stretch,sweep}.
+//! Search, send, step 1 and the climb, as in crates/{residual,paths,augment,reachability,canonical,firstsplit,lastsplit,split_range,stretch,sweep}.
 #![allow(clippy::too_many_arguments)]
 
 use super::canon::canonize;

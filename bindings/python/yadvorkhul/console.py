@@ -15,7 +15,7 @@ class Broken(Exception):
 
 
 # Characters that are not shown, by their numbers: controls, marks that turn the direction of writing or part lines, those without a width,
-# and halves of pairs, which stand for bytes that are no text. The programs have the same (crates/file_io, definition `hidden`).
+# and halves of pairs, which stand for bytes that are no text. The programs have the same (crates/file_text, definition `hidden`).
 _HIDDEN = [(0, 31), (127, 159), (173, 173), (1564, 1564), (8203, 8207), (8232, 8238), (8288, 8303), (55296, 57343), (65279, 65279)]
 _HIDDEN += [(65529, 65531), (917504, 921599)]
 

@@ -71,6 +71,8 @@ def cause_of_line(data: bytes, number: int) -> str:
     kind = line[:1]
     if line.startswith(b"\xef\xbb\xbf"):
         return "a byte order mark; save the file as plain text without one"
+    if line.startswith((b"\xff\xfe", b"\xfe\xff")):
+        return "a byte order mark of UTF-16; save the file as plain text"
     if line.startswith(b"PK\x03\x04"):
         return "the beginning of a workbook (PK), whatever the file is called; a network is a text file"
     if kind not in _FORMS:

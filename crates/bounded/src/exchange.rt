@@ -3,7 +3,7 @@ ghost use Rattle.std.specs.Prelude.{◌<◌};
 
 use super::leaving::{Leave, from_source, from_terminal};
 use super::prices::fill;
-use super::residuals::{VAST, above, gain, loss, pair, reverse_path, toggle_part};
+use super::tree::{VAST, above, gain, loss, low, pair, place, reverse_path, toggle_part};
 use simplex::potentials::raise_subtree;
 use spanningtree::NONE;
 use spanningtree::flows::lane;
@@ -34,91 +34,21 @@ fn move_subtree(
     own: u64,
     source: u64,
     terminal: u64,
-    parent: &mut [u32; 128],
-    sources_below: &mut [u32; 128],
-    terminals_below: &mut [u64; 128],
-    residual: &mut [u64; 128],
+    tree: &mut [u64; 512],
 ) {
-    let v = (node % 128) as usize;
-    let r = sources_below[v];
-    let c = terminals_below[v];
-    let from = parent[v];
-    toggle_part(
-        from,
-        top,
-        r,
-        c,
-        source,
-        terminal,
-        parent,
-        sources_below,
-        terminals_below,
-        residual,
-    );
-    toggle_part(
-        host,
-        top,
-        r,
-        c,
-        terminal,
-        source,
-        parent,
-        sources_below,
-        terminals_below,
-        residual,
-    );
-    reverse_path(
-        node,
-        end,
-        host,
-        own,
-        r,
-        c,
-        source,
-        terminal,
-        parent,
-        sources_below,
-        terminals_below,
-        residual,
-    );
+    let v = place(node);
+    let from = low(tree[v]);
+    let r = tree[v + 1];
+    let c = tree[v + 2];
+    toggle_part(from, top, r, c, source, terminal, tree);
+    toggle_part(host, top, r, c, terminal, source, tree);
+    reverse_path(node, end, host, own, r, c, source, terminal, tree);
 }
 
 // The entering lane k goes over from empty to full, or back: what its cycle's lanes carry changes, and nothing else.
-fn go_round(
-    i: u32,
-    j: u32,
-    top: u32,
-    source: u64,
-    terminal: u64,
-    parent: &[u32; 128],
-    sources_below: &mut [u32; 128],
-    terminals_below: &mut [u64; 128],
-    residual: &mut [u64; 128],
-) {
-    toggle_part(
-        i,
-        top,
-        0,
-        0,
-        source,
-        terminal,
-        parent,
-        sources_below,
-        terminals_below,
-        residual,
-    );
-    toggle_part(
-        j,
-        top,
-        0,
-        0,
-        terminal,
-        source,
-        parent,
-        sources_below,
-        terminals_below,
-        residual,
-    );
+fn go_round(i: u32, j: u32, top: u32, source: u64, terminal: u64, tree: &mut [u64; 512]) {
+    toggle_part(i, top, 0, 0, source, terminal, tree);
+    toggle_part(j, top, 0, 0, terminal, source, tree);
 }
 
 // The pair of an entering lane that carries amount, or, where it was full, so much less than its ceiling; above the ceiling, where it is over.
@@ -154,32 +84,22 @@ fn leave(
     cap: &[u32; 2048],
     price: &mut [u32; 2048],
     full: &mut [u64; 32],
-    parent: &[u32; 128],
-    residual: &[u64; 128],
+    tree: &[u64; 512],
 ) {
-    let v = (node % 128) as usize;
+    let v = place(node);
     let gains = (node < 32) ^ here;
-    if gains | above(residual[v]) {
-        fill_between(node, parent[v], fine, cost, cap, price, full);
+    if gains | above(tree[v + 3]) {
+        fill_between(node, low(tree[v]), fine, cost, cap, price, full);
     }
 }
 
 // The lane that leaves where lane k comes in, from source i to terminal j: over, above its ceiling.
-fn ratio_test(
-    i: u32,
-    j: u32,
-    ceiling: u32,
-    less: bool,
-    over: bool,
-    parent: &[u32; 128],
-    terminals_below: &[u64; 128],
-    residual: &[u64; 128],
-) -> Leave {
+fn ratio_test(i: u32, j: u32, ceiling: u32, less: bool, over: bool, tree: &[u64; 512]) -> Leave {
     let own = if over { VAST } else { ceiling };
     let shift = if less { 32u32 } else { 0u32 };
     let bit = 1u64 << (j % 128 + 32) % 64;
-    let near = from_source(i, bit, shift, own, parent, terminals_below, residual);
-    from_terminal(j, near, shift, parent, residual)
+    let near = from_source(i, bit, shift, own, tree);
+    from_terminal(j, near, shift, tree)
 }
 
 // The subtree of far's node rises by d and moves to the other end of the entering lane, whose pair is own.
@@ -190,21 +110,18 @@ fn exchange(
     here: bool,
     own: u64,
     far: Leave,
-    parent: &mut [u32; 128],
-    sources_below: &mut [u32; 128],
-    terminals_below: &mut [u64; 128],
-    residual: &mut [u64; 128],
+    tree: &mut [u64; 512],
     potential: &mut [u32; 32],
     key: &mut [u32; 64],
 ) {
     let node = far.node;
-    let v = (node % 128) as usize;
+    let v = place(node);
     let rise = if here { d } else { wrapping_sub_u32(0, d) };
     raise_subtree(
-        sources_below[v],
-        terminals_below[v],
-        sources_below[0],
-        terminals_below[0],
+        low(tree[v + 1]),
+        tree[v + 2],
+        low(tree[1]),
+        tree[2],
         rise,
         potential,
         key,
@@ -218,10 +135,7 @@ fn exchange(
         own,
         changed(far.amount, here),
         changed(far.amount, !here),
-        parent,
-        sources_below,
-        terminals_below,
-        residual,
+        tree,
     );
 }
 
@@ -241,16 +155,13 @@ pub fn pivot(
     cap: &[u32; 2048],
     price: &mut [u32; 2048],
     full: &mut [u64; 32],
-    parent: &mut [u32; 128],
-    sources_below: &mut [u32; 128],
-    terminals_below: &mut [u64; 128],
-    residual: &mut [u64; 128],
+    tree: &mut [u64; 512],
     potential: &mut [u32; 32],
     key: &mut [u32; 64],
 ) {
     let k = ((i % 32) * 64 + (j % 128 + 32) % 64) as usize;
     let over = !less & (price[k] != cost[k]);
-    let far = ratio_test(i, j, cap[k], less, over, parent, terminals_below, residual);
+    let far = ratio_test(i, j, cap[k], less, over, tree);
     let here = far.first ^ less;
     if far.node == NONE {
         fill(k, !less, fine, cost, cap, price, full);
@@ -260,30 +171,12 @@ pub fn pivot(
             far.top,
             changed(far.amount, here),
             changed(far.amount, !here),
-            parent,
-            sources_below,
-            terminals_below,
-            residual,
+            tree,
         );
         return;
     }
     let own = own_pair(cap[k], far.amount, less, over);
     enter(k, less, cost, price, full);
-    leave(
-        far.node, here, fine, cost, cap, price, full, parent, residual,
-    );
-    exchange(
-        i,
-        j,
-        d,
-        here,
-        own,
-        far,
-        parent,
-        sources_below,
-        terminals_below,
-        residual,
-        potential,
-        key,
-    );
+    leave(far.node, here, fine, cost, cap, price, full, tree);
+    exchange(i, j, d, here, own, far, tree, potential, key);
 }

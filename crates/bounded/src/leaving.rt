@@ -1,5 +1,5 @@
 // The lane that leaves the tree: the ratio test both ways on the cycle that an entering lane closes.
-use super::residuals::half;
+use super::tree::{half, low, place};
 use spanningtree::NONE;
 
 // The node whose lane to its parent leaves the tree, none where the entering lane itself bears least, and what can go round; whether the node is on the
@@ -14,43 +14,35 @@ pub struct Leave {
 
 // From source i up to the first node that has the terminal of this bit below it. The lanes above sources lose drums and the others gain (shift 0), or
 // the other way round (shift 32). The entering lane itself bears own.
-pub fn from_source(
-    i: u32,
-    bit: u64,
-    shift: u32,
-    own: u32,
-    parent: &[u32; 128],
-    terminals_below: &[u64; 128],
-    residual: &[u64; 128],
-) -> Leave {
+pub fn from_source(i: u32, bit: u64, shift: u32, own: u32, tree: &[u64; 512]) -> Leave {
     let mut node = NONE;
     let mut amount = own;
     let mut a = i;
     let mut top = NONE;
     let mut left: u32 = 48;
     while 0 < left {
-        let v = (a % 128) as usize;
-        if terminals_below[v] & bit != 0 {
+        let v = place(a);
+        if tree[v + 2] & bit != 0 {
             top = a;
             break;
         }
-        let r = half(residual[v], shift);
+        let r = half(tree[v + 3], shift);
         if r < amount {
             node = a;
             amount = r;
         }
-        let b = parent[v];
-        let w = (b % 128) as usize;
-        if terminals_below[w] & bit != 0 {
+        let b = low(tree[v]);
+        let w = place(b);
+        if tree[w + 2] & bit != 0 {
             top = b;
             break;
         }
-        let t = half(residual[w], 32 ^ shift);
+        let t = half(tree[w + 3], 32 ^ shift);
         if t < amount {
             node = b;
             amount = t;
         }
-        a = parent[w];
+        a = low(tree[w]);
         left = left - 1;
     }
     Leave {
@@ -62,13 +54,7 @@ pub fn from_source(
 }
 
 // From terminal j up to there, where lanes above terminals do what those above sources do on the other way; also where one bears as little.
-pub fn from_terminal(
-    j: u32,
-    far: Leave,
-    shift: u32,
-    parent: &[u32; 128],
-    residual: &[u64; 128],
-) -> Leave {
+pub fn from_terminal(j: u32, far: Leave, shift: u32, tree: &[u64; 512]) -> Leave {
     let top = far.top;
     let mut node = far.node;
     let mut amount = far.amount;
@@ -79,25 +65,25 @@ pub fn from_terminal(
         if a == top {
             break;
         }
-        let v = (a % 128) as usize;
-        let r = half(residual[v], shift);
+        let v = place(a);
+        let r = half(tree[v + 3], shift);
         if r <= amount {
             node = a;
             amount = r;
             first = false;
         }
-        let b = parent[v];
+        let b = low(tree[v]);
         if b == top {
             break;
         }
-        let w = (b % 128) as usize;
-        let t = half(residual[w], 32 ^ shift);
+        let w = place(b);
+        let t = half(tree[w + 3], 32 ^ shift);
         if t <= amount {
             node = b;
             amount = t;
             first = false;
         }
-        a = parent[w];
+        a = low(tree[w]);
         left = left - 1;
     }
     Leave {

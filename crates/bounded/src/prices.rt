@@ -1,7 +1,7 @@
 // The prices of the lanes: their unit costs, with a fine for each drum above the ceiling where they are full or closed.
 ghost use Rattle.std.specs.Prelude.{◌≡◌, ◌<◌, ◌≤◌, length};
 
-use super::residuals::above;
+use super::tree::{above, low};
 use simplex::potentials::raise_subtree;
 use std::num::{wrapping_add_u32, wrapping_sub_u32};
 
@@ -100,31 +100,36 @@ fn grow(more: u32, cost: &[u32; 2048], price: &mut [u32; 2048]) {
     }
 }
 
-// The fine grows: the prices with it, and the potentials below each lane of the tree that is above its ceiling.
+// The fine grows: the prices with it, and the potentials below each lane of the tree that is above its ceiling. What it is then.
 pub fn raise_fine(
-    more: u32,
+    small: u32,
     cost: &[u32; 2048],
     price: &mut [u32; 2048],
-    sources_below: &[u32; 128],
-    terminals_below: &[u64; 128],
-    residual: &[u64; 128],
+    tree: &[u64; 512],
     potential: &mut [u32; 32],
     key: &mut [u32; 64],
-) {
-    grow(more, cost, price);
+) -> u32 {
+    let fine = if small < 1_750_000 {
+        4 * small
+    } else {
+        7_000_000
+    };
+    let more = wrapping_sub_u32(fine, small);
     let less = wrapping_sub_u32(0, more);
+    grow(more, cost, price);
     for v in 0..96 {
-        if above(residual[v]) {
-            let rise = if v < 32 { less } else { more };
+        let k = v * 4;
+        if above(tree[k + 3]) {
             raise_subtree(
-                sources_below[v],
-                terminals_below[v],
-                sources_below[0],
-                terminals_below[0],
-                rise,
+                low(tree[k + 1]),
+                tree[k + 2],
+                low(tree[1]),
+                tree[2],
+                if v < 32 { less } else { more },
                 potential,
                 key,
             );
         }
     }
+    fine
 }

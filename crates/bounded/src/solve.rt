@@ -5,8 +5,8 @@ ghost use Rattle.std.specs.Prelude.{◌≡◌, ◌<◌, ◌≤◌, length};
 use super::exchange::pivot;
 use super::fits::fits;
 use super::prices::{close_lanes, fine_for, raise_fine};
-use super::residuals::{above, half};
 use super::start::start;
+use super::tree::{above, low};
 use simplex::potentials::{source_potentials, terminal_potentials};
 use simplex::price::least;
 use simplex::solve::{Pricing, next, places};
@@ -98,10 +98,7 @@ fn step(
     cap: &[u32; 2048],
     price: &mut [u32; 2048],
     full: &mut [u64; 32],
-    parent: &mut [u32; 128],
-    sources_below: &mut [u32; 128],
-    terminals_below: &mut [u64; 128],
-    residual: &mut [u64; 128],
+    tree: &mut [u64; 512],
     potential: &mut [u32; 32],
     key: &mut [u32; 64],
 ) -> Pricing {
@@ -123,10 +120,7 @@ fn step(
         cap,
         price,
         full,
-        parent,
-        sources_below,
-        terminals_below,
-        residual,
+        tree,
         potential,
         key,
     );
@@ -143,10 +137,7 @@ fn simplex(
     cap: &[u32; 2048],
     price: &mut [u32; 2048],
     full: &mut [u64; 32],
-    parent: &mut [u32; 128],
-    sources_below: &mut [u32; 128],
-    terminals_below: &mut [u64; 128],
-    residual: &mut [u64; 128],
+    tree: &mut [u64; 512],
     potential: &mut [u32; 32],
     key: &mut [u32; 64],
 ) {
@@ -157,103 +148,73 @@ fn simplex(
             return;
         }
         now = step(
-            m,
-            n,
-            now,
-            fine,
-            cost,
-            cap,
-            price,
-            full,
-            parent,
-            sources_below,
-            terminals_below,
-            residual,
-            potential,
-            key,
+            m, n, now, fine, cost, cap, price, full, tree, potential, key,
         );
         left = left - 1;
     }
 }
 
 // Does a lane of the tree carry more than its ceiling?
-fn exceeds(residual: &[u64; 128]) -> bool {
+fn exceeds(tree: &[u64; 512]) -> bool {
     let mut some = false;
     for v in 0..96 {
-        some = some | (above(residual[v]) & (0 < half(residual[v], 0)));
+        let own = tree[v * 4 + 3];
+        some = some | (above(own) & (0 < low(own)));
     }
     some
 }
 
-// Where a lane carries more than its ceiling the fine grows, once, for as many passes at most as there are given.
-fn try_again(
+// The passes of the next try: fewer, and none after the second.
+fn fewer(passes: u32) -> u32
+    requires { 0 < passes }
+    ensures { result < passes }
+{
+    if passes == PASSES { AGAIN } else { 0 }
+}
+
+// The simplex; where a lane carries more than its ceiling at the end, the fine grows, and it goes on, once.
+fn optimize(
     m: u32,
     n: usize,
-    passes: u32,
-    small: u32,
+    first: u32,
     cost: &[u32; 2048],
     cap: &[u32; 2048],
     price: &mut [u32; 2048],
     full: &mut [u64; 32],
-    parent: &mut [u32; 128],
-    sources_below: &mut [u32; 128],
-    terminals_below: &mut [u64; 128],
-    residual: &mut [u64; 128],
+    tree: &mut [u64; 512],
     potential: &mut [u32; 32],
     key: &mut [u32; 64],
 ) {
-    if !exceeds(residual) {
-        return;
+    let mut fine = first;
+    let mut passes = PASSES;
+    while 0 < passes {
+        simplex(
+            m, n, passes, fine, cost, cap, price, full, tree, potential, key,
+        );
+        if !exceeds(tree) {
+            return;
+        }
+        fine = raise_fine(fine, cost, price, tree, potential, key);
+        passes = fewer(passes);
     }
-    let fine = if small < 1_750_000 {
-        4 * small
-    } else {
-        7_000_000
-    };
-    raise_fine(
-        wrapping_sub_u32(fine, small),
-        cost,
-        price,
-        sources_below,
-        terminals_below,
-        residual,
-        potential,
-        key,
-    );
-    simplex(
-        m,
-        n,
-        passes,
-        fine,
-        cost,
-        cap,
-        price,
-        full,
-        parent,
-        sources_below,
-        terminals_below,
-        residual,
-        potential,
-        key,
-    );
 }
 
 // What a lane of the tree carries, by its pair and its ceiling.
 fn amount_of(own: u64, ceiling: u32) -> u32 {
-    wrapping_add_u32(half(own, 0), if above(own) { ceiling } else { 0 })
+    wrapping_add_u32(low(own), if above(own) { ceiling } else { 0 })
 }
 
 // What the lanes of the tree carry.
-fn carried(parent: &[u32; 128], residual: &[u64; 128], cap: &[u32; 2048], x: &mut [u32; 2048])
+fn carried(tree: &[u64; 512], cap: &[u32; 2048], x: &mut [u32; 2048])
     requires { length x.old ≡ 2048 }
     ensures { length x.new ≡ 2048 }
 {
     for v in 0..96 {
-        let u = parent[v];
+        let u = low(tree[v * 4]);
         let k = lane(v as u32, u);
         let between = (u < 96) & ((u < 32) ^ (v < 32));
         x[k] = if between {
-            amount_of(residual[v], cap[k])
+            amount_of(tree[v * 4 + 3], cap[k])
         } else {
             x[k]
         };
@@ -284,6 +245,20 @@ fn full_lanes(full: &[u64; 32], cap: &[u32; 2048], x: &mut [u32; 2048])
     }
 }
 
+// The tree as the climb has it.
+fn hand_over(
+    tree: &[u64; 512],
+    parent: &mut [u32; 128],
+    sources_below: &mut [u32; 128],
+    terminals_below: &mut [u64; 128],
+) {
+    for v in 0..96 {
+        parent[v] = low(tree[v * 4]);
+        sources_below[v] = low(tree[v * 4 + 1]);
+        terminals_below[v] = tree[v * 4 + 2];
+    }
+}
+
 fn at_most(a: usize, b: usize) -> usize
     ensures { result ≤ b }
 {
@@ -299,66 +274,28 @@ fn best_tree(
     amounts: &[u32; 32],
     demand: &[u32; 96],
     full: &mut [u64; 32],
-    parent: &mut [u32; 128],
-    sources_below: &mut [u32; 128],
-    terminals_below: &mut [u64; 128],
-    residual: &mut [u64; 128],
+    tree: &mut [u64; 512],
     potential: &mut [u32; 32],
     key: &mut [u32; 64],
 )
     requires { (sources ≤ 32) × (terminals ≤ 64) }
 {
-    let m = sources as u32;
     let n = terminals;
     let fine = fine_for(sources, n, cost);
     let mut price = *cost;
     close_lanes(sources, n, fine, cap, &mut price);
     start(
-        sources,
-        n,
-        fine,
-        cost,
-        cap,
-        &mut price,
-        full,
-        amounts,
-        demand,
-        parent,
-        sources_below,
-        terminals_below,
-        residual,
-        potential,
-        key,
+        sources, n, fine, cost, cap, &mut price, full, amounts, demand, tree, potential, key,
     );
-    simplex(
-        m,
+    optimize(
+        sources as u32,
         n,
-        PASSES,
         fine,
         cost,
         cap,
         &mut price,
         full,
-        parent,
-        sources_below,
-        terminals_below,
-        residual,
-        potential,
-        key,
-    );
-    try_again(
-        m,
-        n,
-        AGAIN,
-        fine,
-        cost,
-        cap,
-        &mut price,
-        full,
-        parent,
-        sources_below,
-        terminals_below,
-        residual,
+        tree,
         potential,
         key,
     );
@@ -381,10 +318,8 @@ pub fn solve(
 )
     ensures { (length x.new ≡ 2048) × (length pot.new ≡ 96) }
 {
-    *sources_below = [0u32; 128];
-    *terminals_below = [0u64; 128];
     let mut full = [0u64; 32];
-    let mut residual = [0u64; 128];
+    let mut tree = [0u64; 512];
     let mut potential = [0u32; 32];
     let mut key = [0u32; 64];
     places(x);
@@ -402,14 +337,12 @@ pub fn solve(
         amounts,
         demand,
         &mut full,
-        parent,
-        sources_below,
-        terminals_below,
-        &mut residual,
+        &mut tree,
         &mut potential,
         &mut key,
     );
-    carried(parent, &residual, cap, x);
+    hand_over(&tree, parent, sources_below, terminals_below);
+    carried(&tree, cap, x);
     full_lanes(&full, cap, x);
     *pot = [600_000_000u32; 96];
     source_potentials(&potential, pot);

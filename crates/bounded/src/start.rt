@@ -2,8 +2,8 @@
 // is attached to the other, or the lane is full and stays out of the tree. A lane may go above its ceiling, at a fine, where a source has no other.
 // The terminals that are left are attached to source 0.
 use super::prices::fill;
-use super::residuals::{VAST, attach, pair};
-use simplex::book::{Placed, alone, follow_all, keys, smaller, stock, wants, without};
+use super::tree::{VAST, alone, attach, low, pair, parents};
+use simplex::book::{Placed, follow_all, keys, smaller, stock, wants, without};
 use simplex::price::least;
 use spanningtree::NONE;
 use std::num::{wrapping_add_u32, wrapping_sub_u32};
@@ -20,10 +20,7 @@ fn attach_spent(
     own: u64,
     book: &mut [u32; 256],
     key: &mut [u32; 64],
-    parent: &mut [u32; 128],
-    sources_below: &mut [u32; 128],
-    terminals_below: &mut [u64; 128],
-    residual: &mut [u64; 128],
+    tree: &mut [u64; 512],
 ) -> Placed {
     let s = (i % 32) as usize;
     let t = (j % 128) as usize;
@@ -40,15 +37,7 @@ fn attach_spent(
         key[number as usize] = SHUT + number;
     }
     book[128 + (now.count % 128) as usize] = child;
-    attach(
-        child,
-        host,
-        own,
-        parent,
-        sources_below,
-        terminals_below,
-        residual,
-    );
+    attach(child, host, own, tree);
     Placed {
         open: if spent {
             without(now.open, i)
@@ -71,10 +60,7 @@ fn place(
     full: &mut [u64; 32],
     book: &mut [u32; 256],
     key: &mut [u32; 64],
-    parent: &mut [u32; 128],
-    sources_below: &mut [u32; 128],
-    terminals_below: &mut [u64; 128],
-    residual: &mut [u64; 128],
+    tree: &mut [u64; 512],
 ) -> Placed {
     let j = least(i, n, price, key) % 64;
     let s = (i % 32) as usize;
@@ -97,18 +83,7 @@ fn place(
     } else {
         wrapping_sub_u32(u, amount)
     };
-    attach_spent(
-        i,
-        32 + j,
-        now,
-        pair(amount, take),
-        book,
-        key,
-        parent,
-        sources_below,
-        terminals_below,
-        residual,
-    )
+    attach_spent(i, 32 + j, now, pair(amount, take), book, key, tree)
 }
 
 // Each open source, one after the other, until it is open no more.
@@ -122,10 +97,7 @@ fn places(
     full: &mut [u64; 32],
     book: &mut [u32; 256],
     key: &mut [u32; 64],
-    parent: &mut [u32; 128],
-    sources_below: &mut [u32; 128],
-    terminals_below: &mut [u64; 128],
-    residual: &mut [u64; 128],
+    tree: &mut [u64; 512],
 ) -> u32 {
     let mut now = first;
     let mut left: u32 = 2_200;
@@ -134,22 +106,7 @@ fn places(
             return now.count;
         }
         let i = u32::trailing_zeros(now.open) % 32;
-        now = place(
-            n,
-            i,
-            now,
-            fine,
-            cost,
-            cap,
-            price,
-            full,
-            book,
-            key,
-            parent,
-            sources_below,
-            terminals_below,
-            residual,
-        );
+        now = place(n, i, now, fine, cost, cap, price, full, book, key, tree);
         left = left - 1;
     }
     now.count
@@ -173,27 +130,16 @@ fn rest(
     cap: &[u32; 2048],
     price: &mut [u32; 2048],
     book: &mut [u32; 256],
-    parent: &mut [u32; 128],
-    sources_below: &mut [u32; 128],
-    terminals_below: &mut [u64; 128],
-    residual: &mut [u64; 128],
+    tree: &mut [u64; 512],
 ) -> u32 {
     let mut count = first % 128;
     for j in 0..64 {
         if j < n {
-            if parent[32 + j] == NONE {
+            if low(tree[128 + 4 * j]) == NONE {
                 let b = book[32 + j];
                 let u = cap[j];
                 price[j] = wrapping_add_u32(cost[j], if u < b { fine } else { 0 });
-                attach(
-                    (32 + j) as u32,
-                    0,
-                    rest_pair(b, u),
-                    parent,
-                    sources_below,
-                    terminals_below,
-                    residual,
-                );
+                attach((32 + j) as u32, 0, rest_pair(b, u), tree);
                 book[128 + (count % 128) as usize] = (32 + j) as u32;
                 count = count % 128 + 1;
             }
@@ -213,51 +159,23 @@ pub fn start(
     full: &mut [u64; 32],
     amounts: &[u32; 32],
     demand: &[u32; 96],
-    parent: &mut [u32; 128],
-    sources_below: &mut [u32; 128],
-    terminals_below: &mut [u64; 128],
-    residual: &mut [u64; 128],
+    tree: &mut [u64; 512],
     potential: &mut [u32; 32],
     key: &mut [u32; 64],
 ) {
-    *parent = [NONE; 128];
+    alone(tree);
     *potential = [16_777_216u32; 32];
     let mut book = [0u32; 256];
     wants(demand, &mut book);
-    alone(sources_below, terminals_below);
     keys(n, key);
     let first = Placed {
         open: stock(m, amounts, &mut book),
         count: 0,
     };
-    let some = places(
-        n,
-        first,
-        fine,
-        cost,
-        cap,
-        price,
-        full,
-        &mut book,
-        key,
-        parent,
-        sources_below,
-        terminals_below,
-        residual,
-    );
-    let count = rest(
-        n,
-        some,
-        fine,
-        cost,
-        cap,
-        price,
-        &mut book,
-        parent,
-        sources_below,
-        terminals_below,
-        residual,
-    );
+    let some = places(n, first, fine, cost, cap, price, full, &mut book, key, tree);
+    let count = rest(n, some, fine, cost, cap, price, &mut book, tree);
     keys(0, key);
-    follow_all(count, &book, price, parent, potential, key);
+    let mut parent = [NONE; 128];
+    parents(tree, &mut parent);
+    follow_all(count, &book, price, &parent, potential, key);
 }

@@ -8,8 +8,9 @@ use csv_table::table::tariff_stands;
 use file_causes::amounts::say_high;
 use file_causes::refusal::explain_file;
 use file_io::about::told_version;
-use file_io::file::{file_room, first, read_file};
+use file_io::file::{file_room, read_file};
 use file_io::message::{say, say_with};
+use file_text::text::first;
 use plan_command::refusal::{explain, explain_table};
 use plan_files::planned::Printed;
 
@@ -144,7 +145,7 @@ pub fn answer_paths(tariff_path: &[u8], low_path: &[u8], high_path: &[u8]) {
 }
 
 // Answers the files of three paths, unless one is the word for help.
-fn answer_or_help(tariff: &[u8], low: &[u8], high: &[u8]) {
+pub fn answer_or_help(tariff: &[u8], low: &[u8], high: &[u8]) {
     if same(tariff, b"--help") {
         usage();
         return;

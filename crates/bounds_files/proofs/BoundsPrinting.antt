@@ -22,7 +22,8 @@ use Rattle.problem.specs.Outcome as planner
 use Rattle.csv_case.specs.declared.case.CaseAnswer.{CaseAnswer}
 use Rattle.csv_case.specs.declared.case.CaseAnswer.TheVariants as answers
 use Rattle.plan_files.specs.declared.planned.Printed.{Printed}
-use Rattle.csv_case.specs.CaseFiles.{case_answer, entries_in, CaseStored, records_of}
+use Rattle.csv_case.specs.CaseFiles.{case_answer, entries_in, records_of}
+use Rattle.csv_case.specs.inner.CaseStored.{CaseStored}
 use Rattle.csv_case.specs.Entries.{entries_of}
 use Rattle.plan_files.specs.Printed.{filed_case, file_case, Told}
 use Rattle.plan_files.specs.inner.StoredCase.{cut_case, Stored}
@@ -33,7 +34,8 @@ use Rattle.plan_files.proofs.StoredCase.{few_lanes, cut_alike}
 use Rattle.bounds_problem.specs.Tables.{Split, after, least_total, mark, marks}
 use Rattle.bounds_problem.specs.Answers.{Outcome, known, refused, badEntry, place28, laterOf, outcome_of, Answered}
 use Rattle.bounds_problem.proofs.PlannedCase.{Ready, ready}
-use Rattle.bounds_files.specs.Bounded.{case_outcome, files_then, files_outcome, BoundsHold, OutcomePrinted, CasePrinted, HighPrinted, FilesPrinted}
+use Rattle.bounds_files.specs.Bounded.{case_outcome, files_then, files_outcome, BoundsHold, OutcomePrinted, FilesPrinted}
+use Rattle.bounds_files.specs.inner.Parts.{CasePrinted, HighPrinted}
 
 -- ---- an outcome
 

@@ -16,7 +16,8 @@ use Rattle.transport.proofs.Differences.{by_sign}
 use Rattle.csv_print.specs.Text.{decimal, signed_text, field_text, record_text, each, refusal_header, refusal_text}
 use Rattle.csv_print.proofs.DecimalTexts.{decimal_short, decimal_below}
 use Rattle.csv_answers.specs.Bounds.{totals_header, splits_header, marks_text, bounds_text}
-use Rattle.problem.specs.Integer.{minℤ, Above}
+use Rattle.problem.specs.Integer.{minℤ}
+use Rattle.problem.specs.inner.Raised.{Above}
 use Rattle.problem.specs.Case.{Case, supply, entry, least_split}
 use Rattle.problem.specs.Plans.{least_freight_at}
 use Rattle.problem.specs.Outcome.{first_from}

@@ -41,14 +41,6 @@ pub record OutcomePrinted (c : planner-case.Case) (high : List ℕ) (o : Outcome
   pub splits : (first count : ℕ) (s l : ℤ) → o ≡ known first count s l → Told 0 0 sources terminals (bounds_text s l first (marks c high)) out out' answer
   pub holds : (first count : ℕ) (s l : ℤ) → o ≡ known first count s l → BoundsHold c high s l
 
--- what is printed of a case with a high table
-abbrev pub CasePrinted : planner-case.Case → List ℕ → List ℕ → List ℕ → Printed → Type 0
-CasePrinted c high out out' answer = OutcomePrinted c high (case_outcome c high) c.m c.n out out' answer
-
--- what is printed of a case with a high file, read beside the tariff t
-abbrev pub HighPrinted : List ℕ → List ℕ → planner-case.Case → List ℕ → List ℕ → Printed → Type 0
-HighPrinted t h c out out' answer = OutcomePrinted c (entries_of h) (files_then (case_answer t h) (case_outcome c (entries_of h))) c.m c.n out out' answer
-
 -- what is printed of the three files
 abbrev pub FilesPrinted : List ℕ → List ℕ → List ℕ → List ℕ → List ℕ → Printed → Type 0
 FilesPrinted t l h out out' answer =

@@ -4,7 +4,8 @@ ghost use Rattle.csv_answers.specs.Bounds.{bounds_text, MarksFit};
 ghost use Rattle.csv_case.specs.CaseFiles.{case_answer};
 ghost use Rattle.plan_files.specs.Printed.{filed_case, Told};
 ghost use Rattle.plan_files.specs.inner.StoredCase.{cut_case, Stored};
-ghost use Rattle.bounds_files.specs.Bounded.{CasePrinted, HighPrinted, FilesPrinted, both_stand};
+ghost use Rattle.bounds_files.specs.Bounded.{FilesPrinted, both_stand};
+ghost use Rattle.bounds_files.specs.inner.Parts.{CasePrinted, HighPrinted};
 
 use bounds_problem::Answer;
 use bounds_splits::possible_splits;

@@ -13,8 +13,10 @@ use lib.ListN.{length, get_or, take, drop, length-drop}
 use lib.Seq.{length-take-le, get_or-take, get_or-drop}
 use borrow.Author.Tests.{eq-eqb, ne_eqb, lt-ltb, le-ltb, ltb-false, lt-leb, le-leb}
 use Rattle.transport.specs.Listing.{up_from}
-use Rattle.transport.specs.Curve.{written, stops_of}
-use Rattle.problem.specs.Integer.{minℤ, Above}
+use Rattle.transport.specs.Curve.{written}
+use Rattle.transport.specs.inner.Freight.{stops_of}
+use Rattle.problem.specs.Integer.{minℤ}
+use Rattle.problem.specs.inner.Raised.{Above}
 use Rattle.problem.specs.Case.{Case, supply, entry, least_split, greatest_split}
 use Rattle.problem.specs.Plans.{least_freight_at, stops}
 use Rattle.problem.specs.Outcome.{first_from}

@@ -9,7 +9,7 @@ use native.Mathlib.Decide.{ℕ_discrete, dec_lt}
 use native.Mathlib.Omega.{arith}
 use lib.IntN.{ℤ, pos, sub_ℕ, ◌+ℤ◌, ◌*ℤ◌}
 use lib.ListN.{length, get_or}
-use Rattle.transport.specs.Curve.{stops_of}
+use Rattle.transport.specs.inner.Freight.{stops_of}
 use Rattle.transport.proofs.Stops.{Stop, Rising, stops_in, stops_out, stops_front, stops_rising}
 use Rattle.problem.specs.Case.{Case, least_split, greatest_split}
 use Rattle.problem.specs.Plans.{least_freight_at, stops}

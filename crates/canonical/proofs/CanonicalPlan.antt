@@ -1,14 +1,9 @@
 -- The plan that the engine settles is the canonical plan. Assumes nothing.
-use mathlib.Core.Path.{◌≡◌, sym, ap, ◌∙◌}
-use mathlib.Core.List.{List}
-use Prim.Native.Nat.{ℕ, suc, ◌+◌, ◌*◌, ◌≤◌, ◌<◌}
+use Rattle.std.proofs.Common.{◌≡◌, ℕ, suc, ◌+◌, ◌*◌, ◌<◌, ◌≤◌, List, get_or, sym, ap, ◌∙◌, mul-le-mul_right, suc-mul, arith}
 use native.Mathlib.Decide.{ℕ_discrete, dec_lt}
-use native.Mathlib.Nat.{mul-le-mul_right, suc-mul}
-use native.Mathlib.Omega.{arith}
-use lib.ListN.{get_or, get_or-eq_default}
-use Rattle.transport.specs.Plan.{Table, by_row, row, col, freight, Fits}
-use Rattle.transport.specs.Listing.{least_freight_in}
-use Rattle.transport.specs.Canonical.{canonical}
+use lib.ListN.{get_or-eq_default}
+use Rattle.transport.specs.Plan.{Table, by_row, row, col, Fits}
+use Rattle.transport.specs.inner.Freight.{freight, least_freight_in, canonical}
 use Rattle.residual.specs.inner.Network.{Net}
 use Rattle.canonical.specs.inner.Canonize.{Rival, Settled}
 use Rattle.transport.proofs.Tables.{listed, listed_length, listed_at, Below, table_freight, place_lane}

@@ -1,10 +1,6 @@
 -- No plan can have less on a closed lane that no way leads round. Assumes nothing.
-use mathlib.Core.Path.{◌≡◌}
-use mathlib.Core.Logic.{◌≢◌}
-use mathlib.Core.List.{List}
-use Prim.Native.Nat.{ℕ, ◌+◌, ◌*◌, ◌≤◌, ◌<◌}
+use Rattle.std.proofs.Common.{◌≡◌, ℕ, ◌+◌, ◌*◌, ◌<◌, ◌≤◌, ◌≢◌, List, arith}
 use native.Mathlib.Decide.{ℕ_discrete}
-use native.Mathlib.Omega.{arith}
 use Rattle.transport.specs.Plan.{Table, row, col, Under}
 use Rattle.transport.specs.inner.Slackness.{Lane, Slack}
 use Rattle.transport.specs.inner.AtSplit.{Same}

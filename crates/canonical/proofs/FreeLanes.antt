@@ -1,12 +1,8 @@
 -- The free lanes of each source and the terminals that are served, bit by bit. Assumes nothing.
-use mathlib.Core.Path.{◌≡◌, ap, ◌∙◌}
-use mathlib.Core.List.{List}
-use Prim.Native.Nat.{ℕ, ◌+◌, ◌-◌, ◌*◌, ◌^◌, ◌≤◌, ◌<◌}
+use Rattle.std.proofs.Common.{◌≡◌, ℕ, ◌+◌, ◌-◌, ◌*◌, ◌^◌, ◌<◌, ◌≤◌, List, set, replicate, ap, ◌∙◌, arith, length-set, get_or-set_other, get_or-set_same, pow_pos}
 use native.Mathlib.Decide.{ℕ_discrete}
-use native.Mathlib.Omega.{arith}
-use lib.ListN.{set, length-set, replicate, length-replicate, get_or-replicate}
-use lib.Seq.{get_or-set_same, get_or-set_other}
-use lib.Pow.{pow_pos, pow-lt}
+use lib.ListN.{length-replicate, get_or-replicate}
+use lib.Pow.{pow-lt}
 use lib.Bits.{bit_or, or_lt}
 use Rattle.transport.specs.Plan.{Under}
 use Rattle.residual.specs.inner.Cells.{cells}

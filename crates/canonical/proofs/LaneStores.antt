@@ -1,15 +1,9 @@
 -- How the lanes are parted and settled, store by store. Assumes nothing.
-use mathlib.Core.Path.{◌≡◌, refl, sym, ap, ◌∙◌}
-use mathlib.Core.Logic.{◌≢◌}
-use mathlib.Core.List.{List}
-use Prim.Native.Nat.{ℕ, ◌+◌, ◌-◌, ◌*◌, ◌%◌, ◌^◌, ◌≤◌, ◌<◌}
+use Rattle.std.proofs.Common.{◌≡◌, ℕ, ◌+◌, ◌-◌, ◌*◌, ◌%◌, ◌^◌, ◌<◌, ◌≤◌, ◌≢◌, List, length, set, replicate, sym, refl, ap, ◌∙◌, arith, length-set, get_or-set_other, get_or-set_same, pow_mono}
 use native.Mathlib.Decide.{ℕ_discrete, dec_lt}
-use native.Mathlib.Omega.{arith}
-use lib.ListN.{length, set, length-set, replicate, length-replicate, get_or-replicate, get_or-eq_default}
-use lib.Bits.{bit_and, bit_or, and_le_l, or_lt}
+use lib.ListN.{length-replicate, get_or-replicate, get_or-eq_default}
+use lib.Bits.{bit_and, bit_or, and_le_l}
 use lib.Count.{count_trailing_zeros}
-use lib.Pow.{pow_mono, pow-lt}
-use lib.Seq.{get_or-set_same, get_or-set_other}
 use Rattle.transport.specs.Plan.{Table}
 use Rattle.residual.specs.inner.Cells.{cells}
 use Rattle.residual.specs.inner.Network.{Net, get}
@@ -20,11 +14,10 @@ use Rattle.augment.specs.inner.PathWalk.{Carried}
 use Rattle.reachability.specs.inner.Reachability.{Opens, Supplied, ReachAt}
 use Rattle.canonical.specs.inner.Canonize.{Doors, TightLane, PartedAt, free, aside, Settling, FreeReady, LaneSettled, Longs, CanonReady, bare, priced}
 use Rattle.canonical.specs.inner.Canonize.{PartReady, Kept, Clear, LaneFreed, Tights, PartedTo, Open, Onward, Canonized}
-use Rattle.residual.proofs.Bits.{bit_none, bit_most, bit_or_lem, bit_own, bit_place, power_fits, low_set, rest_other, left_start, left_low}
+use Rattle.residual.proofs.Bits.{bit_none, bit_place, power_fits, low_set, rest_other, left_start, left_low}
 use Rattle.residual.proofs.Bits.{left_set, left_none, left_next, left_end}
 use Rattle.augment.proofs.LaneMarks.{cover_arc, cover_none, set_less}
 use Rattle.reachability.proofs.Reachability.{cover_drop}
-use Rattle.reachability.proofs.MaskBits.{bit_power}
 use Rattle.canonical.proofs.FreeLanes.{open_none, supplied_whole, supplied_but}
 use Rattle.canonical.proofs.Rerouting.{cover_under}
 use Rattle.canonical.proofs.LaneByLane.{settle_start, settle_next, settle_end}
@@ -188,43 +181,6 @@ part_ways {w = w} {i = i} {t = t} hn hi hs l q = record {
 
 pub part_priced : {m n : ℕ} {c u : Table} {p : List ℕ} → PartReady (bare m n c u) p → PartReady (priced m n c) p
 part_priced r = record { sources = r.sources; terminals = r.terminals; costs = r.costs; high = r.high }
-
-pub tights_none : {c : Table} {p : List ℕ} {i : ℕ} → Tights c p i 0 0
-tights_none = record {
-  fits = omega arith;
-  tight = λ j e. absurd (omega (arith, bit_none j));
-  loose = λ j l e. absurd (omega arith);
-}
-
-module _ {c : Table} {p : List ℕ} {i k t : ℕ} (q : Tights c p i k t) where
-  low : bit t k ≡ 0
-  low = elim (ℕ_discrete (bit t k) 0) [
-    | yes z ↦ z
-    | no z ↦ absurd (omega (arith, bit_place k t k q.fits (omega (arith, bit_most t k))))
-  ]
-
-  pub tights_more : c i k + get p i ≡ get p (32 + k) → Tights c p i (k + 1) (bit_or t (2 ^ k))
-  tights_more e = record {
-    fits = or_lt (k + 1) t (2 ^ k) (omega (arith, q.fits, pow_mono {i = k} {j = k + 1} (omega arith))) (pow-lt {i = k} {j = k + 1} (omega arith));
-    tight = λ j h. elim (ℕ_discrete j k) [
-      | yes z ↦ rw z e
-      | no z ↦ q.tight j (omega (arith, bit_or_lem t (2 ^ k) j, bit_power k j z, h, bit_most t j))
-    ];
-    loose = λ j l h. elim (ℕ_discrete j k) [
-      | yes z ↦ absurd (omega (arith, bit_or_lem t (2 ^ k) j, ap (λ v. bit (2 ^ k) v) z, bit_own k))
-      | no z ↦ q.loose j (omega arith) (omega (arith, bit_or_lem t (2 ^ k) j))
-    ];
-  }
-
-  pub tights_same : ¬ (c i k + get p i ≡ get p (32 + k)) → Tights c p i (k + 1) t
-  tights_same e = record {
-    fits = omega (arith, q.fits, pow_mono {i = k} {j = k + 1} (omega arith));
-    tight = q.tight;
-    loose = λ j l h. elim (ℕ_discrete j k) [
-      | yes z ↦ rw z e
-      | no z ↦ q.loose j (omega arith) h
-    ];
-  }
 
 -- those left in rest are to be freed
 pub record Freeing (N : Net) (p : List ℕ) (i : ℕ) (o₀ x₀ o f x s w d : List ℕ) (all rest : ℕ) : Type 0 where

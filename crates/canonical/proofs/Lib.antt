@@ -1,3 +1,4 @@
+pub mod MarkedBits
 pub mod ClosedLane
 pub mod Rerouting
 pub mod LaneByLane

@@ -1,15 +1,44 @@
 // One plan for everybody: of the plans as cheap as a slack plan, the one that has the smaller amount at the first lane, in row order, where it
 // differs from another. Such plans differ on tight lanes only. There each lane in turn keeps what cannot go another way, and is closed.
-ghost use Rattle.std.specs.Prelude.{◌≡◌, ◌+◌, ◌*◌, ◌<◌, get_or, length};
+ghost use Rattle.std.specs.Prelude.{◌≡◌, ◌+◌, ◌-◌, ◌*◌, ◌^◌, ◌<◌, ◌≤◌, length, slice_index};
 ghost use Rattle.residual.specs.inner.Cells.{cells};
 ghost use Rattle.residual.specs.inner.Network.{net};
 ghost use Rattle.residual.specs.inner.LanesInUse.{Covers};
 ghost use Rattle.reachability.specs.inner.Reachability.{Opens, Supplied, Known, ReachAt, Trodden};
 ghost use Rattle.canonical.specs.inner.Canonize.{FreeReady, Followed, Rerouted, Doors, Resent, LaneSettled, CanonReady, bare, Kept};
-ghost use Rattle.canonical.specs.inner.Canonize.{priced, Tights, PartReady, Clear, LaneFreed, PartedTo, Open, Onward, Canonized};
+ghost use Rattle.canonical.specs.inner.Canonize.{priced, Marked, Alike, Tights, PartReady, Clear, LaneFreed, PartedTo, Open, Onward, Canonized};
 
 use augment::send::{measure, push, serve};
 use reachability::reach::{drop_source, reach};
+use std::num::wrapping_add_u32;
+
+// Of the sixteen terminals from `at` on those to which the lane of source i is tight, a bit for each. There is no branch, so the machine does several at
+// a time. Of terminals past the case any answer will do: their bits are taken out after.
+fn tight_sixteen(i: usize, at: usize, cost: &[u32; 2048], pot: &[u32; 96]) -> u32
+    requires { (i < 32) × (at ≤ 48) }
+    ensures { Marked (λ j. Alike (cells cost.now) pot.now i (at + j)) 16 result }
+{
+    let own = pot[i];
+    let mut all: u32 = 0;
+    for j in 0..16 {
+        let k = at + j;
+        if wrapping_add_u32(cost[i * 64 + k], own) == pot[32 + k] {
+            all = all | (1 << j);
+        }
+    }
+    all
+}
+
+// The n lowest bits.
+fn ones(n: usize) -> u64
+    requires { n ≤ 64 }
+    ensures { result ≡ 2 ^ n - 1 }
+{
+    if n < 64 {
+        return (1 << n) - 1;
+    }
+    u64::MAX
+}
 
 // The tight lanes of source i, a bit for each.
 fn tight_lanes(m: usize, n: usize, i: usize, cost: &[u32; 2048], pot: &[u32; 96]) -> u64
@@ -17,14 +46,13 @@ fn tight_lanes(m: usize, n: usize, i: usize, cost: &[u32; 2048], pot: &[u32; 96]
     requires part_ready { PartReady (priced m n (cells cost.now)) pot.now }
     ensures { Tights (cells cost.now) pot.now i n result }
 {
-    let own = pot[i];
     let mut all: u64 = 0;
-    for j in 0..n {
-        if cost[i * 64 + j] + own == pot[32 + j] {
-            all = all | (1 << j);
-        }
+    let mut at: usize = 0;
+    while at < n {
+        all = all | ((tight_sixteen(i, at, cost, pot) as u64) << at);
+        at = at + 16;
     }
-    all
+    all & ones(n)
 }
 
 // Lane (i, j) is free, with its ceiling and its drums, and noted with its terminal.
@@ -155,21 +183,23 @@ fn reroute(
     x: &mut [u32; 2048],
     supplied: &mut u64,
     serves: &mut [u32; 64],
+    prev: &mut [u32; 96],
 ) -> u32
     requires free_ready { FreeReady m n i j free.now x.old }
-    requires j_value { get_or free.now (i * 64 + j) 0 ≡ 0 }
+    requires j_value { slice_index free.now (i * 64 + j) ≡ 0 }
     requires known { Known m n i j x.old supplied.old }
     requires opens { Opens m n free.now ways.now }
     requires covers { Covers m n x.old serves.old }
+    requires prev_len { length prev.old ≡ 96 }
     ensures rerouted { Rerouted m n i j amount free.now x.old x.new result }
     ensures supplied { Supplied m n i x.new supplied.new }
     ensures covers_2 { Covers m n x.new serves.new }
+    ensures prev_len_2 { length prev.new ≡ 96 }
 {
-    let mut prev = [0u32; 96];
     let mut left = amount;
     while 0 < left {
-        if reach(m, n, i, j, left, ways, free, x, supplied, serves, &mut prev) {
-            left = left - follow(m, n, i, j, left, &prev, free, x, serves);
+        if reach(m, n, i, j, left, ways, free, x, supplied, serves, prev) {
+            left = left - follow(m, n, i, j, left, prev, free, x, serves);
         } else {
             return left;
         }
@@ -191,16 +221,19 @@ fn resend(
     supplied: &mut u64,
     serves: &mut [u32; 64],
     doors: &[u32; 64],
+    prev: &mut [u32; 96],
 ) -> u32
     requires free_ready { FreeReady m n i j free.now x.old }
-    requires j_value { get_or free.now (i * 64 + j) 0 ≡ 0 }
+    requires j_value { slice_index free.now (i * 64 + j) ≡ 0 }
     requires known { Known m n i j x.old supplied.old }
     requires opens { Opens m n free.now ways.now }
     requires covers { Covers m n x.old serves.old }
     requires doors { Doors m n free.now doors.now }
+    requires prev_len { length prev.old ≡ 96 }
     ensures resent { Resent m n i j amount free.now x.old x.new result }
     ensures supplied { Supplied m n i x.new supplied.new }
     ensures covers_2 { Covers m n x.new serves.new }
+    ensures prev_len_2 { length prev.new ≡ 96 }
 {
     if doors[j] == 0 {
         return amount;
@@ -208,7 +241,7 @@ fn resend(
     if ways[i] & (*supplied - (1 << j)) == 0 {
         return amount;
     }
-    reroute(m, n, ways, free, i, j, amount, x, supplied, serves)
+    reroute(m, n, ways, free, i, j, amount, x, supplied, serves, prev)
 }
 
 // Lane (i, j) keeps what cannot go another way, and is closed.
@@ -224,13 +257,16 @@ fn settle_lane(
     supplied: &mut u64,
     serves: &mut [u32; 64],
     doors: &mut [u32; 64],
+    prev: &mut [u32; 96],
 )
     requires i_lt_m { (i < m) × (j < n) }
     requires supplied { Supplied m n i x.old supplied.old }
     requires fact { Open m n aside.old free.old x.old serves.old ways.now doors.old }
+    requires prev_len { length prev.old ≡ 96 }
     ensures lane_settled { LaneSettled m n i j aside.old free.old x.old aside.new free.new x.new }
     ensures fact_2 { Open m n aside.new free.new x.new serves.new ways.now doors.new }
     ensures supplied_2 { Supplied m n i x.new supplied.new }
+    ensures prev_len_2 { length prev.new ≡ 96 }
 {
     let k = i * 64 + j;
     let amount = x[k];
@@ -242,7 +278,9 @@ fn settle_lane(
     x[k] = 0;
     drop_source(i, j, serves);
     *supplied = *supplied | (1 << j);
-    let left = resend(m, n, ways, free, i, j, amount, x, supplied, serves, doors);
+    let left = resend(
+        m, n, ways, free, i, j, amount, x, supplied, serves, doors, prev,
+    );
     aside[k] = aside[k] + left;
 }
 
@@ -258,19 +296,24 @@ fn settle_row(
     supplied: &mut u64,
     serves: &mut [u32; 64],
     doors: &mut [u32; 64],
+    prev: &mut [u32; 96],
 )
     requires i_lt_m { i < m }
     requires supplied { Supplied m n 32 x.old supplied.old }
     requires fact { Open m n aside.old free.old x.old serves.old ways.old doors.old }
+    requires prev_len { length prev.old ≡ 96 }
     ensures onward { Onward m n (i * 64) (i * 64 + 64) aside.old free.old x.old aside.new
         free.new x.new }
     ensures fact_2 { Open m n aside.new free.new x.new serves.new ways.new doors.new }
     ensures supplied_2 { Supplied m n 32 x.new supplied.new }
+    ensures prev_len_2 { length prev.new ≡ 96 }
 {
     let mut rest = ways[i];
     while 0 < rest {
         let j = u64::trailing_zeros(rest) as usize;
-        settle_lane(m, n, i, j, ways, aside, free, x, supplied, serves, doors);
+        settle_lane(
+            m, n, i, j, ways, aside, free, x, supplied, serves, doors, prev,
+        );
         rest = rest & (rest - 1);
         ways[i] = rest;
     }
@@ -292,8 +335,21 @@ fn settle(
     ensures fact { Open m n aside.new free.new x.new serves.new ways.new doors.new }
 {
     let mut supplied = u64::MAX;
+    let mut prev = [0u32; 96];
     for i in 0..m {
-        settle_row(m, n, i, ways, aside, free, x, &mut supplied, serves, doors);
+        settle_row(
+            m,
+            n,
+            i,
+            ways,
+            aside,
+            free,
+            x,
+            &mut supplied,
+            serves,
+            doors,
+            &mut prev,
+        );
     }
 }
 

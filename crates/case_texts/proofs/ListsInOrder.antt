@@ -9,7 +9,7 @@ use lib.ListN.{length, get_or, take, length-append}
 use lib.Seq.{take-suc, take-length}
 use Rattle.csv_table.specs.Files.{in_order}
 use Rattle.csv_table.proofs.FieldCounts.{in_order_snoc}
-use Rattle.case_texts.specs.Texts.{tab}
+use Rattle.case_texts.specs.inner.Records.{tab}
 
 pub tab_length {ℓ} : {A : Type ℓ} (k : ℕ) (f : ℕ → A) → length (tab k f) ≡ k
 unfolding tab

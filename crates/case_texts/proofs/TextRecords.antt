@@ -13,20 +13,8 @@ use Rattle.csv_form.specs.declared.Kind.{Kind}
 use Rattle.csv_form.specs.declared.Kind.TheVariants.{Tariff, Production}
 use Rattle.csv_form.specs.Form.{mark, State, field, field_or_empty, record_or_end, last_line_end, done, step, may_end, after_comma, after_line}
 use Rattle.csv_form.specs.Records.{reading, run, absorb, records_at_end, is_first, row_with, whole, form_of}
-use Rattle.case_texts.specs.Texts.{
-  costs_text,
-  list_text,
-  line_text,
-  source_text,
-  sources_text,
-  demands_text,
-  tariff_of,
-  production_of,
-  tab,
-  source_record,
-  tariff_records,
-  production_records,
-}
+use Rattle.case_texts.specs.Texts.{costs_text, list_text, line_text, source_text, sources_text, demands_text, tariff_of, production_of}
+use Rattle.case_texts.specs.inner.Records.{tab, source_record, tariff_records, production_records}
 use Rattle.case_texts.proofs.TextReading.{Goes, goes_none, goes_then, goes_byte, Starts, starts_field, starts_empty, starts_record, field_goes, line_goes, StartsCost, cost_field, cost_goes}
 use Rattle.case_texts.proofs.ListsInOrder.{tab_length}
 

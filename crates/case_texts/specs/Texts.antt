@@ -1,5 +1,5 @@
 -- The two files of a case as bytes: bare fields, CR LF after each record, costs with their minus. Assumes nothing.
-use Rattle.std.specs.Prelude.{List, [], ◌∷◌, ◌++◌, ℕ, zero, suc, ◌+◌, ◌*◌, ℤ, pos, length, get_or}
+use Rattle.std.specs.Prelude.{List, [], ◌∷◌, ◌++◌, ℕ, ◌+◌, ◌*◌, ℤ, pos, get_or}
 use Rattle.csv_print.specs.Text.{field_text, record_text, each}
 use Rattle.csv_print.specs.Column.{column_text}
 use Rattle.problem.specs.Case.{Case}
@@ -40,19 +40,3 @@ tariff_text c = tariff_of c.m c.n c.costs c.supplies c.demands
 
 abbrev pub production_text : Case → List ℕ
 production_text c = production_of c.table
-
--- f 0, f 1, .. f (k - 1)
-unfoldable pub tab {ℓ} : {A : Type ℓ} → ℕ → (ℕ → A) → List A
-tab zero f = []
-tab (suc k) f = tab k f ++ (f k ∷ [])
-
--- the records of the two files; an empty field is read as 0
-unfoldable pub source_record : List ℤ → List ℕ → ℕ → ℕ → List ℤ
-source_record costs supplies n i = tab n (λ j. get_or costs (i * n + j) (pos 0)) ++ (pos (get_or supplies i 0) ∷ [])
-
-unfoldable pub tariff_records : ℕ → ℕ → List ℤ → List ℕ → List ℕ → List (List ℤ)
-tariff_records m n costs supplies demands =
-    tab m (λ i. source_record costs supplies n i) ++ ((tab n (λ j. pos (get_or demands j 0)) ++ (pos 0 ∷ [])) ∷ [])
-
-unfoldable pub production_records : List ℕ → List (List ℤ)
-production_records table = tab (length table) (λ y. pos (get_or table y 0) ∷ [])

@@ -1,7 +1,7 @@
 // The texts of a case: its tariff and its production file, written into lent slices as far as there is room. `write_case` alone calls these functions,
 // for cases that passed tests 1 to 9 and 32.
 ghost use Rattle.std.specs.Prelude.{◌+◌, ◌*◌, ◌≤◌, ◌<◌, ◌^◌, length};
-ghost use Rattle.csv_print.specs.inner.Writing.{Written};
+ghost use Rattle.csv_print.specs.Writing.{Written};
 ghost use Rattle.case_texts.specs.Texts.{costs_text, list_text, sources_text, tariff_of, production_of};
 
 use csv_print::column::{put_column, put_line};

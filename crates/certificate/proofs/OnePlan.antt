@@ -10,10 +10,11 @@ use lib.IntN.{ℤ}
 use lib.ListN.{length, get_or}
 use lib.Signed.{◌≤ℤ◌, ≤ℤ_refl}
 use Rattle.transport.specs.Sum.{sum}
-use Rattle.transport.specs.Plan.{Table, by_row, total, freight}
+use Rattle.transport.specs.Plan.{Table, by_row}
+use Rattle.transport.specs.inner.Freight.{total, freight}
 use Rattle.transport.proofs.Differences.{at_most_sub}
 use Rattle.transport.proofs.Tables.{place_lane}
-use Rattle.problem.specs.Integer.{Above}
+use Rattle.problem.specs.inner.Raised.{Above}
 use Rattle.problem.specs.Freight.{rates_by_row, freightℤ}
 use Rattle.problem.specs.Case.{Case, ceiling}
 use Rattle.problem.specs.Plans.{freight_of, PlanAt}

@@ -9,7 +9,7 @@ use native.Mathlib.Decide.{dec_lt}
 use native.Mathlib.Omega.{arith}
 use lib.IntN.{ℤ}
 use lib.Signed.{◌≤ℤ◌, ◌<ℤ◌, ≤ℤ_refl, clash_ℤ}
-use Rattle.transport.specs.Curve.{least_in}
+use Rattle.transport.specs.inner.Freight.{least_in}
 use Rattle.transport.specs.Canonical.{Before}
 use Rattle.transport.proofs.Canonical.{canonical_plan, canonical_least, canonical_before, before_leads, leads_both}
 use Rattle.transport.proofs.Differences.{sub_same}

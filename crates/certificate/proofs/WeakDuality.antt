@@ -7,12 +7,14 @@ use native.Mathlib.Nat.{mul-le-mul_right, le_dest}
 use native.Mathlib.Omega.{arith}
 use lib.IntN.{ℤ, pos, ◌+ℤ◌, ◌-ℤ◌, ◌*ℤ◌, zero-*ℤ}
 use lib.Signed.{◌≤ℤ◌, ◌<ℤ◌, clash_ℤ}
-use Rattle.transport.specs.Plan.{Table, by_row, row, col, total, freight, Fits, Under}
+use Rattle.transport.specs.Plan.{Table, by_row, row, col, Fits, Under}
+use Rattle.transport.specs.inner.Freight.{total, freight}
 use Rattle.transport.specs.inner.Slackness.{dot}
 use Rattle.transport.proofs.Sums.{sum_ext, total_mono, total_add}
 use Rattle.transport.proofs.Certificate.{cert_total}
 use Rattle.transport.proofs.Differences.{pos_sub, sub_add, sub_sub, sub_at_most}
-use Rattle.problem.specs.Integer.{sumℤ, Above}
+use Rattle.problem.specs.Integer.{sumℤ}
+use Rattle.problem.specs.inner.Raised.{Above}
 use Rattle.problem.specs.Freight.{Rates, freightℤ}
 use Rattle.problem.specs.Case.{Case}
 use Rattle.problem.specs.Plans.{freight_of, PlanAt}

@@ -1,6 +1,7 @@
 -- What is printed of a flow: the total, then each arc with the amount on it and what is paid there. Assumes nothing.
-use Rattle.std.specs.Prelude.{cond, List, [], ◌∷◌, ◌++◌, ℕ, eqb, ℤ, pos, ◌*ℤ◌, length, get_or}
+use Rattle.std.specs.Prelude.{cond, List, [], ◌∷◌, ◌++◌, ℕ, ◌≤◌, ◌<◌, ◌^◌, eqb, ℤ, pos, ◌*ℤ◌, length, get_or}
 use Rattle.csv_print.specs.Text.{record_text, each}
+use Rattle.csv_print.specs.Writing.{Narrow, NarrowCosts}
 
 -- `total`
 unfoldable pub total_header : List ℕ
@@ -31,3 +32,11 @@ arcs_text named charge starts ends amounts costs n = each n (arc_text named char
 unfoldable pub flow_text : ℤ → ℕ → ℕ → List ℕ → List ℕ → List ℕ → List ℤ → List ℕ
 flow_text total named charge starts ends amounts costs =
     ((total_header ++ record_text (total ∷ [])) ++ arcs_header) ++ arcs_text named charge starts ends amounts costs (length starts)
+
+-- a flow that can be printed: at most 64 arcs, each with an end, an amount and a unit cost, all narrow
+pub record FlowFits (charge : ℕ) (starts ends amounts : List ℕ) (costs : List ℤ) : Type 0 where
+  pub few : length starts ≤ 64
+  pub in_ends : length starts ≤ length ends
+  pub charged : charge < 2 ^ 32
+  pub narrow_costs : NarrowCosts (length starts) costs
+  pub narrow_amounts : Narrow (length starts) amounts

@@ -2,7 +2,7 @@
 ghost use Rattle.std.specs.Prelude.{[], ◌∷◌, ◌+◌, ◌*◌, ◌<◌, ◌^◌, length};
 ghost use Rattle.csv_print.specs.Text.{record_text};
 ghost use Rattle.csv_answers.specs.Bounds.{marks_text, bounds_text, MarksFit};
-ghost use Rattle.csv_print.specs.inner.Writing.{Written, PlanWritten};
+ghost use Rattle.csv_print.specs.Writing.{Written, PlanWritten};
 
 use csv_print::{put_byte, put_bytes, put_pair, put_signed_field};
 

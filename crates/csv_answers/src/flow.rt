@@ -1,9 +1,9 @@
 // Prints a flow into a lent slice, as far as there is room.
 ghost use Rattle.std.specs.Prelude.{◌≡◌, [], ◌∷◌, ◌+◌, ◌*◌, ◌<◌, ◌^◌, nat_abs, length};
 ghost use Rattle.csv_print.specs.Text.{record_text};
-ghost use Rattle.csv_answers.specs.Flow.{paid_on, arcs_text, flow_text};
-ghost use Rattle.csv_answers.specs.inner.FlowFits.{FlowFits};
-ghost use Rattle.csv_print.specs.inner.Writing.{Written, Says, PlanWritten};
+ghost use Rattle.csv_answers.specs.Flow.{paid_on, arcs_text, flow_text, FlowFits};
+ghost use Rattle.csv_print.specs.inner.Parts.{Says};
+ghost use Rattle.csv_print.specs.Writing.{Written, PlanWritten};
 
 use csv_print::{narrow, narrow_costs, put_byte, put_bytes, put_lane, put_signed_field};
 

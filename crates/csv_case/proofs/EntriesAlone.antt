@@ -13,7 +13,8 @@ use Rattle.csv_case.specs.declared.case.Entries.TheVariants.{Read, Refused}
 use Rattle.csv_table.specs.Files.{wanted, table_of, in_order}
 use Rattle.csv_table.specs.inner.Tallies.{TableRead}
 use Rattle.csv_case.specs.CaseFiles.{entries_in}
-use Rattle.csv_case.specs.Entries.{entries_of, EntriesStored}
+use Rattle.csv_case.specs.Entries.{entries_of}
+use Rattle.csv_case.specs.inner.EntriesStored.{EntriesStored}
 use Rattle.csv_case.proofs.TariffCase.{Accepted, accepted, even_length, fields_read, stored_entries}
 
 -- one field in each record: as many fields as records

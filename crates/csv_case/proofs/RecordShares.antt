@@ -8,7 +8,7 @@ use native.Mathlib.Numerals.{add-one}
 use lib.IntN.{ℤ, pos, nat_abs}
 use lib.ListN.{length, get_or, take, drop, set, length-set}
 use lib.Seq.{sets, length-sets, drop-drop, get_or-drop}
-use Rattle.csv_case.specs.CaseFiles.{cost_rows, supply_rows}
+use Rattle.csv_case.specs.inner.CaseStored.{cost_rows, supply_rows}
 use Rattle.csv_print.proofs.Stores.{sets_append, part_length}
 
 -- the loop over the sources, after i of them

@@ -19,8 +19,9 @@ use Rattle.csv_form.specs.Records.{Form, whole, broken, form_of}
 use Rattle.csv_table.specs.Files.{pick, wanted, odd_from, judge, table_of, pick_table, in_order}
 use Rattle.csv_case.specs.declared.case.CaseAnswer.TheVariants as answers
 use Rattle.csv_table.specs.inner.Tallies.{TableRead}
-use Rattle.csv_case.specs.CaseFiles.{sources_in, terminals_in, source_records, costs_in, supplies_in, demands_in, entries_in, cost_rows, supply_rows}
-use Rattle.csv_case.specs.CaseFiles.{on_refused, case_answer, TariffKept, Shared, CaseStored}
+use Rattle.csv_case.specs.CaseFiles.{sources_in, terminals_in, source_records, costs_in, supplies_in, demands_in, entries_in}
+use Rattle.csv_case.specs.inner.CaseStored.{cost_rows, supply_rows, on_refused, TariffKept, Shared, CaseStored}
+use Rattle.csv_case.specs.CaseFiles.{case_answer}
 use Rattle.csv_table.proofs.FieldCounts.{judged_whole}
 use Rattle.csv_print.proofs.Stores.{stored_part}
 

@@ -1,2 +1,3 @@
 pub mod CaseFiles
 pub mod Entries
+pub mod inner

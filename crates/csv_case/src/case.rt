@@ -1,8 +1,8 @@
 // A planning case from its two files.
 ghost use Rattle.std.specs.Prelude.{◌≡◌, map, min, ◌+◌, ◌-◌, ◌*◌, ◌≤◌, nat_abs, length, take};
 ghost use Rattle.std.proofs.lemmas.List.Edits.{sets};
-ghost use Rattle.csv_case.specs.Entries.{EntriesStored};
-ghost use Rattle.csv_case.specs.CaseFiles.{cost_rows, supply_rows, Shared, on_refused, CaseStored};
+ghost use Rattle.csv_case.specs.inner.EntriesStored.{EntriesStored};
+ghost use Rattle.csv_case.specs.inner.CaseStored.{cost_rows, supply_rows, Shared, on_refused, CaseStored};
 
 use csv_form::Kind;
 use csv_print::magnitude;

@@ -1,7 +1,8 @@
 // Prints a plan as CSV into a lent slice, as far as there is room.
 ghost use Rattle.std.specs.Prelude.{◌+◌, ◌*◌, ◌≤◌, ◌<◌, ◌^◌};
 ghost use Rattle.csv_print.specs.Text.{row_text, lanes_text, plan_text};
-ghost use Rattle.csv_print.specs.inner.Writing.{Written, Printable, Fits, Says, PlanWritten};
+ghost use Rattle.csv_print.specs.inner.Parts.{Printable, Says};
+ghost use Rattle.csv_print.specs.Writing.{Written, Fits, PlanWritten};
 
 use csv_print::{narrow, narrow_costs, put_bytes, put_lane, put_record};
 

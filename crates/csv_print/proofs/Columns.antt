@@ -8,8 +8,9 @@ use lib.IntN.{pos}
 use lib.ListN.{length, get_or, length-append}
 use borrow.Author.Tests.{lt-ltb, le-ltb}
 use Rattle.csv_print.specs.Text.{decimal, signed_text, field_text, record_text, each}
-use Rattle.csv_print.specs.inner.Writing.{Written}
-use Rattle.csv_print.specs.Column.{column_text, column_printed}
+use Rattle.csv_print.specs.Writing.{Written}
+use Rattle.csv_print.specs.Column.{column_text}
+use Rattle.csv_print.specs.inner.Parts.{column_printed}
 use Rattle.csv_print.proofs.DecimalTexts.{short_digits, each_end}
 
 -- record k

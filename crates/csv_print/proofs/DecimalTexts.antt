@@ -11,7 +11,8 @@ use lib.IntN.{ℤ, pos, nat_abs}
 use lib.ListN.{length, get_or, length-append}
 use lib.Seq.{sets, length-sets}
 use Rattle.csv_print.specs.Text.{digits_of, decimal, each}
-use Rattle.csv_print.specs.inner.Writing.{Written, Printable, Fits}
+use Rattle.csv_print.specs.inner.Parts.{Printable}
+use Rattle.csv_print.specs.Writing.{Written, Fits}
 use Rattle.csv_print.proofs.Stores.{sets_append}
 
 one_digit : (most n : ℕ) → n < 10 → digits_of most n ≡ (48 + n) ∷ []

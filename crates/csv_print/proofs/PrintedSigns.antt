@@ -14,7 +14,7 @@ use mir.Syntax.{w64}
 use mir.Val.{Fits, SFits, to_z, of_z}
 use mir.ValLaws.{to_z-of_z, to_z_pos}
 use Rattle.csv_print.specs.Text.{decimal, signed_text}
-use Rattle.csv_print.specs.inner.Writing.{Written}
+use Rattle.csv_print.specs.Writing.{Written}
 use Rattle.csv_print.proofs.DecimalTexts.{then, decimal_below}
 
 -- a number of an i64, as the machine reads it back

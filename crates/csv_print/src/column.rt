@@ -1,8 +1,8 @@
 // A column: numbers, each a record of its own.
 ghost use Rattle.std.specs.Prelude.{[], ◌∷◌, ◌*◌, ◌<◌, ◌^◌, pos, length};
 ghost use Rattle.csv_print.specs.Text.{record_text};
-ghost use Rattle.csv_print.specs.inner.Writing.{Written};
-ghost use Rattle.csv_print.specs.Column.{column_printed};
+ghost use Rattle.csv_print.specs.Writing.{Written};
+ghost use Rattle.csv_print.specs.inner.Parts.{column_printed};
 
 use crate::{put_byte, put_field};
 

@@ -2,7 +2,8 @@
 // sum overflows: the crates of texts above this one alone call them, and meet it.
 ghost use Rattle.std.specs.Prelude.{[], ◌∷◌, ◌≤◌, ◌<◌, ◌^◌, ◌≡◌, pos, nat_abs, length};
 ghost use Rattle.csv_print.specs.Text.{decimal, signed_text, field_text, record_text, refusal_text};
-ghost use Rattle.csv_print.specs.inner.Writing.{Written, Narrow, NarrowCosts, Says};
+ghost use Rattle.csv_print.specs.inner.Parts.{Says};
+ghost use Rattle.csv_print.specs.Writing.{Written, Narrow, NarrowCosts};
 
 pub mod column;
 

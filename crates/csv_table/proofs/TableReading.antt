@@ -12,8 +12,8 @@ use Rattle.csv_form.specs.declared.Kind.{Kind}
 use Rattle.csv_form.specs.Records.{Form, whole, broken, form_of}
 use Rattle.csv_table.specs.declared.table.Table.{Table}
 use Rattle.csv_table.specs.declared.table.Table.TheVariants.{Whole, Refused}
-use Rattle.csv_table.specs.Files.{judge, table_of, pick_table, fields_stored}
-use Rattle.csv_table.specs.inner.Tallies.{Scanned, TableRead}
+use Rattle.csv_table.specs.Files.{judge, table_of, pick_table}
+use Rattle.csv_table.specs.inner.Tallies.{fields_stored, Scanned, TableRead}
 
 module _ (kind : Kind) (s : List ℕ) (spare spare' : List ℤ) (t : Table) (judged : Scanned kind s spare spare' t) (cells : List ℤ) where
   pub refused_read : (number place : ℕ) → t ≡ Refused number place → TableRead kind s cells cells t

@@ -1,6 +1,5 @@
 -- Refusals 20 to 22 of a file, and the table that a file is. Assumes nothing.
 use Rattle.std.specs.Prelude.{Bool, true, false, List, [], ◌∷◌, ◌++◌, ℕ, zero, suc, eqb, ltb, ℤ, length}
-use Rattle.std.proofs.lemmas.List.Edits.{sets}
 use Rattle.csv_form.specs.declared.Kind.{Kind}
 use Rattle.csv_form.specs.declared.Kind.TheVariants.{Tariff, Production}
 use Rattle.csv_table.specs.declared.table.Table.{Table}
@@ -49,9 +48,3 @@ in_order (r ∷ rs) = r ++ in_order rs
 abbrev pub stands : Table → Bool
 stands (Whole records fields) = true
 stands (Refused number place) = false
-
--- the cells after reading: all fields in file order, as far as there are cells; a refusal changes none
-abbrev pub fields_stored : Table → Form → List ℤ → List ℤ
-fields_stored (Whole records fields) (whole rs) cells = sets cells 0 (in_order rs)
-fields_stored (Whole records fields) (broken place) cells = cells
-fields_stored (Refused number place) f cells = cells

@@ -33,8 +33,8 @@ roomy_next {cost} {cap} {x} {to} {k} {a} h f q = record {
 pub refill : {m : ℕ} {cost a to : List ℕ} → Filled m cost 0 0 to → Filled m a 0 0 to
 refill q = record { long = q.long; most = q.most; each = λ i t a b. absurd (omega arith); here = λ i a. absurd (omega arith) }
 
-pub roomy_turn : {m n : ℕ} {cost cap x ahead : List ℕ} → TransposeReady m n cost → Roomy cost cap x 2048 ahead → TransposeReady m n ahead
-roomy_turn r q = record {
+pub roomy_transpose : {m n : ℕ} {cost cap x ahead : List ℕ} → TransposeReady m n cost → Roomy cost cap x (m * 64) ahead → TransposeReady m n ahead
+roomy_transpose r q = record {
   sources = r.sources;
   terminals = r.terminals;
   costs = λ i j a b. (q.each (i * 64 + j) (omega (arith, r.sources, r.terminals))).most;
@@ -54,7 +54,7 @@ tables_wide y r a b t = record {
   by_terminal_lem = λ i j h k f. omega (arith, t.each i j h k);
 }
 
-pub tables_narrow : {wide : Bool} {m n : ℕ} {cost cap x ahead columns : List ℕ} → wide ≡ false → TransposeReady m n cost → length x ≡ 2048 → Roomy cost cap x 2048 ahead
+pub tables_narrow : {wide : Bool} {m n : ℕ} {cost cap x ahead columns : List ℕ} → wide ≡ false → TransposeReady m n cost → length x ≡ 2048 → Roomy cost cap x (m * 64) ahead
     → Transposed m n ahead columns → Tables wide m n cost cap x ahead columns
 tables_narrow {m = m} {n} {cost} {cap} {x} {ahead} y r a q t = record {
   sources = r.sources;

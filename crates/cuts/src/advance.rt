@@ -98,7 +98,7 @@ fn cut_in(
     }
 }
 
-// The lane by which the part is to hang: a tight one where the last cut changed nothing, else the one that a cut brings in. NONE where there is none.
+// The lane by which the subtree is to be attached: a tight one where the last cut changed nothing, else the one that a cut brings in. NONE where there is none.
 fn next_lane(
     wide: bool,
     m: usize,
@@ -159,7 +159,7 @@ struct Made {
     flat: bool,
 }
 
-// The lane above the node of the hint, where it is one, leaves the tree; the part below it hangs from another. Whether that was done.
+// The lane above the node of the hint, where it is one, leaves the tree; the subtree below it is attached to another. Whether that was done.
 fn step(
     wide: bool,
     m: usize,

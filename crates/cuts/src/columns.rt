@@ -1,6 +1,6 @@
 // The tables of a cut: the unit costs of the lanes with room, by source and by terminal, 32 sources for each: what a cut reads stands together. A full lane
 // has more than any that has room.
-ghost use Rattle.std.specs.Prelude.{◌≡◌, ◌+◌, ◌<◌, length};
+ghost use Rattle.std.specs.Prelude.{◌≡◌, ◌+◌, ◌*◌, ◌≤◌, ◌<◌, length};
 ghost use Rattle.cuts.specs.inner.Columns.{TransposeReady, Filled, Transposed};
 ghost use Rattle.cuts.specs.inner.Tables.{Fresh, Roomy, Tables, Written, LaneEnds, Renewed};
 
@@ -40,12 +40,13 @@ fn fresh(cost: u32, cap: u32, x: u32) -> u32
     FULL
 }
 
-// The table by source.
-fn with_room(cost: &[u32; 2048], cap: &[u32; 2048], x: &[u32; 2048], to: &mut [u32; 2048])
-    requires { length to.old ≡ 2048 }
-    ensures { Roomy cost.now cap.now x.now 2048 to.new }
+// The table by source, for m sources.
+fn with_room(m: usize, cost: &[u32; 2048], cap: &[u32; 2048], x: &[u32; 2048], to: &mut [u32; 2048])
+    requires { (m ≤ 32) × (length to.old ≡ 2048) }
+    ensures { Roomy cost.now cap.now x.now (m * 64) to.new }
 {
-    for k in 0..2048 {
+    let all = m * 64;
+    for k in 0..all {
         to[k] = fresh(cost[k], cap[k], x[k]);
     }
 }
@@ -70,7 +71,7 @@ pub fn tables(
         by_terminal(m, n, cost, columns);
         return;
     }
-    with_room(cost, cap, x, ahead);
+    with_room(m, cost, cap, x, ahead);
     by_terminal(m, n, ahead, columns);
 }
 

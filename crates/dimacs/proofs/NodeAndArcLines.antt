@@ -51,15 +51,15 @@ any_more p l v = any_joined p l (v ∷ []) ∙ ap (λ (b : Bool). any_of p l || 
     or_false true = refl
     or_false false = refl
 
-turned : (a b : ℕ) → eqb a b ≡ eqb b a
-turned a b = elim (ℕ_discrete a b) [ yes e ↦ eq-eqb a b e ∙ sym (eq-eqb b a (sym e)) | no d ↦ ne_eqb a b d ∙ sym (ne_eqb b a (λ e. d (sym e))) ]
+exchanged : (a b : ℕ) → eqb a b ≡ eqb b a
+exchanged a b = elim (ℕ_discrete a b) [ yes e ↦ eq-eqb a b e ∙ sym (eq-eqb b a (sym e)) | no d ↦ ne_eqb a b d ∙ sym (ne_eqb b a (λ e. d (sym e))) ]
 
 pub twice_more : (l : List NodeLine) (v : NodeLine) → twice (l ++ (v ∷ [])) ≡ (twice l || any_of (λ (z : NodeLine). eqb z.id v.id) l)
 unfolding twice any_of
 twice_more [] v = refl
 twice_more (x ∷ l) v =
     ap₂ (λ (a b : Bool). a || b) (any_more (λ (z : NodeLine). eqb z.id x.id) l v) (twice_more l v)
-    ∙ ap (λ (c : Bool). (any_of (λ (z : NodeLine). eqb z.id x.id) l || c) || (twice l || any_of (λ (z : NodeLine). eqb z.id v.id) l)) (turned v.id x.id)
+    ∙ ap (λ (c : Bool). (any_of (λ (z : NodeLine). eqb z.id x.id) l || c) || (twice l || any_of (λ (z : NodeLine). eqb z.id v.id) l)) (exchanged v.id x.id)
     ∙ regroup (any_of (λ (z : NodeLine). eqb z.id x.id) l) (eqb x.id v.id) (twice l) (any_of (λ (z : NodeLine). eqb z.id v.id) l)
   where
     regroup : (a b c d : Bool) → ((a || b) || (c || d)) ≡ ((a || c) || (b || d))

@@ -168,7 +168,7 @@ module _ (nodes : ℕ) (sup : List NodeLine) (v : NodeLine) (odd : Bool) (gives 
     module _ (g t : ℕ) (new : get_or marks i 0 ≤ 0) (is : sub_ℕ g t ≡ v.supply) (way : (g ≡ 0) ⊎ (t ≡ 0)) (sg : g < 10 ^ 10) (st : t < 10 ^ 10) where
       pub node_next : (worse : Bool) → worse ≡ (ltb nodes v.id || odd) → NodesRead nodes (sup ++ (v ∷ [])) worse (set gives i g) (set takes i t) (set marks i 1)
       node_next worse w = record {
-        flag = w ∙ ap₂ (λ (a b : Bool). a || b) celled r.flag ∙ turn ∙ sym flags_next;
+        flag = w ∙ ap₂ (λ (a b : Bool). a || b) celled r.flag ∙ regrouped ∙ sym flags_next;
         mark = λ k q. elim (ℕ_discrete k i) [ yes z ↦ mark_here k q z | no z ↦ mark_other k q z ];
         mark_one = λ k q. elim (ℕ_discrete k i) [
           | yes z ↦ rw (z, get_or-set_same marks i 1 0 (omega (arith, r.marks_long))) (let h : 1 ≤ 1 = omega arith in h)
@@ -205,9 +205,9 @@ module _ (nodes : ℕ) (sup : List NodeLine) (v : NodeLine) (odd : Bool) (gives 
             | no h ↦ le-ltb nodes v.id (omega arith) ∙ sym (le-ltb (min nodes 32) v.id (omega arith))
           ]
 
-          turn : (ltb (min nodes 32) v.id || (any_of (no_cell nodes) sup || twice sup))
+          regrouped : (ltb (min nodes 32) v.id || (any_of (no_cell nodes) sup || twice sup))
               ≡ ((any_of (no_cell nodes) sup || no_cell nodes v) || (twice sup || listed_node sup v.id))
-          turn =
+          regrouped =
               shuffle (ltb (min nodes 32) v.id) (any_of (no_cell nodes) sup) (listed_node sup v.id) (twice sup) (ap (listed_node sup) e ∙ fresh)
               ∙ ap (λ (b : Bool). (any_of (no_cell nodes) sup || (b || ltb (min nodes 32) v.id)) || (twice sup || listed_node sup v.id))
               (sym (le-ltb v.id 1 (omega arith)))

@@ -1,6 +1,7 @@
 // Copies between the lent slices, whose rows have n cells of 64 bits, and the working arrays, whose rows have 64 cells of 32 bits.
 ghost use Rattle.std.specs.Prelude.{◌≡◌, ℕ, ◌+◌, ◌*◌, ◌≤◌, ◌<◌, false, map, length, get_or};
-ghost use Rattle.problem.specs.Range.{outside, raised_of, AllInside};
+ghost use Rattle.problem.specs.Range.{outside, raised_of};
+ghost use Rattle.problem.specs.inner.Raised.{AllInside};
 ghost use Rattle.engine_arrays.specs.inner.Copy.{Narrow, Copied, RowsMoved, RowsKept, Supplied, Wanted};
 
 // Copies a slice whose numbers fit 32 bits into working cells from index `at` on.

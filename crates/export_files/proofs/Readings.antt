@@ -21,8 +21,10 @@ use Rattle.csv_case.specs.declared.case.CaseAnswer.{CaseAnswer}
 use Rattle.csv_case.specs.declared.case.CaseAnswer.TheVariants as answers
 use Rattle.csv_case.specs.declared.case.Entries.{Entries}
 use Rattle.csv_case.specs.declared.case.Entries.TheVariants as entries
-use Rattle.csv_case.specs.CaseFiles.{case_answer, TariffStored, CaseStored}
-use Rattle.csv_case.specs.Entries.{entries_of, entries_for, EntriesStored}
+use Rattle.csv_case.specs.CaseFiles.{case_answer}
+use Rattle.csv_case.specs.inner.CaseStored.{TariffStored, CaseStored}
+use Rattle.csv_case.specs.Entries.{entries_of, entries_for}
+use Rattle.csv_case.specs.inner.EntriesStored.{EntriesStored}
 use Rattle.csv_case.proofs.CaseLengths.{BothStand, both_stand}
 use Rattle.export_reports.specs.Report.{short_report}
 use Rattle.export_files.specs.declared.reading.Reading.{Reading}

@@ -13,7 +13,8 @@ use Rattle.write_case.specs.declared.Texts.{Texts}
 use Rattle.write_case.specs.declared.Texts.TheVariants as texts
 use Rattle.write_case.specs.Writing.{refusal, TextsTold}
 use Rattle.export_reports.specs.Report.{short_report}
-use Rattle.export_files.specs.Writing.{refusal_number, lengths_report, texts_report, WriteTold, WriteUntold, TextsExported}
+use Rattle.export_files.specs.Writing.{refusal_number, lengths_report, WriteTold, WriteUntold, TextsExported}
+use Rattle.export_files.specs.inner.TextLengths.{texts_report}
 
 module _ (o : Option Outcome) (t p tariff production report : List ℕ) where
   pub texts_untold : length report < 2 → TextsExported o t p tariff production tariff production report report short_report

@@ -1,3 +1,4 @@
 pub mod Printing
 pub mod Writing
 pub mod Reading
+pub mod inner

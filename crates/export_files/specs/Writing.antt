@@ -8,8 +8,6 @@ use Rattle.problem.specs.Outcome.{Outcome}
 use Rattle.case_texts.specs.Texts.{tariff_text, production_text}
 use Rattle.csv_case.specs.CaseFiles.{case_answer}
 use Rattle.plan_files.specs.Printed.{file_case}
-use Rattle.write_case.specs.declared.Texts.{Texts}
-use Rattle.write_case.specs.declared.Texts.TheVariants.{Written, Refused}
 use Rattle.write_case.specs.Writing.{write_refusal, file_refusal, unless_refused}
 use Rattle.export_reports.specs.Report.{number_of, report_of, short_report}
 
@@ -22,11 +20,6 @@ refusal_number (some o) = number_of o
 abbrev pub lengths_report : List ℕ → List ℕ → Option Outcome → List ℕ
 lengths_report t p none = length t ∷ length p ∷ []
 lengths_report t p (some o) = report_of o
-
--- the same of an answer
-abbrev pub texts_report : Texts → List ℕ
-texts_report (Written t p) = t ∷ p ∷ []
-texts_report (Refused k p) = p ∷ []
 
 -- the texts t and p are written, unless there is the refusal o
 pub record WriteTold (o : Option Outcome) (t p tariff production tariff' production' report reported : List ℕ) (r : ℕ) : Type 0 where

@@ -4,7 +4,8 @@ ghost use Rattle.std.specs.Prelude.{◌≡◌, ◌≤◌, length};
 ghost use Rattle.transport.specs.Curve.{written};
 ghost use Rattle.planner.specs.Judge.{free_case};
 ghost use Rattle.write_case.specs.Writing.{refusal};
-ghost use Rattle.export_files.specs.Writing.{refusal_number, texts_report, WriteExported, RewriteExported};
+ghost use Rattle.export_files.specs.Writing.{refusal_number, WriteExported, RewriteExported};
+ghost use Rattle.export_files.specs.inner.TextLengths.{texts_report};
 
 use write_case::Texts;
 

@@ -1,9 +1,8 @@
 // Sentences that name counts and sums of files. The proved reader found these files to be of the form; what is counted here decides nothing.
 use crate::spot::say_spot;
-use file_io::file::first;
 use file_io::message::{say, say_count, say_grouped, say_name, say_with};
-use file_io::place::{field_start, is_digit, next, record_at};
-use file_io::text::{last_of, rest};
+use file_text::place::{field_start, is_digit, next, record_at};
+use file_text::text::{first, last_of, rest};
 
 // The bytes of a field up to its comma or line end.
 fn field_length(text: &[u8]) -> usize {

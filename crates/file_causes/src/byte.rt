@@ -2,13 +2,12 @@
 use crate::fields::{said_entry, say_in_front};
 use crate::number::{said_number, said_sign};
 use crate::whole::said_whole;
-use file_io::file::first;
 use file_io::message::{say, say_with};
-use file_io::place::{
+use file_text::place::{
     byte_at, byte_before, field_at, field_start, is_digit, record_at, record_end,
 };
-use file_io::shown::hex;
-use file_io::text::{has, rest, starts};
+use file_text::shown::hex;
+use file_text::text::{first, has, rest, starts};
 
 // A letter of the Latin alphabet, or a byte of a letter that is none of these.
 fn is_letter(b: u8) -> bool {

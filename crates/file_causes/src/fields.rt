@@ -2,10 +2,9 @@
 use crate::number::{said_parted, say_parted_spot};
 use crate::spot::say_spot;
 use crate::whole::said_whole;
-use file_io::file::first;
 use file_io::message::{say, say_name};
-use file_io::place::{byte_at, field_at, field_start, is_digit, record_at, record_end};
-use file_io::text::{last_of, rest};
+use file_text::place::{byte_at, field_at, field_start, is_digit, record_at, record_end};
+use file_text::text::{first, last_of, rest};
 
 // The bytes of a record, without its line end.
 fn record_text(bytes: &[u8], record: u64) -> &[u8] {

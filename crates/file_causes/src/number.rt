@@ -1,9 +1,8 @@
 // A sign within a number or before it: a tab, one that parts thousands, a decimal, a space, a plus, another minus.
 use crate::spot::say_spot;
-use file_io::file::first;
 use file_io::message::{say, say_name};
-use file_io::place::{byte_at, byte_before, is_digit};
-use file_io::text::{rest, starts};
+use file_text::place::{byte_at, byte_before, is_digit};
+use file_text::text::{first, rest, starts};
 
 // Is the byte so many bytes before an end a digit?
 fn digit_back(before: &[u8], back: usize) -> bool {

@@ -4,7 +4,7 @@ use crate::fields::{said_fields_cause, say_fields_spot};
 use crate::spot::say_spot;
 use crate::whole::said_other;
 use file_io::message::{say, say_count, say_name, say_with};
-use file_io::place::{field_at, field_start, next, record_at, record_end};
+use file_text::place::{field_at, field_start, next, record_at, record_end};
 
 // The offset after an offset.
 fn after(at: usize) -> usize {

@@ -1,9 +1,8 @@
 // The line of a place in a file, and marks below the place.
-use file_io::file::first;
 use file_io::message::{say, say_number};
-use file_io::place::{field_start, next, record_at};
-use file_io::shown::hex;
-use file_io::text::rest;
+use file_text::place::{field_start, next, record_at};
+use file_text::shown::hex;
+use file_text::text::{first, rest};
 
 // A byte for the eye: names for CR, LF and tab, base 16 for what is no sign of ASCII, all in angle quotes.
 fn say_shown_byte(byte: u8) {

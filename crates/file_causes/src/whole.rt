@@ -1,9 +1,8 @@
 // What a file is instead of a file of its kind.
 use csv_table::table::tariff_stands;
-use file_io::file::first;
 use file_io::message::say;
-use file_io::place::{field_at, next, record_at, record_end};
-use file_io::text::{has, last_of, rest, starts};
+use file_text::place::{field_at, next, record_at, record_end};
+use file_text::text::{first, has, last_of, rest, starts};
 
 // How many bytes are 0 among every other of the first 64, from the first or the second on.
 fn zeros_of(bytes: &[u8], from: usize) -> u64 {

@@ -1,3 +1,1 @@
 pub mod ReadOn
-pub mod PlaceRuns
-pub mod OverBytes

@@ -19,6 +19,21 @@ goes_on false more at size e = go (eqb more 0) (leb size (at + more)) refl refl 
     go false true p q e = absurd (true≢false e)
     go false false p q e = (omega (arith, eqb-false more 0 p), omega (arith, leb-false size (at + more) q))
 
+-- a read within the room ends within it
+at_most : (failed : Bool) (more at size : ℕ) → at ≤ size → taken_after failed more at size ≤ size
+unfolding taken_after
+at_most true more at size l = omega arith
+at_most false more at size l = go (eqb more 0) (leb size (at + more)) refl
+  where
+    go : (t u : Bool) → leb size (at + more) ≡ u → cond t at (cond u size (at + more)) ≤ size
+    go true u q = l
+    go false true q = omega arith
+    go false false q = omega (arith, leb-false size (at + more) q)
+
+pub told_most : {failed : Bool} {more at size taken : ℕ} {ends : Bool} (room : ℕ) → Told failed more at size taken ends → size ≡ room → at ≤ room
+    → taken ≤ room
+told_most {failed} {more} {at} {size} room t e l = omega (arith, t.at_is, e, at_most failed more at size (omega (arith, e, l)))
+
 -- ---- what each kind of read says, of any room
 
 -- it failed

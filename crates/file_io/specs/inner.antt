@@ -1,4 +1,1 @@
 pub mod Reading
-pub mod Places
-pub mod Shown
-pub mod Over

@@ -1,6 +1,6 @@
 // The version that the programs print.
-use crate::file::first;
 use check::same;
+use file_text::text::first;
 
 // Writes a program's name and the version, as 1.0.0, to standard output.
 fn print_version(name: &[u8]) {

@@ -1,5 +1,5 @@
 // Reads a file into room that is lent.
-ghost use Rattle.std.specs.Prelude.{◌≡◌, pos, length, replicate, take};
+ghost use Rattle.std.specs.Prelude.{◌≡◌, ◌≤◌, pos, length, replicate};
 ghost use Rattle.std.specs.Int.Signed.{lt_z};
 ghost use Rattle.io.specs.Counts.{clamp_len};
 ghost use Rattle.file_io.specs.inner.Reading.{Told};
@@ -10,16 +10,6 @@ pub fn file_room() -> [u8; 65537]
     ensures value_2 { result ≡ replicate 65537 0 }
 {
     [0; 65537]
-}
-
-// The first n bytes; all where there are no more.
-pub fn first(s: &[u8], n: usize) -> &[u8]
-    ensures { result.now ≡ take n s.now }
-{
-    if s.len() < n {
-        return s;
-    }
-    &s[0..n]
 }
 
 // How many bytes of the room a file takes up to now, and whether that is all.
@@ -64,7 +54,8 @@ fn after_read(got: isize, at: usize, room: &[u8]) -> Taken
 
 // Reads to the end of the file or of the room, and gives how many bytes there are; the whole room where a read fails.
 fn read_all(fd: i32, room: &mut [u8]) -> usize
-    ensures { length room.new ≡ length room.old }
+    ensures upper_bound { result ≤ length room.old }
+    ensures room_len_unchanged { length room.new ≡ length room.old }
 {
     let size = room.len();
     let mut at: usize = 0;
@@ -81,7 +72,8 @@ fn read_all(fd: i32, room: &mut [u8]) -> usize
 
 // Reads a file, and gives how many bytes of the room it takes: the whole room where it is not opened, not read or too long.
 pub fn read_file(path: &[u8], room: &mut [u8]) -> usize
-    ensures { length room.new ≡ length room.old }
+    ensures upper_bound { result ≤ length room.old }
+    ensures room_len_unchanged { length room.new ≡ length room.old }
 {
     let fd = os::open_read(path);
     if fd < 0 {

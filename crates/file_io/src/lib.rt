@@ -1,7 +1,4 @@
-// The bytes of files, where in a file a byte stands, and sentences on standard error. It decides nothing.
+// Files read whole, and sentences on standard error. It decides nothing.
 pub mod about;
 pub mod file;
 pub mod message;
-pub mod place;
-pub mod shown;
-pub mod text;

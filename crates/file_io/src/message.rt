@@ -1,5 +1,5 @@
 // Text, numbers and names on standard error.
-use crate::shown::{escape, left_of};
+use file_text::shown::{escape, left_of};
 
 pub fn say(text: &[u8]) {
     io::write_all(libc::STDERR_FILENO, text);

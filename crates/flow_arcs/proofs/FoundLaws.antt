@@ -24,7 +24,8 @@ use Rattle.flow_problem.proofs.NodesAndSources.{cells_length, cells_at}
 use Rattle.flow_problem.proofs.Answers.{answer-29, answer-30}
 use Rattle.flow_arcs.specs.declared.Arc.{Arc}
 use Rattle.flow_arcs.specs.declared.find.Found.{Found}
-use Rattle.flow_arcs.specs.Lent.{lent_arc, room_for, ArcsAnswered, at_most, arc_at, arcs_found, FoundGiven, FoundIs}
+use Rattle.flow_arcs.specs.Lent.{lent_arc, room_for, ArcsAnswered}
+use Rattle.flow_arcs.specs.inner.Found.{at_most, arc_at, arcs_found, FoundGiven, FoundIs}
 use Rattle.problem.proofs.TestsPassed.{either_first, either_second}
 
 -- ---- the cells that an array has of those lent

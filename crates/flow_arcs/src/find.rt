@@ -1,7 +1,7 @@
 // What is found of a network, with the arcs' numbers in arrays, one for each field of an arc.
 ghost use Rattle.std.specs.Prelude.{◌≡◌, ◌<◌};
 ghost use Rattle.flow_network.specs.Answer.{count_in};
-ghost use Rattle.flow_arcs.specs.Lent.{at_most, arc_at};
+ghost use Rattle.flow_arcs.specs.inner.Found.{at_most, arc_at};
 
 use crate::Arc;
 use flow_network::Answer;

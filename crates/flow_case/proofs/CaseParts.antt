@@ -36,8 +36,8 @@ numbered n i h = elim (ℕ_discrete i (n - 1)) [
   | no d ↦ ne_eqb n (suc i) (λ e. d (omega arith)) ∙ sym (ne_eqb i (n - 1) d)
 ]
 
-turned : (a b : ℕ) → eqb a b ≡ eqb b a
-turned a b = elim (ℕ_discrete a b) [ yes e ↦ eq-eqb a b e ∙ sym (eq-eqb b a (sym e)) | no d ↦ ne_eqb a b d ∙ sym (ne_eqb b a (λ e. d (sym e))) ]
+exchanged : (a b : ℕ) → eqb a b ≡ eqb b a
+exchanged a b = elim (ℕ_discrete a b) [ yes e ↦ eq-eqb a b e ∙ sym (eq-eqb b a (sym e)) | no d ↦ ne_eqb a b d ∙ sym (ne_eqb b a (λ e. d (sym e))) ]
 
 module _ (g : Network) (ok : Proper g) where
   start_at : (j : ℕ) → get_or (starts_of g) j 0 ≡ (arc_at g j).start
@@ -70,5 +70,5 @@ module _ (g : Network) (ok : Proper g) where
       sum_ext (arc_count g) _ _
       (λ j l.
       ap₂ (λ (t : Bool) (v : ℕ). cond t v 0)
-      (ap (λ (n : ℕ). eqb n (suc i)) (end_at j) ∙ numbered (arc_at g j).end i (ok.ends_numbered j l) ∙ turned i (end g j))
+      (ap (λ (n : ℕ). eqb n (suc i)) (end_at j) ∙ numbered (arc_at g j).end i (ok.ends_numbered j l) ∙ exchanged i (end g j))
       (ceiling_at j))

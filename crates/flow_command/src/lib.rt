@@ -5,8 +5,9 @@ ghost use Rattle.std.specs.Prelude.{◌≡◌, length};
 use check::same;
 use file_causes::refusal::explain_file;
 use file_io::about::told_version;
-use file_io::file::{file_room, first, read_file};
+use file_io::file::{file_room, read_file};
 use file_io::message::{say, say_name, say_with};
+use file_text::text::first;
 use flow_files::flow_files;
 use network_causes::form::say_line_cause;
 use network_causes::limits::say_limits_cause;
@@ -133,7 +134,7 @@ pub fn answer_paths(network_path: &[u8], arc: &[u8], table_path: &[u8]) {
 }
 
 // Answers the files and the arc, unless one is the word for help.
-fn answer_or_help(network: &[u8], arc: &[u8], table: &[u8]) {
+pub fn answer_or_help(network: &[u8], arc: &[u8], table: &[u8]) {
     if same(network, b"--help") {
         usage();
         return;

@@ -12,14 +12,15 @@ use lib.Signed.{lt_z}
 use lib.ListN.{length, get_or, take, drop, length-map, get_or-map, get_or-append, length-append}
 use lib.Seq.{length-sets, sets-eq, take_at, take_all, length-take-le}
 use Rattle.csv_print.specs.Text.{refusal_text}
-use Rattle.csv_answers.specs.inner.FlowFits.{FlowFits}
+use Rattle.csv_answers.specs.Flow.{FlowFits}
 use Rattle.csv_form.specs.declared.Kind.TheVariants.{Production}
 use Rattle.csv_case.specs.declared.case.Entries.{Entries}
 use Rattle.csv_case.specs.declared.case.Entries.TheVariants as entries
 use Rattle.plan_files.specs.declared.planned.Printed.{Printed}
 use Rattle.csv_table.specs.Files.{table_of}
 use Rattle.plan_files.specs.Printed.{Told}
-use Rattle.csv_case.specs.Entries.{entries_of, entries_for, EntriesStored}
+use Rattle.csv_case.specs.Entries.{entries_of, entries_for}
+use Rattle.csv_case.specs.inner.EntriesStored.{EntriesStored}
 use Rattle.dimacs.specs.Arc.{Arc, arc}
 use Rattle.dimacs.specs.Form.{File, Form, whole, broken, form_of}
 use Rattle.dimacs.specs.Lines.{any_of}
@@ -35,7 +36,8 @@ use Rattle.flow_network.specs.Answer.{outcome, count_in, count_of, arcs_said}
 use Rattle.flow_files.specs.declared.Formed.{Formed}
 use Rattle.flow_files.specs.declared.Formed.TheVariants as formeds
 use Rattle.flow_files.specs.Printing.{place_of, room, network_outcome, table_then, table_outcome, form_then, files_outcome, flow_bytes, FlowPrinted}
-use Rattle.flow_files.specs.Printing.{RefusalPrinted, OutcomePrinted, NetworkPrinted, TablePrinted, FilesPrinted}
+use Rattle.flow_files.specs.Printing.{RefusalPrinted, OutcomePrinted, FilesPrinted}
+use Rattle.flow_files.specs.inner.Parts.{NetworkPrinted, TablePrinted}
 use Rattle.flow_files.specs.inner.ArcCells.{FormedIs, ArcsCut, cut_text}
 use Rattle.problem.proofs.TestsPassed.{either_first, either_second}
 

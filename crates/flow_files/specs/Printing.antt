@@ -70,14 +70,6 @@ pub record OutcomePrinted (s : List ℕ) (place : ℕ) (table : List ℕ) (o : O
   pub refusal : RefusalPrinted o out out' answer
   pub flow : (f : File) (total : ℤ) → form_of s ≡ whole f → o ≡ carried total → FlowPrinted f place table total out out' answer
 
--- what is printed of a network file with a place and a table
-abbrev pub NetworkPrinted : List ℕ → ℕ → List ℕ → List ℕ → List ℕ → Printed → Type 0
-NetworkPrinted s place table out out' answer = OutcomePrinted s place table (network_outcome s place table) out out' answer
-
--- what is printed of a network file that is not too long
-abbrev pub TablePrinted : List ℕ → List ℕ → List ℕ → List ℕ → List ℕ → Printed → Type 0
-TablePrinted s arc t out out' answer = OutcomePrinted s (place_of arc) (entries_of t) (form_then (form_of s) (table_outcome s arc t)) out out' answer
-
 -- what is printed of the two files and the text
 abbrev pub FilesPrinted : List ℕ → List ℕ → List ℕ → List ℕ → List ℕ → Printed → Type 0
 FilesPrinted s arc t out out' answer = OutcomePrinted s (place_of arc) (entries_of t) (files_outcome s arc t) out out' answer

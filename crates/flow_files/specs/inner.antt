@@ -1,1 +1,2 @@
 pub mod ArcCells
+pub mod Parts

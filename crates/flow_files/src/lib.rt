@@ -3,7 +3,8 @@ ghost use Rattle.std.specs.Prelude.{◌≡◌};
 ghost use Rattle.plan_files.specs.Printed.{Told};
 ghost use Rattle.flow_problem.specs.Answer.{refused};
 ghost use Rattle.dimacs.specs.Form.{form_of};
-ghost use Rattle.flow_files.specs.Printing.{place_of, form_then, RefusalPrinted, NetworkPrinted, TablePrinted, FilesPrinted};
+ghost use Rattle.flow_files.specs.Printing.{place_of, form_then, RefusalPrinted, FilesPrinted};
+ghost use Rattle.flow_files.specs.inner.Parts.{NetworkPrinted, TablePrinted};
 ghost use Rattle.flow_files.specs.inner.ArcCells.{FormedIs, ArcsCut, cut_text};
 
 use csv_answers::flow::put_flow;

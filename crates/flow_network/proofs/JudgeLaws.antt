@@ -71,11 +71,11 @@ module _ (ceilings : List ℕ) (place : ℕ) (table : List ℕ) where
 
 below_front : (k : ℕ) (p : ℕ → Bool) → any_below (suc k) p ≡ (p 0 || any_below k (λ i. p (suc i)))
 unfolding any_below
-below_front zero p = turn (p 0)
+below_front zero p = exchanged (p 0)
   where
-    turn : (a : Bool) → (false || a) ≡ (a || false)
-    turn true = refl
-    turn false = refl
+    exchanged : (a : Bool) → (false || a) ≡ (a || false)
+    exchanged true = refl
+    exchanged false = refl
 below_front (suc k) p = ap (λ (b : Bool). b || p (suc k)) (below_front k p) ∙ or_regroup (p 0) (any_below k (λ i. p (suc i))) (p (suc k))
 
 any_listed : (p : ℕ → Bool) (l : List ℕ) → any_below (length l) (λ i. p (get_or l i 0)) ≡ any_of p l

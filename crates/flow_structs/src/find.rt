@@ -1,5 +1,5 @@
 // The least-cost flow with the arcs' numbers in arrays, one for each field of an arc.
-ghost use Rattle.flow_arcs.specs.Lent.{FoundIs};
+ghost use Rattle.flow_arcs.specs.inner.Found.{FoundIs};
 
 use flow_arcs::find::{Found, at_most, count_of};
 use flow_network::cheapest_flow;

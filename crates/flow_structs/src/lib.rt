@@ -3,7 +3,8 @@ ghost use Rattle.std.specs.Prelude.{◌≡◌, ◌≤◌, length};
 ghost use Rattle.transport.specs.Curve.{written};
 ghost use Rattle.flow_network.specs.Answer.{outcome};
 ghost use Rattle.flow_problem.specs.Network.{cells};
-ghost use Rattle.flow_arcs.specs.Lent.{arc_at, ArcsAnswered};
+ghost use Rattle.flow_arcs.specs.Lent.{ArcsAnswered};
+ghost use Rattle.flow_arcs.specs.inner.Found.{arc_at};
 
 use crate::find::find;
 use flow_arcs::Arc;

@@ -25,7 +25,7 @@ min_assoc a b c = omega arith
 
 module _ (table : List ℕ) (y v gain loss : ℕ) where
   -- one split more: it is the smaller of the two
-  total_more : (b : Incumbent) (k : ℕ) → (scanned table y v gain loss b (suc k)).total ≡ min (scanned table y v gain loss b k).total (total_at table y v gain loss (suc k))
+  pub total_more : (b : Incumbent) (k : ℕ) → (scanned table y v gain loss b (suc k)).total ≡ min (scanned table y v gain loss b k).total (total_at table y v gain loss (suc k))
   total_more b k = rw (scanned_more table y v gain loss b k) (better_total (scanned table y v gain loss b k) (y + suc k) (along v gain loss (suc k)) (get_or table (y + suc k) 0))
 
   total_four : (b : Incumbent) → (scanned table y v gain loss b 4).total ≡ min b.total (least_of_four table y v gain loss)
@@ -37,7 +37,7 @@ module _ (table : List ℕ) (y v gain loss : ℕ) where
   total_falls b (suc k) = omega (arith, total_more b k, total_falls b k)
 
   -- an incumbent whose total does not fall stays
-  scanned_same : (b : Incumbent) (k : ℕ) → b.total ≤ (scanned table y v gain loss b k).total → scanned table y v gain loss b k ≡ b
+  pub scanned_same : (b : Incumbent) (k : ℕ) → b.total ≤ (scanned table y v gain loss b k).total → scanned table y v gain loss b k ≡ b
   scanned_same b zero h = scanned_none table y v gain loss b
   scanned_same b (suc k) h =
       scanned_more table y v gain loss b k

@@ -1,2 +1,3 @@
 pub mod IncumbentScan
 pub mod FourSplits
+pub mod LastSplit

@@ -1,7 +1,7 @@
 // The look at each split of a stretch for a smaller total.
 ghost use Rattle.std.specs.Prelude.{◌≡◌, min, ◌+◌, ◌-◌, ◌%◌, ◌≤◌, ◌<◌, length, get_or};
 ghost use Rattle.incumbent.specs.inner.Scan.{better, scanned, scanned_part, ScanReady, LineReady};
-ghost use Rattle.incumbent.specs.inner.LeastOfFour.{least_of_four, Lowest};
+ghost use Rattle.incumbent.specs.inner.LeastOfFour.{least_of_four, Lowest, NoneBelow};
 
 use crate::Incumbent;
 
@@ -160,7 +160,7 @@ fn fours(
 }
 
 // The incumbent after a look at each of the amount splits after y, on which the freight rises by gain and falls by loss a drum.
-pub fn scan(
+fn each(
     table: &[u64],
     y: u64,
     amount: u64,
@@ -175,4 +175,61 @@ pub fn scan(
     let held = fours(table, y, amount, freight, gain, loss, best);
     let done = amount - amount % 4;
     part(table, y, done, amount - done, freight, gain, loss, held)
+}
+
+// 2^63: a number below 2^64 that is not below it has the highest bit.
+const HIGH: u64 = 9_223_372_036_854_775_808;
+
+// The bits that the totals of the splits between y and y + amount have in common, each raised by 2^63 less bound: where the highest is one of them
+// no total is below bound. There is no branch, so the machine does several at a time.
+fn common_bits(
+    table: &[u64],
+    y: u64,
+    amount: u64,
+    freight: u64,
+    gain: u64,
+    loss: u64,
+    bound: u64,
+) -> u64
+    requires scan_ready { ScanReady table.now y amount freight gain loss }
+    requires amount_nonzero { (0 < amount) × (bound ≤ 10000000000000) }
+    ensures { 9223372036854775808 ≤ result → NoneBelow table.now y freight gain loss bound amount }
+{
+    let mut value = HIGH - bound + freight + gain - loss;
+    let mut all = u64::MAX;
+    let mut done: u64 = 1;
+    while done < amount {
+        let at = (y + done) as usize;
+        all = all & (value + table[at]);
+        value = value + gain - loss;
+        done = done + 1;
+    }
+    all
+}
+
+// The same as of a look at each split. Where no total between is both below the incumbent's and as small as that of the last split, as on a table that
+// rises less and less, the last split alone is looked at.
+pub fn scan(
+    table: &[u64],
+    y: u64,
+    amount: u64,
+    freight: u64,
+    gain: u64,
+    loss: u64,
+    best: Incumbent,
+) -> Incumbent
+    requires { ScanReady table.now y amount freight gain loss }
+    ensures { result ≡ scanned table.now y freight gain loss best amount }
+{
+    if amount == 0 {
+        return best;
+    }
+    let value = freight + gain * amount - loss * amount;
+    let at = (y + amount) as usize;
+    let entry = table[at];
+    let bound = smaller(best.total, value + entry + 1);
+    if HIGH <= common_bits(table, y, amount, freight, gain, loss, bound) {
+        return better_of(best, y + amount, value, entry);
+    }
+    each(table, y, amount, freight, gain, loss, best)
 }

@@ -1,11 +1,7 @@
 -- How far drums go over from plant 2 to plant 1, send by send, and why no plan within the ceilings goes further. Assumes nothing.
-use mathlib.Core.Path.{◌≡◌, refl, sym, ◌∙◌}
-use mathlib.Core.List.{List}
-use Prim.Native.Nat.{ℕ, zero, suc, ◌+◌, ◌-◌, ◌*◌, ◌≤◌, ◌<◌}
+use Rattle.std.proofs.Common.{◌≡◌, ℕ, zero, suc, ◌+◌, ◌-◌, ◌*◌, ◌<◌, ◌≤◌, List, length, set, replicate, sym, refl, ◌∙◌, arith, get_or-set_other}
 use native.Mathlib.Decide.{dec_lt}
-use native.Mathlib.Omega.{arith}
-use lib.ListN.{length, replicate, get_or-replicate, set}
-use lib.Seq.{get_or-set_other}
+use lib.ListN.{get_or-replicate}
 use Rattle.transport.specs.Sum.{sum}
 use Rattle.transport.specs.Plan.{Table, row, col}
 use Rattle.transport.specs.Curve.{amounts_at}

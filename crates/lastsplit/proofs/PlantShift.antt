@@ -1,10 +1,6 @@
 -- Drums that go over from plant 2 to plant 1: what the send asks, and what it leaves. Assumes nothing.
-use mathlib.Core.Path.{◌≡◌, refl, ap, ◌∙◌}
-use mathlib.Core.Logic.{◌≢◌}
-use mathlib.Core.List.{List}
-use Prim.Native.Nat.{ℕ, ◌<◌}
+use Rattle.std.proofs.Common.{◌≡◌, ℕ, ◌<◌, ◌≢◌, List, refl, ap, ◌∙◌, arith}
 use native.Mathlib.Decide.{ℕ_discrete}
-use native.Mathlib.Omega.{arith}
 use Rattle.residual.specs.inner.Network.{Net, get}
 use Rattle.augment.specs.inner.Send.{SendReady, Delivered}
 use Rattle.lastsplit.specs.inner.PlantShift.{PlantSlack, Over}

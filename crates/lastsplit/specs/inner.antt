@@ -1,2 +1,3 @@
 pub mod PlantShift
 pub mod LastSplit
+pub mod Transfer

@@ -1,12 +1,15 @@
 // The last split that has a plan within the ceilings.
-ghost use Rattle.std.specs.Prelude.{◌≡◌, true, ℕ, ◌+◌, ◌≤◌, ◌<◌};
+ghost use Rattle.std.specs.Prelude.{◌≡◌, ℕ, ◌+◌, ◌<◌, ◌≤◌, true};
 ghost use Rattle.residual.specs.inner.Cells.{cells};
 ghost use Rattle.residual.specs.inner.Network.{net, get};
 ghost use Rattle.residual.specs.inner.LanesInUse.{Covers};
 ghost use Rattle.paths.specs.inner.Search.{Wanted};
 ghost use Rattle.lastsplit.specs.inner.LastSplit.{AllWide, ReachReady, Reached, LastReady};
 
+use super::check::went_over;
 use augment::send::send;
+use slackcheck::serving::all_servers;
+use transfers::transfer::transfer;
 
 // A number that has the top bit only where the ceiling is not below the demand.
 fn wide_bit(ceiling: u32, demand: u32) -> u32
@@ -84,8 +87,42 @@ fn reach(
     gone
 }
 
-// The same from a plan x that is to stay. Where no ceiling is below a demand, which is what wide tells, limit drums can go over; else they go
-// along any paths, since what the lanes cost does not matter.
+// The same from a plan x that is to stay, along any paths, since what the lanes cost does not matter.
+fn rest(
+    m: usize,
+    n: usize,
+    cap: &[u32; 2048],
+    limit: u32,
+    demand: &[u32; 96],
+    x: &[u32; 2048],
+) -> u32
+    requires last_ready { LastReady m n (cells cap.now) x.now limit }
+    requires wanted { Wanted (net m n x.now cap.now x.now) demand.now }
+    ensures { Reached m n (cells cap.now) (cells x.now) limit result }
+{
+    if limit == 0 {
+        return 0;
+    }
+    let free = [0u32; 2048];
+    let mut far_x = *x;
+    let mut serves = [0u32; 64];
+    all_servers(m, n, x, &mut serves);
+    let mut pot = [800_000_000u32; 96];
+    reach(
+        m,
+        n,
+        &free,
+        cap,
+        limit,
+        demand,
+        &mut far_x,
+        &mut serves,
+        &mut pot,
+    )
+}
+
+// The same. Where no ceiling is below a demand, which is what wide tells, limit drums can go over. Else a plan after drums went over is suggested; where it
+// passes the check, paths are searched for from there on, and in the end none is left, or none is needed.
 pub fn last(
     wide: bool,
     m: usize,
@@ -105,19 +142,11 @@ pub fn last(
     if wide {
         return limit;
     }
-    let free = [0u32; 2048];
     let mut far_x = *x;
     let mut far_serves = *serves;
-    let mut pot = [800_000_000u32; 96];
-    reach(
-        m,
-        n,
-        &free,
-        cap,
-        limit,
-        demand,
-        &mut far_x,
-        &mut far_serves,
-        &mut pot,
-    )
+    let over = transfer(m, n, cap, limit, &mut far_serves, &mut far_x);
+    if !went_over(m, n, limit, over, cap, x, &far_x) {
+        return rest(m, n, cap, limit, demand, x);
+    }
+    over + rest(m, n, cap, limit - over, demand, &far_x)
 }

@@ -3,10 +3,9 @@ use crate::limits::say_said;
 use crate::words::{fields_of, has_long, has_zero, lines_of};
 use dimacs::form::line_end;
 use dimacs::line::{Line, read_line};
-use file_io::file::first;
 use file_io::message::{say, say_with};
-use file_io::place::field_start;
-use file_io::text::{has, last_of, rest, starts};
+use file_text::place::field_start;
+use file_text::text::{first, has, last_of, rest, starts};
 
 // The file ends before a line that is missing.
 fn say_missing(before: &[u8]) {
@@ -108,6 +107,10 @@ fn say_kind(kind: u8, line: &[u8], before: &[u8]) {
 fn say_other(line: &[u8]) {
     if starts(line, b"\xEF\xBB\xBF") {
         say(b"a byte order mark; save the file as plain text without one");
+        return;
+    }
+    if starts(line, b"\xFF\xFE") | starts(line, b"\xFE\xFF") {
+        say(b"a byte order mark of UTF-16; save the file as plain text");
         return;
     }
     if starts(line, b"PK\x03\x04") {

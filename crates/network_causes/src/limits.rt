@@ -7,7 +7,7 @@ use csv_case::cells::entry_cells;
 use dimacs::form::line_end;
 use dimacs::line::{Line, read_line};
 use file_io::message::{say, say_name, say_number, say_with};
-use file_io::place::next;
+use file_text::place::next;
 use numbers::{Short, read_short};
 
 // The offset after the line that begins at an offset: after its LF, or the end.

@@ -1,10 +1,10 @@
 // What stands in the line of a network file.
 ghost use Rattle.std.specs.Prelude.{◌≡◌, eqb, ltb};
-ghost use Rattle.file_io.specs.inner.Over.{over};
+ghost use Rattle.file_text.specs.inner.Over.{over};
 ghost use Rattle.network_causes.specs.inner.Words.{found, leading, signing, zero_after, long_after};
 ghost use Rattle.network_causes.specs.inner.Words.{begins_field, field_after_byte, begins_line, line_after_byte, none};
 
-use file_io::place::{is_digit, next};
+use file_text::place::{is_digit, next};
 
 // How many were counted up to a byte, and whether the next byte is the first of a field or of a line.
 #[derive(Drop)]

@@ -108,19 +108,12 @@ fn explore(
     let mut next = start;
     for pass in 0u64..96 {
         let v = choose(m, n, next, &key);
+        let goal = v;
         if v == 96 {
-            return Paths {
-                goal: v,
-                dist,
-                prev,
-            };
+            return Paths { goal, dist, prev };
         }
         if 0 < room[v] {
-            return Paths {
-                goal: v,
-                dist,
-                prev,
-            };
+            return Paths { goal, dist, prev };
         }
         let level = key[v];
         key[v] = SHUT;
@@ -130,11 +123,8 @@ fn explore(
             &mut key,
         );
     }
-    Paths {
-        goal: 96,
-        dist,
-        prev,
-    }
+    let goal = 96;
+    Paths { goal, dist, prev }
 }
 
 // 1 where there is no room.

@@ -1,8 +1,8 @@
 // The arguments, and the usage text.
 use crate::file::plan_paths;
 use check::same;
-use file_io::file::first;
 use file_io::message::say;
+use file_text::text::first;
 
 // Writes the usage text to standard error.
 pub fn usage() {
@@ -14,7 +14,7 @@ pub fn usage() {
 }
 
 // Plans the files of two paths, unless one is the word for help.
-fn plan_or_help(tariff: &[u8], production: &[u8]) {
+pub fn plan_or_help(tariff: &[u8], production: &[u8]) {
     if same(tariff, b"--help") {
         usage();
         return;

@@ -2,8 +2,9 @@
 ghost use Rattle.std.specs.Prelude.{◌≡◌, length};
 
 use crate::refusal::explain;
-use file_io::file::{file_room, first, read_file};
+use file_io::file::{file_room, read_file};
 use file_io::message::say;
+use file_text::text::first;
 use plan_files::planned::plan_files;
 
 // Room for the longest plan: the header, the production record and 2,048 lanes.

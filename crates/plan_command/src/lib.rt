@@ -1,6 +1,6 @@
 // The command `plan`: reads the two files, writes the printed plan or refusal to standard output, and says what a refusal means on
 // standard error. The command `tidy`: reads two files, and writes their case as two new ones.
-mod arguments;
+pub mod arguments;
 pub mod file;
 pub mod refusal;
 pub mod rewriting;

@@ -3,7 +3,7 @@ use csv_table::table::tariff_stands;
 use file_causes::amounts::{say_balance, say_field, say_length};
 use file_causes::refusal::explain_file;
 use file_io::message::{say, say_name, say_number, say_with};
-use file_io::place::{field_at, next, record_end};
+use file_text::place::{field_at, next, record_end};
 use plan_files::planned::Printed;
 
 // A difference, or 0.

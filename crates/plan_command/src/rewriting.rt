@@ -1,8 +1,9 @@
 // The command `tidy`: two files written again in the one form of their case.
 use crate::file::answer;
 use check::same;
-use file_io::file::{file_room, first, read_file};
+use file_io::file::{file_room, read_file};
 use file_io::message::{say, say_name};
+use file_text::text::first;
 use write_case::Texts;
 use write_case::rewrite::rewrite_files;
 
@@ -157,7 +158,7 @@ pub fn tidy_paths(
 }
 
 // Writes the case of two paths as two others, unless one is the word for help.
-fn tidy_or_help(tariff: &[u8], production: &[u8], new_tariff: &[u8], new_production: &[u8]) {
+pub fn tidy_or_help(tariff: &[u8], production: &[u8], new_tariff: &[u8], new_production: &[u8]) {
     let help = b"--help";
     if same(tariff, help) || same(production, help) {
         tidy_usage();

@@ -11,7 +11,7 @@ use lib.ListN.{length, get_or, take, drop, length-append}
 use Rattle.transport.specs.Plan.{by_row, col}
 use Rattle.transport.proofs.Sums.{sum_at}
 use Rattle.csv_print.specs.Text.{plan_text, refusal_text}
-use Rattle.csv_print.specs.inner.Writing.{Fits}
+use Rattle.csv_print.specs.Writing.{Fits}
 use Rattle.problem.specs.Case.{Case, lent}
 use Rattle.problem.specs.Range.{outside}
 use Rattle.problem.specs.Plans.{PlanAt, plan_for}
@@ -20,7 +20,8 @@ use Rattle.planner.specs.Answer.{Slices, Written, Answered}
 use Rattle.problem.proofs.TestsPassed.{Formed}
 use Rattle.planner.proofs.OnePlan.{first_cells}
 use Rattle.plan_files.specs.declared.planned.Printed.{Printed}
-use Rattle.plan_files.specs.Printed.{filed_case, Told, PlanPrinted, OutcomePrinted, CasePrinted}
+use Rattle.plan_files.specs.Printed.{filed_case, Told, PlanPrinted, OutcomePrinted}
+use Rattle.plan_files.specs.inner.StoredCase.{CasePrinted}
 use Rattle.plan_files.proofs.FileRefusals.{planned_formed}
 
 -- an amount is at most the demand of its terminal

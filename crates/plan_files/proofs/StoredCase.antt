@@ -19,9 +19,10 @@ use Rattle.planner.proofs.Judging.{cut_ceilings}
 use Rattle.csv_case.specs.declared.case.CaseAnswer.{CaseAnswer}
 use Rattle.csv_case.specs.declared.case.CaseAnswer.TheVariants as answers
 use Rattle.plan_files.specs.declared.planned.Printed.{Printed}
-use Rattle.csv_case.specs.CaseFiles.{costs_in, supplies_in, demands_in, entries_in, case_answer, TariffStored, CaseStored}
-use Rattle.plan_files.specs.Printed.{filed_case, case_of, file_case, file_outcome, Told, PlanPrinted, OutcomePrinted, CasePrinted, FilesPrinted}
-use Rattle.plan_files.specs.inner.StoredCase.{cut_case, Stored}
+use Rattle.csv_case.specs.CaseFiles.{costs_in, supplies_in, demands_in, entries_in, case_answer}
+use Rattle.csv_case.specs.inner.CaseStored.{TariffStored, CaseStored}
+use Rattle.plan_files.specs.Printed.{filed_case, case_of, file_case, file_outcome, Told, PlanPrinted, OutcomePrinted, FilesPrinted}
+use Rattle.plan_files.specs.inner.StoredCase.{CasePrinted, cut_case, Stored}
 use Rattle.csv_case.proofs.CaseLengths.{BothStand, both_stand}
 use Rattle.plan_files.proofs.Printing.{printed_refusal}
 use Rattle.plan_files.proofs.FileRefusals.{Alike, alike_equal, alike_refused, alike_long}

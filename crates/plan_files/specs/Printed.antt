@@ -64,10 +64,6 @@ pub record OutcomePrinted (c : planner-case.Case) (o : Outcome) (sources termina
   pub refusal : (number place : ℕ) → o ≡ refused number place → Told number place sources terminals (refusal_text number place) out out' answer
   pub plan : (split : ℕ) (total freight : ℤ) (stops : ℕ) → o ≡ planned split total freight stops → PlanPrinted c split total out out' answer
 
--- what is printed of a case
-abbrev pub CasePrinted : planner-case.Case → List ℕ → List ℕ → Printed → Type 0
-CasePrinted c out out' answer = OutcomePrinted c (outcome_of c) c.m c.n out out' answer
-
 -- what is printed of two files
 abbrev pub FilesPrinted : List ℕ → List ℕ → List ℕ → List ℕ → Printed → Type 0
 FilesPrinted t p out out' answer =

@@ -1,9 +1,9 @@
 // From two files to the printed plan.
 ghost use Rattle.std.specs.Prelude.{◌*◌, ◌≤◌, length, take};
 ghost use Rattle.csv_print.specs.Text.{plan_text, refusal_text};
-ghost use Rattle.csv_print.specs.inner.Writing.{Fits};
-ghost use Rattle.plan_files.specs.Printed.{filed_case, Told, CasePrinted, FilesPrinted};
-ghost use Rattle.plan_files.specs.inner.StoredCase.{cut_case, Stored};
+ghost use Rattle.csv_print.specs.Writing.{Fits};
+ghost use Rattle.plan_files.specs.Printed.{filed_case, Told, FilesPrinted};
+ghost use Rattle.plan_files.specs.inner.StoredCase.{CasePrinted, cut_case, Stored};
 
 use csv_case::case::{CaseAnswer, read_case};
 use csv_case::cells::{

@@ -11,7 +11,8 @@ use lib.IntN.{ℤ, pos, sub_ℕ, ◌-ℤ◌}
 use lib.Signed.{◌≤ℤ◌, ≤ℤ_refl}
 use lib.ListN.{length, get_or, drop, length-map, length-append, get_or-append}
 use Rattle.transport.specs.Listing.{up_from, select}
-use Rattle.transport.specs.Curve.{is_stop, stops_of, written}
+use Rattle.transport.specs.Curve.{written}
+use Rattle.transport.specs.inner.Freight.{is_stop, stops_of}
 use Rattle.transport.proofs.Stops.{Stop, stops_in, stops_out, stops_front, stops_back, stops_rising, stops_few}
 use Rattle.problem.specs.Case.{Case, least_split, greatest_split}
 use Rattle.problem.specs.Plans.{least_freight_at, stops, stop_freights}

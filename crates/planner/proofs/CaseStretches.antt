@@ -1,24 +1,27 @@
 -- The stretches of an accepted case, one and all: from y, t drums along the path of one add t times its cost to f, in the case's own unit costs.
 -- Assumes nothing.
-use mathlib.Core.Path.{◌≡◌, sym, ◌∙◌, subst, subst₂}
+use mathlib.Core.Path.{◌≡◌, sym, ap, ◌∙◌, subst, subst₂}
+use mathlib.Core.Option.{some}
 use mathlib.Core.List.{List}
 use Prim.Native.Nat.{ℕ, ◌+◌, ◌-◌, ◌*◌, ◌≤◌, ◌<◌}
 use native.Mathlib.Omega.{arith}
-use lib.IntN.{ℤ, pos}
-use lib.ListN.{get_or}
+use lib.IntN.{ℤ, pos, sub_ℕ}
+use lib.ListN.{length, get_or}
 use Rattle.transport.specs.Plan.{Table, by_row}
-use Rattle.transport.specs.Curve.{amounts_at, least_in}
+use Rattle.transport.specs.Curve.{amounts_at}
+use Rattle.transport.specs.inner.Freight.{least_in}
 use Rattle.transport.specs.inner.AtSplit.{At}
 use Rattle.residual.specs.inner.Cells.{cells}
 use Rattle.residual.specs.inner.Network.{net}
 use Rattle.incumbent.specs.declared.Incumbent.{Incumbent}
 use Rattle.stretch.specs.inner.Stretch.{StretchReady, StretchDone}
-use Rattle.problem.specs.Integer.{Above}
+use Rattle.problem.specs.inner.Raised.{Above}
 use Rattle.problem.specs.Freight.{rates_by_row}
 use Rattle.problem.specs.Range.{raised_of}
+use Rattle.engine_arrays.specs.inner.Copy.{RowsMoved}
 use Rattle.problem.specs.Case.{Case, supply, demand, ceiling, all_demand, made, least_split, greatest_split}
 use Rattle.problem.specs.Plans.{least_freight_at}
-use Rattle.problem.specs.Outcome.{Outcome, planned, refused}
+use Rattle.problem.specs.Outcome.{Outcome, planned, refused, refusal_of}
 use Rattle.problem.proofs.TestsPassed.{Formed}
 use Rattle.problem.proofs.MachineIntegers.{raised_above}
 use Rattle.problem.proofs.RaisedLists.{map_at}
@@ -30,7 +33,12 @@ use Rattle.sweep.specs.inner.Sweep.{Swept}
 use Rattle.sweep.proofs.OwnCosts.{own_stretch, own_stretches}
 use Rattle.sweep.proofs.StretchChain.{stretch_of}
 use Rattle.planner.specs.inner.CaseCurve.{case_curve, Climbed}
-use Rattle.planner.proofs.EngineAnswer.{Prepared, Accepts, form_of, fitting_of, sends, curve}
+use Rattle.planner.specs.Answer.{Slices, slices, Answered}
+use Rattle.planner.specs.inner.Solving.{Prepared, Settled}
+use Rattle.planner.proofs.EngineAnswer.{Accepts, form_of, fitting_of, sends, curve, answered, refuses_by}
+
+climbed : {c : Case} {x x' : Table} (o : Outcome) → Stretches (case_curve c) (least_split c) x x' → Climbed c o
+climbed {x = x} {x' = x'} o q = record { stretches = λ s t f k e. (x, x', q) }
 
 module _ {c : Case} {lo hi all : ℕ} (a : Accepts c lo hi all) {cost cap amounts wants : List ℕ} (p : Prepared c cost cap amounts wants) where
   f : Formed c
@@ -78,9 +86,25 @@ module _ {c : Case} {lo hi all : ℕ} (a : Accepts c lo hi all) {cost cap amount
       subst₂ (λ (h l : ℕ). Stretches (curve_to h) l (by_row 64 x) (by_row 64 x')) a.on.high a.on.low
       (own_stretches f.few_sources raised p.ceilings.cells (sends a.on.on p) p.demands above w.stretches)
 
--- the answer told otherwise
-pub climbed : {c : Case} {x x' : Table} (o : Outcome) → Stretches (case_curve c) (least_split c) x x' → Climbed c o
-climbed {x = x} {x' = x'} o q = record { stretches = λ s t f k e. (x, x', q) }
+  -- the answer, with what holds of it
+  pub settled_plan : {plus : ℕ} {splits x splits' x' kept : List ℕ} {freights freights' : List ℤ} {y t v k : ℕ} {o : Outcome}
+      → Swept c.m c.n (by_row 64 cost) (by_row 64 cap) all (amount_in amounts) (demand_in wants) lo hi c.table plus splits freights x splits' freights' x' kept y t v k
+      → (before after : List ℕ) → RowsMoved c.m c.n 64 c.n kept after → length after ≡ length before
+      → ((i : ℕ) → c.m * c.n ≤ i → get_or after i 0 ≡ get_or before i 0) → length before ≡ c.plan_cells → plus ≡ 1000000 * all_demand c
+      → o ≡ planned y (sub_ℕ t plus) (sub_ℕ v plus) k → Settled c (slices before splits freights) (slices after splits' freights') o
+  unfolding added
+  settled_plan {splits = splits} {splits' = splits'} {freights = freights} {freights' = freights'} {y} {t} {v} {k} {o} w before after cells long rest room same e = record {
+    answered =
+        subst (λ (o : Outcome). Answered c o (slices before splits freights) (slices after splits' freights'))
+        (sym (e ∙ ap (λ (q : ℕ). planned y (sub_ℕ t q) (sub_ℕ v q) k) same))
+        (answered a p w before after cells long rest room same);
+    climbed = climbed o (case_stretches w);
+  }
 
-pub not_climbed : (c : Case) (k p : ℕ) → Climbed c (refused k p)
+-- ---- a refusal
+
+not_climbed : (c : Case) (k p : ℕ) → Climbed c (refused k p)
 not_climbed c k p = record { stretches = λ s t f k' e. let z : ◌≡◌ {A = ℕ} 0 1 = cc in absurd (omega arith) }
+
+pub settled_refusal : {c : Case} {o : Outcome} {k p : ℕ} {s : Slices} → o ≡ refused k p → refusal_of c ≡ some (refused k p) → Settled c s s o
+settled_refusal {c} {k = k} {p} e h = record { answered = refuses_by e h; climbed = subst (λ (o : Outcome). Climbed c o) (sym e) (not_climbed c k p) }

@@ -1,5 +1,5 @@
 -- From the engine's answer on the working arrays to the promise of the lent case. Assumes nothing.
-use mathlib.Core.Path.{◌≡◌, refl, sym, ap, ap₂, ◌∙◌, subst, subst₂, fun_ext}
+use mathlib.Core.Path.{◌≡◌, refl, sym, ap, ap₂, ◌∙◌, subst, fun_ext}
 use mathlib.Core.Bool.{Bool, true, false, not}
 use mathlib.Core.Option.{none, some}
 use mathlib.Core.List.{List, ◌++◌, map, Memᴰ}
@@ -10,10 +10,11 @@ use lib.IntN.{ℤ, sub_ℕ}
 use lib.ListN.{length, get_or, take, drop, length-take, length-drop, take-append-drop}
 use lib.Seq.{ext_get_or, get_or-take, get_or-drop}
 use Rattle.transport.specs.Sum.{sum}
-use Rattle.transport.specs.Plan.{by_row, row, col, freight}
+use Rattle.transport.specs.Plan.{by_row, row, col}
+use Rattle.transport.specs.inner.Freight.{freight, least_in, best_from, stops_of, canonical_at}
 use Rattle.transport.specs.Listing.{up_from, select, least, greatest, some as any}
-use Rattle.transport.specs.Curve.{amounts_at, least_in, has_plan, splits_in, best_from, stops_of, written, splits_of}
-use Rattle.transport.specs.Canonical.{canonical_at}
+use Rattle.transport.specs.Curve.{amounts_at, has_plan, splits_in, written}
+use Rattle.transport.specs.inner.AtSplit.{splits_of}
 use Rattle.split_range.specs.inner.Range.{BeginReady, Ranged, amount_in, demand_in}
 use Rattle.sweep.specs.inner.Sweep.{SweepReady, Swept}
 use Rattle.transport.proofs.Sums.{sum_ext, total_ext}
@@ -28,11 +29,12 @@ use Rattle.problem.specs.Promise.{Cheapest, BalanceRule}
 use Rattle.planner.specs.Answer.{Slices, slices, Written, Answered}
 use Rattle.engine_arrays.specs.inner.Copy.{Narrow, RowsMoved, Supplied, Wanted}
 use Rattle.planner.specs.inner.Ready.{OnBalance}
+use Rattle.planner.specs.inner.Solving.{Prepared, OnSplits}
 use Rattle.problem.proofs.TestsPassed.{Formed, formed, Balanced, balanced, has_split_lem, split_passes, small_entry, roomy, first_decides, second_decides}
 use Rattle.problem.proofs.TestParts.{met, sum_under}
 use Rattle.problem.proofs.Splits.{Fitting, fitting, fits_split, sent_all, in_order, last_split, ends_within, most_made}
 use Rattle.problem.proofs.Promise.{from27, from9, refused_outcome, balance_rule, cheapest}
-use Rattle.problem.specs.Range.{AllInside, lower}
+use Rattle.problem.specs.inner.Raised.{AllInside, lower}
 use Rattle.problem.proofs.RaisedCurve.{lane_in, raised_costs, raised_freight, raised_at, raised_total, added, cost_most, freight_above, plan_for_is}
 use Rattle.problem.proofs.RaisedCurve.{least_above, total_above, best_is, best_in, stops_are, stop_freights_are}
 use Rattle.problem.proofs.TotalBounds.{few_drums, raised_most, total_bounded}
@@ -43,22 +45,6 @@ unfolding amounts_at
 amounts_same d d' a a' m e h y zero l = refl
 amounts_same d d' a a' m e h y (suc zero) l = ap (λ (v : ℕ). v - y) e
 amounts_same d d' a a' m e h y (suc (suc i)) l = h (suc (suc i)) (omega arith) l
-
--- the working arrays of a case
-pub record Prepared (c : Case) (cost cap amounts wants : List ℕ) : Type 0 where
-  pub costs : RowsMoved c.m c.n c.n 64 (raised_costs c) cost
-  pub ceilings : RowsMoved c.m c.n c.n 64 c.ceilings cap
-  pub sources : (i : ℕ) → i < c.m → get_or amounts i 0 ≡ supply c i
-  pub long : length wants ≡ 96
-  pub quiet : (v : ℕ) → v < 32 → get_or wants v 0 ≡ 0
-  pub demands : (j : ℕ) → j < c.n → get_or wants (32 + j) 0 ≡ demand c j
-
--- past test 27: lo and hi are ℓ and u
-pub record OnSplits (c : Case) (lo hi all : ℕ) : Type 0 where
-  pub on : OnBalance c all
-  pub t27 : test27 c ≡ none
-  pub low : lo ≡ least_split c
-  pub high : hi ≡ greatest_split c
 
 -- past test 11
 pub record Accepts (c : Case) (lo hi all : ℕ) : Type 0 where
@@ -407,15 +393,9 @@ module _ {c : Case} {lo hi all : ℕ} (a : Accepts c lo hi all) {cost cap amount
               balance = subst (λ (o : Outcome). BalanceRule c o) (sym e) (balance_rule c);
             }
 
--- the same answer with total and freight told otherwise
-pub told : {c : Case} {y k : ℕ} {t v t' v' : ℤ} {before after : Slices} → t' ≡ t → v' ≡ v → Answered c (planned y t v k) before after
-    → Answered c (planned y t' v' k) before after
-told {c} {y} {k} {before = before} {after} et ev a =
-    subst₂ (λ (t v : ℤ). Answered c (planned y t v k) before after) (sym et) (sym ev) a
-
 -- ---- a refusal
 
-pub refuses : (c : Case) (k p : ℕ) (s : Slices) → refusal_of c ≡ some (refused k p) → Answered c (refused k p) s s
+refuses : (c : Case) (k p : ℕ) (s : Slices) → refusal_of c ≡ some (refused k p) → Answered c (refused k p) s s
 refuses c k p s e =
     let q = refused_outcome c (refused k p) e in
     record {
@@ -424,3 +404,6 @@ refuses c k p s e =
       kept = λ k' p' r. refl;
       balance = subst (λ (o : Outcome). BalanceRule c o) q (balance_rule c);
     }
+
+pub refuses_by : {c : Case} {o : Outcome} {k p : ℕ} {s : Slices} → o ≡ refused k p → refusal_of c ≡ some (refused k p) → Answered c o s s
+refuses_by {c} {k = k} {p} {s} e h = subst (λ (o : Outcome). Answered c o s s) (sym e) (refuses c k p s h)

@@ -12,9 +12,9 @@ use lib.Seq.{take_at}
 use Rattle.problem.specs.Case.{Case, supply, entry, all_demand, depot_stock, made, least_split, greatest_split, steps, lent}
 use Rattle.problem.specs.Outcome.{Outcome, refused, refuse_at, first_from, form_refusal, test7, test8, test27, test9, ◌or_else◌}
 use Rattle.problem.specs.inner.LentTests.{entries_refusal, Within}
-use Rattle.validation.specs.Verdict.{made_of}
+use Rattle.validation.specs.inner.Found.{made_of}
 use Rattle.planner.specs.Judge.{case_refusal, free_case}
-use Rattle.validation.specs.declared.tests.Made.TheVariants.{Drums, Unbalanced}
+use Rattle.validation.specs.declared.refusals.Made.TheVariants.{Drums, Unbalanced}
 use Rattle.planner.specs.inner.Ready.{OnBalance}
 use Rattle.problem.proofs.TestsPassed.{first_decides, second_decides, first_passes, Formed, formed, Balanced, balanced}
 use Rattle.problem.proofs.TestParts.{met, unmet}

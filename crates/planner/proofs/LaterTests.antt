@@ -13,13 +13,14 @@ use Rattle.problem.specs.inner.LentTests.{entries_refusal, splits_refusal, Amoun
 use Rattle.size.specs.Size.{checked_of}
 use Rattle.size.specs.declared.limits.Size.{Size}
 use Rattle.size.specs.declared.limits.Checked.TheVariants.{Fits, Refused}
-use Rattle.validation.specs.Verdict.{made_of}
-use Rattle.validation.specs.declared.tests.Made.TheVariants.{Drums, Unbalanced}
+use Rattle.validation.specs.inner.Found.{made_of}
+use Rattle.validation.specs.declared.refusals.Made.TheVariants.{Drums, Unbalanced}
 use Rattle.planner.specs.inner.Ready.{OnBalance}
 use Rattle.problem.proofs.TestsPassed.{first_decides, first_passes, second_passes, formed}
 use Rattle.problem.proofs.TestParts.{met, unmet}
 use Rattle.problem.proofs.Promise.{from7, from8, from9}
-use Rattle.planner.proofs.EngineAnswer.{OnSplits, Accepts, order, inside}
+use Rattle.planner.specs.inner.Solving.{OnSplits}
+use Rattle.planner.proofs.EngineAnswer.{Accepts, order, inside}
 
 -- ---- the size
 

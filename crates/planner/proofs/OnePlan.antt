@@ -9,8 +9,8 @@ use lib.IntN.{ℤ, sub_ℕ}
 use lib.ListN.{length, take, drop}
 use lib.Seq.{get_or-take, take_at}
 use Rattle.transport.specs.Plan.{by_row}
-use Rattle.transport.specs.Curve.{least_in}
-use Rattle.transport.specs.Canonical.{Before, canonical_at}
+use Rattle.transport.specs.inner.Freight.{least_in, canonical_at}
+use Rattle.transport.specs.Canonical.{Before}
 use Rattle.transport.proofs.Canonical.{canonical_plan, canonical_least, canonical_before, before_leads, leads_both}
 use Rattle.problem.specs.Case.{Case, supply, demand, ceiling, all_demand, depot_stock, made, lowest_split, highest_split, splits, least_split, greatest_split, steps, lent}
 use Rattle.problem.specs.Plans.{PlanAt, freight_of, least_freight_at, plan_for, total_at, best_split, stops}

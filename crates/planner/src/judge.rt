@@ -5,7 +5,7 @@ ghost use Rattle.validation.specs.Verdict.{verdict};
 ghost use Rattle.planner.specs.Judge.{judged, case_refusal, free_case};
 
 use size::limits::{Checked, Size};
-use validation::tests::{Made, Verdict, entries_test, form_test, made_of};
+use validation::refusals::{Made, Verdict, entries_test, form_test, made_of};
 
 // A case passes, or it is refused by a number and a place.
 #[derive(Drop)]

@@ -3,10 +3,10 @@ ghost use Rattle.std.specs.Prelude.{length};
 ghost use Rattle.problem.specs.Case.{lent};
 ghost use Rattle.planner.specs.Answer.{outcome, slices, Answered};
 
-use crate::solve::solve;
+use crate::solve::{refusal, solve};
 use size::limits::{Checked, Size};
 use split_range::trial::Trial;
-use validation::tests::{Made, Verdict, form_test, made_of};
+use validation::refusals::{Made, Verdict, form_test, made_of};
 
 pub mod judge;
 mod solve;
@@ -66,18 +66,10 @@ fn plan_sized(
         ceilings,
         table,
     ) {
-        return Tried {
-            answer: Answer::Refused { number, place },
-            passed: false,
-            searched: 0,
-        };
+        return refusal(number, place, false);
     }
     match made_of(run1, run2, supplies, demands) {
-        Made::Unbalanced(number) => Tried {
-            answer: Answer::Refused { number, place: 0 },
-            passed: false,
-            searched: 0,
-        },
+        Made::Unbalanced(number) => refusal(number, 0, false),
         Made::Drums(made) => solve(
             trial, size, run1, run2, costs, supplies, demands, ceilings, table, made, plan, splits,
             freights,
@@ -109,11 +101,7 @@ pub fn plan_by(
         (slices plan.new splits.new freights.new) }
 {
     match Size::checked(m, n) {
-        Checked::Refused(number) => Tried {
-            answer: Answer::Refused { number, place: 0 },
-            passed: false,
-            searched: 0,
-        },
+        Checked::Refused(number) => refusal(number, 0, false),
         Checked::Fits(size) => plan_sized(
             trial, size, run1, run2, costs, supplies, demands, ceilings, table, plan, splits,
             freights,

@@ -9,7 +9,8 @@ use lib.IntN.{ℤ, pos, negsuc, sub_ℕ, ◌+ℤ◌, ◌*ℤ◌}
 use lib.Signed.{lt_z, le_z, ◌≤ℤ◌, ◌<ℤ◌, ≤ℤ_refl}
 use borrow.Author.Tests.{lt-ltb, le-ltb, le-leb, lt-leb, eq-eqb, ne_eqb}
 use Rattle.transport.proofs.Differences.{by_sign, pos_sub, sub_add, sub_scale, sub_lt, sub_le, sub_at_most, sub_below, at_most_sub}
-use Rattle.problem.specs.Integer.{eq_z, Above}
+use Rattle.problem.specs.Integer.{eq_z}
+use Rattle.problem.specs.inner.Raised.{Above}
 
 pub sub_eq : (a b c d : ℕ) → eq_z (sub_ℕ a b) (sub_ℕ c d) ≡ eqb (a + d) (c + b)
 unfolding eq_z

@@ -9,7 +9,7 @@ use borrow.Author.Tests.{ltb-false}
 use mir.Syntax.{w64}
 use mir.Val.{SFits, to_z, of_z}
 use mir.ValLaws.{to_z_pos, to_z-of_z}
-use Rattle.problem.specs.Integer.{Above}
+use Rattle.problem.specs.inner.Raised.{Above}
 use Rattle.problem.specs.Range.{outside, raised_of}
 use Rattle.transport.proofs.Differences.{by_sign, sub_pos, sub_neg, sub_sub, pos_sub}
 

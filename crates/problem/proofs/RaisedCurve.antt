@@ -9,14 +9,14 @@ use native.Mathlib.Omega.{arith}
 use lib.IntN.{pos, sub_ℕ}
 use lib.Signed.{◌≤ℤ◌}
 use lib.ListN.{get_or}
-use Rattle.transport.specs.Plan.{by_row, freight}
-use Rattle.transport.specs.Curve.{amounts_at, least_in, stops_of, best_from}
-use Rattle.transport.specs.Canonical.{canonical_at}
+use Rattle.transport.specs.Plan.{by_row}
+use Rattle.transport.specs.inner.Freight.{freight, least_in, stops_of, best_from, canonical_at}
+use Rattle.transport.specs.Curve.{amounts_at}
 use Rattle.transport.proofs.WithinCeilings.{least_in_low, least_in_met}
 use Rattle.transport.proofs.BestSplit.{Best, best_from_best}
-use Rattle.problem.specs.Integer.{Above}
+use Rattle.problem.specs.inner.Raised.{Above, lower}
 use Rattle.problem.specs.Freight.{rates_by_row, least_atℤ}
-use Rattle.problem.specs.Range.{outside, raised_of, lower}
+use Rattle.problem.specs.Range.{outside, raised_of}
 use Rattle.problem.specs.Case.{Case, supply, demand, ceiling, entry, all_demand, made, least_split, greatest_split, steps}
 use Rattle.problem.specs.Plans.{PlanAt, freight_of, least_freight_at, plan_for, total_at, best_split, stops, stop_freights}
 use Rattle.problem.proofs.TestsPassed.{Formed}

@@ -12,17 +12,17 @@ use lib.IntN.{ℤ}
 use lib.Signed.{lt_z}
 use borrow.Author.Tests.{eqb-false, lt-leb, le-leb}
 use Rattle.transport.specs.Sum.{sum}
-use Rattle.transport.specs.Plan.{Table, by_row, col, total, freight, Plan, Fits}
-use Rattle.transport.specs.Listing.{listing_in, least, least_freight_in}
-use Rattle.transport.specs.Curve.{bends, is_stop, stops_of, best_from}
-use Rattle.transport.specs.Canonical.{first, first_least, canonical}
+use Rattle.transport.specs.Plan.{Table, by_row, col, Plan, Fits}
+use Rattle.transport.specs.inner.Freight.{total, freight, least_freight_in, bends, is_stop, stops_of, best_from, first_least, canonical}
+use Rattle.transport.specs.Listing.{listing_in, least}
+use Rattle.transport.specs.Canonical.{first}
 use Rattle.transport.proofs.Sums.{sum_ext, sum_scale, sum_swap}
 use Rattle.transport.proofs.ListMembers.{select_ext, up_from_out}
 use Rattle.transport.proofs.WithinCeilings.{sound_in, complete_in}
 use Rattle.transport.proofs.BestSplit.{best_from_best}
 use Rattle.transport.proofs.Stops.{Stop, stops_out}
-use Rattle.problem.specs.Integer.{minℤ, sumℤ, leastℤ, Above, eq_z}
-use Rattle.problem.specs.Range.{lower}
+use Rattle.problem.specs.Integer.{minℤ, sumℤ, leastℤ, eq_z}
+use Rattle.problem.specs.inner.Raised.{Above, lower}
 use Rattle.problem.specs.Freight.{Rates, freightℤ, least_freightℤ, canonicalℤ, bendsℤ, is_stopℤ, stops_ofℤ, best_fromℤ}
 use Rattle.problem.proofs.Integers.{above_lt, above_le, above_eq, above_add, above_zero, above_scale}
 

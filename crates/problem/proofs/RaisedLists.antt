@@ -7,7 +7,8 @@ use native.Mathlib.Omega.{arith}
 use lib.IntN.{ℤ, pos}
 use lib.ListN.{length, get_or, take, drop, length-take, length-drop}
 use lib.Seq.{get_or-take, get_or-drop}
-use Rattle.problem.specs.Range.{outside, AllInside}
+use Rattle.problem.specs.Range.{outside}
+use Rattle.problem.specs.inner.Raised.{AllInside}
 
 pub map_at : (f : ℤ → ℕ) (l : List ℤ) (k : ℕ) → k < length l → get_or (map f l) k 0 ≡ f (get_or l k (pos 0))
 map_at f [] k h = absurd (not-suc-le-zero h)

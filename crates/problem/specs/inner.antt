@@ -1,1 +1,2 @@
 pub mod LentTests
+pub mod Raised

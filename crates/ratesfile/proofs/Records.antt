@@ -7,8 +7,9 @@ use native.Mathlib.Nat.{mul-le-mul}
 use native.Mathlib.Omega.{arith}
 use lib.ListN.{length, get_or, take}
 use borrow.Author.Tests.{lt-ltb, le-ltb}
-use Rattle.csv_print.specs.Column.{column_text, column_printed}
-use Rattle.csv_print.specs.inner.Writing.{Written}
+use Rattle.csv_print.specs.Column.{column_text}
+use Rattle.csv_print.specs.inner.Parts.{column_printed}
+use Rattle.csv_print.specs.Writing.{Written}
 use Rattle.csv_print.proofs.Columns.{column_short}
 use Rattle.ratetable.specs.Rate.{rate, rates_from, RateTable}
 use Rattle.ratetable.proofs.Squares.{rate_is}

@@ -1,6 +1,6 @@
 // The production file of square-root rates, from the text of a number to the bytes of the file.
 ghost use Rattle.std.specs.Prelude.{◌≡◌};
-ghost use Rattle.csv_print.specs.inner.Writing.{Written};
+ghost use Rattle.csv_print.specs.Writing.{Written};
 ghost use Rattle.ratesfile.specs.File.{rates_text, file_text};
 
 use csv_print::column::put_column;

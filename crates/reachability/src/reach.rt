@@ -189,6 +189,7 @@ pub fn reach(
     ensures reach_done { ReachDone m n i j limit free.now x.now prev.new supplied.new result }
     ensures known_2 { Known m n i j x.now supplied.new }
     ensures covers_2 { Covers m n x.now serves.new }
+    ensures prev_len_2 { length prev.new ≡ 96 }
 {
     let mut front = Front {
         supplied: *supplied,

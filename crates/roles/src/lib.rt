@@ -12,7 +12,7 @@ ghost use Rattle.roletable.specs.Promise.{PerformedBy, PlannedBy, MarkPlannedBy,
 
 use planner::Answer;
 use roletable::table::{may, may_supply};
-use validation::tests::Verdict;
+use validation::refusals::Verdict;
 
 // How many cells to lend for a case of m sources and n terminals; 0 for a size that no case has.
 pub fn store_cells(m: usize, n: usize) -> usize

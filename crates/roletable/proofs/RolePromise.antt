@@ -16,8 +16,10 @@ use Rattle.work_store.specs.State.{State}
 use Rattle.work_store.specs.Calls.{Call, go_back}
 use Rattle.work_store.specs.Store.{held_in}
 use Rattle.work_store.specs.Promise.{answer_to, steps, Performed}
-use Rattle.work_plans.specs.Planning.{outcome_in, outcome_unless, PlannedFrom, PlannedUnless, MarkPlanned}
-use Rattle.work_store.specs.Seeing.{tariff_answer, table_answer, limits_answer, marks_answer, TariffShown, TableShown, LimitsShown, MarksShown}
+use Rattle.work_plans.specs.Planning.{outcome_in, outcome_unless, PlannedFrom, PlannedUnless}
+use Rattle.work_plans.specs.inner.MarkPlanned.{MarkPlanned}
+use Rattle.work_store.specs.Seeing.{tariff_answer, table_answer, limits_answer, marks_answer}
+use Rattle.work_store.specs.inner.Shown.{TariffShown, TableShown, LimitsShown, MarksShown}
 use Rattle.roletable.specs.Roles.{barred, barred_first}
 use Rattle.roletable.specs.Deeds.{Deed, work, see_tariff, see_table, plan, column, first, test31}
 use Rattle.roletable.specs.Promise.{answer_by, unless_held, steps_by, PerformedBy, PlannedBy, MarkPlannedBy, TariffSeen, TableSeen, LimitsSeen, MarksSeen}

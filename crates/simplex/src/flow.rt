@@ -103,6 +103,69 @@ fn from_terminal(j: u32, far: Leave, parent: &[u32; 128], flow: &[u32; 128]) -> 
     }
 }
 
+// What goes over in a pivot: the part r, c below node was attached to the node above it, and will be attached to host by its node end, by a lane that carries
+// amount. On both ways, up to top, lanes above sources gain lost and lanes above terminals won, or the other way round.
+#[derive(Drop)]
+struct Swap {
+    node: u32,
+    end: u32,
+    host: u32,
+    above: u32,
+    top: u32,
+    amount: u32,
+    r: u32,
+    c: u64,
+    lost: u32,
+    won: u32,
+}
+
+fn exchange(
+    e: Swap,
+    parent: &mut [u32; 128],
+    sources_below: &mut [u32; 128],
+    terminals_below: &mut [u64; 128],
+    flow: &mut [u32; 128],
+) {
+    toggle_part(
+        e.above,
+        e.top,
+        e.r,
+        e.c,
+        e.lost,
+        e.won,
+        parent,
+        sources_below,
+        terminals_below,
+        flow,
+    );
+    toggle_part(
+        e.host,
+        e.top,
+        e.r,
+        e.c,
+        e.won,
+        e.lost,
+        parent,
+        sources_below,
+        terminals_below,
+        flow,
+    );
+    reverse_path(
+        e.node,
+        e.end,
+        e.host,
+        e.amount,
+        e.r,
+        e.c,
+        e.lost,
+        e.won,
+        parent,
+        sources_below,
+        terminals_below,
+        flow,
+    );
+}
+
 // The pivot at a lane that is d too cheap.
 pub fn pivot(
     i: u32,
@@ -116,64 +179,33 @@ pub fn pivot(
     key: &mut [u32; 64],
 ) {
     let bit = 1u64 << (j % 128 + 32) % 64;
-    let far = from_terminal(
-        j,
-        from_source(i, bit, parent, terminals_below, flow),
-        parent,
-        flow,
-    );
-    let top = far.top;
-    let amount = far.amount;
-    let node = far.node;
-    let first = far.first;
-    let v = (node % 128) as usize;
+    let up = from_source(i, bit, parent, terminals_below, flow);
+    let far = from_terminal(j, up, parent, flow);
+    let v = (far.node % 128) as usize;
     let r = sources_below[v];
     let c = terminals_below[v];
-    let from = parent[v];
+    let first = far.first;
+    let amount = far.amount;
     let back = wrapping_sub_u32(0, amount);
     let lost = if first { back } else { amount };
     let won = if first { amount } else { back };
-    let fall = wrapping_sub_u32(0, d);
-    let rise = if first { d } else { fall };
     let end = if first { i } else { j };
     let host = if first { j } else { i };
-    toggle_part(
-        from,
-        top,
-        r,
-        c,
-        lost,
-        won,
-        parent,
-        sources_below,
-        terminals_below,
-        flow,
-    );
-    toggle_part(
-        host,
-        top,
-        r,
-        c,
-        won,
-        lost,
-        parent,
-        sources_below,
-        terminals_below,
-        flow,
-    );
-    reverse_path(
-        node,
+    let above = parent[v];
+    let swap = Swap {
+        node: far.node,
         end,
         host,
+        above,
+        top: far.top,
         amount,
         r,
         c,
         lost,
         won,
-        parent,
-        sources_below,
-        terminals_below,
-        flow,
-    );
+    };
+    exchange(swap, parent, sources_below, terminals_below, flow);
+    let fall = wrapping_sub_u32(0, d);
+    let rise = if first { d } else { fall };
     raise_subtree(r, c, sources_below[0], terminals_below[0], rise, p, key);
 }

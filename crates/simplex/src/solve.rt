@@ -1,5 +1,5 @@
 // The simplex: from a first tree, pivot after pivot, to one with no lane that is too cheap; and the plan and the potentials of a tree.
-ghost use Rattle.std.specs.Prelude.{◌≡◌, length};
+ghost use Rattle.std.specs.Prelude.{◌≡◌, ◌≤◌, length};
 
 use super::flow::pivot;
 use super::potentials::{source_potentials, terminal_potentials};
@@ -90,12 +90,13 @@ fn simplex(
     }
 }
 
-// What the lanes of the tree carry.
-fn carried(parent: &[u32; 128], flow: &[u32; 128], x: &mut [u32; 2048])
-    requires { length x.old ≡ 2048 }
+// What the lanes of the tree above the nodes from first up to last carry.
+fn carried(first: usize, last: usize, parent: &[u32; 128], flow: &[u32; 128], x: &mut [u32; 2048])
+    requires x_len { length x.old ≡ 2048 }
+    requires last_bound { last ≤ 128 }
     ensures { length x.new ≡ 2048 }
 {
-    for v in 0..96 {
+    for v in first..last {
         let u = parent[v];
         let k = lane(v as u32, u);
         x[k] = if u < 96 { flow[v] } else { x[k] };
@@ -156,7 +157,8 @@ pub fn solve(
         &mut key,
     );
     places(x);
-    carried(parent, &flow, x);
+    carried(0, m % 33, parent, &flow, x);
+    carried(32, 32 + n % 65, parent, &flow, x);
     *pot = [600_000_000u32; 96];
     source_potentials(&p, pot);
     terminal_potentials(&key, pot);

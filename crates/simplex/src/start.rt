@@ -103,21 +103,19 @@ fn rest(
     flow: &mut [u32; 128],
 ) -> u32 {
     let mut count = first % 128;
-    for j in 0..64 {
-        if j < n {
-            if parent[32 + j] == NONE {
-                attach(
-                    (32 + j) as u32,
-                    0,
-                    book[32 + j],
-                    parent,
-                    sources_below,
-                    terminals_below,
-                    flow,
-                );
-                book[128 + (count % 128) as usize] = (32 + j) as u32;
-                count = count % 128 + 1;
-            }
+    for j in 0..n % 65 {
+        if parent[32 + j] == NONE {
+            attach(
+                (32 + j) as u32,
+                0,
+                book[32 + j],
+                parent,
+                sources_below,
+                terminals_below,
+                flow,
+            );
+            book[128 + (count % 128) as usize] = (32 + j) as u32;
+            count = count % 128 + 1;
         }
     }
     count

@@ -30,7 +30,7 @@ one true b e = inl refl
 one false b e = inr e
 
 -- where a number with the bits of two is below a limit, both are
-or_below : {k : ℕ} (a b : ℕ) → bit_or a b < k → (a < k) × (b < k)
+pub or_below : {k : ℕ} (a b : ℕ) → bit_or a b < k → (a < k) × (b < k)
 or_below a b h = (omega (arith, or_above a b), omega (arith, or_above a b))
 
 -- the tests of a lane: room is the ceiling less the amount, cheap, where there is room, the source's potential and the unit cost less the terminal's

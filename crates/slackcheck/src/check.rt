@@ -105,7 +105,7 @@ fn add_row(n: usize, i: usize, x: &[u32; 2048], got: &mut [u32; 64])
 }
 
 // What each terminal gets.
-fn column_sums(m: usize, n: usize, x: &[u32; 2048]) -> [u32; 64]
+pub fn column_sums(m: usize, n: usize, x: &[u32; 2048]) -> [u32; 64]
     requires { Few m n (cells x.now) }
     ensures { Got n (cells x.now) m result }
 {

@@ -12,7 +12,7 @@ pub fn lane(v: u32, u: u32) -> usize
     ((source % 32) * 64 + (terminal % 128 + 32) % 64) as usize
 }
 
-// Hangs a node, with the part below it, from host by a lane that carries amount.
+// Attaches a node, with the subtree below it, to host by a lane that carries amount.
 pub fn attach(
     child: u32,
     host: u32,
@@ -64,7 +64,7 @@ pub fn toggle_part(
     }
 }
 
-// Reverses the path from e up to v, so that the part r, c that hung by v hangs by e from host; its lanes gain too.
+// Reverses the path from e up to v, so that the subtree r, c that was attached by v is attached by e to host; its lanes gain too.
 pub fn reverse_path(
     v: u32,
     e: u32,

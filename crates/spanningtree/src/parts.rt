@@ -1,6 +1,6 @@
-// A tree without the drums on its lanes, as the climb has it: parts that hang over from one node to another.
+// A tree without the drums on its lanes, as the climb has it: subtrees that are attached to another node.
 
-// A part is taken off the nodes from one on upwards, or put on them, as far as node stop hangs from none of them.
+// A subtree is taken off the nodes from one on upwards, or put on them, up to the first that has node stop below it.
 fn toggle_part(
     from: u32,
     stop: u32,
@@ -32,7 +32,7 @@ fn toggle_part(
     }
 }
 
-// Reverses the path from e up to v, so that the part r, c that hung by v hangs by e from host.
+// Reverses the path from e up to v, so that the subtree r, c that was attached by v is attached by e to host.
 fn reverse_path(
     v: u32,
     e: u32,
@@ -67,7 +67,7 @@ fn reverse_path(
     }
 }
 
-// The part below node v leaves the node above it and hangs from node host by its node e. Nodes above both v and host keep it.
+// The subtree below node v leaves the node above it and is attached to node host by its node e. Nodes above both v and host keep it.
 pub fn reattach(
     v: u32,
     e: u32,

@@ -2,10 +2,9 @@
 ghost use Rattle.split_range.specs.inner.Range.{BeginReady, Ranged};
 
 use super::quick::cheapest_first;
-use super::trial::Trial;
+use super::trial::Start;
 use lastsplit::reach::{all_wide, last};
 use paths::search::smaller;
-use size::limits::Size;
 use spanningtree::NONE;
 
 // Whether there is a plan, and the first and the last split; and, of which nothing is promised, whether no ceiling is below its terminal's demand
@@ -23,15 +22,11 @@ pub struct Range {
 // potentials and the lanes in use, and the simplex's tree, of which nothing is promised, into parent, sources_below and terminals_below. How step 1
 // is tried does not show in what is promised. Any cheapest plan will do: the plan for everybody takes its place at the end.
 pub fn begin(
-    trial: Trial,
-    size: Size,
+    start: Start,
     cost: &[u32; 2048],
     cap: &[u32; 2048],
     supply: &[u32; 32],
     demand: &[u32; 96],
-    run0: u32,
-    run1: u32,
-    made: u32,
     x: &mut [u32; 2048],
     serves: &mut [u32; 64],
     pot: &mut [u32; 96],
@@ -39,24 +34,21 @@ pub fn begin(
     sources_below: &mut [u32; 128],
     terminals_below: &mut [u64; 128],
 ) -> Range
-    requires { BeginReady size.sources size.terminals cost.now cap.now supply.now demand.now run0 run1 made }
-    ensures { Ranged size.sources size.terminals cost.now cap.now supply.now demand.now run0 run1 made
-        x.new serves.new pot.new result.found result.lo result.hi }
+    requires { BeginReady start.size.sources start.size.terminals cost.now cap.now supply.now demand.now start.run0
+        start.run1 start.made }
+    ensures { Ranged start.size.sources start.size.terminals cost.now cap.now supply.now
+        demand.now start.run0 start.run1 start.made x.new serves.new pot.new result.found result.lo result.hi }
 {
-    let m = size.sources;
-    let n = size.terminals;
+    let m = start.size.sources;
+    let n = start.size.terminals;
     let wide = all_wide(m, cap, demand);
     let first = cheapest_first(
-        trial,
+        start,
         wide,
-        size,
         cost,
         cap,
         supply,
         demand,
-        run0,
-        run1,
-        made,
         x,
         serves,
         pot,
@@ -67,7 +59,7 @@ pub fn begin(
     let passed = parent[1] != NONE;
     if first.found {
         let split = first.split;
-        let top = smaller(supply[0], made - run1);
+        let top = smaller(supply[0], start.made - start.run1);
         let gone = last(wide, m, n, cap, top - split, demand, x, serves);
         let lo = split as u64;
         let hi = (split + gone) as u64;

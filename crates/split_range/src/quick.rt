@@ -8,7 +8,7 @@ ghost use Rattle.firstsplit.specs.inner.FirstPlan.{FirstPlan};
 ghost use Rattle.split_range.specs.inner.QuickPlan.{Quick};
 ghost use Rattle.split_range.specs.inner.Range.{BeginReady};
 
-use super::trial::Trial;
+use super::trial::Start;
 use bounded::solve::solve as solve_within;
 use firstsplit::base::{First, first_plan};
 use simplex::solve::solve;
@@ -103,15 +103,12 @@ fn spoil_tree(node: usize, parent: &mut [u32; 128]) {
 
 // A cheapest plan at the first split within the supplies and the least runs, where the simplex finds one that passes the check.
 fn quick_plan(
-    trial: Trial,
+    start: Start,
     wide: bool,
-    size: Size,
     cost: &[u32; 2048],
     cap: &[u32; 2048],
     supply: &[u32; 32],
     demand: &[u32; 96],
-    run0: u32,
-    made: u32,
     x: &mut [u32; 2048],
     serves: &mut [u32; 64],
     pot: &mut [u32; 96],
@@ -119,12 +116,15 @@ fn quick_plan(
     sources_below: &mut [u32; 128],
     terminals_below: &mut [u64; 128],
 ) -> First
-    requires check_ready { CheckReady size.sources size.terminals (cells cost.now) }
-    requires run0_le_made { run0 ≤ made }
-    ensures { Quick size.sources size.terminals cost.now cap.now x.old
-        supply.now demand.now run0 made pot.new x.new serves.new result.found result.split }
+    requires check_ready { CheckReady start.size.sources start.size.terminals (cells cost.now) }
+    requires run0_le_made { start.run0 ≤ start.made }
+    ensures { Quick start.size.sources start.size.terminals cost.now cap.now x.old
+        supply.now demand.now start.run0 start.made pot.new x.new serves.new
+        result.found result.split }
 {
-    let split = first_split(run0, supply[1], made);
+    let size = start.size;
+    let made = start.made;
+    let split = first_split(start.run0, supply[1], made);
     simplex_at(
         wide,
         size,
@@ -140,8 +140,8 @@ fn quick_plan(
         sources_below,
         terminals_below,
     );
-    spoil_plan(trial.lane, x);
-    spoil_tree(trial.node, parent);
+    spoil_plan(start.trial.lane, x);
+    spoil_tree(start.trial.node, parent);
     let m = size.sources;
     let n = size.terminals;
     if !good(m, n, split, made, supply, demand, cost, cap, x, pot) {
@@ -158,16 +158,12 @@ fn quick_plan(
 // A cheapest plan at the first split that has one: by the simplex, where that is wanted and its plan passes the check; else by cheapest paths,
 // and there is no tree: no node is above plant 2. Any cheapest plan will do: the plan for everybody takes its place at the end.
 pub fn cheapest_first(
-    trial: Trial,
+    start: Start,
     wide: bool,
-    size: Size,
     cost: &[u32; 2048],
     cap: &[u32; 2048],
     supply: &[u32; 32],
     demand: &[u32; 96],
-    run0: u32,
-    run1: u32,
-    made: u32,
     x: &mut [u32; 2048],
     serves: &mut [u32; 64],
     pot: &mut [u32; 96],
@@ -175,22 +171,21 @@ pub fn cheapest_first(
     sources_below: &mut [u32; 128],
     terminals_below: &mut [u64; 128],
 ) -> First
-    requires { BeginReady size.sources size.terminals cost.now cap.now supply.now demand.now run0 run1 made }
-    ensures first_plan { FirstPlan (net size.sources size.terminals cost.now cap.now x.old)
-        (λ i. get supply.now i) demand.now run0 run1 made pot.new x.new result.found result.split }
-    ensures covers { Covers size.sources size.terminals x.new serves.new }
+    requires { BeginReady start.size.sources start.size.terminals cost.now cap.now supply.now demand.now start.run0
+        start.run1 start.made }
+    ensures first_plan { FirstPlan (net start.size.sources start.size.terminals cost.now cap.now x.old)
+        (λ i. get supply.now i) demand.now start.run0 start.run1 start.made pot.new x.new
+        result.found result.split }
+    ensures covers { Covers start.size.sources start.size.terminals x.new serves.new }
 {
-    if trial.simplex {
+    if start.trial.simplex {
         let first = quick_plan(
-            trial,
+            start,
             wide,
-            size,
             cost,
             cap,
             supply,
             demand,
-            run0,
-            made,
             x,
             serves,
             pot,
@@ -206,15 +201,15 @@ pub fn cheapest_first(
     *x = [0u32; 2048];
     *serves = [0u32; 64];
     first_plan(
-        size.sources,
-        size.terminals,
+        start.size.sources,
+        start.size.terminals,
         cost,
         cap,
         supply,
         demand,
-        run0,
-        run1,
-        made,
+        start.run0,
+        start.run1,
+        start.made,
         x,
         serves,
         pot,

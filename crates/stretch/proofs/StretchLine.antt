@@ -10,7 +10,8 @@ use lib.Dec.{ltb}
 use lib.IntN.{ℤ, pos, ◌-ℤ◌}
 use lib.ListN.{get_or}
 use lib.Signed.{◌≤ℤ◌}
-use Rattle.transport.specs.Plan.{row, col, freight, Under}
+use Rattle.transport.specs.Plan.{row, col, Under}
+use Rattle.transport.specs.inner.Freight.{freight}
 use Rattle.transport.specs.inner.Slackness.{Slack}
 use Rattle.transport.specs.inner.AtSplit.{At, Least}
 use Rattle.residual.specs.inner.Cells.{cells}

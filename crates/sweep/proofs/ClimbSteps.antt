@@ -1,8 +1,8 @@
 -- The climb from the first split to the last, pass by pass. Assumes nothing.
 use Rattle.std.proofs.Common.{◌≡◌, ℕ, ◌+◌, ◌-◌, ◌<◌, ◌≤◌, Bool, List, length, get_or, ℤ, sym, ap, ◌∙◌, subst, arith}
-use Rattle.transport.specs.Plan.{row, col, freight}
-use Rattle.transport.specs.Listing.{least_freight_in}
-use Rattle.transport.specs.Curve.{amounts_at, least_in, best_from}
+use Rattle.transport.specs.Plan.{row, col}
+use Rattle.transport.specs.inner.Freight.{freight, least_freight_in, least_in, best_from}
+use Rattle.transport.specs.Curve.{amounts_at}
 use Rattle.residual.specs.inner.Cells.{cells}
 use Rattle.residual.specs.inner.Network.{net}
 use Rattle.canonical.specs.inner.Canonize.{Canonized}

@@ -1,7 +1,8 @@
 -- The freight of a plan, row by row, and how large it can be. Assumes nothing.
 use Rattle.std.proofs.Common.{◌≡◌, ℕ, ◌*◌, ◌<◌, ◌≤◌, refl, mul-le-mul, arith}
 use Rattle.transport.specs.Sum.{sum}
-use Rattle.transport.specs.Plan.{Table, total, freight}
+use Rattle.transport.specs.Plan.{Table}
+use Rattle.transport.specs.inner.Freight.{total, freight}
 use Rattle.sweep.specs.inner.FreightSum.{FreightReady}
 use Rattle.transport.proofs.Sums.{sum_most}
 

@@ -2,7 +2,7 @@
 use Rattle.std.proofs.Common.{◌≡◌, ℕ, zero, suc, ◌+◌, ◌-◌, ◌<◌, ◌≤◌, List, get_or, sym, refl, ◌∙◌, add-zero, add-suc, arith, le-ltb, lt-ltb}
 use native.Mathlib.Nat.{sub_self}
 use native.Mathlib.Decide.{dec_lt}
-use Rattle.transport.specs.Curve.{best_from}
+use Rattle.transport.specs.inner.Freight.{best_from}
 use Rattle.incumbent.specs.inner.Scan.{along, better, scanned}
 use Rattle.incumbent.specs.declared.Incumbent.{Incumbent}
 use Rattle.sweep.specs.inner.StopsPassed.{Straight, IncumbentOf}

@@ -6,4 +6,5 @@ pub mod ClimbState
 pub mod OwnCosts
 pub mod StretchChain
 pub mod ClimbSteps
+pub mod Ascent
 pub mod SweepEnds

@@ -3,10 +3,11 @@
 use Rattle.std.proofs.Common.{◌≡◌, ℕ, zero, suc, ◌+◌, ◌-◌, ◌*◌, ◌<◌, ◌≤◌, min, List, [], ◌∷◌, ℤ, pos, ◌+ℤ◌, ◌-ℤ◌, ◌*ℤ◌, neg_ℤ, nat_abs, ◌≤ℤ◌, sym, refl, ap, ◌∙◌, ap₂, subst₂, arith}
 use lib.IntN.{sub_ℕ, +ℤ_assoc, +ℤ_comm}
 use Rattle.transport.specs.Sum.{sum}
-use Rattle.transport.specs.Plan.{Table, row, col, total, freight}
+use Rattle.transport.specs.Plan.{Table, row, col}
+use Rattle.transport.specs.inner.Freight.{total, freight}
 use Rattle.transport.proofs.Sums.{sum_ext, sum_swap}
 use Rattle.transport.proofs.Differences.{sub_same, sub_pos, sub_add, sub_negate, pos_sub, diff_sub}
-use Rattle.problem.specs.Integer.{Above}
+use Rattle.problem.specs.inner.Raised.{Above}
 use Rattle.problem.specs.Freight.{Rates, freightℤ}
 use Rattle.problem.proofs.Integers.{above_zero}
 use Rattle.problem.proofs.RaisedFreight.{Raised, freight_above}

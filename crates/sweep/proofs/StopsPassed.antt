@@ -5,7 +5,8 @@ use native.Mathlib.Nat.{sub_self}
 use native.Mathlib.Decide.{ℕ_discrete}
 use lib.Seq.{set-append_seam}
 use Rattle.transport.specs.Listing.{up_from, select}
-use Rattle.transport.specs.Curve.{bends, is_stop, stops_of, written}
+use Rattle.transport.specs.Curve.{written}
+use Rattle.transport.specs.inner.Freight.{bends, is_stop, stops_of}
 use Rattle.sweep.specs.inner.StopsPassed.{Straight, before, stop_at, turned}
 use Rattle.transport.proofs.ListMembers.{select_append, select_none, select_length, up_from_out, up_from_split, up_from_length}
 use Rattle.transport.proofs.Stops.{is_stop_in, no_stop, stops_back}

@@ -1,7 +1,7 @@
 -- What `stretch` does is a stretch of the freight curve; the climb's, one after the other. Assumes nothing.
 use Rattle.std.proofs.Common.{◌≡◌, ℕ, zero, suc, ◌+◌, ◌-◌, ◌<◌, ◌≤◌, List, [], ◌∷◌, ℤ, pos, ◌+ℤ◌, ◌*ℤ◌, neg_ℤ, ◌≤ℤ◌, sym, refl, ap, ◌∙◌, subst, ap₂, subst₂, arith}
-use Rattle.transport.specs.Plan.{row, col, freight, Under}
-use Rattle.transport.specs.Curve.{least_in}
+use Rattle.transport.specs.Plan.{row, col, Under}
+use Rattle.transport.specs.inner.Freight.{freight, least_in}
 use Rattle.transport.specs.inner.AtSplit.{At}
 use Rattle.transport.proofs.Tables.{sends}
 use Rattle.transport.proofs.Splits.{least_in_at}

@@ -2,10 +2,11 @@
 use Rattle.std.proofs.Common.{◌≡◌, ℕ, zero, suc, ◌+◌, ◌-◌, ◌*◌, ◌<◌, ◌≤◌, List, map, length, get_or, ℤ, pos, sym, refl, ap, ◌∙◌, arith}
 use mathlib.Core.Path.{fun_ext}
 use Rattle.transport.specs.Sum.{sum}
-use Rattle.transport.specs.Plan.{Table, by_row, col, freight}
-use Rattle.transport.specs.Curve.{amounts_at, least_in, best_from, stops_of, written}
+use Rattle.transport.specs.Plan.{Table, by_row, col}
+use Rattle.transport.specs.inner.Freight.{freight, least_in, best_from, stops_of}
+use Rattle.transport.specs.Curve.{amounts_at, written}
 use Rattle.residual.specs.inner.Cells.{cells}
-use Rattle.problem.specs.Range.{lower}
+use Rattle.problem.specs.inner.Raised.{lower}
 use Rattle.split_range.specs.inner.Begun.{Begun}
 use Rattle.split_range.specs.inner.Range.{demand_in}
 use Rattle.sweep.specs.inner.Stretches.{raised_curve, Stretches}

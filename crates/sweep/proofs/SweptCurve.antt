@@ -1,8 +1,9 @@
 -- The sweep of a curve, stretch by stretch. Assumes nothing.
 use Rattle.std.proofs.Common.{◌≡◌, ℕ, ◌+◌, ◌-◌, ◌*◌, ◌<◌, ◌≤◌, Bool, true, false, List, [], ◌∷◌, ◌++◌, map, length, get_or, set, ℤ, sym, refl, ap, ◌∙◌, append-nil, arith, length-append}
 use lib.ListN.{length-map}
-use Rattle.transport.specs.Curve.{is_stop, stops_of, written}
-use Rattle.problem.specs.Range.{lower}
+use Rattle.transport.specs.Curve.{written}
+use Rattle.transport.specs.inner.Freight.{is_stop, stops_of}
+use Rattle.problem.specs.inner.Raised.{lower}
 use Rattle.incumbent.specs.inner.Scan.{scanned}
 use Rattle.incumbent.specs.declared.Incumbent.{Incumbent}
 use Rattle.sweep.specs.inner.StopsPassed.{Straight, before, stop_at, turned, NoteReady, Noted, Marked, Climbing}

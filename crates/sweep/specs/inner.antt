@@ -3,3 +3,4 @@ pub mod Sweep
 pub mod StopsPassed
 pub mod FreightSum
 pub mod Climb
+pub mod Stand

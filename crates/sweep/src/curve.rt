@@ -1,70 +1,17 @@
 // The sweep from the first split to the last: the stops of the freight curve, and the split of least total.
-ghost use Rattle.std.specs.Prelude.{◌≡◌, ℕ, ◌+◌, ◌≤◌};
-ghost use Rattle.transport.specs.Plan.{by_row, row, col};
-ghost use Rattle.residual.specs.inner.Cells.{cells};
-ghost use Rattle.residual.specs.inner.Network.{net};
-ghost use Rattle.residual.specs.inner.LanesInUse.{Covers};
-ghost use Rattle.paths.specs.inner.Search.{Wanted};
+ghost use Rattle.std.specs.Prelude.{◌≡◌, ℕ};
+ghost use Rattle.transport.specs.Plan.{by_row};
 ghost use Rattle.split_range.specs.inner.Begun.{Begun};
 ghost use Rattle.split_range.specs.inner.Range.{demand_in};
 ghost use Rattle.stretch.specs.inner.Stretch.{held_at};
 ghost use Rattle.sweep.specs.inner.Sweep.{SweepStart, SweepReady, Swept};
-ghost use Rattle.sweep.specs.inner.StopsPassed.{NoteReady, Noted, Marked, turned};
-ghost use Rattle.sweep.specs.inner.Climb.{both_in, ClimbReady};
+ghost use Rattle.sweep.specs.inner.Stand.{curve_at};
 
-use super::freight::{freight_of, lowered};
+use super::freight::freight_of;
+use super::stand::{Course, Stand, mark, next, note, start, task_at, turn};
 use canonical::canon::canonize;
-use cuts::advance::{Hint, Task};
 use cuts::columns::tables;
-use incumbent::Incumbent;
-use size::limits::Size;
-use spanningtree::NONE;
-use std::num::wrapping_add_u64;
 use stretch::stretch::{Position, revise, send_drums};
-
-// Writes a stop and its freight, lowered, behind the count stops that stand in the slices; how many stand there then.
-fn note(
-    count: usize,
-    y: u64,
-    freight: u64,
-    added: u64,
-    splits: &mut [u64],
-    freights: &mut [i64],
-) -> usize
-    requires { NoteReady count freight added splits.old freights.old }
-    ensures { Noted count y freight added splits.old freights.old splits.new freights.new result }
-{
-    splits[count] = y;
-    freights[count] = lowered(freight, added);
-    count + 1
-}
-
-// Writes y where it is a stop.
-fn mark(
-    stop: bool,
-    count: usize,
-    y: u64,
-    freight: u64,
-    added: u64,
-    splits: &mut [u64],
-    freights: &mut [i64],
-) -> usize
-    requires { NoteReady count freight added splits.old freights.old }
-    ensures { Marked stop count y freight added splits.old freights.old splits.new freights.new result }
-{
-    if stop {
-        return note(count, y, freight, added, splits, freights);
-    }
-    count
-}
-
-// Is y the first split, or one where the drum ahead (gain, loss) does not cost what the drum behind (rise, fall) did?
-fn turn(y: u64, lo: u64, gain: u64, loss: u64, rise: u64, fall: u64) -> bool
-    requires { (gain + fall ≤ 10000000000) × (loss + rise ≤ 10000000000) }
-    ensures { result ≡ turned y lo gain loss rise fall }
-{
-    y == lo || gain + fall != loss + rise
-}
 
 // The split of least total, with its total and its freight, and how many stops there are; and how many stretches took their
 // path from a search, not from the tree, of which nothing is promised.
@@ -79,35 +26,40 @@ pub struct Curve {
 
 // Keeps the plan of the last split with its potentials, where it is the incumbent's.
 fn keep_last(
-    split: u64,
-    y: u64,
+    last: Position,
     x: &[u32; 2048],
     pot: &[u32; 96],
     kept: &mut [u32; 2048],
     prices: &mut [u32; 96],
 )
-    ensures kept_after { kept.new ≡ held_at split y x.now kept.old }
-    ensures prices_after { prices.new ≡ held_at split y pot.now prices.old }
+    ensures kept_after { kept.new ≡ held_at last.best.split last.split x.now kept.old }
+    ensures prices_after { prices.new ≡ held_at last.best.split last.split pot.now prices.old }
 {
-    if split == y {
+    if last.best.split == last.split {
         *kept = *x;
         *prices = *pot;
     }
 }
 
-// What the climb goes by: the case's size, whether ceilings are wide, the first split, the last, f at the first, what was added to each freight.
-#[derive(Drop)]
-struct Course {
-    size: Size,
-    wide: bool,
-    lo: u64,
-    hi: u64,
-    freight: u64,
-    added: u64,
+// What is told of the climb at its end.
+fn curve_at(here: Stand, stops: usize) -> Curve
+    ensures { result ≡ curve_at here.at.best stops result.searched }
+{
+    let best = here.at.best;
+    Curve {
+        split: best.split,
+        total: best.total,
+        freight: best.freight,
+        stops,
+        searched: here.searched,
+    }
 }
 
-// Step 3 of report 4.1: from a cheapest plan x at lo, with its potentials and its freight, stretch by stretch up to hi, on the tree as far as it goes.
-fn climb(
+// Step 3 of report 4.1, the sweep of a prepared case from the first split of its course to the last, stretch by stretch, on the tree as far as it
+// goes. x holds a cheapest plan at the first, pot its potentials. The stops and their freights, less what was added, go into the slices, the plan for
+// everybody at the best split into kept: the incumbent's is kept when the climb leaves it. Nothing is asked of the tree in parent, sources_below and
+// terminals_below, nor of wide. Any contents will do in the working arrays from x on but kept afterwards: nothing reads them.
+pub fn sweep(
     course: Course,
     cost: &[u32; 2048],
     cap: &[u32; 2048],
@@ -123,55 +75,30 @@ fn climb(
     sources_below: &mut [u32; 128],
     terminals_below: &mut [u64; 128],
 ) -> Curve
-    requires climb_ready { ClimbReady course.size.sources course.size.terminals cost.now cap.now x.old pot.old course.lo
-        course.hi course.freight table.now course.added splits.old freights.old }
-    requires wanted { Wanted (net course.size.sources course.size.terminals cost.now cap.now x.old) demand.now }
-    requires covers { Covers course.size.sources course.size.terminals x.old serves.old }
-    ensures { Swept course.size.sources course.size.terminals (cells cost.now) (cells cap.now)
-        (both_in course.size.terminals x.old) (row course.size.terminals (cells x.old))
-        (col course.size.sources (cells x.old)) course.lo course.hi table.now course.added
-        splits.old freights.old x.old splits.new freights.new x.new
-        kept.new result.split result.total result.freight result.stops }
+    requires sweep_start { SweepStart course.size.sources course.size.terminals cost.now cap.now demand.now course.range.lo
+        course.range.hi x.old serves.old pot.old }
+    requires sweep_ready { SweepReady course.size.sources course.size.terminals demand.now course.range.lo course.range.hi
+        table.now course.added splits.old freights.old }
+    ensures { (made : ℕ) (a : ℕ → ℕ) →
+        Begun course.size.sources course.size.terminals cost.now cap.now a (demand_in demand.now)
+        made course.range.lo course.range.hi x.old serves.old pot.old →
+        Swept course.size.sources course.size.terminals (by_row 64 cost.now) (by_row 64 cap.now) made a
+        (demand_in demand.now) course.range.lo course.range.hi table.now course.added splits.old
+        freights.old x.old splits.new freights.new x.new kept.new
+        result.split result.total result.freight result.stops }
 {
-    let size = course.size;
-    let wide = course.wide;
-    let m = size.sources;
-    let n = size.terminals;
-    let lo = course.lo;
-    let hi = course.hi;
-    let freight = course.freight;
-    let added = course.added;
+    let range = course.range;
+    let m = course.size.sources;
+    let n = course.size.terminals;
+    let freight = freight_of(m, n, cost, x);
     let mut ahead = [0u32; 2048];
     let mut columns = [0u32; 2048];
-    tables(wide, m, n, cost, cap, x, &mut ahead, &mut columns);
-    // The end of step 1: the incumbent is the plan at lo. Its plan is kept when the climb leaves it.
-    let at = lo as usize;
-    let mut best = Incumbent {
-        split: lo,
-        total: freight + table[at],
-        freight,
-    };
+    tables(range.wide, m, n, cost, cap, x, &mut ahead, &mut columns);
     let mut prices = *pot;
     let mut prev = [0u32; 96];
-    let mut y = lo;
-    let mut value = freight;
-    let mut count: usize = 0;
-    let mut rise: u64 = 0;
-    let mut fall: u64 = 0;
-    let mut searched: u64 = 0;
-    let mut hint = Hint {
-        node: NONE,
-        flat: false,
-    };
-    // Step 3, which ends where the split is hi.
-    while y < hi {
-        let left = (hi - y) as u32;
-        let task = Task {
-            size,
-            limit: left,
-            wide,
-            hint,
-        };
+    let mut here = start(range.lo, freight, table);
+    while here.at.split < range.hi {
+        let task = task_at(course, here);
         let path = send_drums(
             task,
             cost,
@@ -187,94 +114,15 @@ fn climb(
             &mut columns,
             &mut prev,
         );
-        let position = Position {
-            split: y,
-            freight: value,
-            best,
-        };
-        let moved = revise(path, &prev, table, position, x, pot, kept, &mut prices);
-        let stop = turn(y, lo, moved.gain, moved.loss, rise, fall);
-        count = mark(stop, count, y, value, added, splits, freights);
-        rise = moved.gain;
-        fall = moved.loss;
-        value = moved.freight;
-        y = moved.split;
-        best = moved.best;
-        searched = wrapping_add_u64(searched, path.searched);
-        hint = Hint {
-            node: path.blocked,
-            flat: path.flat,
-        };
+        let at = here.at;
+        let moved = revise(path, &prev, table, at, x, pot, kept, &mut prices);
+        let stop = turn(range.lo, here, moved);
+        let stops = mark(stop, here, course.added, splits, freights);
+        here = next(here, path, moved, stops);
     }
-    count = note(count, y, value, added, splits, freights);
-    keep_last(best.split, y, x, pot, kept, &mut prices);
+    let stops = note(here, course.added, splits, freights);
+    let last = here.at;
+    keep_last(last, x, pot, kept, &mut prices);
     canonize(m, n, cost, cap, &prices, kept);
-    Curve {
-        split: best.split,
-        total: best.total,
-        freight: best.freight,
-        stops: count,
-        searched,
-    }
-}
-
-// The sweep from split lo to split hi of a prepared case, of which x holds a cheapest plan at lo: the stops and their freights, less what was
-// added, go into the slices, the plan for everybody at the best split into kept. Nothing is asked of the tree in parent, sources_below and
-// terminals_below, nor of wide. Any contents will do in the working arrays from x on but kept afterwards: nothing reads them.
-pub fn sweep(
-    size: Size,
-    wide: bool,
-    cost: &[u32; 2048],
-    cap: &[u32; 2048],
-    demand: &[u32; 96],
-    lo: u64,
-    hi: u64,
-    table: &[u64],
-    added: u64,
-    splits: &mut [u64],
-    freights: &mut [i64],
-    x: &mut [u32; 2048],
-    serves: &mut [u32; 64],
-    pot: &mut [u32; 96],
-    kept: &mut [u32; 2048],
-    parent: &mut [u32; 128],
-    sources_below: &mut [u32; 128],
-    terminals_below: &mut [u64; 128],
-) -> Curve
-    requires sweep_start { SweepStart size.sources size.terminals cost.now cap.now demand.now lo hi x.old serves.old pot.old }
-    requires sweep_ready { SweepReady size.sources size.terminals demand.now lo hi table.now added splits.old freights.old }
-    ensures { (made : ℕ) (a : ℕ → ℕ) →
-        Begun size.sources size.terminals cost.now cap.now a (demand_in demand.now) made lo hi
-        x.old serves.old pot.old →
-        Swept size.sources size.terminals (by_row 64 cost.now) (by_row 64 cap.now) made a
-        (demand_in demand.now) lo hi table.now added splits.old freights.old x.old
-        splits.new freights.new x.new kept.new result.split result.total result.freight result.stops }
-{
-    let m = size.sources;
-    let n = size.terminals;
-    let freight = freight_of(m, n, cost, x);
-    let course = Course {
-        size,
-        wide,
-        lo,
-        hi,
-        freight,
-        added,
-    };
-    climb(
-        course,
-        cost,
-        cap,
-        demand,
-        table,
-        splits,
-        freights,
-        x,
-        serves,
-        pot,
-        kept,
-        parent,
-        sources_below,
-        terminals_below,
-    )
+    curve_at(here, stops)
 }

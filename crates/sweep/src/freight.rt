@@ -2,7 +2,7 @@
 ghost use Rattle.std.specs.Prelude.{◌≡◌, ◌+◌, ◌*◌, ◌≤◌};
 ghost use Rattle.std.proofs.Math.IntN.{sub_ℕ};
 ghost use Rattle.transport.specs.Sum.{sum};
-ghost use Rattle.transport.specs.Plan.{freight};
+ghost use Rattle.transport.specs.inner.Freight.{freight};
 ghost use Rattle.residual.specs.inner.Cells.{cells};
 ghost use Rattle.sweep.specs.inner.FreightSum.{FreightReady};
 

@@ -1,6 +1,6 @@
 // For programs that hold two things to each other: repeatable draws, answers and cells compared, and how often each number was met.
 use planner::Answer;
-use validation::tests::Verdict;
+use validation::refusals::Verdict;
 
 pub mod draws;
 

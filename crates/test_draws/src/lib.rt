@@ -1,4 +1,4 @@
-// For programs of random trials: numbers that stay within 64 bits, the generator, and repeatable draws.
+// For programs of random trials: numbers that stay within 64 bits, cells compared, the generator, and repeatable draws.
 
 // a + b, at most the largest number.
 pub fn plus(a: u64, b: u64) -> u64 {
@@ -33,6 +33,41 @@ pub fn first_cells(s: &[u64], n: usize) -> &[u64] {
         return s;
     }
     &s[0..n]
+}
+
+// The same of signed cells.
+fn signed_at(s: &[i64], k: usize) -> i64 {
+    if k < s.len() { s[k] } else { 0 }
+}
+
+pub fn first_signed(s: &[i64], n: usize) -> &[i64] {
+    if s.len() < n {
+        return s;
+    }
+    &s[0..n]
+}
+
+// Have both the same cells?
+pub fn same_cells(a: &[u64], b: &[u64]) -> bool {
+    let mut k: usize = 0;
+    while k < a.len() {
+        if a[k] != at(b, k) {
+            return false;
+        }
+        k += 1;
+    }
+    a.len() == b.len()
+}
+
+pub fn same_signed(a: &[i64], b: &[i64]) -> bool {
+    let mut k: usize = 0;
+    while k < a.len() {
+        if a[k] != signed_at(b, k) {
+            return false;
+        }
+        k += 1;
+    }
+    a.len() == b.len()
 }
 
 // The number after x of the generator x · 48,271 modulo 2^31 - 1.

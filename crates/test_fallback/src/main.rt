@@ -1,11 +1,10 @@
 // Random cases, the same at each run, planned as usual and three times more: without the simplex, with a drum more on a lane of its plan, which the
 // check must refuse, and with a node of its tree attached elsewhere, so that the climb falls back on the search. Every answer must be the same.
 mod draw;
-mod number;
 mod trial;
 
 use crate::draw::{deal, draw_costs, sum};
-use crate::trial::{Seen, hold_first};
+use crate::trial::{Case, Seen, Spoil, hold_first};
 use test_draws::{after, below, draw, minus, one_if, plus};
 
 const CASES: u64 = 2_000;
@@ -85,19 +84,18 @@ fn hold_narrow(
     if below(seed, 4) == 0 {
         draw(seed, 60, 300, &mut ceilings);
     }
+    let spoil = Spoil {
+        lane: lane_of(seed, size.m as u64, size.n as u64),
+        node: node_of(after(seed), size.m as u64, size.n as u64),
+    };
+    let case = Case {
+        m: size.m,
+        n: size.n,
+        run1: run,
+        run2: run,
+    };
     hold_first(
-        lane_of(seed, size.m as u64, size.n as u64),
-        node_of(after(seed), size.m as u64, size.n as u64),
-        size.m,
-        size.n,
-        size.lanes,
-        run,
-        costs,
-        supplies,
-        demands,
-        &ceilings,
-        table,
-        entries,
+        spoil, case, size.lanes, costs, supplies, demands, &ceilings, table, entries,
     )
 }
 

@@ -1,8 +1,7 @@
 // A case planned as usual, without the simplex, and with what it answers spoiled: the answers and the cells written must be the same.
-use crate::number::{first_signed, same, same_signed};
-use planner::Answer;
+use planner::{Answer, Tried};
 use split_range::trial::Trial;
-use test_draws::first_cells;
+use test_draws::{first_cells, first_signed, same_cells, same_signed};
 
 // An answer in numbers: 0 for a plan and its split, total, freight and count of stops; else the refusal's number and place.
 #[derive(Drop)]
@@ -54,6 +53,22 @@ fn alike(a: Told, b: Told) -> bool {
     a.stops == b.stops
 }
 
+// The size of a case, and the plants' least runs.
+#[derive(Drop)]
+pub struct Case {
+    pub m: usize,
+    pub n: usize,
+    pub run1: u64,
+    pub run2: u64,
+}
+
+// What is spoiled: a lane of the simplex's plan, and a node of its tree.
+#[derive(Drop)]
+pub struct Spoil {
+    pub lane: usize,
+    pub node: usize,
+}
+
 // What came of a case: is there a plan, did the simplex's pass the check, did a spoiled one fail it, did a spoiled tree go on to the climb, and are
 // all answers the same? How many stretches were searched for as usual, and on a spoiled tree?
 #[derive(Drop)]
@@ -79,10 +94,7 @@ struct Way {
 fn held(
     trial: Trial,
     usual: Told,
-    m: usize,
-    n: usize,
-    run1: u64,
-    run2: u64,
+    case: Case,
     costs: &[i64],
     supplies: &[u64],
     demands: &[u64],
@@ -97,10 +109,10 @@ fn held(
     let mut other_freights = [0i64; 4001];
     let tried = planner::plan_by(
         trial,
-        m,
-        n,
-        run1,
-        run2,
+        case.m,
+        case.n,
+        case.run1,
+        case.run2,
         costs,
         supplies,
         demands,
@@ -110,8 +122,8 @@ fn held(
         &mut other_splits,
         &mut other_freights,
     );
-    let cells = same(plan, &other_plan);
-    let stops = same(splits, &other_splits);
+    let cells = same_cells(plan, &other_plan);
+    let stops = same_cells(splits, &other_splits);
     let levels = same_signed(freights, &other_freights);
     let answer = tried.answer;
     let told = in_numbers(answer);
@@ -140,15 +152,45 @@ struct Ways {
     searched: u64,
 }
 
-// Plans a case without the simplex, with a lane of its plan spoiled, and with a node of its tree spoiled.
+// The ways beside the usual one: without the simplex, with a lane of its plan spoiled, with a node of its tree spoiled.
+fn other(k: u64, spoil: Spoil) -> Trial {
+    match k {
+        0 => trial(false, 2048, 128),
+        1 => trial(true, spoil.lane, 128),
+        _ => trial(true, 2048, spoil.node),
+    }
+}
+
+// What is known with one way more. Without the simplex no plan of it may pass.
+fn joined(ways: Ways, k: u64, way: Way) -> Ways {
+    let agree = ways.agree & way.agrees;
+    match k {
+        0 => Ways {
+            agree: agree & !way.passed,
+            spoiled: false,
+            cut: false,
+            searched: 0,
+        },
+        1 => Ways {
+            agree,
+            spoiled: way.passed,
+            cut: false,
+            searched: 0,
+        },
+        _ => Ways {
+            agree,
+            spoiled: ways.spoiled,
+            cut: way.passed,
+            searched: way.searched,
+        },
+    }
+}
+
+// Plans a case by the other ways.
 fn others(
-    lane: usize,
-    node: usize,
+    spoil: Spoil,
     usual: Told,
-    m: usize,
-    n: usize,
-    run1: u64,
-    run2: u64,
+    case: Case,
     costs: &[i64],
     supplies: &[u64],
     demands: &[u64],
@@ -158,70 +200,47 @@ fn others(
     splits: &[u64],
     freights: &[i64],
 ) -> Ways {
-    let paths = held(
-        trial(false, 2048, 128),
-        usual,
-        m,
-        n,
-        run1,
-        run2,
-        costs,
-        supplies,
-        demands,
-        ceilings,
-        table,
-        plan,
-        splits,
-        freights,
-    );
-    let spoiled = held(
-        trial(true, lane, 128),
-        usual,
-        m,
-        n,
-        run1,
-        run2,
-        costs,
-        supplies,
-        demands,
-        ceilings,
-        table,
-        plan,
-        splits,
-        freights,
-    );
-    let cut = held(
-        trial(true, 2048, node),
-        usual,
-        m,
-        n,
-        run1,
-        run2,
-        costs,
-        supplies,
-        demands,
-        ceilings,
-        table,
-        plan,
-        splits,
-        freights,
-    );
-    Ways {
-        agree: paths.agrees & spoiled.agrees & cut.agrees & !paths.passed,
-        spoiled: spoiled.passed,
-        cut: cut.passed,
-        searched: cut.searched,
+    let mut ways = Ways {
+        agree: true,
+        spoiled: false,
+        cut: false,
+        searched: 0,
+    };
+    for k in 0u64..3 {
+        let way = held(
+            other(k, spoil),
+            usual,
+            case,
+            costs,
+            supplies,
+            demands,
+            ceilings,
+            table,
+            plan,
+            splits,
+            freights,
+        );
+        ways = joined(ways, k, way);
+    }
+    ways
+}
+
+fn sum_up(usual: Tried, planned: bool, ways: Ways) -> Seen {
+    Seen {
+        planned,
+        passed: usual.passed,
+        refused: usual.passed & !ways.spoiled,
+        climbed: planned & ways.cut,
+        agrees: ways.agree,
+        searched: usual.searched,
+        recovered: ways.searched,
     }
 }
 
-// Plans a case of m sources and n terminals as usual, and by the other ways.
-pub fn hold(
-    lane: usize,
-    node: usize,
-    m: usize,
-    n: usize,
-    run1: u64,
-    run2: u64,
+// Plans a case as usual, and by the other ways.
+fn hold(
+    spoil: Spoil,
+    case: Case,
     costs: &[i64],
     supplies: &[u64],
     demands: &[u64],
@@ -233,10 +252,10 @@ pub fn hold(
     let mut freights = [0i64; 4001];
     let usual = planner::plan_by(
         trial(true, 2048, 128),
-        m,
-        n,
-        run1,
-        run2,
+        case.m,
+        case.n,
+        case.run1,
+        case.run2,
         costs,
         supplies,
         demands,
@@ -246,34 +265,19 @@ pub fn hold(
         &mut splits,
         &mut freights,
     );
-    let passed = usual.passed;
-    let searched = usual.searched;
     let answer = usual.answer;
     let told = in_numbers(answer);
-    let planned = told.number == 0;
     let ways = others(
-        lane, node, told, m, n, run1, run2, costs, supplies, demands, ceilings, table, &plan,
-        &splits, &freights,
+        spoil, told, case, costs, supplies, demands, ceilings, table, &plan, &splits, &freights,
     );
-    Seen {
-        planned,
-        passed,
-        refused: passed & !ways.spoiled,
-        climbed: planned & ways.cut,
-        agrees: ways.agree,
-        searched,
-        recovered: ways.searched,
-    }
+    sum_up(usual, told.number == 0, ways)
 }
 
 // The same of a case that lies in the first cells of longer arrays.
 pub fn hold_first(
-    lane: usize,
-    node: usize,
-    m: usize,
-    n: usize,
+    spoil: Spoil,
+    case: Case,
     lanes: usize,
-    run: u64,
     costs: &[i64; 2048],
     supplies: &[u64; 32],
     demands: &[u64; 64],
@@ -282,15 +286,11 @@ pub fn hold_first(
     entries: usize,
 ) -> Seen {
     hold(
-        lane,
-        node,
-        m,
-        n,
-        run,
-        run,
+        spoil,
+        case,
         first_signed(costs, lanes),
-        first_cells(supplies, m),
-        first_cells(demands, n),
+        first_cells(supplies, case.m),
+        first_cells(demands, case.n),
         first_cells(ceilings, lanes),
         first_cells(table, entries),
     )

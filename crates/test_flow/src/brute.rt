@@ -126,8 +126,8 @@ pub fn try_amounts(
         level: 0,
         carried: 0,
     };
-    let mut turns: u64 = 0;
-    while turns < 243 {
+    let mut passes: u64 = 0;
+    while passes < 243 {
         if kept(starts, ends, supplies, &amounts) {
             let level = level_of(costs, named, table, &amounts);
             best = better(best, level, at(&amounts, named));
@@ -135,7 +135,7 @@ pub fn try_amounts(
         if !next_amounts(ceilings, &mut amounts) {
             return best;
         }
-        turns += 1;
+        passes += 1;
     }
     best
 }

@@ -1,7 +1,7 @@
 // The refusals of a call, as the papers have them.
 use crate::draws::Request;
 use crate::model::{Copy, times};
-use validation::tests::Verdict;
+use validation::refusals::Verdict;
 
 // Is k none of 1 to n?
 fn absent(k: usize, n: usize) -> bool {

@@ -11,13 +11,13 @@ fn write_line(b: &mut [u64], line: &[u8]) {
     let start = value_of(line, 0);
     let mut cell = start.value;
     let mut next = start.next;
-    let mut turns: usize = 0;
-    while turns < line.len() {
+    let mut passes: usize = 0;
+    while passes < line.len() {
         let i = item_at(line, next);
         fill(b, cell, i.cells, i.first, i.fall);
         cell = plus(cell, i.cells);
         next = i.next;
-        turns += 1;
+        passes += 1;
     }
 }
 
@@ -66,11 +66,11 @@ fn run_line(b: &mut [u64], line: &[u8]) {
 // Runs each line of the table, which has fewer lines than bytes.
 pub fn run_fixed(b: &mut [u64], table: &[u8]) {
     let mut next: u64 = 0;
-    let mut turns: usize = 0;
-    while turns < table.len() {
+    let mut passes: usize = 0;
+    while passes < table.len() {
         let end = end_of(table, next, b' ', b'~');
         run_line(b, after(first(table, end as usize), next as usize));
         next = plus(end, 1);
-        turns += 1;
+        passes += 1;
     }
 }

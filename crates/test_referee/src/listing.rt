@@ -20,7 +20,7 @@ struct Reach {
 // Where the listing is: the lane to look at (NONE where all is tried), the least amount to try there, how many plans
 // were found, and the amount that was put last, with its cell.
 #[derive(Drop)]
-struct Turn {
+struct Step {
     lane: u64,
     low: u64,
     plans: u64,
@@ -38,8 +38,8 @@ struct FullPlan {
     lanes: u64,
 }
 
-// More turns than any case of the trials needs.
-const TURNS: u64 = 100_000_000;
+// More steps than any case of the trials needs.
+const STEPS: u64 = 100_000_000;
 
 // What row i must sum to at least.
 fn row_least(z: Sizes, b: &[u64], i: u64) -> u64 {
@@ -65,9 +65,9 @@ fn reach_of(z: Sizes, b: &[u64], lane: u64, row: u64, column: u64) -> Reach {
 }
 
 // Goes back to the lane before, to try one drum more there.
-fn back(b: &[u64], lane: u64, plans: u64) -> Turn {
+fn back(b: &[u64], lane: u64, plans: u64) -> Step {
     if lane == 0 {
-        return Turn {
+        return Step {
             lane: NONE,
             low: 0,
             plans,
@@ -75,7 +75,7 @@ fn back(b: &[u64], lane: u64, plans: u64) -> Turn {
             amount: 0,
         };
     }
-    Turn {
+    Step {
         lane: lane - 1,
         low: plus(cell(b, AMOUNTS, lane - 1), 1),
         plans,
@@ -109,8 +109,8 @@ fn keep(z: Sizes, b: &mut [u64]) {
     }
 }
 
-// The turn after one at a lane or past the last.
-fn turn_after(z: Sizes, b: &[u64], t: Turn) -> Turn {
+// The step after one at a lane or past the last.
+fn step_after(z: Sizes, b: &[u64], t: Step) -> Step {
     let n = z.n;
     if t.lane == z.costs {
         return back(b, t.lane, plus(t.plans, 1));
@@ -123,7 +123,7 @@ fn turn_after(z: Sizes, b: &[u64], t: Turn) -> Turn {
     if r.most < amount {
         return back(b, t.lane, t.plans);
     }
-    Turn {
+    Step {
         lane: plus(t.lane, 1),
         low: 0,
         plans: t.plans,
@@ -139,10 +139,10 @@ fn keep_full(z: Sizes, b: &mut [u64], lane: u64) {
     }
 }
 
-// One turn of the listing.
-fn next(z: Sizes, b: &mut [u64], t: Turn) -> Turn {
+// One step of the listing.
+fn next(z: Sizes, b: &mut [u64], t: Step) -> Step {
     keep_full(z, b, t.lane);
-    let after = turn_after(z, b, t);
+    let after = step_after(z, b, t);
     put(b, after.cell, after.amount);
     after
 }
@@ -150,20 +150,20 @@ fn next(z: Sizes, b: &mut [u64], t: Turn) -> Turn {
 // Finds the least freight at each split. Answers how many plans there are, or NONE where not all were looked at.
 pub fn list(z: Sizes, b: &mut [u64]) -> u64 {
     fill(b, BEST, ROOM, NONE, 0);
-    let mut t = Turn {
+    let mut t = Step {
         lane: 0,
         low: 0,
         plans: 0,
         cell: SPARE,
         amount: 0,
     };
-    let mut turns: u64 = 0;
-    while turns < TURNS {
+    let mut steps: u64 = 0;
+    while steps < STEPS {
         t = next(z, b, t);
         if t.lane == NONE {
             return t.plans;
         }
-        turns += 1;
+        steps += 1;
     }
     NONE
 }

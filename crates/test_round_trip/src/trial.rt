@@ -4,51 +4,16 @@ ghost use Rattle.std.specs.Prelude.{◌≤◌};
 use crate::draw::{costs_of, drawn, numbers_of};
 use check::same;
 use csv_case::case::{CaseAnswer, read_case};
+use test_draws::{first_cells, first_signed, same_cells, same_signed};
 use write_case::rewrite::rewrite_files;
 use write_case::{Texts, write_case};
 
-// The first n bytes, or numbers; all where there are no more.
+// The first n bytes; all where there are no more.
 fn bytes(s: &[u8], n: usize) -> &[u8] {
     if s.len() < n {
         return s;
     }
     &s[0..n]
-}
-
-fn first(s: &[u64], n: usize) -> &[u64] {
-    if s.len() < n {
-        return s;
-    }
-    &s[0..n]
-}
-
-// Whether two lists are the same.
-fn equal(a: &[u64], b: &[u64]) -> bool {
-    if a.len() != b.len() {
-        return false;
-    }
-    let mut k: usize = 0;
-    while k < a.len() {
-        if a[k] != b[k] {
-            return false;
-        }
-        k += 1;
-    }
-    true
-}
-
-fn equal_costs(a: &[i64], b: &[i64]) -> bool {
-    if a.len() != b.len() {
-        return false;
-    }
-    let mut k: usize = 0;
-    while k < a.len() {
-        if a[k] != b[k] {
-            return false;
-        }
-        k += 1;
-    }
-    true
 }
 
 // Whether two files are written again as they are.
@@ -80,13 +45,6 @@ fn part(s: &[u64], at: usize, n: usize) -> &[u64] {
     &s[at..at + n]
 }
 
-fn first_costs(s: &[i64], n: usize) -> &[i64] {
-    if s.len() < n {
-        return s;
-    }
-    &s[0..n]
-}
-
 // Whether two files are read as a case.
 fn is_case(
     tariff: &[u8],
@@ -111,16 +69,16 @@ fn is_case(
     let CaseAnswer::Case { m, n, entries } = answer else {
         return false;
     };
-    if !equal(first(&supplies, m), given_supplies) {
+    if !same_cells(first_cells(&supplies, m), given_supplies) {
         return false;
     }
-    if !equal(first(&demands, n), given_demands) {
+    if !same_cells(first_cells(&demands, n), given_demands) {
         return false;
     }
-    if !equal(first(&table, entries), given_table) {
+    if !same_cells(first_cells(&table, entries), given_table) {
         return false;
     }
-    equal_costs(first_costs(&costs, given_costs.len()), given_costs)
+    same_signed(first_signed(&costs, given_costs.len()), given_costs)
 }
 
 // Whether a case comes back from its files, and its files from it.
@@ -164,7 +122,7 @@ fn comes_back(seed: u64) -> bool {
     stays(
         m,
         n,
-        first_costs(&costs, lanes(m, n)),
+        first_signed(&costs, lanes(m, n)),
         part(&numbers, 0, m),
         part(&numbers, 8, n),
         part(&numbers, 16, entries),

@@ -3,8 +3,8 @@ ghost use Rattle.std.specs.Prelude.{◌<◌};
 
 use crate::parts::{after, before, byte, number};
 
-// Turns that are enough for a file one byte longer than any that is read, with its braces.
-const TURNS: u64 = 200_000;
+// Passes that are enough for a file one byte longer than any that is read, with its braces.
+const PASSES: u64 = 200_000;
 
 // Where a text is read: the offset, where the repeat begins, how often it is to be read, and the byte read, if one was.
 #[derive(Drop)]
@@ -145,15 +145,15 @@ pub fn add(file: &mut [u8], start: usize, text: &[u8]) -> usize {
         byte: 0,
         full: false,
     };
-    let mut turns: u64 = 0;
-    while turns < TURNS {
+    let mut passes: u64 = 0;
+    while passes < PASSES {
         let at = r.at;
         if text.len() <= at {
             return next;
         }
         r = read(text, r);
         next = put(file, next, r);
-        turns += 1;
+        passes += 1;
     }
     next
 }

@@ -1,7 +1,7 @@
 // One call on two stores: the number of the refusal, 0 where it is done, or 100 where any answer or lent cell differs.
 use test_compare::draws::{Request, drawn};
 use test_compare::{agreed, answers_agreed, below, next, same_cells, same_slices};
-use validation::tests::Verdict;
+use validation::refusals::Verdict;
 
 // An edit, a mark or a return.
 fn call(who: usize, r: Request, store: &mut [u64]) -> Verdict {

@@ -4,7 +4,7 @@ ghost use Rattle.std.specs.Prelude.{◌≡◌, length};
 
 use crate::calls::{call_both, plan_both};
 use test_compare::{below, count, line, next, passed};
-use validation::tests::Verdict;
+use validation::refusals::Verdict;
 
 mod calls;
 

@@ -2,7 +2,7 @@
 // shown of them.
 use planner::Answer;
 use test_compare::{agreed, answers_agreed, next, passed, same_slices};
-use validation::tests::Verdict;
+use validation::refusals::Verdict;
 
 // 0 for refusal 11, else 100.
 fn eleven(x: Verdict) -> u64 {

@@ -9,7 +9,7 @@ use test_compare::{agreed, below, count, line, next, passed};
 use test_history::draws::{Request, drawn, next_request};
 use test_history::model::{Copy, edited, first_case, times};
 use test_history::refusals::refusal;
-use validation::tests::Verdict;
+use validation::refusals::Verdict;
 
 mod closed;
 mod plans;

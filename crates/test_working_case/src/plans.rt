@@ -3,7 +3,7 @@ use planner::Answer;
 use test_compare::{answers_agreed, same_slices};
 use test_history::model::{Copy, times};
 use test_history::refusals::mark_refusal;
-use validation::tests::Verdict;
+use validation::refusals::Verdict;
 
 // How many entries the model's table has.
 fn entries(c: Copy) -> usize {

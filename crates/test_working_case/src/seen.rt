@@ -1,7 +1,7 @@
 // What the working case shows, held to the model: 0 where all is as it should be, else 100.
 use test_compare::{agreed, same_cells, same_freights, same_slices};
 use test_history::model::{Copy, cut};
-use validation::tests::Verdict;
+use validation::refusals::Verdict;
 
 // The verdict of a call, and whether its cells are as they should be.
 fn met(x: Verdict, y: Verdict, same: bool) -> u64 {

@@ -5,7 +5,8 @@ use native.Mathlib.Decide.{dec_lt}
 use native.Mathlib.Nat.{eq_of_mul-eq-mul_left}
 use native.Mathlib.Omega.{arith}
 use Rattle.transport.specs.Sum.{sum}
-use Rattle.transport.specs.Plan.{Table, row, col, freight, Under}
+use Rattle.transport.specs.Plan.{Table, row, col, Under}
+use Rattle.transport.specs.inner.Freight.{freight}
 use Rattle.transport.specs.inner.Slackness.{Lane, Slack}
 use Rattle.transport.specs.inner.AtSplit.{Same}
 use Rattle.transport.specs.inner.PathFlow.{Step, still, more, less}

@@ -13,9 +13,10 @@ use lib.ListN.{length, get_or}
 use lib.Seq.{ext_get_or}
 use lib.Dec.{eqb}
 use borrow.Author.Tests.{eqb-true, eq-eqb}
-use Rattle.transport.specs.Plan.{Table, by_row, freight, Fits}
-use Rattle.transport.specs.Listing.{select, least, listing, fits, listing_in, least_freight_in, some}
-use Rattle.transport.specs.Canonical.{Before, first, first_least, canonical}
+use Rattle.transport.specs.Plan.{Table, by_row, Fits}
+use Rattle.transport.specs.inner.Freight.{freight, least_freight_in, first_least, canonical}
+use Rattle.transport.specs.Listing.{select, least, listing, fits, listing_in, some}
+use Rattle.transport.specs.Canonical.{Before, first}
 use Rattle.transport.proofs.ListMembers.{select_in, select_out, least_in_lem}
 use Rattle.transport.proofs.Tables.{Alike, Below, freight_ext}
 use Rattle.transport.proofs.WithinCeilings.{sound_in, complete_in, some_fits, some_ext, fits_ext, least_freight_in_ext, Wide, listing_same}

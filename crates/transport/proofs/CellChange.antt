@@ -4,7 +4,8 @@ use mathlib.Core.Logic.{◌≢◌}
 use Prim.Native.Nat.{ℕ, ◌+◌, ◌*◌, ◌<◌}
 use native.Mathlib.Omega.{arith}
 use Rattle.transport.specs.Sum.{sum}
-use Rattle.transport.specs.Plan.{Table, row, col, total, freight}
+use Rattle.transport.specs.Plan.{Table, row, col}
+use Rattle.transport.specs.inner.Freight.{total, freight}
 use Rattle.transport.proofs.Sums.{sum_ext, sum_change}
 
 -- x' is x but at (a, b)

@@ -7,7 +7,8 @@ use native.Mathlib.Decide.{dec_le, ℕ_discrete}
 use native.Mathlib.Nat.{mul-le-mul_right, le_dest}
 use native.Mathlib.Omega.{arith}
 use Rattle.transport.specs.Sum.{sum}
-use Rattle.transport.specs.Plan.{Table, row, col, total, Under}
+use Rattle.transport.specs.Plan.{Table, row, col, Under}
+use Rattle.transport.specs.inner.Freight.{total}
 use Rattle.transport.specs.inner.Slackness.{dot}
 use Rattle.transport.specs.inner.AtSplit.{Same}
 use Rattle.transport.proofs.Sums.{sum_mono, total_mono, total_add}

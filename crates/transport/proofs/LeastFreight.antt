@@ -3,7 +3,8 @@
 use mathlib.Core.Path.{◌≡◌, refl, sym, ap, ◌∙◌}
 use Prim.Native.Nat.{ℕ, zero, suc, ◌+◌, ◌-◌, ◌*◌, ◌≤◌, ◌<◌}
 use native.Mathlib.Omega.{arith}
-use Rattle.transport.specs.Plan.{Table, row, col, freight, Under}
+use Rattle.transport.specs.Plan.{Table, row, col, Under}
+use Rattle.transport.specs.inner.Freight.{freight}
 use Rattle.transport.specs.inner.Slackness.{Slack}
 use Rattle.transport.specs.inner.AtSplit.{Same, At, Least}
 use Rattle.transport.specs.inner.PathFlow.{Step}

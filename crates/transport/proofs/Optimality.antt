@@ -4,7 +4,8 @@ use Prim.Native.Nat.{ℕ, zero, suc, ◌+◌, ◌*◌, ◌≤◌, ◌<◌}
 use native.Mathlib.Nat.{le_antisymm}
 use native.Mathlib.Omega.{arith}
 use Rattle.transport.specs.Sum.{sum}
-use Rattle.transport.specs.Plan.{Table, row, col, freight, Under}
+use Rattle.transport.specs.Plan.{Table, row, col, Under}
+use Rattle.transport.specs.inner.Freight.{freight}
 use Rattle.transport.specs.inner.Slackness.{dot, Slack}
 use Rattle.transport.specs.inner.AtSplit.{Same}
 use Rattle.transport.proofs.Sums.{sum_ext, sum_front, total_ext, total_add}

@@ -10,7 +10,8 @@ use Prim.Native.Nat.{ℕ, zero, suc, ◌+◌, ◌-◌, ◌≤◌, ◌<◌}
 use native.Mathlib.Decide.{dec_lt, ℕ_discrete}
 use native.Mathlib.Omega.{arith}
 use Rattle.transport.specs.Sum.{sum}
-use Rattle.transport.specs.Plan.{Table, row, col, total, Under}
+use Rattle.transport.specs.Plan.{Table, row, col, Under}
+use Rattle.transport.specs.inner.Freight.{total}
 use Rattle.transport.specs.Listing.{least, greatest}
 use Rattle.transport.specs.Curve.{has_plan, splits_in}
 use Rattle.transport.specs.inner.AtSplit.{Same, At}

@@ -6,7 +6,8 @@ use native.Mathlib.Decide.{ℕ_discrete, dec_le}
 use native.Mathlib.Nat.{le_dest, le_of_mul-le-mul_right}
 use native.Mathlib.Omega.{arith}
 use Rattle.transport.specs.Sum.{sum}
-use Rattle.transport.specs.Plan.{Table, row, col, total, freight, Under}
+use Rattle.transport.specs.Plan.{Table, row, col, Under}
+use Rattle.transport.specs.inner.Freight.{total, freight}
 use Rattle.transport.specs.inner.Slackness.{Lane, Slack}
 use Rattle.transport.specs.inner.AtSplit.{Same}
 use Rattle.transport.specs.inner.PathFlow.{pulse}

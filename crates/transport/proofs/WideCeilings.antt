@@ -5,9 +5,11 @@ use mathlib.Core.List.{[], ◌∷◌, map, flat_map}
 use Prim.Native.Nat.{ℕ, ◌+◌, ◌-◌, ◌≤◌, max, min}
 use native.Mathlib.Omega.{arith}
 use Rattle.transport.specs.Sum.{sum}
-use Rattle.transport.specs.Plan.{Table, by_row, row, col, total, freight}
-use Rattle.transport.specs.Listing.{up_from, select, compositions, row_lists, served, listing, least, greatest, every, fits, listing_in, least_freight_in, some}
-use Rattle.transport.specs.Curve.{amounts_at, least_at, least_in, has_plan, splits_in, best_from, splits_of}
+use Rattle.transport.specs.Plan.{Table, by_row, row, col}
+use Rattle.transport.specs.inner.Freight.{total, freight, least_freight_in, least_at, least_in, best_from}
+use Rattle.transport.specs.Listing.{up_from, select, compositions, row_lists, served, listing, least, greatest, every, fits, listing_in, some}
+use Rattle.transport.specs.Curve.{amounts_at, has_plan, splits_in}
+use Rattle.transport.specs.inner.AtSplit.{splits_of}
 use Rattle.transport.proofs.WithinCeilings.{Wide}
 use Rattle.transport.proofs.Splits.{all_splits, wide_has, wide_least, amounts_all}
 

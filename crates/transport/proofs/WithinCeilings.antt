@@ -10,8 +10,9 @@ use native.Mathlib.Nat.{le_antisymm, eq-or-lt_of_le, le_of_suc-le-suc}
 use native.Mathlib.Omega.{arith}
 use lib.Dec.{leb}
 use borrow.Author.Tests.{leb-true, le-leb}
-use Rattle.transport.specs.Plan.{Table, by_row, row, col, freight, Under, Fits}
-use Rattle.transport.specs.Listing.{select, listing, least, least_freight, every, fits, listing_in, least_freight_in, some}
+use Rattle.transport.specs.Plan.{Table, by_row, row, col, Under, Fits}
+use Rattle.transport.specs.inner.Freight.{freight, least_freight, least_freight_in}
+use Rattle.transport.specs.Listing.{select, listing, least, every, fits, listing_in, some}
 use Rattle.transport.proofs.Sums.{sum_at}
 use Rattle.transport.proofs.ListMembers.{select_in, select_out, select_yes, least_le, least_in_lem}
 use Rattle.transport.proofs.Listing.{sound, complete}

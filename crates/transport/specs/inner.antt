@@ -1,3 +1,4 @@
 pub mod Slackness
 pub mod AtSplit
 pub mod PathFlow
+pub mod Freight

@@ -9,8 +9,8 @@ use borrow.Author.Tests.{lt-ltb, le-ltb}
 use Rattle.transport.specs.Sum.{sum}
 use Rattle.transport.proofs.Sums.{sum_ext}
 use Rattle.problem.specs.inner.LentTests.{AtMost}
-use Rattle.validation.specs.Verdict.{made_of}
-use Rattle.validation.specs.declared.tests.Made.TheVariants.{Drums, Unbalanced}
+use Rattle.validation.specs.inner.Found.{made_of}
+use Rattle.validation.specs.declared.refusals.Made.TheVariants.{Drums, Unbalanced}
 
 module _ (s : List ℕ) (two : 2 ≤ length s) where
   depots : List ℕ

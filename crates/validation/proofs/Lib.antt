@@ -1,3 +1,4 @@
+pub mod NoneOutside
 pub mod Balance
 pub mod FormTests
 pub mod NoneAbove

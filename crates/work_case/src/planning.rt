@@ -5,7 +5,7 @@ ghost use Rattle.planner.specs.Answer.{outcome, slices, Answered};
 ghost use Rattle.work_store.specs.State.{lent_with};
 ghost use Rattle.work_store.specs.Store.{slot, draft_in, state_at};
 ghost use Rattle.work_store.specs.inner.OpenStore.{Open, Front};
-ghost use Rattle.work_plans.specs.Planning.{MarkPlanned};
+ghost use Rattle.work_plans.specs.inner.MarkPlanned.{MarkPlanned};
 
 use planner::Answer;
 use work_edits::costs::costs_of;

@@ -5,7 +5,7 @@ ghost use Rattle.work_store.specs.Store.{state_at};
 ghost use Rattle.work_store.specs.Seeing.{tariff_refusal, table_refusal, limits_refusal, marks_refusal, flags_of, shown_unless};
 ghost use Rattle.work_store.specs.inner.OpenStore.{Open};
 
-use validation::tests::Verdict;
+use validation::refusals::Verdict;
 use work_edits::costs::lower_cells;
 use work_edits::edits::entries;
 use work_edits::entry::put_cells;

@@ -2,7 +2,8 @@
 ghost use Rattle.std.specs.Prelude.{◌≡◌, false, map, ◌+◌, ◌≤◌, pos, length, take, replicate};
 ghost use Rattle.std.proofs.Math.Seq.{paste};
 ghost use Rattle.transport.specs.Curve.{written};
-ghost use Rattle.problem.specs.Range.{outside, raised_of, AllInside};
+ghost use Rattle.problem.specs.Range.{outside, raised_of};
+ghost use Rattle.problem.specs.inner.Raised.{AllInside};
 ghost use Rattle.work_store.specs.Store.{cost_in};
 
 // The cell of a unit cost.

@@ -6,7 +6,7 @@ ghost use Rattle.work_store.specs.Calls.{edit_demand, edit_supply, edit_cost, ed
 ghost use Rattle.work_store.specs.inner.OpenStore.{Open, Acted, run_in};
 
 use crate::costs::raised;
-use validation::tests::{Verdict, out_of_range};
+use validation::refusals::{Verdict, out_of_range};
 use work_store::layout::{RUN1, RUN2, SUPPLIES, costs_at, demands_at, table_at};
 
 pub fn put_demand(m: usize, n: usize, j: usize, value: u64, store: &mut [u64]) -> Verdict

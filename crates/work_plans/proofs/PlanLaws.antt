@@ -15,7 +15,8 @@ use Rattle.work_store.specs.State.{Draft, State, lent_with}
 use Rattle.work_store.specs.Calls.{go_back, absent, unset, held, refusal_in, acted, unless, step}
 use Rattle.work_store.specs.Store.{cells_for, supplies_at, demands_at, costs_at, ceilings_at, table_at, in_case, width, slot, draft_in, cost_in, entries_in, state_at, sources, terminals, held_in}
 use Rattle.work_store.specs.Promise.{answer_to, steps}
-use Rattle.work_plans.specs.Planning.{outcome_in, outcome_unless, PlannedFrom, PlannedUnless, MarkPlanned}
+use Rattle.work_plans.specs.Planning.{outcome_in, outcome_unless, PlannedFrom, PlannedUnless}
+use Rattle.work_plans.specs.inner.MarkPlanned.{MarkPlanned}
 use Rattle.work_store.specs.inner.OpenStore.{opened_of, Open, Front}
 use Rattle.work_store.proofs.ListParts.{part_length}
 use Rattle.work_store.proofs.OpenStore.{is_shut, is_found, found_size}

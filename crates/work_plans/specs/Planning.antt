@@ -4,8 +4,6 @@ use Rattle.std.proofs.Math.Option.{Option, none, some}
 use Rattle.problem.specs.Outcome.{Outcome, refused, outcome_of}
 use Rattle.planner.specs.Answer.{Slices, Answered}
 use Rattle.work_store.specs.State.{State, lent_with}
-use Rattle.work_store.specs.Calls.{go_back}
-use Rattle.work_store.specs.Promise.{answer_to, steps}
 
 -- the outcome of the working case; a store that holds none is refused by 11
 abbrev pub outcome_in : Option State → ℕ → ℕ → ℕ → Outcome
@@ -29,7 +27,3 @@ pub record PlannedUnless (t : Option Outcome) (held : Option State) (p q f : ℕ
   pub answer : r ≡ outcome_unless t (outcome_in held p q f)
   pub work : (s : State) → t ≡ none → held ≡ some s → Answered (lent_with s.case p q f) r before after
   pub kept : (k l : ℕ) → r ≡ refused k l → after ≡ before
-
--- planning what mark k holds: refused as going back to it is, by 24 and 25, else what planning after going back gives
-abbrev pub MarkPlanned : ℕ → Option State → ℕ → ℕ → ℕ → Outcome → Slices → Slices → Type 0
-MarkPlanned k held p q f r before after = PlannedUnless (answer_to (go_back k) held) (steps (go_back k) held) p q f r before after

@@ -8,7 +8,8 @@ use lib.IntN.{ℤ, pos, sub_ℕ}
 use lib.ListN.{length, get_or, set, take, length-map, get_or-map}
 use lib.Seq.{take_at}
 use Rattle.transport.specs.Curve.{written}
-use Rattle.problem.specs.Range.{outside, raised_of, AllInside}
+use Rattle.problem.specs.Range.{outside, raised_of}
+use Rattle.problem.specs.inner.Raised.{AllInside}
 use Rattle.problem.proofs.MachineIntegers.{raised_is, raised_above}
 use Rattle.problem.proofs.RaisedLists.{map_at}
 use Rattle.work_store.specs.Store.{in_case, cost_in}

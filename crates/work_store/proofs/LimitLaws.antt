@@ -16,7 +16,8 @@ use Rattle.work_store.specs.declared.opened.Opened.TheVariants.{Held, Closed}
 use Rattle.work_store.specs.State.{Draft, State}
 use Rattle.work_store.specs.Calls.{absent}
 use Rattle.work_store.specs.Store.{flag_at, ceilings_at, table_at, in_case, mark_in, draft_in, slot, state_at, held_in}
-use Rattle.work_store.specs.Seeing.{limits_refusal, marks_refusal, limits_answer, marks_answer, runs_in, ceilings_in, flag_of, flags_of, flags_in, shown_unless, LimitsShown, MarksShown}
+use Rattle.work_store.specs.Seeing.{limits_refusal, marks_refusal, limits_answer, marks_answer, runs_in, ceilings_in, flag_of, flags_of, flags_in, shown_unless}
+use Rattle.work_store.specs.inner.Shown.{LimitsShown, MarksShown}
 use Rattle.work_store.specs.inner.OpenStore.{Open, opened_of}
 use Rattle.work_store.proofs.ListParts.{part_length, part_at}
 use Rattle.work_store.proofs.RangeCopies.{filled_front}

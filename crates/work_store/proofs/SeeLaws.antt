@@ -15,7 +15,8 @@ use Rattle.problem.specs.Outcome.{Outcome, refused, refuse_if}
 use Rattle.work_store.specs.declared.opened.Opened.TheVariants.{Held, Closed}
 use Rattle.work_store.specs.State.{Draft, State}
 use Rattle.work_store.specs.Store.{supplies_at, demands_at, costs_at, ceilings_at, table_at, in_case, cost_in, entries_in, state_at, held_in}
-use Rattle.work_store.specs.Seeing.{tariff_refusal, table_refusal, tariff_answer, table_answer, costs_in, supplies_in, demands_in, table_in, shown_unless, TariffShown, TableShown}
+use Rattle.work_store.specs.Seeing.{tariff_refusal, table_refusal, tariff_answer, table_answer, costs_in, supplies_in, demands_in, table_in, shown_unless}
+use Rattle.work_store.specs.inner.Shown.{TariffShown, TableShown}
 use Rattle.work_store.specs.inner.OpenStore.{Open, opened_of}
 use Rattle.work_store.proofs.ListParts.{part_length}
 use Rattle.work_store.proofs.RangeCopies.{filled_front}

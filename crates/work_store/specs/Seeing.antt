@@ -1,6 +1,6 @@
 -- What is shown of a working case (W-212): the tariff is unit costs, supplies and demands; the table is the entries. To the planner alone: the
 -- limits that no edit alters, which are least runs and ceilings, and which marks are set. Assumes nothing.
-use Rattle.std.specs.Prelude.{◌≡◌, ◌||◌, List, [], ◌∷◌, map, ℕ, ltb, ℤ, length}
+use Rattle.std.specs.Prelude.{◌||◌, List, [], ◌∷◌, map, ℕ, ltb, ℤ, length}
 use Rattle.std.proofs.Math.Option.{Option, none, some}
 use Rattle.transport.specs.Curve.{written}
 use Rattle.transport.specs.Listing.{up_from}
@@ -45,17 +45,6 @@ abbrev pub shown_unless : {A : Type 0} → Option Outcome → List A → List A 
 shown_unless none l old = written l old
 shown_unless (some r) l old = old
 
--- the three lent slices of the tariff
-pub record TariffShown (held : Option State) (c : List ℤ) (s d : List ℕ) (c' : List ℤ) (s' d' : List ℕ) (r : Option Outcome) : Type 0 where
-  pub answer : r ≡ tariff_answer (length c) (length s) (length d) held
-  pub costs : c' ≡ shown_unless r (costs_in held) c
-  pub supplies : s' ≡ shown_unless r (supplies_in held) s
-  pub demands : d' ≡ shown_unless r (demands_in held) d
-
-pub record TableShown (held : Option State) (t t' : List ℕ) (r : Option Outcome) : Type 0 where
-  pub answer : r ≡ table_answer (length t) held
-  pub table : t' ≡ shown_unless r (table_in held) t
-
 -- ---- the limits, and which marks are set
 
 unfoldable pub limits_refusal : ℕ → ℕ → Draft → Option Outcome
@@ -92,13 +81,3 @@ flags_of s = map (λ k. flag_of (s.marks k)) (up_from 1 8)
 abbrev pub flags_in : Option State → List ℕ
 flags_in none = []
 flags_in (some s) = flags_of s
-
--- the two lent slices of the limits: runs, then ceilings
-pub record LimitsShown (held : Option State) (u c u' c' : List ℕ) (r : Option Outcome) : Type 0 where
-  pub answer : r ≡ limits_answer (length u) (length c) held
-  pub runs : u' ≡ shown_unless r (runs_in held) u
-  pub ceilings : c' ≡ shown_unless r (ceilings_in held) c
-
-pub record MarksShown (held : Option State) (f f' : List ℕ) (r : Option Outcome) : Type 0 where
-  pub answer : r ≡ marks_answer (length f) held
-  pub flags : f' ≡ shown_unless r (flags_in held) f

@@ -1,1 +1,2 @@
 pub mod OpenStore
+pub mod Shown

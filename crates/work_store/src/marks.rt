@@ -7,7 +7,7 @@ ghost use Rattle.work_store.specs.inner.OpenStore.{Open, Acted, Apart, Slots};
 ghost use Rattle.work_store.specs.Store.{copied};
 
 use crate::layout::{FLAGS, slot_start, slot_width};
-use validation::tests::Verdict;
+use validation::refusals::Verdict;
 
 // Copies a range of cells to another, apart from it.
 fn copy_cells(from: usize, to: usize, count: usize, store: &mut [u64])

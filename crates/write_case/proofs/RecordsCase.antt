@@ -15,7 +15,7 @@ use Rattle.csv_table.specs.Files.{wanted, odd_from, judge, table_of, in_order}
 use Rattle.csv_case.specs.CaseFiles.{sources_in, terminals_in, source_records, costs_in, supplies_in, demands_in, entries_in}
 use Rattle.plan_files.specs.Printed.{filed_case, case_of}
 use Rattle.csv_case.proofs.TariffCase.{Even}
-use Rattle.case_texts.specs.Texts.{tab, source_record, tariff_records, production_records}
+use Rattle.case_texts.specs.inner.Records.{tab, source_record, tariff_records, production_records}
 use Rattle.case_texts.proofs.ListsInOrder.{tab_length, tab_ext, tab_list, tab_map, tab_rows, tab_ones}
 
 even_snoc : (w : ℕ) (rs : List (List ℤ)) (r : List ℤ) → Even w rs → length r ≡ w → Even w (rs ++ (r ∷ []))

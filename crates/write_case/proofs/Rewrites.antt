@@ -18,7 +18,8 @@ use Rattle.validation.proofs.FormTests.{Limits, in_limits, by_size}
 use Rattle.planner.proofs.Judging.{case_form}
 use Rattle.csv_case.specs.declared.case.CaseAnswer.{CaseAnswer}
 use Rattle.csv_case.specs.declared.case.CaseAnswer.TheVariants as answers
-use Rattle.csv_case.specs.CaseFiles.{case_answer, CaseStored}
+use Rattle.csv_case.specs.CaseFiles.{case_answer}
+use Rattle.csv_case.specs.inner.CaseStored.{CaseStored}
 use Rattle.plan_files.specs.Printed.{file_case}
 use Rattle.plan_files.specs.inner.StoredCase.{cut_case, Stored}
 use Rattle.plan_files.proofs.FileRefusals.{Alike}

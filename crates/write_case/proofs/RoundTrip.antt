@@ -20,7 +20,8 @@ use Rattle.csv_form.specs.Records.{whole, form_of}
 use Rattle.csv_table.specs.Files.{wanted, table_of}
 use Rattle.csv_case.specs.CaseFiles.{case_answer}
 use Rattle.plan_files.specs.Printed.{filed_case, file_case}
-use Rattle.case_texts.specs.Texts.{tariff_text, production_text, tariff_records, production_records}
+use Rattle.case_texts.specs.Texts.{tariff_text, production_text}
+use Rattle.case_texts.specs.inner.Records.{tariff_records, production_records}
 use Rattle.write_case.specs.Writing.{test32, entries_refusal}
 use Rattle.case_texts.proofs.TextRecords.{Small, tariff_form, production_form}
 use Rattle.case_texts.proofs.TextLengths.{tariff_most, production_most}

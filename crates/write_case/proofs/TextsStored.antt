@@ -11,9 +11,10 @@ use Rattle.problem.specs.Case.{Case}
 use Rattle.problem.specs.Outcome.{outcome_of}
 use Rattle.csv_case.specs.declared.case.CaseAnswer.{CaseAnswer}
 use Rattle.csv_case.specs.declared.case.CaseAnswer.TheVariants as answers
-use Rattle.csv_case.specs.CaseFiles.{CaseStored}
+use Rattle.csv_case.specs.inner.CaseStored.{CaseStored}
 use Rattle.plan_files.specs.Printed.{file_outcome}
-use Rattle.case_texts.specs.Texts.{tariff_text, production_text, tariff_records, production_records}
+use Rattle.case_texts.specs.Texts.{tariff_text, production_text}
+use Rattle.case_texts.specs.inner.Records.{tariff_records, production_records}
 use Rattle.write_case.specs.Writing.{entries_refusal}
 use Rattle.write_case.proofs.RecordsCase.{entries_are, costs_are, supplies_are, demands_are}
 use Rattle.write_case.proofs.RoundTrip.{case_alone, form_passes, table_room, tariff_reads, production_reads, both_stand, round_trip}

@@ -8,7 +8,7 @@ use borrow.Author.Tests.{lt-ltb, le-ltb}
 use lib.Dec.{ltb}
 use lib.ListN.{length}
 use lib.Seq.{sets}
-use Rattle.csv_print.specs.inner.Writing.{Written}
+use Rattle.csv_print.specs.Writing.{Written}
 use Rattle.problem.specs.Case.{Case, entry}
 use Rattle.problem.specs.Outcome.{Outcome, refused}
 use Rattle.planner.specs.Judge.{case_refusal}

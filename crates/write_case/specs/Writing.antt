@@ -58,4 +58,5 @@ file_refusal (answers.Case m n entries) o = o
 -- what is answered and written of two files: their case, in the one form that depends on the case alone
 abbrev pub FilesRewritten : List ℕ → List ℕ → List ℕ → List ℕ → List ℕ → List ℕ → Texts → Type 0
 FilesRewritten t p tariff production tariff' production' answer =
-    TextsTold (file_refusal (case_answer t p) (write_refusal (file_case t p) (length tariff) (length production))) (tariff_text (file_case t p)) (production_text (file_case t p)) tariff production tariff' production' answer
+    TextsTold (file_refusal (case_answer t p) (write_refusal (file_case t p) (length tariff) (length production)))
+    (tariff_text (file_case t p)) (production_text (file_case t p)) tariff production tariff' production' answer

@@ -4,7 +4,7 @@ ghost use Rattle.transport.specs.Curve.{written};
 ghost use Rattle.validation.specs.Verdict.{verdict};
 ghost use Rattle.yadvorkhul.specs.Work.{verdict_number, verdict_report};
 
-use validation::tests::Verdict;
+use validation::refusals::Verdict;
 
 // Writes the place of a refusal; its number, or 0.
 pub fn tell_verdict(told: Verdict, report: &mut [u64]) -> u64

@@ -2,7 +2,7 @@
 use Rattle.std.specs.Prelude.{◌≡◌, cond, ◌||◌, List, map, ℕ, zero, suc, min, ◌+◌, ◌-◌, ◌*◌, ◌/◌, ◌≤◌, ◌<◌, leb, ltb, ℤ, pos, nat_abs, ◌+ℤ◌, length, get_or}
 use Rattle.std.proofs.Math.Option.{Option, none, some}
 use Rattle.transport.specs.Listing.{up_from}
-use Rattle.problem.specs.Integer.{Above}
+use Rattle.problem.specs.inner.Raised.{Above}
 use Rattle.problem.specs.Outcome.{first_from}
 use Rattle.bounds_problem.specs.declared.curve.Found.{Found}
 use Rattle.bounds_problem.specs.declared.curve.Found.TheVariants.{At, Nowhere}

@@ -1,7 +1,8 @@
 -- How the plan for everybody is found from a slack plan: the lanes are settled one by one in row order, each at the least amount that a plan as
 -- cheap can have there. Lane (i, j) is at place i · 64 + j. Assumes nothing.
-use Rattle.std.specs.Prelude.{◌≡◌, ◌≢◌, List, ℕ, ◌+◌, ◌*◌, ◌^◌, ◌≤◌, ◌<◌, length}
-use Rattle.transport.specs.Plan.{Table, row, col, freight, Under}
+use Rattle.std.specs.Prelude.{◌≡◌, ℕ, ◌+◌, ◌*◌, ◌%◌, ◌^◌, ◌<◌, ◌≤◌, ◌≢◌, List, length}
+use Rattle.transport.specs.Plan.{Table, row, col, Under}
+use Rattle.transport.specs.inner.Freight.{freight}
 use Rattle.transport.specs.inner.Slackness.{Slack}
 use Rattle.transport.specs.inner.AtSplit.{Same}
 use Rattle.transport.specs.inner.PathFlow.{pulse}
@@ -183,6 +184,16 @@ pub record LaneFreed (u : Table) (i j : ℕ) (o f x o' f' x' : List ℕ) : Type 
   pub off_o : (k : ℕ) → k ≢ i * 64 + j → get o' k ≡ get o k
   pub off_f : (k : ℕ) → k ≢ i * 64 + j → get f' k ≡ get f k
   pub off_x : (k : ℕ) → k ≢ i * 64 + j → get x' k ≡ get x k
+
+-- of the first k numbers those of which P holds have their bits set in t
+pub record Marked (P : ℕ → Type 0) (k t : ℕ) : Type 0 where
+  pub fits : t < 2 ^ k
+  pub holds : (j : ℕ) → bit t j ≡ 1 → P j
+  pub fails : (j : ℕ) → j < k → bit t j ≡ 0 → ¬ P j
+
+-- lane (i, j) is tight as far as 32 bits tell
+abbrev pub Alike : Table → List ℕ → ℕ → ℕ → Type 0
+Alike c p i j = (c i j + get p i) % 2 ^ 32 ≡ get p (32 + j)
 
 -- of the first k lanes of source i the tight ones have their bits set in t
 pub record Tights (c : Table) (p : List ℕ) (i k t : ℕ) : Type 0 where

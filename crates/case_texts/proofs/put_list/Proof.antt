@@ -4,7 +4,7 @@ use native.Mathlib.Omega.{arith}
 use lib.IntN.{pos}
 use lib.ListN.{get_or}
 use Rattle.csv_print.specs.Text.{each, field_text}
-use Rattle.csv_print.specs.inner.Writing.{Written}
+use Rattle.csv_print.specs.Writing.{Written}
 use Rattle.csv_print.proofs.DecimalTexts.{each_start, each_next, each_end, written_length}
 use Rattle.case_texts.specs.Texts.{list_text}
 use borrow.Author.Rules.{rules}

@@ -4,7 +4,7 @@ use Prim.Native.Nat.{◌*◌, ◌-◌, ◌≤◌}
 use native.Mathlib.Omega.{arith}
 use native.Mathlib.Nat.{zero-mul}
 use Rattle.csv_print.specs.Text.{each}
-use Rattle.csv_print.specs.inner.Writing.{Written}
+use Rattle.csv_print.specs.Writing.{Written}
 use Rattle.csv_print.proofs.DecimalTexts.{each_start, each_next, each_end, written_length, row_within, next_start}
 use Rattle.case_texts.specs.Texts.{source_text, sources_text}
 use Rattle.case_texts.proofs.SourceRecord.{source_written}

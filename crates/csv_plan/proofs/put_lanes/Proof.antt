@@ -5,7 +5,7 @@ use native.Mathlib.Omega.{arith}
 use native.Mathlib.Nat.{zero-mul}
 use borrow.Author.Rules.{rules}
 use Rattle.csv_print.specs.Text.{each, row_text, lanes_text}
-use Rattle.csv_print.specs.inner.Writing.{Written}
+use Rattle.csv_print.specs.Writing.{Written}
 use Rattle.csv_print.proofs.DecimalTexts.{each_start, each_next, each_end, widen, written_length, row_within, printable_row, next_start}
 use Rattle.csv_plan.proofs.put_lanes.Statement.{statement}
 use Rattle.csv_plan.proofs.put_lanes.Tie as tie

@@ -8,7 +8,7 @@ use Rattle.csv_print.proofs.PrintedSigns.{product_fits, product_stored}
 use borrow.Author.Rules.{rules}
 use lib.ListN.{length, get_or}
 use Rattle.csv_print.specs.Text.{each, record_text, lane_text, row_text}
-use Rattle.csv_print.specs.inner.Writing.{Written}
+use Rattle.csv_print.specs.Writing.{Written}
 use Rattle.csv_print.proofs.DecimalTexts.{each_start, each_next, each_end, written_length}
 use Rattle.csv_plan.proofs.put_row.Statement.{statement}
 use Rattle.csv_plan.proofs.put_row.Tie as tie

@@ -7,8 +7,14 @@ use Rattle.csv_form.specs.declared.field.Field.TheVariants as answers
 use Rattle.csv_table.specs.declared.table.Table.{Table}
 use Rattle.csv_table.specs.declared.table.Table.TheVariants.{Whole, Refused}
 use Rattle.csv_table.specs.declared.table.Tally.{Tally}
-use Rattle.csv_form.specs.Records.{whole, form_of}
-use Rattle.csv_table.specs.Files.{pick, wanted, table_of, in_order, fields_stored}
+use Rattle.csv_form.specs.Records.{whole, form_of, Form, broken}
+use Rattle.csv_table.specs.Files.{pick, wanted, table_of, in_order}
+
+-- the cells after reading: all fields in file order, as far as there are cells; a refusal changes none
+abbrev pub fields_stored : Table → Form → List ℤ → List ℤ
+fields_stored (Whole records fields) (whole rs) cells = sets cells 0 (in_order rs)
+fields_stored (Whole records fields) (broken place) cells = cells
+fields_stored (Refused number place) f cells = cells
 
 abbrev pub start_tally : Kind → Tally
 start_tally kind = record { records = 0; fields = 0; width = wanted kind []; odd = 0; values = 0; rebate = false }

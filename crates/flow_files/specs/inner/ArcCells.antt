@@ -1,7 +1,6 @@
 -- The cells cut to a file's arcs: contracts of private functions. Assumes nothing.
 use Rattle.std.specs.Prelude.{◌≡◌, List, ℕ, ◌-◌, ◌≤◌, ◌<◌, ℤ, length, get_or, take}
-use Rattle.csv_answers.specs.Flow.{flow_text}
-use Rattle.csv_answers.specs.inner.FlowFits.{FlowFits}
+use Rattle.csv_answers.specs.Flow.{flow_text, FlowFits}
 use Rattle.dimacs.specs.Form.{File, whole, broken, form_of}
 use Rattle.flow_files.specs.declared.Formed as formed-answer
 use Rattle.flow_files.specs.declared.Formed.TheVariants as formeds

@@ -51,7 +51,7 @@ use Rattle.flow_network.specs.contracts.Answer as N
 use Rattle.flow_network.proofs.Answer.TheLaws as N'
 use Rattle.flow_arcs.specs.declared.Arc.{Arc}
 use Rattle.flow_arcs.specs.declared.find.Found.{Found}
-use Rattle.flow_arcs.specs.Lent.{arc_at, FoundIs}
+use Rattle.flow_arcs.specs.inner.Found.{arc_at, FoundIs}
 use Rattle.flow_arcs.proofs.FoundLaws.{arcs_answered}
 use Rattle.flow_arcs.specs.contracts.Arc as T
 use Rattle.flow_arcs.specs.contracts.find.Found as F

@@ -53,7 +53,7 @@ use denote.Triple.Walked.{says, needs, Stays, stay_slice, stay_none, walk_of, Go
 use denote.Exit.{yes}
 use Rattle.flow_arcs.specs.declared.Arc.{Arc}
 use Rattle.flow_arcs.specs.declared.find.Found.{Found}
-use Rattle.flow_arcs.specs.Lent.{arc_at}
+use Rattle.flow_arcs.specs.inner.Found.{arc_at}
 use Rattle.flow_structs.proofs.WrittenFront.{front, front_none, front_next, front_length, front_written}
 use Rattle.flow_arcs.specs.contracts.Arc as T
 use Rattle.flow_arcs.proofs.Arc.TheLaws as T'

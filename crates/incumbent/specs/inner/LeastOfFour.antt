@@ -18,3 +18,7 @@ pub record Lowest (table : List ℕ) (y v gain loss : ℕ) (b : Incumbent) (t : 
   pub least : held.total ≡ (scanned table y v gain loss b t).total
   pub within : held.total < b.total → held.start + 4 ≤ t
   pub found : held.total < b.total → scanned table y v gain loss b t ≡ scanned_part table y v gain loss b held.start 4
+
+-- no total of the splits between y and y + k is below the bound
+pub record NoneBelow (table : List ℕ) (y v gain loss bound k : ℕ) : Type 0 where
+  pub each : (t : ℕ) → 1 ≤ t → t < k → bound ≤ total_at table y v gain loss t

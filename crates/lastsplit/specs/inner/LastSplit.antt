@@ -1,5 +1,5 @@
 -- How far drums can go over from plant 2 to plant 1. Assumes nothing.
-use Rattle.std.specs.Prelude.{◌≡◌, List, ℕ, ◌+◌, ◌-◌, ◌≤◌, ◌<◌, length}
+use Rattle.std.specs.Prelude.{◌≡◌, ℕ, ◌+◌, ◌-◌, ◌<◌, ◌≤◌, List, length}
 use Rattle.transport.specs.Plan.{Table, row, col, Under}
 use Rattle.transport.specs.inner.AtSplit.{At}
 use Rattle.residual.specs.inner.Cells.{cells}

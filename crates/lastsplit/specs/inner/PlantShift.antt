@@ -1,5 +1,5 @@
 -- What the engine keeps in the sweep from split to split, and what becomes of a plan when drums go over from plant 2 to plant 1. Assumes nothing.
-use Rattle.std.specs.Prelude.{◌≡◌, List, ℕ, ◌+◌, ◌≤◌, ◌<◌, length}
+use Rattle.std.specs.Prelude.{◌≡◌, ℕ, ◌+◌, ◌<◌, ◌≤◌, List, length}
 use Rattle.transport.specs.Plan.{Under}
 use Rattle.transport.specs.inner.Slackness.{Slack}
 use Rattle.transport.specs.inner.PathFlow.{Step, Flow}

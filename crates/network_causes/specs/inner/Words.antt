@@ -1,6 +1,6 @@
 -- What is looked for and counted in the lines of a network file, byte by byte. Assumes nothing.
 use Rattle.std.specs.Prelude.{Bool, true, false, cond, not, ◌&&◌, ◌||◌, ℕ, ◌+◌, eqb, ltb}
-use Rattle.file_io.specs.inner.Places.{next_number}
+use Rattle.file_text.specs.inner.Places.{next_number}
 use Rattle.network_causes.specs.declared.words.Counted.{Counted}
 
 -- A number with 0 in front is looked for: 0 elsewhere, 1 after a space (32), 2 after a minus (45) behind one, 3 after a 0 (48) that is first, 4 found.

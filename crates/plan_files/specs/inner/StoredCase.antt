@@ -1,7 +1,10 @@
--- The stored case cut to what it has: contracts of private functions. Assumes nothing.
+-- The stored case cut to what it has, and what is printed of it: contracts of private functions. Assumes nothing.
 use Rattle.std.specs.Prelude.{◌≡◌, List, ℕ, min, ◌*◌, ℤ, length, take, replicate}
 use Rattle.problem.specs.Case.{Case}
-use Rattle.plan_files.specs.Printed.{filed_case}
+use Rattle.plan_files.specs.Printed.{filed_case, OutcomePrinted}
+use Rattle.problem.specs.Case as planner-case
+use Rattle.problem.specs.Outcome.{outcome_of}
+use Rattle.plan_files.specs.declared.planned.Printed.{Printed}
 
 -- the first cells of each array: as many as the case has, and no more than are stored, each lane with the ceiling 4,000
 abbrev pub cut_case : ℕ → ℕ → ℕ → List ℤ → List ℕ → List ℕ → List ℕ → Case
@@ -14,3 +17,7 @@ pub record Stored (costs : List ℤ) (supplies demands table : List ℕ) : Type 
   pub sources : length supplies ≡ 32
   pub terminals : length demands ≡ 64
   pub entries : length table ≡ 4002
+
+-- what is printed of a case
+abbrev pub CasePrinted : planner-case.Case → List ℕ → List ℕ → Printed → Type 0
+CasePrinted c out out' answer = OutcomePrinted c (outcome_of c) c.m c.n out out' answer

@@ -5,7 +5,7 @@ use lib.ListN.{length}
 use Rattle.problem.specs.Case.{Case, lent}
 use Rattle.validation.proofs.FormTests.{by_size}
 use Rattle.planner.specs.Answer.{outcome, slices, Answered}
-use Rattle.planner.proofs.EngineAnswer.{refuses}
+use Rattle.planner.proofs.EngineAnswer.{refuses_by}
 use Rattle.planner.proofs.LaterTests.{form_decides, size_is, of_size}
 use Rattle.planner.proofs.plan_by.Statement.{statement}
 use Rattle.planner.proofs.plan_by.Tie as tie
@@ -16,6 +16,9 @@ checked-requires c κs = search rules
 enum-known-number : tie.Need-enum-known-number
 enum-known-number c = search rules
 
+refusal-requires : tie.Need-refusal-requires
+refusal-requires c κs = search rules
+
 enum-known-size : tie.Need-enum-known-size
 enum-known-size c = search rules
 
@@ -23,7 +26,7 @@ plan-sized-requires : tie.Need-plan-sized-requires
 plan-sized-requires c κs = search rules
 
 returns : tie.Need-returns
-returns c = refuses _ _ _ _ (form_decides _ _ (by_size _ _ (sym c.before.before.before.checked.ensures ∙ c.before.number.given.1)))
+returns c = refuses_by c.refusal.ensures (form_decides _ _ (by_size _ _ (sym c.before.before.before.before.checked.ensures ∙ c.before.before.number.given.1)))
 
 same_length : tie.Need-same-length
 same_length c = search rules
@@ -58,6 +61,7 @@ plan-by-spec =
     (tie.spec
     checked-requires
     enum-known-number
+    refusal-requires
     enum-known-size
     plan-sized-requires
     returns

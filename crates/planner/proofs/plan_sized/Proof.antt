@@ -6,7 +6,7 @@ use lib.ListN.{length}
 use Rattle.problem.specs.Outcome.{form_refusal}
 use Rattle.problem.specs.Case.{Case, lent}
 use Rattle.validation.specs.Verdict.{verdict}
-use Rattle.planner.proofs.EngineAnswer.{refuses}
+use Rattle.planner.proofs.EngineAnswer.{refuses_by}
 use Rattle.planner.proofs.LaterTests.{form_decides, amounts, unbalanced, on_balance}
 use Rattle.planner.proofs.plan_sized.Statement.{statement}
 use Rattle.planner.proofs.plan_sized.Tie as tie
@@ -27,8 +27,11 @@ form-test-requires c κs = search rules
 enum-known-number : tie.Need-enum-known-number
 enum-known-number c = search rules
 
+refusal-requires : tie.Need-refusal-requires
+refusal-requires c κs = search rules
+
 returns : tie.Need-returns
-returns c = refuses _ _ _ _ (form_decides _ _ (sym (c.before.before.before.form-test.ensures _ _ _) ∙ ap verdict c.before.number.given.1))
+returns c = refuses_by c.refusal.ensures (form_decides _ _ (sym (c.before.before.before.before.form-test.ensures _ _ _) ∙ ap verdict c.before.before.number.given.1))
 
 enum_told : tie.Need-enum-told
 enum_told c = search rules
@@ -38,6 +41,9 @@ made-of-requires c κs = amounts (the c.before.before.before.before.before.befor
 
 enum-known-number-2 : tie.Need-enum-known-number-2
 enum-known-number-2 c = search rules
+
+refusal-requires-2 : tie.Need-refusal-requires-2
+refusal-requires-2 c κs = search rules
 
 enum-known-made : tie.Need-enum-known-made
 enum-known-made c = search rules
@@ -52,10 +58,10 @@ solve-requires c κs =
 
 returns-2 : tie.Need-returns-2
 returns-2 c =
-    let at-made-of = c.before.before.before in
+    let at-made-of = c.before.before.before.before in
     let at-enum-told = at-made-of.before in
     let entry = at-enum-told.before.before.before.before.before.before.before.before.before in
-    refuses _ _ _ _ (unbalanced (the entry) (passed at-enum-told) _ (sym at-made-of.made_of.ensures ∙ c.before.number2.given.1))
+    refuses_by c.refusal2.ensures (unbalanced (the entry) (passed at-enum-told) _ (sym at-made-of.made_of.ensures ∙ c.before.before.number2.given.1))
 
 same_length : tie.Need-same-length
 same_length c = search rules
@@ -75,10 +81,12 @@ plan-sized-spec =
     (tie.spec
     form-test-requires
     enum-known-number
+    refusal-requires
     returns
     enum_told
     made-of-requires
     enum-known-number-2
+    refusal-requires-2
     enum-known-made
     solve-requires
     returns-2

@@ -4,7 +4,8 @@ use Rattle.std.specs.Prelude.{◌≡◌, ℕ, ◌+◌, ◌-◌, ◌<◌, ◌≤�
 use Rattle.transport.specs.Sum.{sum}
 use Rattle.transport.specs.Plan.{by_row}
 use Rattle.transport.specs.Listing.{least, greatest}
-use Rattle.transport.specs.Curve.{amounts_at, splits_of}
+use Rattle.transport.specs.Curve.{amounts_at}
+use Rattle.transport.specs.inner.AtSplit.{splits_of}
 use Rattle.split_range.specs.inner.Begun.{Begun}
 
 -- the supply of source i, and what terminal j gets

@@ -1,7 +1,8 @@
 -- What one stretch of the freight curve asks and does: the path, the shift of the drums, the incumbent, the plan that is kept for it.
 -- The report's sources 1 and 2 are nodes 0 and 1. Assumes nothing.
 use Rattle.std.specs.Prelude.{◌≡◌, cond, List, ℕ, ◌+◌, ◌-◌, ◌≤◌, ◌<◌, eqb, length, get_or, set, replicate}
-use Rattle.transport.specs.Plan.{row, col, freight, Under}
+use Rattle.transport.specs.Plan.{row, col, Under}
+use Rattle.transport.specs.inner.Freight.{freight}
 use Rattle.transport.specs.inner.Slackness.{Slack}
 use Rattle.transport.specs.inner.AtSplit.{At, Least}
 use Rattle.transport.specs.inner.PathFlow.{Flow}

@@ -1,8 +1,8 @@
 -- What the climb from the first split to the last keeps. Assumes nothing.
 use Rattle.std.specs.Prelude.{◌≡◌, ℕ, ◌+◌, ◌-◌, ◌<◌, ◌≤◌, List, length, ℤ, slice_index}
 use Rattle.transport.specs.Sum.{sum}
-use Rattle.transport.specs.Plan.{row, col, freight}
-use Rattle.transport.specs.Curve.{least_in}
+use Rattle.transport.specs.Plan.{row, col}
+use Rattle.transport.specs.inner.Freight.{freight, least_in}
 use Rattle.transport.specs.inner.AtSplit.{At}
 use Rattle.residual.specs.inner.Cells.{cells}
 use Rattle.residual.specs.inner.Network.{net, get}

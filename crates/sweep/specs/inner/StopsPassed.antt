@@ -1,8 +1,9 @@
 -- What the sweep writes: the stops passed so far and their freights. Assumes nothing.
 use Rattle.std.specs.Prelude.{◌≡◌, ℕ, ◌+◌, ◌-◌, ◌*◌, ◌<◌, ◌≤◌, Bool, true, false, cond, not, ◌||◌, List, [], ◌∷◌, map, length, ℤ, ◌==◌, slice_index, slice_set}
 use Rattle.transport.specs.Listing.{up_from, select}
-use Rattle.transport.specs.Curve.{is_stop, best_from, written}
-use Rattle.problem.specs.Range.{lower}
+use Rattle.transport.specs.Curve.{written}
+use Rattle.transport.specs.inner.Freight.{is_stop, best_from}
+use Rattle.problem.specs.inner.Raised.{lower}
 use Rattle.incumbent.specs.declared.Incumbent.{Incumbent}
 
 -- f is a straight line from y to y + k: each drum adds gain and takes off loss
@@ -47,7 +48,8 @@ abbrev pub turned : ℕ → ℕ → ℕ → ℕ → ℕ → ℕ → Bool
 turned y lo gain loss gain' loss' = y == lo || not (gain + loss' == loss + gain')
 
 -- the sweep of f stands at y: what it has written and found up to there; the drum behind y adds gain and takes off loss
-pub record Climbing (f : ℕ → ℕ) (table : List ℕ) (added : ℕ) (splits : List ℕ) (freights : List ℤ) (lo hi : ℕ) (splits' : List ℕ) (freights' : List ℤ) (y value count gain loss : ℕ) (b : Incumbent) : Type 0 where
+pub record Climbing (f : ℕ → ℕ) (table : List ℕ) (added : ℕ) (splits : List ℕ) (freights : List ℤ) (lo hi : ℕ)
+    (splits' : List ℕ) (freights' : List ℤ) (y value count gain loss : ℕ) (b : Incumbent) : Type 0 where
   pub low : lo ≤ y
   pub high : y ≤ hi
   pub here : value ≡ f y

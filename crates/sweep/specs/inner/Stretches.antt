@@ -2,7 +2,8 @@
 -- each drum. Assumes nothing.
 use Rattle.std.specs.Prelude.{◌≡◌, ℕ, zero, suc, ◌+◌, ◌-◌, ◌<◌, ◌≤◌, List, [], ◌∷◌, ℤ, pos, ◌+ℤ◌, ◌*ℤ◌, neg_ℤ, ◌≤ℤ◌}
 use Rattle.transport.specs.Plan.{Table, row, col, Under}
-use Rattle.transport.specs.Curve.{amounts_at, least_in}
+use Rattle.transport.specs.Curve.{amounts_at}
+use Rattle.transport.specs.inner.Freight.{least_in}
 use Rattle.problem.specs.Freight.{Rates, freightℤ}
 use Rattle.residual.specs.inner.Network.{Net}
 use Rattle.stretch.specs.inner.ResidualPath.{Arc, PathIn, narrowest, moved}

@@ -2,10 +2,10 @@
 -- for everybody there. Assumes nothing.
 use Rattle.std.specs.Prelude.{◌≡◌, ℕ, ◌+◌, ◌-◌, ◌<◌, ◌≤◌, List, map, length, ℤ, slice_index}
 use Rattle.transport.specs.Sum.{sum}
-use Rattle.transport.specs.Plan.{Table, by_row, row, col, freight, Under}
-use Rattle.transport.specs.Curve.{amounts_at, least_in, best_from, stops_of, written}
-use Rattle.transport.specs.Canonical.{canonical_at}
-use Rattle.problem.specs.Range.{lower}
+use Rattle.transport.specs.Plan.{Table, by_row, row, col, Under}
+use Rattle.transport.specs.inner.Freight.{freight, least_in, best_from, stops_of, canonical_at}
+use Rattle.transport.specs.Curve.{amounts_at, written}
+use Rattle.problem.specs.inner.Raised.{lower}
 use Rattle.split_range.specs.inner.Begun.{Begun}
 use Rattle.split_range.specs.inner.Range.{demand_in}
 use Rattle.sweep.specs.inner.Stretches.{raised_curve, Stretches}
@@ -35,7 +35,8 @@ pub record PlanAt (m n : ℕ) (c u : Table) (d : ℕ) (a b : ℕ → ℕ) (y v :
 
 -- y is the split of least total t and of freight v; the stops stand in the slices with their freights less what was added, the plan for everybody
 -- at y in kept; from lo to hi the plan in x went on stretch by stretch, to x'
-pub record Swept (m n : ℕ) (c u : Table) (d : ℕ) (a b : ℕ → ℕ) (lo hi : ℕ) (table : List ℕ) (added : ℕ) (splits : List ℕ) (freights : List ℤ) (x splits' : List ℕ) (freights' : List ℤ) (x' kept : List ℕ) (y t v stops : ℕ) : Type 0 where
+pub record Swept (m n : ℕ) (c u : Table) (d : ℕ) (a b : ℕ → ℕ) (lo hi : ℕ) (table : List ℕ) (added : ℕ) (splits : List ℕ) (freights : List ℤ)
+    (x splits' : List ℕ) (freights' : List ℤ) (x' kept : List ℕ) (y t v stops : ℕ) : Type 0 where
   pub split : y ≡ best_from (λ z. least_in m n c u d a b z + slice_index table z) lo (hi - lo)
   pub least : v ≡ least_in m n c u d a b y
   pub total : t ≡ v + slice_index table y

@@ -1,6 +1,8 @@
 -- A plan at a split, and the least freight there. Assumes nothing.
-use Rattle.std.specs.Prelude.{◌≡◌, ℕ, ◌≤◌, ◌<◌}
-use Rattle.transport.specs.Plan.{Table, row, col, freight, Under}
+use Rattle.std.specs.Prelude.{◌≡◌, ℕ, ◌≤◌, ◌<◌, ◌-◌, max, min, List}
+use Rattle.transport.specs.Plan.{Table, row, col, Under}
+use Rattle.transport.specs.inner.Freight.{freight}
+use Rattle.transport.specs.Curve.{splits_in}
 
 -- r and r' agree from a up to k
 abbrev pub Same : ℕ → ℕ → (ℕ → ℕ) → (ℕ → ℕ) → Type 0
@@ -20,3 +22,7 @@ pub record Least (m n : ℕ) (c u : Table) (a b : ℕ → ℕ) (y z v : ℕ) : T
   pub under : Under m n plan u
   pub is : freight m n c plan ≡ v
   pub low : (x : Table) → At m n a b y z x → Under m n x u → v ≤ freight m n c x
+
+-- the splits within the supplies and the least runs at which there is a plan within the ceilings
+abbrev pub splits_of : ℕ → ℕ → Table → (ℕ → ℕ) → (ℕ → ℕ) → ℕ → ℕ → ℕ → List ℕ
+splits_of m n u a b run0 run1 d = splits_in m n u d a b (max run0 (d - a 1)) (min (a 0) (d - run1))

@@ -1,7 +1,7 @@
 -- What the functions on an open store ask and keep. Assumes nothing.
 use Rattle.std.specs.Prelude.{◌≡◌, cond, ◌⊎◌, List, ℕ, ◌+◌, ◌*◌, ◌≤◌, ◌<◌, eqb, length, get_or}
 use Rattle.std.proofs.Math.Option.{Option}
-use Rattle.problem.specs.Range.{AllInside}
+use Rattle.problem.specs.inner.Raised.{AllInside}
 use Rattle.problem.specs.Outcome.{Outcome}
 use Rattle.work_store.specs.declared.opened.Opened.{Opened}
 use Rattle.work_store.specs.declared.opened.Opened.TheVariants.{Held, Closed}

@@ -3,25 +3,29 @@ use Rattle.std.proofs.Common.{◌≤◌, rules}
 use Rattle.bounded.proofs.leaving.from_source.Statement.{statement}
 use Rattle.bounded.proofs.leaving.from_source.Tie as tie
 
--- `bounded::leaving::from_source` is safe and ends. Assumes nothing.
-
 abbrev invariant-loop : tie.invariant-loop
-invariant-loop i bit shift own parent terminals-below residual node₀ amount₀ a₀ top₀ left₀ node amount a top left = left ≤ 48
+invariant-loop i bit shift own tree node₀ amount₀ a₀ top₀ left₀ node amount a top left = left ≤ 48
 
 abbrev decreases-loop : tie.decreases-loop
-decreases-loop i bit shift own parent terminals-below residual node₀ amount₀ a₀ top₀ left₀ node amount a top left = left
+decreases-loop i bit shift own tree node₀ amount₀ a₀ top₀ left₀ node amount a top left = left
 
 loop-holds : tie.Need-loop-init invariant-loop decreases-loop
 loop-holds c = search rules
 
-cast-v : tie.Need-overflow-cast-v invariant-loop decreases-loop
-cast-v c = search rules
+place-requires : tie.Need-place-requires invariant-loop decreases-loop
+place-requires c κs = search rules
+
+add-if1 : tie.Need-overflow-add-if1 invariant-loop decreases-loop
+add-if1 c = search rules
 
 mul-if1 : tie.Need-overflow-mul-if1 invariant-loop decreases-loop
 mul-if1 c = search rules
 
 element-copy-out-if1 : tie.Need-element-copy-out-if1 invariant-loop decreases-loop
 element-copy-out-if1 c = search rules
+
+add_half : tie.Need-overflow-add-half invariant-loop decreases-loop
+add_half c = search rules
 
 mul-half : tie.Need-overflow-mul-half invariant-loop decreases-loop
 mul-half c = search rules
@@ -32,20 +36,29 @@ element-copy-out-half c = search rules
 half-requires : tie.Need-half-requires invariant-loop decreases-loop
 half-requires c κs = search rules
 
-mul-b : tie.Need-overflow-mul-b invariant-loop decreases-loop
-mul-b c = search rules
+mul_low : tie.Need-overflow-mul-low invariant-loop decreases-loop
+mul_low c = search rules
 
-element-copy-out-b : tie.Need-element-copy-out-b invariant-loop decreases-loop
-element-copy-out-b c = search rules
+element-copy-out-low : tie.Need-element-copy-out-low invariant-loop decreases-loop
+element-copy-out-low c = search rules
 
-cast-w : tie.Need-overflow-cast-w invariant-loop decreases-loop
-cast-w c = search rules
+low-requires : tie.Need-low-requires invariant-loop decreases-loop
+low-requires c κs = search rules
+
+place-requires-2 : tie.Need-place-requires-2 invariant-loop decreases-loop
+place-requires-2 c κs = search rules
+
+add-if3 : tie.Need-overflow-add-if3 invariant-loop decreases-loop
+add-if3 c = search rules
 
 mul-if3 : tie.Need-overflow-mul-if3 invariant-loop decreases-loop
 mul-if3 c = search rules
 
 element-copy-out-if3 : tie.Need-element-copy-out-if3 invariant-loop decreases-loop
 element-copy-out-if3 c = search rules
+
+add-half-2 : tie.Need-overflow-add-half-2 invariant-loop decreases-loop
+add-half-2 c = search rules
 
 mul-half-2 : tie.Need-overflow-mul-half-2 invariant-loop decreases-loop
 mul-half-2 c = search rules
@@ -56,11 +69,14 @@ element-copy-out-half-2 c = search rules
 half-requires-2 : tie.Need-half-requires-2 invariant-loop decreases-loop
 half-requires-2 c κs = search rules
 
-mul-a : tie.Need-overflow-mul-a invariant-loop decreases-loop
-mul-a c = search rules
+mul-low-2 : tie.Need-overflow-mul-low-2 invariant-loop decreases-loop
+mul-low-2 c = search rules
 
-element-copy-out-a : tie.Need-element-copy-out-a invariant-loop decreases-loop
-element-copy-out-a c = search rules
+element-copy-out-low-2 : tie.Need-element-copy-out-low-2 invariant-loop decreases-loop
+element-copy-out-low-2 c = search rules
+
+low-requires-2 : tie.Need-low-requires-2 invariant-loop decreases-loop
+low-requires-2 c κs = search rules
 
 sub-left : tie.Need-overflow-sub-left invariant-loop decreases-loop
 sub-left c = search rules
@@ -87,22 +103,28 @@ from-source-spec =
     invariant-loop
     decreases-loop
     loop-holds
-    cast-v
+    place-requires
+    add-if1
     mul-if1
     element-copy-out-if1
+    add_half
     mul-half
     element-copy-out-half
     half-requires
-    mul-b
-    element-copy-out-b
-    cast-w
+    mul_low
+    element-copy-out-low
+    low-requires
+    place-requires-2
+    add-if3
     mul-if3
     element-copy-out-if3
+    add-half-2
     mul-half-2
     element-copy-out-half-2
     half-requires-2
-    mul-a
-    element-copy-out-a
+    mul-low-2
+    element-copy-out-low-2
+    low-requires-2
     sub-left
     loop-less
     loop-again

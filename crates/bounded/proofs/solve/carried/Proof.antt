@@ -4,19 +4,25 @@ use Rattle.bounded.proofs.solve.carried.Statement.{statement}
 use Rattle.bounded.proofs.solve.carried.Tie as tie
 
 abbrev invariant-loop : tie.invariant-loop
-invariant-loop parent residual cap x₀ v₀ x v = (v ≤ 96) × (length x ≡ 2048)
+invariant-loop tree cap x₀ v₀ x v = (v ≤ 96) × (length x ≡ 2048)
 
 abbrev decreases-loop : tie.decreases-loop
-decreases-loop parent residual cap x₀ v₀ x v = 96 - v
+decreases-loop tree cap x₀ v₀ x v = 96 - v
 
 loop-holds : tie.Need-loop-init invariant-loop decreases-loop
 loop-holds c = search rules
 
-mul-u : tie.Need-overflow-mul-u invariant-loop decreases-loop
-mul-u c = search rules
+mul_low : tie.Need-overflow-mul-low invariant-loop decreases-loop
+mul_low c = search rules
 
-element-copy-out-u : tie.Need-element-copy-out-u invariant-loop decreases-loop
-element-copy-out-u c = search rules
+mul-low-2 : tie.Need-overflow-mul-low-2 invariant-loop decreases-loop
+mul-low-2 c = search rules
+
+element-copy-out-low : tie.Need-element-copy-out-low invariant-loop decreases-loop
+element-copy-out-low c = search rules
+
+low-requires : tie.Need-low-requires invariant-loop decreases-loop
+low-requires c κs = search rules
 
 cast-lane : tie.Need-overflow-cast-lane invariant-loop decreases-loop
 cast-lane c = search rules
@@ -27,11 +33,17 @@ lane-requires c κs = search rules
 mul-amount-of : tie.Need-overflow-mul-amount-of invariant-loop decreases-loop
 mul-amount-of c = search rules
 
-element-copy-out-amount-of : tie.Need-element-copy-out-amount-of invariant-loop decreases-loop
-element-copy-out-amount-of c = search rules
+add-amount-of : tie.Need-overflow-add-amount-of invariant-loop decreases-loop
+add-amount-of c = search rules
 
 mul-amount-of-2 : tie.Need-overflow-mul-amount-of-2 invariant-loop decreases-loop
 mul-amount-of-2 c = search rules
+
+element-copy-out-amount-of : tie.Need-element-copy-out-amount-of invariant-loop decreases-loop
+element-copy-out-amount-of c = search rules
+
+mul-amount-of-3 : tie.Need-overflow-mul-amount-of-3 invariant-loop decreases-loop
+mul-amount-of-3 c = search rules
 
 element-copy-out-amount-of-2 : tie.Need-element-copy-out-amount-of-2 invariant-loop decreases-loop
 element-copy-out-amount-of-2 c = search rules
@@ -70,13 +82,17 @@ carried-spec =
     invariant-loop
     decreases-loop
     loop-holds
-    mul-u
-    element-copy-out-u
+    mul_low
+    mul-low-2
+    element-copy-out-low
+    low-requires
     cast-lane
     lane-requires
     mul-amount-of
-    element-copy-out-amount-of
+    add-amount-of
     mul-amount-of-2
+    element-copy-out-amount-of
+    mul-amount-of-3
     element-copy-out-amount-of-2
     amount-of-requires
     mul-x

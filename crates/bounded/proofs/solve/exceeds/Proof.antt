@@ -4,31 +4,31 @@ use Rattle.bounded.proofs.solve.exceeds.Statement.{statement}
 use Rattle.bounded.proofs.solve.exceeds.Tie as tie
 
 abbrev invariant-loop : tie.invariant-loop
-invariant-loop residual some₀ v₀ some v = v ≤ 96
+invariant-loop tree some₀ v₀ some v = v ≤ 96
 
 abbrev decreases-loop : tie.decreases-loop
-decreases-loop residual some₀ v₀ some v = 96 - v
+decreases-loop tree some₀ v₀ some v = 96 - v
 
 loop-holds : tie.Need-loop-init invariant-loop decreases-loop
 loop-holds c = search rules
 
-mul-above : tie.Need-overflow-mul-above invariant-loop decreases-loop
-mul-above c = search rules
+mul-own : tie.Need-overflow-mul-own invariant-loop decreases-loop
+mul-own c = search rules
 
-element-copy-out-above : tie.Need-element-copy-out-above invariant-loop decreases-loop
-element-copy-out-above c = search rules
+add-own : tie.Need-overflow-add-own invariant-loop decreases-loop
+add-own c = search rules
+
+mul-own-2 : tie.Need-overflow-mul-own-2 invariant-loop decreases-loop
+mul-own-2 c = search rules
+
+element-copy-out-own : tie.Need-element-copy-out-own invariant-loop decreases-loop
+element-copy-out-own c = search rules
 
 above-requires : tie.Need-above-requires invariant-loop decreases-loop
 above-requires c κs = search rules
 
-mul-half : tie.Need-overflow-mul-half invariant-loop decreases-loop
-mul-half c = search rules
-
-element-copy-out-half : tie.Need-element-copy-out-half invariant-loop decreases-loop
-element-copy-out-half c = search rules
-
-half-requires : tie.Need-half-requires invariant-loop decreases-loop
-half-requires c κs = search rules
+low-requires : tie.Need-low-requires invariant-loop decreases-loop
+low-requires c κs = search rules
 
 add-v : tie.Need-overflow-add-v invariant-loop decreases-loop
 add-v c = search rules
@@ -49,12 +49,12 @@ exceeds-spec =
     invariant-loop
     decreases-loop
     loop-holds
-    mul-above
-    element-copy-out-above
+    mul-own
+    add-own
+    mul-own-2
+    element-copy-out-own
     above-requires
-    mul-half
-    element-copy-out-half
-    half-requires
+    low-requires
     add-v
     loop-less
     loop-again

@@ -4,13 +4,11 @@ use Rattle.bounded.proofs.solve.simplex.Statement.{statement}
 use Rattle.bounded.proofs.solve.simplex.Tie as tie
 
 abbrev invariant-loop : tie.invariant-loop
-invariant-loop m n passes fine cost cap price₀ full₀ parent₀ sources-below₀ terminals-below₀ residual₀ potential₀ key₀ now₀ left₀ price full parent
-    sources-below terminals-below residual potential key now left =
+invariant-loop m n passes fine cost cap price₀ full₀ tree₀ potential₀ key₀ now₀ left₀ price full tree potential key now left =
     left ≤ passes
 
 abbrev decreases-loop : tie.decreases-loop
-decreases-loop m n passes fine cost cap price₀ full₀ parent₀ sources-below₀ terminals-below₀ residual₀ potential₀ key₀ now₀ left₀ price full parent
-    sources-below terminals-below residual potential key now left =
+decreases-loop m n passes fine cost cap price₀ full₀ tree₀ potential₀ key₀ now₀ left₀ price full tree potential key now left =
     left
 
 loop-holds : tie.Need-loop-init invariant-loop decreases-loop

@@ -3,13 +3,13 @@ use Rattle.std.proofs.Common.{◌≤◌, rules}
 use Rattle.bounded.proofs.start.places.Statement.{statement}
 use Rattle.bounded.proofs.start.places.Tie as tie
 
--- `bounded::start::places` is safe and ends. Assumes nothing.
-
 abbrev invariant-loop : tie.invariant-loop
-invariant-loop n fine cost cap price₀ full₀ book₀ key₀ parent₀ sources-below₀ terminals-below₀ residual₀ now₀ left₀ price full book key parent sources-below terminals-below residual now left = left ≤ 2200
+invariant-loop n fine cost cap price₀ full₀ book₀ key₀ tree₀ now₀ left₀ price full book key tree now left =
+    left ≤ 2200
 
 abbrev decreases-loop : tie.decreases-loop
-decreases-loop n fine cost cap price₀ full₀ book₀ key₀ parent₀ sources-below₀ terminals-below₀ residual₀ now₀ left₀ price full book key parent sources-below terminals-below residual now left = left
+decreases-loop n fine cost cap price₀ full₀ book₀ key₀ tree₀ now₀ left₀ price full book key tree now left =
+    left
 
 loop-holds : tie.Need-loop-init invariant-loop decreases-loop
 loop-holds c = search rules

@@ -3,25 +3,29 @@ use Rattle.std.proofs.Common.{◌-◌, ◌≤◌, rules}
 use Rattle.bounded.proofs.start.rest.Statement.{statement}
 use Rattle.bounded.proofs.start.rest.Tie as tie
 
--- `bounded::start::rest` is safe and ends. Assumes nothing.
-
 abbrev invariant-loop : tie.invariant-loop
-invariant-loop n first fine cost cap price₀ book₀ parent₀ sources-below₀ terminals-below₀ residual₀ count₀ j₀ price book parent sources-below terminals-below residual count j = j ≤ 64
+invariant-loop n first fine cost cap price₀ book₀ tree₀ count₀ j₀ price book tree count j = j ≤ 64
 
 abbrev decreases-loop : tie.decreases-loop
-decreases-loop n first fine cost cap price₀ book₀ parent₀ sources-below₀ terminals-below₀ residual₀ count₀ j₀ price book parent sources-below terminals-below residual count j = 64 - j
+decreases-loop n first fine cost cap price₀ book₀ tree₀ count₀ j₀ price book tree count j = 64 - j
 
 loop-holds : tie.Need-loop-init invariant-loop decreases-loop
 loop-holds c = search rules
 
-add-if2 : tie.Need-overflow-add-if2 invariant-loop decreases-loop
-add-if2 c = search rules
+mul_low : tie.Need-overflow-mul-low invariant-loop decreases-loop
+mul_low c = search rules
 
-mul-if2 : tie.Need-overflow-mul-if2 invariant-loop decreases-loop
-mul-if2 c = search rules
+add_low : tie.Need-overflow-add-low invariant-loop decreases-loop
+add_low c = search rules
 
-element-copy-out-if2 : tie.Need-element-copy-out-if2 invariant-loop decreases-loop
-element-copy-out-if2 c = search rules
+mul-low-2 : tie.Need-overflow-mul-low-2 invariant-loop decreases-loop
+mul-low-2 c = search rules
+
+element-copy-out-low : tie.Need-element-copy-out-low invariant-loop decreases-loop
+element-copy-out-low c = search rules
+
+low-requires : tie.Need-low-requires invariant-loop decreases-loop
+low-requires c κs = search rules
 
 add-b : tie.Need-overflow-add-b invariant-loop decreases-loop
 add-b c = search rules
@@ -105,9 +109,11 @@ rest-spec =
     invariant-loop
     decreases-loop
     loop-holds
-    add-if2
-    mul-if2
-    element-copy-out-if2
+    mul_low
+    add_low
+    mul-low-2
+    element-copy-out-low
+    low-requires
     add-b
     mul-b
     element-copy-out-b

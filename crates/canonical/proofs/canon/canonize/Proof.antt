@@ -1,5 +1,5 @@
 -- `canonical::canon::canonize` meets its contract. Assumes nothing.
-use borrow.Author.Rules.{rules}
+use Rattle.std.proofs.Common.{rules}
 use Rattle.canonical.proofs.LaneStores.{part_ready, part_begin, kept_all, open_start, canonized}
 use Rattle.canonical.proofs.canon.canonize.Statement.{statement}
 use Rattle.canonical.proofs.canon.canonize.Tie as tie

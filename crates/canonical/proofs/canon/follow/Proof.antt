@@ -1,5 +1,5 @@
 -- `canonical::canon::follow` meets its contract. Assumes nothing.
-use borrow.Author.Rules.{rules}
+use Rattle.std.proofs.Common.{rules}
 use Rattle.canonical.proofs.Rerouting.{way_route, way_walkable, way_marks, way_covers, followed}
 use Rattle.canonical.proofs.canon.follow.Statement.{statement}
 use Rattle.canonical.proofs.canon.follow.Tie as tie

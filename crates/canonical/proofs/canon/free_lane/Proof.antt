@@ -1,9 +1,6 @@
 -- `canonical::canon::free_lane` meets its contract. Assumes nothing.
-use Prim.Native.Nat.{◌+◌, ◌*◌, ◌%◌, ◌^◌}
-use native.Mathlib.Omega.{arith}
-use lib.ListN.{get_or, set}
+use Rattle.std.proofs.Common.{◌+◌, ◌*◌, ◌%◌, ◌^◌, get_or, set, arith, rules}
 use lib.Bits.{bit_or}
-use borrow.Author.Rules.{rules}
 use Rattle.canonical.specs.inner.Canonize.{Doors}
 use Rattle.canonical.proofs.LaneStores.{freed_moved, freed_empty, cover_brought, door_open}
 use Rattle.canonical.proofs.canon.free_lane.Statement.{statement}

@@ -1,10 +1,8 @@
 -- `canonical::canon::part` meets its contract. Assumes nothing.
-use Prim.Native.Nat.{◌*◌, ◌-◌, ◌≤◌}
-use native.Mathlib.Omega.{arith}
+use Rattle.std.proofs.Common.{◌-◌, ◌*◌, ◌≤◌, arith, rules}
 use Rattle.residual.specs.inner.Cells.{cells}
 use Rattle.canonical.specs.inner.Canonize.{bare, Kept, PartedTo}
 use Rattle.canonical.proofs.LaneStores.{part_skip, kept_none, kept_both}
-use borrow.Author.Rules.{rules}
 use Rattle.canonical.proofs.canon.part.Statement.{statement}
 use Rattle.canonical.proofs.canon.part.Tie as tie
 

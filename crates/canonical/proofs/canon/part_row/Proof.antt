@@ -1,11 +1,9 @@
 -- `canonical::canon::part_row` meets its contract. Assumes nothing.
-use Prim.Native.Nat.{◌-◌}
-use native.Mathlib.Omega.{arith}
+use Rattle.std.proofs.Common.{◌-◌, arith, rules}
 use lib.Bits.{and_le_r}
 use Rattle.residual.specs.inner.Cells.{cells}
 use Rattle.canonical.specs.inner.Canonize.{bare}
 use Rattle.canonical.proofs.LaneStores.{Freeing, part_priced, free_start, free_at, free_clear, free_next, free_end}
-use borrow.Author.Rules.{rules}
 use Rattle.canonical.proofs.canon.part_row.Statement.{statement}
 use Rattle.canonical.proofs.canon.part_row.Tie as tie
 

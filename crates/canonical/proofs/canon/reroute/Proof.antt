@@ -1,8 +1,5 @@
 -- `canonical::canon::reroute` meets its contract. Assumes nothing.
-use mathlib.Core.Path.{◌≡◌}
-use Prim.Native.Nat.{ℕ}
-use native.Mathlib.Omega.{arith}
-use lib.ListN.{length, length-replicate}
+use Rattle.std.proofs.Common.{◌≡◌, length, arith}
 use Rattle.residual.specs.inner.LanesInUse.{Covers}
 use Rattle.reachability.specs.inner.Reachability.{Known}
 use Rattle.canonical.specs.inner.Canonize.{Rerouting}
@@ -19,7 +16,7 @@ abbrev decreases-loop : tie.decreases-loop
 decreases-loop m n ways free i j amount x₀ supplied₀ serves₀ prev₀ left₀ x supplied serves prev left = left
 
 loop-holds : tie.Need-loop-init invariant-loop decreases-loop
-loop-holds c = (reroute_start c.requires.0, c.requires.1.1.1.1, length-replicate {A = ℕ} 96 0, c.requires.1.1.0)
+loop-holds c = (reroute_start c.requires.0, c.requires.1.1.1.1.0, c.requires.1.1.1.1.1, c.requires.1.1.0)
 
 reach-requires : tie.Need-reach-requires invariant-loop decreases-loop
 reach-requires c κs =
@@ -39,7 +36,7 @@ follow-requires c κs =
     let entry = at-loop.before in
     let s = entry.requires in
     let r = at-reach.reach.ensures in
-    (free_again s.0 at-loop.loop.invariant.0, (h.loop-test.true, ((r.0.found t.if1.true).trodden, r.1.1)))
+    (free_again s.0 at-loop.loop.invariant.0, (h.loop-test.true, ((r.0.found t.if1.true).trodden, r.1.1.0)))
 
 sub-left : tie.Need-overflow-sub-left invariant-loop decreases-loop
 sub-left c = c.follow.ensures.0.most
@@ -55,7 +52,7 @@ loop-again c =
     let entry = at-loop.before in
     let s = entry.requires in
     let r = at-reach.reach.ensures in let w = r.0.found t.if1.true in let d = c.follow.ensures in
-    (reroute_next s.0 at-loop.loop.invariant.0 d.0, d.1, w.trodden.labelled.searched.long.prevs, known_next r.1.0 w d.0)
+    (reroute_next s.0 at-loop.loop.invariant.0 d.0, d.1, r.1.1.1, known_next r.1.0 w d.0)
 
 returns : tie.Need-returns invariant-loop decreases-loop
 returns c =
@@ -63,7 +60,7 @@ returns c =
     (record { rerouting = h.before.loop.invariant.0; none = λ h. r.0.none c.if1.false }, (r.1.0.supplied, r.1.1))
 
 returns-2 : tie.Need-returns-2 invariant-loop decreases-loop
-returns-2 c = let q = c.before.loop.invariant in (record { rerouting = q.0; none = λ h. absurd (omega (arith, c.loop-test.false)) }, (q.3.supplied, q.1))
+returns-2 c = let q = c.before.loop.invariant in (record { rerouting = q.0; none = λ h. absurd (omega (arith, c.loop-test.false)) }, (q.3.supplied, (q.1, q.2)))
 
 pub reroute-spec : {M : Type 1} → statement M
 reroute-spec =

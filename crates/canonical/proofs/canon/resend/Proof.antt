@@ -1,9 +1,7 @@
 -- `canonical::canon::resend` meets its contract. Assumes nothing.
 use Rattle.canonical.proofs.Rerouting.{stays_col, stays_row, resent}
-use native.Mathlib.Omega.{arith}
-use Prim.Native.Nat.{◌<◌}
+use Rattle.std.proofs.Common.{◌<◌, arith, rules}
 use Rattle.reachability.proofs.MaskBits.{power_fits_long, take_fits}
-use borrow.Author.Rules.{rules}
 use Rattle.canonical.proofs.canon.resend.Statement.{statement}
 use Rattle.canonical.proofs.canon.resend.Tie as tie
 
@@ -14,7 +12,7 @@ element-copy-out-if1 : tie.Need-element-copy-out-if1
 element-copy-out-if1 c = search rules
 
 returns : tie.Need-returns
-returns c = let s = c.before.before.requires in (stays_col s.0 s.1.0 s.1.1.1.1.1 c.if1.true, (s.1.1.0.supplied, s.1.1.1.1.0))
+returns c = let s = c.before.before.requires in (stays_col s.0 s.1.0 s.1.1.1.1.1.0 c.if1.true, (s.1.1.0.supplied, (s.1.1.1.1.0, s.1.1.1.1.1.1)))
 
 mul-if2 : tie.Need-overflow-mul-if2
 mul-if2 c = search rules
@@ -37,16 +35,16 @@ returns-2 : tie.Need-returns-2
 returns-2 c =
     let s = c.before.before.before.before.before in (
       stays_row s.requires.0 s.requires.1.0 s.requires.1.1.0 s.requires.1.1.1.0 (rw (power_fits_long s.args.j (short s)) at c.if2.true),
-      (s.requires.1.1.0.supplied, s.requires.1.1.1.1.0),
+      (s.requires.1.1.0.supplied, (s.requires.1.1.1.1.0, s.requires.1.1.1.1.1.1)),
     )
 
 reroute-requires : tie.Need-reroute-requires
 reroute-requires c κs =
-    let s = c.before.before.before.before.before.before.before.before.requires in (s.0, (s.1.0, (s.1.1.0, (s.1.1.1.0, s.1.1.1.1.0))))
+    let s = c.before.before.before.before.before.before.before.before.before.requires in (s.0, (s.1.0, (s.1.1.0, (s.1.1.1.0, (s.1.1.1.1.0, s.1.1.1.1.1.1)))))
 
 returns-3 : tie.Need-returns-3
 returns-3 c =
-    let s = c.before.before.before.before.before.before.before.before.before.requires in
+    let s = c.before.before.before.before.before.before.before.before.before.before.requires in
     (resent s.0 s.1.0 c.reroute.ensures.0, c.reroute.ensures.1)
 
 pub resend-spec : {M : Type 1} → statement M

@@ -8,7 +8,7 @@ use borrow.Author.Rules.{rules}
 use lib.ListN.{length, get_or}
 use Rattle.csv_print.specs.Text.{each, record_text}
 use Rattle.csv_answers.specs.Bounds.{marks_text}
-use Rattle.csv_print.specs.inner.Writing.{Written}
+use Rattle.csv_print.specs.Writing.{Written}
 use Rattle.csv_print.proofs.DecimalTexts.{each_start, each_next, each_end, written_length}
 use Rattle.csv_answers.proofs.bounds.put_marks.Statement.{statement}
 use Rattle.csv_answers.proofs.bounds.put_marks.Tie as tie

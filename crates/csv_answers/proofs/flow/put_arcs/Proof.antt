@@ -11,9 +11,8 @@ use borrow.Author.Rules.{rules}
 use lib.ListN.{length, get_or}
 use mir.Syntax.{w64}
 use Rattle.csv_print.specs.Text.{each, record_text}
-use Rattle.csv_answers.specs.Flow.{paid_on, arc_text, arcs_text}
-use Rattle.csv_answers.specs.inner.FlowFits.{FlowFits}
-use Rattle.csv_print.specs.inner.Writing.{Written}
+use Rattle.csv_answers.specs.Flow.{paid_on, arc_text, arcs_text, FlowFits}
+use Rattle.csv_print.specs.Writing.{Written}
 use Rattle.csv_print.proofs.PrintedSigns.{read_back}
 use Rattle.csv_print.proofs.DecimalTexts.{each_start, each_next, each_end, written_length}
 use Rattle.csv_answers.proofs.flow.put_arcs.Statement.{statement}

@@ -1,6 +1,6 @@
 -- `csv_case::case::handed_on` meets its contract. Assumes nothing.
 use mathlib.Core.Path.{sym, ap}
-use Rattle.csv_case.specs.CaseFiles.{on_refused}
+use Rattle.csv_case.specs.inner.CaseStored.{on_refused}
 use borrow.Author.Rules.{rules}
 use Rattle.csv_case.proofs.case.handed_on.Statement.{statement}
 use Rattle.csv_case.proofs.case.handed_on.Tie as tie

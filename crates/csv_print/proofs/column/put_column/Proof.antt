@@ -2,7 +2,7 @@
 use Prim.Native.Nat.{◌*◌, ◌-◌, ◌≤◌}
 use native.Mathlib.Omega.{arith}
 use Rattle.csv_print.specs.Text.{each}
-use Rattle.csv_print.specs.inner.Writing.{Written}
+use Rattle.csv_print.specs.Writing.{Written}
 use Rattle.csv_print.proofs.DecimalTexts.{each_start, each_next, written_length}
 use Rattle.csv_print.proofs.Columns.{line, column_none, column_end}
 use borrow.Author.Rules.{rules}

@@ -1,5 +1,5 @@
 -- `cuts::columns::tables` meets its contract. Assumes nothing.
-use Rattle.cuts.proofs.TablesKept.{refill, roomy_turn, tables_wide, tables_narrow}
+use Rattle.cuts.proofs.TablesKept.{refill, roomy_transpose, tables_wide, tables_narrow}
 use borrow.Author.Rules.{rules}
 use Rattle.cuts.proofs.columns.tables.Statement.{statement}
 use Rattle.cuts.proofs.columns.tables.Tie as tie
@@ -14,7 +14,7 @@ with-room-requires : tie.Need-with-room-requires
 with-room-requires c κs = search rules
 
 by-terminal-requires-2 : tie.Need-by-terminal-requires-2
-by-terminal-requires-2 c κs = let r = c.before.before.before.before.before.requires in (roomy_turn r.0.0 c.before.before.with-room.ensures, refill r.0.1)
+by-terminal-requires-2 c κs = let r = c.before.before.before.before.before.requires in (roomy_transpose r.0.0 c.before.before.with-room.ensures, refill r.0.1)
 
 returns-2 : tie.Need-returns-2
 returns-2 c =

@@ -1,6 +1,6 @@
 -- `cuts::columns::with_room` meets its contract. Assumes nothing.
-use Prim.Native.Nat.{◌-◌, ◌≤◌}
-use mathlib.Core.Path.{◌≡◌}
+use Prim.Native.Nat.{◌-◌, ◌*◌, ◌≤◌}
+use mathlib.Core.Path.{◌≡◌, refl}
 use native.Mathlib.Omega.{arith}
 use borrow.Author.Rules.{rules}
 use Rattle.cuts.specs.inner.Tables.{Roomy}
@@ -9,13 +9,16 @@ use Rattle.cuts.proofs.columns.with_room.Statement.{statement}
 use Rattle.cuts.proofs.columns.with_room.Tie as tie
 
 abbrev invariant-loop : tie.invariant-loop
-invariant-loop cost cap x to₀ k₀ to k = (k ≤ 2048) × Roomy cost cap x k to
+invariant-loop m cost cap x to₀ all k₀ to k = (all ≡ m * 64) × (k ≤ all) × Roomy cost cap x k to
 
 abbrev decreases-loop : tie.decreases-loop
-decreases-loop cost cap x to₀ k₀ to k = 2048 - k
+decreases-loop m cost cap x to₀ all k₀ to k = all - k
+
+mul-all : tie.Need-overflow-mul-all invariant-loop decreases-loop
+mul-all c = search rules
 
 loop-holds : tie.Need-loop-init invariant-loop decreases-loop
-loop-holds c = (omega arith, roomy_start c.requires)
+loop-holds c = (refl, omega arith, roomy_start c.requires.1)
 
 mul-fresh : tie.Need-overflow-mul-fresh invariant-loop decreases-loop
 mul-fresh c = search rules
@@ -54,10 +57,14 @@ loop-again : tie.Need-loop-preserved invariant-loop decreases-loop
 loop-again c =
     let at-loop-test = c.before.before.before.before in
     let at-loop = at-loop-test.before in
-    (omega (arith, at-loop-test.loop-test.true), roomy_next at-loop-test.loop-test.true c.fresh.ensures at-loop.loop.invariant.1)
+    let q = at-loop.loop.invariant in
+    let h = at-loop-test.loop-test.true in
+    (q.0, omega (arith, h), roomy_next (omega (arith, h, q.0, at-loop.before.requires.0)) c.fresh.ensures q.2)
 
 returns : tie.Need-returns invariant-loop decreases-loop
-returns c = let z : c.before.loop.k ≡ 2048 = omega (arith, c.before.loop.invariant.0, c.loop-test.false) in rw z at c.before.loop.invariant.1
+returns c =
+    let q = c.before.loop.invariant in
+    let z : c.before.loop.k ≡ c.before.before.args.m * 64 = omega (arith, q.0, q.1, c.loop-test.false) in rw z at q.2
 
 pub with-room-spec : {M : Type 1} → statement M
 with-room-spec =
@@ -65,6 +72,7 @@ with-room-spec =
     (tie.spec
     invariant-loop
     decreases-loop
+    mul-all
     loop-holds
     mul-fresh
     element-copy-out-fresh

@@ -17,7 +17,7 @@ invariant-loop j from cost x pot level far₀ left₀ far left = OutTo j from co
 abbrev decreases-loop : tie.decreases-loop
 decreases-loop j from cost x pot level far₀ left₀ far left = left
 
--- the bit that a turn takes
+-- the bit that a pass takes
 fits : (c : tie.In-loop invariant-loop decreases-loop) → c.before.loop.left < 2 ^ 64
 fits c = omega (arith, c.before.loop.invariant.1)
 

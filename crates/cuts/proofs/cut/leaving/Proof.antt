@@ -21,7 +21,7 @@ decreases-loop m n inside cols cost x serves pot far₀ left₀ far left = left
 fits : (c : tie.In-loop invariant-loop decreases-loop) → c.before.loop.left < 2 ^ 64
 fits c = omega (arith, c.before.loop.invariant.1, pow_mono c.before.before.before.requires.0.terminals)
 
--- the bit that a turn takes
+-- the bit that a pass takes
 place : (c : tie.In-loop invariant-loop decreases-loop) → count_trailing_zeros 64 c.before.loop.left < c.before.before.before.args.n
 place c = low_place 64 c.loop-test.true (fits c) c.before.before.before.args.n c.before.loop.invariant.1
 

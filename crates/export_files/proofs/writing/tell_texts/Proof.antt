@@ -1,7 +1,8 @@
 use mathlib.Core.Path.{◌≡◌, sym, ap, ◌∙◌}
 use Rattle.transport.specs.Curve.{written}
 use Rattle.write_case.specs.Writing.{refusal}
-use Rattle.export_files.specs.Writing.{refusal_number, texts_report}
+use Rattle.export_files.specs.Writing.{refusal_number}
+use Rattle.export_files.specs.inner.TextLengths.{texts_report}
 use Rattle.export_reports.proofs.Reports.{two_written, one_written}
 use borrow.Author.Rules.{rules}
 use Rattle.export_files.proofs.writing.tell_texts.Statement.{statement}

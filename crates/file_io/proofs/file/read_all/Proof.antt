@@ -4,7 +4,7 @@ use Prim.Native.Nat.{◌-◌, ◌≤◌}
 use native.Mathlib.Omega.{arith}
 use borrow.Author.Rules.{rules}
 use lib.ListN.{length}
-use Rattle.file_io.proofs.ReadOn.{goes_on}
+use Rattle.file_io.proofs.ReadOn.{goes_on, told_most}
 use Rattle.file_io.proofs.file.read_all.Statement.{statement}
 use Rattle.file_io.proofs.file.read_all.Tie as tie
 
@@ -36,7 +36,9 @@ same_length : tie.Need-same-length invariant-loop decreases-loop
 same_length c = search rules
 
 returns : tie.Need-returns invariant-loop decreases-loop
-returns c = search rules
+returns c =
+    let inv = c.before.before.before.before.before.before.before.before.loop.invariant in
+    (told_most _ c.before.after_read.ensures (search rules) (omega (arith, inv.1, inv.2)), search rules)
 
 loop-less : tie.Need-loop-smaller invariant-loop decreases-loop
 loop-less c =

@@ -1,7 +1,7 @@
 -- `flow_arcs::find::at_most` meets its contract. Assumes nothing.
 use mathlib.Core.Path.{◌≡◌, sym}
 use borrow.Author.Tests.{lt-ltb, le-ltb}
-use Rattle.flow_arcs.specs.Lent.{at_most}
+use Rattle.flow_arcs.specs.inner.Found.{at_most}
 use Rattle.flow_arcs.proofs.find.at_most.Statement.{statement}
 use Rattle.flow_arcs.proofs.find.at_most.Tie as tie
 

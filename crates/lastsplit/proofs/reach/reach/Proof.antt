@@ -1,8 +1,5 @@
 -- `lastsplit::reach::reach` meets its contract. Assumes nothing.
-use mathlib.Core.Path.{refl}
-use Prim.Native.Nat.{◌-◌, ◌<◌}
-use native.Mathlib.Omega.{arith}
-use borrow.Author.Rules.{rules}
+use Rattle.std.proofs.Common.{◌-◌, ◌<◌, refl, arith, rules}
 use Rattle.residual.specs.inner.Network.{net}
 use Rattle.lastsplit.specs.inner.LastSplit.{Reaching}
 use Rattle.residual.specs.inner.LanesInUse.{Covers}

@@ -1,11 +1,6 @@
 -- `lastsplit::reach::row_wide` meets its contract. Assumes nothing.
-use mathlib.Core.Path.{◌≡◌}
-use Prim.Native.Nat.{ℕ, ◌+◌, ◌-◌, ◌*◌, ◌≤◌, ◌<◌}
-use native.Mathlib.Omega.{arith}
+use Rattle.std.proofs.Common.{◌≡◌, ℕ, ◌+◌, ◌-◌, ◌*◌, ◌<◌, ◌≤◌, arith, rules, below_more, leb-true}
 use lib.Bits.{and_le_l, and_le_r}
-use borrow.Author.Count.{below_more}
-use borrow.Author.Rules.{rules}
-use borrow.Author.Tests.{leb-true}
 use Rattle.residual.specs.inner.Network.{get}
 use Rattle.lastsplit.proofs.reach.row_wide.Statement.{statement}
 use Rattle.lastsplit.proofs.reach.row_wide.Tie as tie

@@ -1,8 +1,6 @@
 -- `lastsplit::reach::wide_bit` meets its contract. Assumes nothing.
-use Prim.Native.Nat.{◌+◌, ◌-◌, ◌%◌}
-use native.Mathlib.Omega.{arith}
+use Rattle.std.proofs.Common.{◌+◌, ◌-◌, ◌%◌, arith, rules}
 use lib.Bits.{and_le_l, and_le_r}
-use borrow.Author.Rules.{rules}
 use Rattle.lastsplit.proofs.reach.wide_bit.Statement.{statement}
 use Rattle.lastsplit.proofs.reach.wide_bit.Tie as tie
 

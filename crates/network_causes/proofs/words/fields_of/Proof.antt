@@ -5,8 +5,8 @@ use native.Mathlib.Omega.{arith}
 use borrow.Author.Rules.{rules}
 use lib.Dec.{eqb, ltb}
 use lib.ListN.{length, drop}
-use Rattle.file_io.specs.inner.Over.{over}
-use Rattle.file_io.proofs.OverBytes.{over_next, over_done}
+use Rattle.file_text.specs.inner.Over.{over}
+use Rattle.file_text.proofs.OverBytes.{over_next, over_done}
 use Rattle.network_causes.specs.inner.Words.{field_after_byte, none}
 use Rattle.network_causes.specs.declared.words.Counted.{Counted}
 use Rattle.network_causes.proofs.words.fields_of.Statement.{statement}

@@ -5,8 +5,8 @@ use native.Mathlib.Omega.{arith}
 use borrow.Author.Rules.{rules}
 use lib.Dec.{eqb, ltb}
 use lib.ListN.{length, drop}
-use Rattle.file_io.specs.inner.Over.{over}
-use Rattle.file_io.proofs.OverBytes.{over_next, over_done}
+use Rattle.file_text.specs.inner.Over.{over}
+use Rattle.file_text.proofs.OverBytes.{over_next, over_done}
 use Rattle.network_causes.specs.inner.Words.{zero_after}
 use Rattle.network_causes.proofs.words.has_zero.Statement.{statement}
 use Rattle.network_causes.proofs.words.has_zero.Tie as tie

@@ -61,7 +61,10 @@ look-ahead-requires c κs =
     (pass_at s.0 q.0 p, (pass_seen s.0 q.0 p, (q.3, (s.1.1.1.1.1.0, (q.4, (pass_reaching s.0 q.0 p, (q.2, pass_shut s.0 q.0 p q.1)))))))
 
 returns : tie.Need-returns invariant-loop decreases-loop
-returns c = let d = c.before.look-ahead.ensures in (record { found = λ e. d.0.found c.if2.true; none = λ e. absurd (true≢false e) }, (d.0.known, d.1))
+returns c =
+    let d = c.before.look-ahead.ensures in
+    let w = d.0.found c.if2.true in
+    (record { found = λ e. w; none = λ e. absurd (true≢false e) }, (d.0.known, (d.1, w.trodden.labelled.searched.long.prevs)))
 
 loop-less : tie.Need-loop-smaller invariant-loop decreases-loop
 loop-less c =
@@ -78,7 +81,7 @@ loop-again c = let d = c.before.look-ahead.ensures in let l = c.if2.false in (d.
 returns-2 : tie.Need-returns-2 invariant-loop decreases-loop
 returns-2 c = let q = c.before.before.loop.invariant in (
   record { found = λ e. absurd (true≢false (sym e)); none = λ e. no_route c.before.before.before.before.requires.0 q.0 q.1 (omega (arith, c.if1.false)) q.2.fresh },
-  (rw q.5 q.4, q.3),
+  (rw q.5 q.4, (q.3, q.0.tree.long.prevs)),
 )
 
 pub reach-spec : {M : Type 1} → statement M

@@ -1,13 +1,13 @@
 -- `simplex::solve::carried` is safe and ends. Assumes nothing.
-use Rattle.std.proofs.Common.{◌≡◌, ◌-◌, ◌≤◌, length, rules}
+use Rattle.std.proofs.Common.{◌≡◌, ◌-◌, length, rules}
 use Rattle.simplex.proofs.solve.carried.Statement.{statement}
 use Rattle.simplex.proofs.solve.carried.Tie as tie
 
 abbrev invariant-loop : tie.invariant-loop
-invariant-loop parent flow x₀ v₀ x v = (v ≤ 96) × (length x ≡ 2048)
+invariant-loop first last parent flow x₀ v₀ x v = length x ≡ 2048
 
 abbrev decreases-loop : tie.decreases-loop
-decreases-loop parent flow x₀ v₀ x v = 96 - v
+decreases-loop first last parent flow x₀ v₀ x v = last - v
 
 loop-holds : tie.Need-loop-init invariant-loop decreases-loop
 loop-holds c = search rules

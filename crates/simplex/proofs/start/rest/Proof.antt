@@ -4,22 +4,24 @@ use Rattle.simplex.proofs.start.rest.Statement.{statement}
 use Rattle.simplex.proofs.start.rest.Tie as tie
 
 abbrev invariant-loop : tie.invariant-loop
-invariant-loop n first book₀ up₀ rows₀ cols₀ flow₀ count₀ j₀ book parent sources-below terminals-below flow count j = j ≤ 64
+invariant-loop n first book₀ parent₀ sources-below₀ terminals-below₀ flow₀ count₀ j₀ j-end book parent sources-below terminals-below flow count j =
+    j-end ≤ 64
 
 abbrev decreases-loop : tie.decreases-loop
-decreases-loop n first book₀ up₀ rows₀ cols₀ flow₀ count₀ j₀ book parent sources-below terminals-below flow count j = 64 - j
+decreases-loop n first book₀ parent₀ sources-below₀ terminals-below₀ flow₀ count₀ j₀ j-end book parent sources-below terminals-below flow count j =
+    j-end - j
 
 loop-holds : tie.Need-loop-init invariant-loop decreases-loop
 loop-holds c = search rules
 
-add-if2 : tie.Need-overflow-add-if2 invariant-loop decreases-loop
-add-if2 c = search rules
+add-if1 : tie.Need-overflow-add-if1 invariant-loop decreases-loop
+add-if1 c = search rules
 
-mul-if2 : tie.Need-overflow-mul-if2 invariant-loop decreases-loop
-mul-if2 c = search rules
+mul-if1 : tie.Need-overflow-mul-if1 invariant-loop decreases-loop
+mul-if1 c = search rules
 
-element-copy-out-if2 : tie.Need-element-copy-out-if2 invariant-loop decreases-loop
-element-copy-out-if2 c = search rules
+element-copy-out-if1 : tie.Need-element-copy-out-if1 invariant-loop decreases-loop
+element-copy-out-if1 c = search rules
 
 add-attach : tie.Need-overflow-add-attach invariant-loop decreases-loop
 add-attach c = search rules
@@ -79,9 +81,9 @@ rest-spec =
     invariant-loop
     decreases-loop
     loop-holds
-    add-if2
-    mul-if2
-    element-copy-out-if2
+    add-if1
+    mul-if1
+    element-copy-out-if1
     add-attach
     cast-attach
     add-attach-2

@@ -24,13 +24,14 @@ smaller-requires c κs = search rules
 
 sub-last : tie.Need-sub-last
 sub-last c =
-    let at-cheapest-first = c.before.before.before.before in
+    let at-if1 = c.before.before.before in
+    let at-cheapest-first = at-if1.before.before in
     let entry = at-cheapest-first.before.before.before.before.before.before.before.before in
-    let f = rw c.before.before.if1.taken at at-cheapest-first.cheapest-first.ensures.0.done in omega (arith, split_within entry.pre f, c.smaller.ensures)
+    let f = rw at-if1.if1.taken at at-cheapest-first.cheapest-first.ensures.0.done in omega (arith, split_within entry.pre f, c.smaller.ensures)
 
 last-requires : tie.Need-last-requires
 last-requires c κs =
-    let at-if1 = c.before.before.before.before in
+    let at-if1 = c.before.before.before.before.before in
     let at-cheapest-first = at-if1.before.before in
     let at-all-wide = at-cheapest-first.before.before.before.before.before.before.before in
     let entry = at-all-wide.before in
@@ -52,7 +53,7 @@ cast-hi c = search rules
 returns : tie.Need-returns
 returns c =
     let at-smaller = c.before.before.before in
-    let at-if1 = at-smaller.before.before in
+    let at-if1 = at-smaller.before.before.before in
     let at-cheapest-first = at-if1.before.before in
     let entry = at-cheapest-first.before.before.before.before.before.before.before.before in
     let r = entry.pre in
@@ -62,7 +63,8 @@ returns c =
 returns-2 : tie.Need-returns-2
 returns-2 c =
     let at-cheapest-first = c.before.before in
-    let r = at-cheapest-first.before.before.before.before.before.before.before.before.pre in
+    let entry = at-cheapest-first.before.before.before.before.before.before.before.before in
+    let r = entry.pre in
     none_ranged r 0 0 (rw c.if1.left at at-cheapest-first.cheapest-first.ensures.0.done)
 
 pub begin-spec : {M : Type 1} → statement M

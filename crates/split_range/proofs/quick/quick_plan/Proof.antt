@@ -29,8 +29,8 @@ returns c = record { plan = λ e. absurd (true≢false (sym e)); covers = λ e. 
 
 all-servers-requires : tie.Need-all-servers-requires
 all-servers-requires c κs =
-    let at-spoil-plan = c.before.before.before.before.before.before.before.before.before in
-    let entry = at-spoil-plan.before.before.before.before.before.before.before.before.before.before in
+    let back-10 = c.before.before.before.before.before.before.before.before.before.before in
+    let entry = back-10.before.before.before.before.before.before.before.before.before.before in
     (entry.requires.0.sources, entry.requires.0.terminals, length-replicate {A = ℕ} 64 0)
 
 returns-2 : tie.Need-returns-2

@@ -1,4 +1,4 @@
--- `test_bounds::brute::try_tables` is safe and ends. The slices keep their lengths; the measure is what is left of the turns. Assumes nothing.
+-- `test_bounds::brute::try_tables` is safe and ends. The slices keep their lengths; the measure is what is left of the tables. Assumes nothing.
 use mathlib.Core.Path.{◌≡◌}
 use Prim.Native.Nat.{◌-◌}
 use borrow.Author.Rules.{rules}

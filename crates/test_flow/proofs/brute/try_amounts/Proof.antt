@@ -1,4 +1,4 @@
--- `test_flow::brute::try_amounts` is safe and ends. The amounts stay as many; the measure is what is left of the turns. Assumes nothing.
+-- `test_flow::brute::try_amounts` is safe and ends. The amounts stay as many; the measure is what is left of the passes. Assumes nothing.
 use mathlib.Core.Path.{◌≡◌}
 use Prim.Native.Nat.{◌-◌}
 use borrow.Author.Rules.{rules}
@@ -7,10 +7,10 @@ use Rattle.test_flow.proofs.brute.try_amounts.Statement.{statement}
 use Rattle.test_flow.proofs.brute.try_amounts.Tie as tie
 
 abbrev invariant-loop : tie.invariant-loop
-invariant-loop starts ends ceilings costs supplies named table amounts₀ best₀ turns₀ amounts best turns = length amounts ≡ 5
+invariant-loop starts ends ceilings costs supplies named table amounts₀ best₀ passes₀ amounts best passes = length amounts ≡ 5
 
 abbrev decreases-loop : tie.decreases-loop
-decreases-loop starts ends ceilings costs supplies named table amounts₀ best₀ turns₀ amounts best turns = 243 - turns
+decreases-loop starts ends ceilings costs supplies named table amounts₀ best₀ passes₀ amounts best passes = 243 - passes
 
 loop-holds : tie.Need-loop-init invariant-loop decreases-loop
 loop-holds c = search rules
@@ -45,8 +45,8 @@ next-amounts-requires c κs = search rules
 returns : tie.Need-returns invariant-loop decreases-loop
 returns c = search rules
 
-add-turns : tie.Need-overflow-add-turns invariant-loop decreases-loop
-add-turns c = search rules
+add-passes : tie.Need-overflow-add-passes invariant-loop decreases-loop
+add-passes c = search rules
 
 loop-less : tie.Need-loop-smaller invariant-loop decreases-loop
 loop-less c = search rules
@@ -74,7 +74,7 @@ try-amounts-spec =
     slice-aggregate-next-amounts
     next-amounts-requires
     returns
-    add-turns
+    add-passes
     loop-less
     loop-again
     returns-2)

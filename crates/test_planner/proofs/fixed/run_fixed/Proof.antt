@@ -7,10 +7,10 @@ use Rattle.test_planner.proofs.fixed.run_fixed.Statement.{statement}
 use Rattle.test_planner.proofs.fixed.run_fixed.Tie as tie
 
 abbrev invariant-loop : tie.invariant-loop
-invariant-loop b₀ table next₀ turns₀ b next turns = length b ≡ length b₀
+invariant-loop b₀ table next₀ passes₀ b next passes = length b ≡ length b₀
 
 abbrev decreases-loop : tie.decreases-loop
-decreases-loop b₀ table next₀ turns₀ b next turns = length table - turns
+decreases-loop b₀ table next₀ passes₀ b next passes = length table - passes
 
 pub run-fixed-spec : {M : Type 1} → statement M
 run-fixed-spec =

@@ -7,10 +7,10 @@ use Rattle.test_planner.proofs.fixed.write_line.Statement.{statement}
 use Rattle.test_planner.proofs.fixed.write_line.Tie as tie
 
 abbrev invariant-loop : tie.invariant-loop
-invariant-loop b₀ line cell₀ next₀ turns₀ b cell next turns = length b ≡ length b₀
+invariant-loop b₀ line cell₀ next₀ passes₀ b cell next passes = length b ≡ length b₀
 
 abbrev decreases-loop : tie.decreases-loop
-decreases-loop b₀ line cell₀ next₀ turns₀ b cell next turns = length line - turns
+decreases-loop b₀ line cell₀ next₀ passes₀ b cell next passes = length line - passes
 
 pub write-line-spec : {M : Type 1} → statement M
 write-line-spec =

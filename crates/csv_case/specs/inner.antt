@@ -1,0 +1,2 @@
+pub mod CaseStored
+pub mod EntriesStored

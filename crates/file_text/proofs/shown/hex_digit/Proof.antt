@@ -1,0 +1,22 @@
+-- `file_text::shown::hex_digit` meets its contract. Assumes nothing.
+use mathlib.Core.Path.{refl}
+use Prim.Native.Nat.{◌%◌}
+use borrow.Author.Tests.{lt-ltb, le-ltb}
+use borrow.Author.Rules.{rules}
+use Rattle.file_text.proofs.shown.hex_digit.Statement.{statement}
+use Rattle.file_text.proofs.shown.hex_digit.Tie as tie
+
+add-result : tie.Need-overflow-add-result
+add-result c = search rules
+
+add-result-2 : tie.Need-overflow-add-result-2
+add-result-2 c = search rules
+
+returns : tie.Need-returns
+returns c = rw (lt-ltb (c.before.args.n % 16) 10 c.if1.true) refl
+
+returns-2 : tie.Need-returns-2
+returns-2 c = rw (le-ltb (c.before.args.n % 16) 10 c.if1.false) refl
+
+pub hex-digit-spec : {M : Type 1} → statement M
+hex-digit-spec = tie.close (tie.spec add-result add-result-2 returns returns-2)

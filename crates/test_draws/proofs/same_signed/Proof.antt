@@ -1,0 +1,55 @@
+-- `test_draws::same_signed` is safe and ends. Assumes nothing.
+use Prim.Native.Nat.{◌-◌, ◌≤◌}
+use borrow.Author.Rules.{rules}
+use lib.ListN.{length}
+use Rattle.test_draws.proofs.same_signed.Statement.{statement}
+use Rattle.test_draws.proofs.same_signed.Tie as tie
+
+abbrev invariant-loop : tie.invariant-loop
+invariant-loop a b k₀ k = k ≤ length a
+
+abbrev decreases-loop : tie.decreases-loop
+decreases-loop a b k₀ k = length a - k
+
+loop-holds : tie.Need-loop-init invariant-loop decreases-loop
+loop-holds c = search rules
+
+mul-if1 : tie.Need-overflow-mul-if1 invariant-loop decreases-loop
+mul-if1 c = search rules
+
+shared-slice-copy-out-if1 : tie.Need-shared-slice-copy-out-if1 invariant-loop decreases-loop
+shared-slice-copy-out-if1 c = search rules
+
+signed-at-requires : tie.Need-signed-at-requires invariant-loop decreases-loop
+signed-at-requires c κs = search rules
+
+returns : tie.Need-returns invariant-loop decreases-loop
+returns c = search rules
+
+add-k : tie.Need-overflow-add-k invariant-loop decreases-loop
+add-k c = search rules
+
+loop-less : tie.Need-loop-smaller invariant-loop decreases-loop
+loop-less c = search rules
+
+loop-again : tie.Need-loop-preserved invariant-loop decreases-loop
+loop-again c = search rules
+
+returns-2 : tie.Need-returns-2 invariant-loop decreases-loop
+returns-2 c = search rules
+
+pub same-signed-spec : {M : Type 1} → statement M
+same-signed-spec =
+    tie.close
+    (tie.spec
+    invariant-loop
+    decreases-loop
+    loop-holds
+    mul-if1
+    shared-slice-copy-out-if1
+    signed-at-requires
+    returns
+    add-k
+    loop-less
+    loop-again
+    returns-2)
