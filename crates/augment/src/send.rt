@@ -9,7 +9,8 @@ ghost use Rattle.augment.specs.inner.Potentials.{LowerReady, Lowered};
 ghost use Rattle.augment.specs.inner.PathWalk.{CarryReady, Carried, Walkable, Walked};
 ghost use Rattle.augment.specs.inner.PathMeasure.{ResidualReady, Residual, Route, Measured};
 
-use paths::search::{search, smaller};
+use paths::search::search;
+use residual::lanes::{Flow, Lanes};
 
 // Lowers the potential of each node that is nearer than gap by what it is nearer.
 pub fn lower(gap: u32, dist: &[u32; 96], pot: &mut [u32; 96])
@@ -17,7 +18,7 @@ pub fn lower(gap: u32, dist: &[u32; 96], pot: &mut [u32; 96])
     ensures { Lowered gap dist.now pot.old 96 pot.new }
 {
     for v in 0..96 {
-        pot[v] = smaller(pot[v], dist[v] - gap);
+        pot[v] = pot[v].min(dist[v] - gap);
     }
 }
 
@@ -58,18 +59,18 @@ pub fn serve(v: usize, w: usize, serves: &mut [u32; 64])
 }
 
 // v, where it is a source whose lane to terminal w - 32 is empty; else what was found before.
-fn drained(v: usize, w: usize, x: &[u32; 2048], before: u32) -> u32 {
+fn drained(v: usize, w: usize, x: &[u32; 2048], before: Option<u32>) -> Option<u32> {
     if 32 <= v {
         return before;
     }
     if x[v * 64 + (w % 64 + 32) % 64] == 0 {
-        return v as u32;
+        return Some(v as u32);
     }
     before
 }
 
 // Carries amount over the last count arcs of the path to goal, and notes the lanes that they bring drums on. The last source on the way back from goal
-// whose lane lost its last drums, 96 where there is none. Any number will do there: a hint, of which nothing is promised.
+// whose lane lost its last drums, if there is one. Any answer will do there: a hint, of which nothing is promised.
 pub fn push(
     prev: &[u32; 96],
     count: u32,
@@ -77,22 +78,20 @@ pub fn push(
     amount: u32,
     x: &mut [u32; 2048],
     serves: &mut [u32; 64],
-) -> u32
+) -> Option<u32>
     requires walkable { Walkable prev.now amount count goal x.old }
     requires trail { Trail 32 prev.now count goal }
     ensures walked { Walked prev.now amount count goal x.old x.new }
     ensures marks { Marks prev.now count goal serves.old serves.new }
 {
     let mut v = goal;
-    let mut left = count;
-    let mut last: u32 = 96;
-    while 0 < left {
+    let mut last = None;
+    for _ in 0..count {
         let w = prev[v] as usize;
         carry(v, w, amount, x);
         serve(v, w, serves);
         last = drained(v, w, x, last);
         v = w;
-        left = left - 1;
     }
     last
 }
@@ -131,54 +130,56 @@ pub fn measure(
     let mut v = goal;
     let mut count: u32 = 0;
     let mut amount = limit;
+    // Stays: the walk goes from node to node, and its length is what it finds.
     while v != start {
         let w = prev[v] as usize;
-        amount = smaller(amount, residual(v, w, x, cap));
+        amount = amount.min(residual(v, w, x, cap));
         v = w;
         count = count + 1;
     }
     Way { count, amount }
 }
 
-// Where a send went (96: nowhere), and how much.
+// Where a send went, and how much.
 #[derive(Drop)]
 pub struct Sent {
     pub goal: usize,
     pub amount: u32,
 }
 
-// Sends up to limit along a cheapest path from a source to a node that has room. Any cheapest path will do: the plan after it is slack.
+// Sends up to limit along a cheapest path from a source to a node that has room, if there is a path to one. Any cheapest path will do: the plan after
+// it is slack.
 pub fn send(
-    m: usize,
-    n: usize,
-    cost: &[u32; 2048],
-    cap: &[u32; 2048],
+    lanes: &Lanes<'_>,
     room: &[u32; 96],
     demand: &[u32; 96],
     start: usize,
     limit: u32,
-    x: &mut [u32; 2048],
-    serves: &mut [u32; 64],
-    pot: &mut [u32; 96],
-) -> Sent
-    requires send_ready { SendReady (net m n cost.now cap.now x.old) pot.old room.now start limit x.old }
-    requires wanted { Wanted (net m n cost.now cap.now x.old) demand.now }
-    requires covers { Covers m n x.old serves.old }
-    ensures send_done { SendDone (net m n cost.now cap.now x.old) pot.old room.now start
-        limit x.old x.new pot.new result.goal result.amount }
-    ensures covers_2 { Covers m n x.new serves.new }
+    flow: &mut Flow,
+) -> Option<Sent>
+    requires send_ready { SendReady (net lanes.now.m lanes.now.n lanes.now.cost.now lanes.now.cap.now flow.old.x) flow.old.pot room.now start limit
+        flow.old.x }
+    requires wanted { Wanted (net lanes.now.m lanes.now.n lanes.now.cost.now lanes.now.cap.now flow.old.x) demand.now }
+    requires covers { Covers lanes.now.m lanes.now.n flow.old.x flow.old.serves }
+    ensures send_done { SendDone (net lanes.now.m lanes.now.n lanes.now.cost.now lanes.now.cap.now flow.old.x) flow.old.pot room.now start
+        limit flow.old.x flow.new.x flow.new.pot result }
+    ensures covers_2 { Covers lanes.now.m lanes.now.n flow.new.x flow.new.serves }
 {
-    let found = search(m, n, cost, x, cap, serves, pot, room, demand, start);
-    let goal = found.goal;
-    if goal == 96 {
-        return Sent { goal, amount: 0 };
-    }
+    let found = search(lanes, flow, room, demand, start);
+    let goal = found.goal?;
     let dist = found.dist;
     let prev = found.prev;
-    let way = measure(&prev, start, goal, limit, x, cap);
-    let amount = smaller(way.amount, room[goal]);
-    push(&prev, way.count, goal, amount, x, serves);
-    let gap = dist[goal] - pot[goal];
-    lower(gap, &dist, pot);
-    Sent { goal, amount }
+    let way = measure(&prev, start, goal, limit, &flow.x, lanes.cap);
+    let amount = way.amount.min(room[goal]);
+    push(
+        &prev,
+        way.count,
+        goal,
+        amount,
+        &mut flow.x,
+        &mut flow.serves,
+    );
+    let gap = dist[goal] - flow.pot[goal];
+    lower(gap, &dist, &mut flow.pot);
+    Some(Sent { goal, amount })
 }

@@ -2,123 +2,54 @@
 ghost use Rattle.std.specs.Prelude.{◌<◌};
 
 use super::leaving::{Leave, from_source, from_terminal};
-use super::prices::fill;
-use super::residuals::{VAST, above, gain, loss, pair, reverse_path, toggle_part};
-use simplex::potentials::raise_subtree;
+use super::prices::Lanes;
+use super::residuals::{VAST, above, gain, loss, pair};
+use simplex::potentials::Potentials;
 use spanningtree::NONE;
-use spanningtree::flows::lane;
-use std::num::wrapping_sub_u32;
+use spanningtree::flows::{Gain, lane};
+use spanningtree::tree::{Part, Tree};
 
 // The lane between v and u, source and terminal, is full, if it is one.
-fn fill_between(
-    v: u32,
-    u: u32,
-    fine: u32,
-    cost: &[u32; 2048],
-    cap: &[u32; 2048],
-    price: &mut [u32; 2048],
-    full: &mut [u64; 32],
-) {
+fn fill_between(v: u32, u: u32, cost: &[u32; 2048], cap: &[u32; 2048], lanes: &mut Lanes) {
     if (v < 32) ^ (u < 32) {
-        fill(lane(v, u), true, fine, cost, cap, price, full);
+        lanes.fill(lane(v, u), cost, cap);
     }
 }
 
-// The subtree of node, r and c, is taken from its place and attached to host by end; what the lanes above sources and terminals change by on the way up
-// from the source's end.
-fn move_subtree(
+// The part of node is taken from its place and attached to host by end; what the lanes above sources and terminals change by on the way up from the
+// source's end.
+fn move_part(
     node: u32,
     end: u32,
     host: u32,
     top: u32,
     own: u64,
-    source: u64,
-    terminal: u64,
-    parent: &mut [u32; 128],
-    sources_below: &mut [u32; 128],
-    terminals_below: &mut [u64; 128],
+    change: Gain<u64>,
+    tree: &mut Tree,
     residual: &mut [u64; 128],
 ) {
-    let v = (node % 128) as usize;
-    let r = sources_below[v];
-    let c = terminals_below[v];
-    let from = parent[v];
-    toggle_part(
-        from,
-        top,
-        r,
-        c,
-        source,
-        terminal,
-        parent,
-        sources_below,
-        terminals_below,
-        residual,
-    );
-    toggle_part(
-        host,
-        top,
-        r,
-        c,
-        terminal,
-        source,
-        parent,
-        sources_below,
-        terminals_below,
-        residual,
-    );
-    reverse_path(
-        node,
-        end,
-        host,
-        own,
-        r,
-        c,
-        source,
-        terminal,
-        parent,
-        sources_below,
-        terminals_below,
-        residual,
-    );
+    let part = tree.part(node);
+    let from = tree.above(node);
+    tree.toggle_part(from, top, part, change, residual);
+    tree.toggle_part(host, top, part, change.turned(), residual);
+    tree.reverse_path(node, end, host, own, part, change, residual);
 }
 
-// The entering lane k goes over from empty to full, or back: what its cycle's lanes carry changes, and nothing else.
+// The entering lane goes over from empty to full, or back: what its cycle's lanes carry changes, and nothing else.
 fn go_round(
     i: u32,
     j: u32,
     top: u32,
-    source: u64,
-    terminal: u64,
-    parent: &[u32; 128],
-    sources_below: &mut [u32; 128],
-    terminals_below: &mut [u64; 128],
+    change: Gain<u64>,
+    tree: &mut Tree,
     residual: &mut [u64; 128],
 ) {
-    toggle_part(
-        i,
-        top,
-        0,
-        0,
-        source,
-        terminal,
-        parent,
-        sources_below,
-        terminals_below,
-        residual,
-    );
-    toggle_part(
-        j,
-        top,
-        0,
-        0,
-        terminal,
-        source,
-        parent,
-        sources_below,
-        terminals_below,
-        residual,
-    );
+    let none = Part {
+        sources: 0,
+        terminals: 0,
+    };
+    tree.toggle_part(i, top, none, change, residual);
+    tree.toggle_part(j, top, none, change.turned(), residual);
 }
 
 // The pair of an entering lane that carries amount, or, where it was full, so much less than its ceiling; above the ceiling, where it is over.
@@ -126,7 +57,7 @@ fn own_pair(ceiling: u32, amount: u32, less: bool, over: bool) -> u64 {
     if over {
         return pair(amount, VAST);
     }
-    let rest = wrapping_sub_u32(ceiling, amount);
+    let rest = ceiling.wrapping_sub(amount);
     if less {
         pair(rest, amount)
     } else {
@@ -135,13 +66,13 @@ fn own_pair(ceiling: u32, amount: u32, less: bool, over: bool) -> u64 {
 }
 
 // The entering lane k is in the tree: it is full no longer; above its ceiling its price keeps the fine.
-fn enter(k: usize, less: bool, cost: &[u32; 2048], price: &mut [u32; 2048], full: &mut [u64; 32])
+fn enter(k: usize, less: bool, cost: &[u32; 2048], lanes: &mut Lanes)
     requires { k < 2048 }
 {
-    let i = k / 64;
-    full[i] = full[i] & (u64::MAX ^ (1u64 << k % 64));
     if less {
-        price[k] = cost[k];
+        lanes.empty(k, cost);
+    } else {
+        lanes.unfill(k);
     }
 }
 
@@ -149,18 +80,15 @@ fn enter(k: usize, less: bool, cost: &[u32; 2048], price: &mut [u32; 2048], full
 fn leave(
     node: u32,
     here: bool,
-    fine: u32,
     cost: &[u32; 2048],
     cap: &[u32; 2048],
-    price: &mut [u32; 2048],
-    full: &mut [u64; 32],
-    parent: &[u32; 128],
+    lanes: &mut Lanes,
+    tree: &Tree,
     residual: &[u64; 128],
 ) {
-    let v = (node % 128) as usize;
     let gains = (node < 32) ^ here;
-    if gains | above(residual[v]) {
-        fill_between(node, parent[v], fine, cost, cap, price, full);
+    if gains | above(residual[(node % 128) as usize]) {
+        fill_between(node, tree.above(node), cost, cap, lanes);
     }
 }
 
@@ -171,18 +99,17 @@ fn ratio_test(
     ceiling: u32,
     less: bool,
     over: bool,
-    parent: &[u32; 128],
-    terminals_below: &[u64; 128],
+    tree: &Tree,
     residual: &[u64; 128],
 ) -> Leave {
     let own = if over { VAST } else { ceiling };
     let shift = if less { 32u32 } else { 0u32 };
     let bit = 1u64 << (j % 128 + 32) % 64;
-    let near = from_source(i, bit, shift, own, parent, terminals_below, residual);
-    from_terminal(j, near, shift, parent, residual)
+    let near = from_source(i, bit, shift, own, tree, residual);
+    from_terminal(j, near, shift, tree, residual)
 }
 
-// The subtree of far's node rises by d and moves to the other end of the entering lane, whose pair is own.
+// The part of far's node rises by d and moves to the other end of the entering lane, whose pair is own.
 fn exchange(
     i: u32,
     j: u32,
@@ -190,37 +117,22 @@ fn exchange(
     here: bool,
     own: u64,
     far: Leave,
-    parent: &mut [u32; 128],
-    sources_below: &mut [u32; 128],
-    terminals_below: &mut [u64; 128],
+    tree: &mut Tree,
     residual: &mut [u64; 128],
-    potential: &mut [u32; 32],
-    key: &mut [u32; 64],
+    potentials: &mut Potentials,
 ) {
     let node = far.node;
-    let v = (node % 128) as usize;
-    let rise = if here { d } else { wrapping_sub_u32(0, d) };
-    raise_subtree(
-        sources_below[v],
-        terminals_below[v],
-        sources_below[0],
-        terminals_below[0],
-        rise,
-        potential,
-        key,
-    );
+    let rise = if here { d } else { 0u32.wrapping_sub(d) };
+    potentials.raise(tree.part(node), tree.part(0), rise);
     let first = far.first;
-    move_subtree(
+    move_part(
         node,
         if first { i } else { j },
         if first { j } else { i },
         far.top,
         own,
-        changed(far.amount, here),
-        changed(far.amount, !here),
-        parent,
-        sources_below,
-        terminals_below,
+        changes(far.amount, here),
+        tree,
         residual,
     );
 }
@@ -230,60 +142,42 @@ fn changed(amount: u32, loses: bool) -> u64 {
     if loses { loss(amount) } else { gain(amount) }
 }
 
+// What the pairs of the lanes above sources and above terminals change by: the one loses what the other gains.
+fn changes(amount: u32, here: bool) -> Gain<u64> {
+    Gain {
+        source: changed(amount, here),
+        terminal: changed(amount, !here),
+    }
+}
+
 // The pivot at the lane from source i to terminal j, a node, that is d too cheap, or, where it is full, d too dear.
 pub fn pivot(
     i: u32,
     j: u32,
     d: u32,
     less: bool,
-    fine: u32,
     cost: &[u32; 2048],
     cap: &[u32; 2048],
-    price: &mut [u32; 2048],
-    full: &mut [u64; 32],
-    parent: &mut [u32; 128],
-    sources_below: &mut [u32; 128],
-    terminals_below: &mut [u64; 128],
+    lanes: &mut Lanes,
+    tree: &mut Tree,
     residual: &mut [u64; 128],
-    potential: &mut [u32; 32],
-    key: &mut [u32; 64],
+    potentials: &mut Potentials,
 ) {
     let k = ((i % 32) * 64 + (j % 128 + 32) % 64) as usize;
-    let over = !less & (price[k] != cost[k]);
-    let far = ratio_test(i, j, cap[k], less, over, parent, terminals_below, residual);
+    let over = !less & (lanes.price[k] != cost[k]);
+    let far = ratio_test(i, j, cap[k], less, over, tree, residual);
     let here = far.first ^ less;
     if far.node == NONE {
-        fill(k, !less, fine, cost, cap, price, full);
-        go_round(
-            i,
-            j,
-            far.top,
-            changed(far.amount, here),
-            changed(far.amount, !here),
-            parent,
-            sources_below,
-            terminals_below,
-            residual,
-        );
+        if less {
+            lanes.empty(k, cost);
+        } else {
+            lanes.fill(k, cost, cap);
+        }
+        go_round(i, j, far.top, changes(far.amount, here), tree, residual);
         return;
     }
     let own = own_pair(cap[k], far.amount, less, over);
-    enter(k, less, cost, price, full);
-    leave(
-        far.node, here, fine, cost, cap, price, full, parent, residual,
-    );
-    exchange(
-        i,
-        j,
-        d,
-        here,
-        own,
-        far,
-        parent,
-        sources_below,
-        terminals_below,
-        residual,
-        potential,
-        key,
-    );
+    enter(k, less, cost, lanes);
+    leave(far.node, here, cost, cap, lanes, tree, residual);
+    exchange(i, j, d, here, own, far, tree, residual, potentials);
 }

@@ -1,12 +1,6 @@
 // Whether each source and each terminal by itself has lanes enough: where one has not, there is no plan, and no simplex is run.
 ghost use Rattle.std.specs.Prelude.{◌≤◌};
 
-use std::num::wrapping_add_u32;
-
-fn lesser(a: u32, b: u32) -> u32 {
-    if a < b { a } else { b }
-}
-
 // How much the source whose row begins at k can send in all; what each terminal can get grows by what it can get from this source.
 fn add_row(
     k: usize,
@@ -21,8 +15,8 @@ fn add_row(
     let mut all: u32 = 0;
     for j in 0..n {
         let ceiling = cap[k + j];
-        all = wrapping_add_u32(all, lesser(ceiling, demand[32 + j]));
-        room[j] = wrapping_add_u32(room[j], lesser(ceiling, amount));
+        all = all.wrapping_add(u32::min(ceiling, demand[32 + j]));
+        room[j] = room[j].wrapping_add(u32::min(ceiling, amount));
     }
     all
 }

@@ -1,9 +1,12 @@
 // The lane that leaves the tree: the ratio test both ways on the cycle that an entering lane closes.
+// Stays: these walks are no twins of the simplex's without ceilings: there only every second lane of a way can leave, here each.
 use super::residuals::half;
 use spanningtree::NONE;
+use spanningtree::tree::Tree;
 
-// The node whose lane to its parent leaves the tree, none where the entering lane itself bears least, and what can go round; whether the node is on the
+// The node whose lane to its parent leaves the tree, NONE where the entering lane itself bears least, and what can go round; whether the node is on the
 // way up from the source; top is where the ways up from both ends meet.
+// Stays: NONE is a number as a node is; an Option is a second word in each turn of the walks.
 #[derive(Drop)]
 pub struct Leave {
     pub node: u32,
@@ -19,18 +22,16 @@ pub fn from_source(
     bit: u64,
     shift: u32,
     own: u32,
-    parent: &[u32; 128],
-    terminals_below: &[u64; 128],
+    tree: &Tree,
     residual: &[u64; 128],
 ) -> Leave {
     let mut node = NONE;
     let mut amount = own;
     let mut a = i;
     let mut top = NONE;
-    let mut left: u32 = 48;
-    while 0 < left {
+    for _ in 0..48 {
         let v = (a % 128) as usize;
-        if terminals_below[v] & bit != 0 {
+        if tree.terminals_below[v] & bit != 0 {
             top = a;
             break;
         }
@@ -39,9 +40,9 @@ pub fn from_source(
             node = a;
             amount = r;
         }
-        let b = parent[v];
+        let b = tree.parent[v];
         let w = (b % 128) as usize;
-        if terminals_below[w] & bit != 0 {
+        if tree.terminals_below[w] & bit != 0 {
             top = b;
             break;
         }
@@ -50,8 +51,7 @@ pub fn from_source(
             node = b;
             amount = t;
         }
-        a = parent[w];
-        left = left - 1;
+        a = tree.parent[w];
     }
     Leave {
         node,
@@ -62,20 +62,13 @@ pub fn from_source(
 }
 
 // From terminal j up to there, where lanes above terminals do what those above sources do on the other way; also where one bears as little.
-pub fn from_terminal(
-    j: u32,
-    far: Leave,
-    shift: u32,
-    parent: &[u32; 128],
-    residual: &[u64; 128],
-) -> Leave {
+pub fn from_terminal(j: u32, far: Leave, shift: u32, tree: &Tree, residual: &[u64; 128]) -> Leave {
     let top = far.top;
     let mut node = far.node;
     let mut amount = far.amount;
     let mut first = true;
     let mut a = j;
-    let mut left: u32 = 48;
-    while 0 < left {
+    for _ in 0..48 {
         if a == top {
             break;
         }
@@ -86,7 +79,7 @@ pub fn from_terminal(
             amount = r;
             first = false;
         }
-        let b = parent[v];
+        let b = tree.parent[v];
         if b == top {
             break;
         }
@@ -97,8 +90,7 @@ pub fn from_terminal(
             amount = t;
             first = false;
         }
-        a = parent[w];
-        left = left - 1;
+        a = tree.parent[w];
     }
     Leave {
         node,

@@ -2,8 +2,16 @@
 ghost use Rattle.std.specs.Prelude.{◌≡◌, ◌<◌, ◌≤◌, length};
 
 use super::residuals::above;
-use simplex::potentials::raise_subtree;
-use std::num::{wrapping_add_u32, wrapping_sub_u32};
+use simplex::potentials::Potentials;
+use spanningtree::tree::Tree;
+
+// The fine; the price of each lane: its unit cost, with the fine where it is full or closed; and the full lanes of each source, a bit for each.
+#[derive(Drop)]
+pub struct Lanes {
+    pub fine: u32,
+    pub price: [u32; 2048],
+    pub full: [u64; 32],
+}
 
 // The dearest and the cheapest unit cost.
 #[derive(Drop)]
@@ -20,8 +28,8 @@ fn row_span(k: usize, n: usize, all: Span, cost: &[u32; 2048]) -> Span
     let mut least = all.least;
     for j in 0..n {
         let c = cost[k + j];
-        most = if most < c { c } else { most };
-        least = if c < least { c } else { least };
+        most = u32::max(most, c);
+        least = u32::min(least, c);
     }
     Span { most, least }
 }
@@ -38,7 +46,7 @@ pub fn fine_for(m: usize, n: usize, cost: &[u32; 2048]) -> u32
     for i in 0..m {
         all = row_span(i * 64, n, all, cost);
     }
-    wrapping_sub_u32(all.most, all.least) % 4_194_304 * 2 + 100
+    all.most.wrapping_sub(all.least) % 4_194_304 * 2 + 100
 }
 
 // The fine where the ceiling is 0.
@@ -51,41 +59,16 @@ fn close_row(k: usize, n: usize, fine: u32, cap: &[u32; 2048], price: &mut [u32;
     requires { (k ≤ 1984) × (n ≤ 64) }
 {
     for j in 0..n {
-        price[k + j] = wrapping_add_u32(price[k + j], closed(cap[k + j], fine));
+        price[k + j] = price[k + j].wrapping_add(closed(cap[k + j], fine));
     }
 }
 
 // The closed lanes of all sources do.
-pub fn close_lanes(m: usize, n: usize, fine: u32, cap: &[u32; 2048], price: &mut [u32; 2048])
+fn close_lanes(m: usize, n: usize, fine: u32, cap: &[u32; 2048], price: &mut [u32; 2048])
     requires { (m ≤ 32) × (n ≤ 64) }
 {
     for i in 0..m {
         close_row(i * 64, n, fine, cap, price);
-    }
-}
-
-// Lane k is full from now on, or is no longer.
-pub fn fill(
-    k: usize,
-    yes: bool,
-    fine: u32,
-    cost: &[u32; 2048],
-    cap: &[u32; 2048],
-    price: &mut [u32; 2048],
-    full: &mut [u64; 32],
-)
-    requires { k < 2048 }
-{
-    let i = k / 64;
-    let bit = 1u64 << k % 64;
-    if yes {
-        price[k] = wrapping_add_u32(cost[k], fine);
-        if 0 < cap[k] {
-            full[i] = full[i] | bit;
-        }
-    } else {
-        price[k] = cost[k];
-        full[i] = full[i] & (u64::MAX ^ bit);
     }
 }
 
@@ -95,36 +78,60 @@ fn grow(more: u32, cost: &[u32; 2048], price: &mut [u32; 2048]) {
         price[k] = if price[k] == cost[k] {
             price[k]
         } else {
-            wrapping_add_u32(price[k], more)
+            price[k].wrapping_add(more)
         };
     }
 }
 
-// The fine grows: the prices with it, and the potentials below each lane of the tree that is above its ceiling.
-pub fn raise_fine(
-    more: u32,
-    cost: &[u32; 2048],
-    price: &mut [u32; 2048],
-    sources_below: &[u32; 128],
-    terminals_below: &[u64; 128],
-    residual: &[u64; 128],
-    potential: &mut [u32; 32],
-    key: &mut [u32; 64],
-) {
-    grow(more, cost, price);
-    let less = wrapping_sub_u32(0, more);
+impl Lanes {
+    // The closed lanes cost the fine.
+    pub fn close(&mut self, m: usize, n: usize, cap: &[u32; 2048])
+        requires { (m ≤ 32) × (n ≤ 64) }
+    {
+        close_lanes(m, n, self.fine, cap, &mut self.price);
+    }
+
+    // Lane k is full from now on.
+    pub fn fill(&mut self, k: usize, cost: &[u32; 2048], cap: &[u32; 2048])
+        requires { k < 2048 }
+    {
+        let i = k / 64;
+        self.price[k] = cost[k].wrapping_add(self.fine);
+        if 0 < cap[k] {
+            self.full[i] = self.full[i] | (1u64 << k % 64);
+        }
+    }
+
+    // Lane k is no longer noted as full; its price stays.
+    pub fn unfill(&mut self, k: usize)
+        requires { k < 2048 }
+    {
+        let i = k / 64;
+        self.full[i] = self.full[i] & (u64::MAX ^ (1u64 << k % 64));
+    }
+
+    // Lane k is no longer full: its price is its unit cost.
+    pub fn empty(&mut self, k: usize, cost: &[u32; 2048])
+        requires { k < 2048 }
+    {
+        self.price[k] = cost[k];
+        self.unfill(k);
+    }
+
+    // The fine grows, and the prices with it.
+    pub fn raise_fine(&mut self, more: u32, cost: &[u32; 2048]) {
+        self.fine = self.fine.wrapping_add(more);
+        grow(more, cost, &mut self.price);
+    }
+}
+
+// After the fine has grown: the potentials below each lane of the tree that is above its ceiling follow.
+pub fn follow_fine(more: u32, tree: &Tree, residual: &[u64; 128], potentials: &mut Potentials) {
+    let less = 0u32.wrapping_sub(more);
     for v in 0..96 {
         if above(residual[v]) {
             let rise = if v < 32 { less } else { more };
-            raise_subtree(
-                sources_below[v],
-                terminals_below[v],
-                sources_below[0],
-                terminals_below[0],
-                rise,
-                potential,
-                key,
-            );
+            potentials.raise(tree.part(v as u32), tree.part(0), rise);
         }
     }
 }

@@ -4,14 +4,14 @@ ghost use Rattle.std.specs.Prelude.{◌≡◌, ◌<◌, ◌≤◌, length};
 
 use super::exchange::pivot;
 use super::fits::fits;
-use super::prices::{close_lanes, fine_for, raise_fine};
+use super::prices::{Lanes, fine_for, follow_fine};
 use super::residuals::{above, half};
 use super::start::start;
-use simplex::potentials::{source_potentials, terminal_potentials};
+use simplex::potentials::Potentials;
 use simplex::price::least;
 use simplex::solve::{Pricing, next, places};
 use spanningtree::flows::lane;
-use std::num::{wrapping_add_u32, wrapping_sub_u32};
+use spanningtree::tree::Tree;
 
 // The passes of the first try, and of the second.
 const PASSES: u32 = 20_000;
@@ -19,6 +19,8 @@ const PASSES: u32 = 20_000;
 const AGAIN: u32 = 400;
 
 // A lane that enters, by its terminal, how far its reduced cost is from 0, and whether it is full.
+// Stays: a gap of 0 says that no lane enters. The gap is reckoned without a branch over the full lanes, and an Option made of it would be taken apart by the
+// only caller.
 #[derive(Drop)]
 struct Enter {
     terminal: u32,
@@ -35,23 +37,16 @@ fn others(word: u64) -> u64
 }
 
 // The full lane of a source that is dearest for what it brings.
-fn dearest(
-    row: u32,
-    full: u64,
-    cost: &[u32; 2048],
-    potential: &[u32; 32],
-    key: &[u32; 64],
-) -> Enter {
-    let base = potential[(row % 32) as usize] % 33_554_432;
+// Stays: no index is counted; the bits of a word are taken off one by one.
+fn dearest(row: u32, full: u64, cost: &[u32; 2048], potentials: &Potentials) -> Enter {
+    let base = potentials.source[(row % 32) as usize] % 33_554_432;
     let mut terminal: u32 = 0;
     let mut most: u32 = 33_554_432;
     let mut left = full;
     while 0 < left {
         let j = u64::trailing_zeros(left) % 64;
-        let s = wrapping_add_u32(
-            cost[((row % 32) * 64 + j) as usize],
-            base + key[j as usize] % 2_147_483_648 / 64,
-        );
+        let q = potentials.key[j as usize] % 2_147_483_648 / 64;
+        let s = cost[((row % 32) * 64 + j) as usize].wrapping_add(base + q);
         if most < s {
             terminal = j;
             most = s;
@@ -60,7 +55,7 @@ fn dearest(
     }
     Enter {
         terminal,
-        gap: wrapping_sub_u32(most, 33_554_432),
+        gap: most.wrapping_sub(33_554_432),
         full: true,
     }
 }
@@ -70,16 +65,14 @@ fn entering(
     n: usize,
     row: u32,
     cost: &[u32; 2048],
-    price: &[u32; 2048],
-    full: &[u64; 32],
-    potential: &[u32; 32],
-    key: &[u32; 64],
+    lanes: &Lanes,
+    potentials: &Potentials,
 ) -> Enter {
     let i = (row % 32) as usize;
-    let l = least(row, n, price, key);
-    let s = l / 64 + potential[i] % 33_554_432;
+    let l = least(row, n, &lanes.price, &potentials.key);
+    let s = l / 64 + potentials.source[i] % 33_554_432;
     if 33_554_432 <= s {
-        return dearest(row, full[i], cost, potential, key);
+        return dearest(row, lanes.full[i], cost, potentials);
     }
     Enter {
         terminal: l % 64,
@@ -93,20 +86,15 @@ fn step(
     m: u32,
     n: usize,
     now: Pricing,
-    fine: u32,
     cost: &[u32; 2048],
     cap: &[u32; 2048],
-    price: &mut [u32; 2048],
-    full: &mut [u64; 32],
-    parent: &mut [u32; 128],
-    sources_below: &mut [u32; 128],
-    terminals_below: &mut [u64; 128],
+    lanes: &mut Lanes,
+    tree: &mut Tree,
     residual: &mut [u64; 128],
-    potential: &mut [u32; 32],
-    key: &mut [u32; 64],
+    potentials: &mut Potentials,
 ) -> Pricing {
     let row = now.row;
-    let lane = entering(n, row, cost, price, full, potential, key);
+    let lane = entering(n, row, cost, lanes, potentials);
     if lane.gap == 0 {
         return Pricing {
             row: next(row, m),
@@ -118,17 +106,12 @@ fn step(
         32 + lane.terminal % 64,
         lane.gap,
         lane.full,
-        fine,
         cost,
         cap,
-        price,
-        full,
-        parent,
-        sources_below,
-        terminals_below,
+        lanes,
+        tree,
         residual,
-        potential,
-        key,
+        potentials,
     );
     Pricing { row, clean: 0 }
 }
@@ -138,41 +121,19 @@ fn simplex(
     m: u32,
     n: usize,
     passes: u32,
-    fine: u32,
     cost: &[u32; 2048],
     cap: &[u32; 2048],
-    price: &mut [u32; 2048],
-    full: &mut [u64; 32],
-    parent: &mut [u32; 128],
-    sources_below: &mut [u32; 128],
-    terminals_below: &mut [u64; 128],
+    lanes: &mut Lanes,
+    tree: &mut Tree,
     residual: &mut [u64; 128],
-    potential: &mut [u32; 32],
-    key: &mut [u32; 64],
+    potentials: &mut Potentials,
 ) {
     let mut now = Pricing { row: 0, clean: 0 };
-    let mut left = passes;
-    while 0 < left {
+    for _ in 0..passes {
         if m <= now.clean {
             return;
         }
-        now = step(
-            m,
-            n,
-            now,
-            fine,
-            cost,
-            cap,
-            price,
-            full,
-            parent,
-            sources_below,
-            terminals_below,
-            residual,
-            potential,
-            key,
-        );
-        left = left - 1;
+        now = step(m, n, now, cost, cap, lanes, tree, residual, potentials);
     }
 }
 
@@ -185,71 +146,44 @@ fn exceeds(residual: &[u64; 128]) -> bool {
     some
 }
 
-// Where a lane carries more than its ceiling the fine grows, once, for as many passes at most as there are given.
+// Where a lane carries more than its ceiling the fine grows, once, for a second try.
 fn try_again(
     m: u32,
     n: usize,
-    passes: u32,
-    small: u32,
     cost: &[u32; 2048],
     cap: &[u32; 2048],
-    price: &mut [u32; 2048],
-    full: &mut [u64; 32],
-    parent: &mut [u32; 128],
-    sources_below: &mut [u32; 128],
-    terminals_below: &mut [u64; 128],
+    lanes: &mut Lanes,
+    tree: &mut Tree,
     residual: &mut [u64; 128],
-    potential: &mut [u32; 32],
-    key: &mut [u32; 64],
+    potentials: &mut Potentials,
 ) {
     if !exceeds(residual) {
         return;
     }
+    let small = lanes.fine;
     let fine = if small < 1_750_000 {
         4 * small
     } else {
         7_000_000
     };
-    raise_fine(
-        wrapping_sub_u32(fine, small),
-        cost,
-        price,
-        sources_below,
-        terminals_below,
-        residual,
-        potential,
-        key,
-    );
-    simplex(
-        m,
-        n,
-        passes,
-        fine,
-        cost,
-        cap,
-        price,
-        full,
-        parent,
-        sources_below,
-        terminals_below,
-        residual,
-        potential,
-        key,
-    );
+    let more = fine.wrapping_sub(small);
+    lanes.raise_fine(more, cost);
+    follow_fine(more, tree, residual, potentials);
+    simplex(m, n, AGAIN, cost, cap, lanes, tree, residual, potentials);
 }
 
 // What a lane of the tree carries, by its pair and its ceiling.
 fn amount_of(own: u64, ceiling: u32) -> u32 {
-    wrapping_add_u32(half(own, 0), if above(own) { ceiling } else { 0 })
+    half(own, 0).wrapping_add(if above(own) { ceiling } else { 0 })
 }
 
 // What the lanes of the tree carry.
-fn carried(parent: &[u32; 128], residual: &[u64; 128], cap: &[u32; 2048], x: &mut [u32; 2048])
+fn carried(tree: &Tree, residual: &[u64; 128], cap: &[u32; 2048], x: &mut [u32; 2048])
     requires { length x.old ≡ 2048 }
     ensures { length x.new ≡ 2048 }
 {
     for v in 0..96 {
-        let u = parent[v];
+        let u = tree.parent[v];
         let k = lane(v as u32, u);
         let between = (u < 96) & ((u < 32) ^ (v < 32));
         x[k] = if between {
@@ -261,6 +195,7 @@ fn carried(parent: &[u32; 128], residual: &[u64; 128], cap: &[u32; 2048], x: &mu
 }
 
 // What the full lanes of a source carry.
+// Stays: no index is counted; the bits of a word are taken off one by one.
 fn full_row(i: usize, full: u64, cap: &[u32; 2048], x: &mut [u32; 2048])
     requires i_bound { i < 32 }
     requires x_len { length x.old ≡ 2048 }
@@ -284,84 +219,27 @@ fn full_lanes(full: &[u64; 32], cap: &[u32; 2048], x: &mut [u32; 2048])
     }
 }
 
-fn at_most(a: usize, b: usize) -> usize
-    ensures { result ≤ b }
-{
-    if a < b { a } else { b }
-}
-
 // The tree of a cheapest plan at these amounts with its potentials, and the lanes that are full.
 fn best_tree(
     sources: usize,
-    terminals: usize,
+    n: usize,
     cost: &[u32; 2048],
     cap: &[u32; 2048],
     amounts: &[u32; 32],
     demand: &[u32; 96],
-    full: &mut [u64; 32],
-    parent: &mut [u32; 128],
-    sources_below: &mut [u32; 128],
-    terminals_below: &mut [u64; 128],
+    lanes: &mut Lanes,
+    tree: &mut Tree,
     residual: &mut [u64; 128],
-    potential: &mut [u32; 32],
-    key: &mut [u32; 64],
+    potentials: &mut Potentials,
 )
-    requires { (sources ≤ 32) × (terminals ≤ 64) }
+    requires { sources ≤ 32 }
 {
     let m = sources as u32;
-    let n = terminals;
-    let fine = fine_for(sources, n, cost);
-    let mut price = *cost;
-    close_lanes(sources, n, fine, cap, &mut price);
     start(
-        sources,
-        n,
-        fine,
-        cost,
-        cap,
-        &mut price,
-        full,
-        amounts,
-        demand,
-        parent,
-        sources_below,
-        terminals_below,
-        residual,
-        potential,
-        key,
+        sources, n, cost, cap, lanes, amounts, demand, tree, residual, potentials,
     );
-    simplex(
-        m,
-        n,
-        PASSES,
-        fine,
-        cost,
-        cap,
-        &mut price,
-        full,
-        parent,
-        sources_below,
-        terminals_below,
-        residual,
-        potential,
-        key,
-    );
-    try_again(
-        m,
-        n,
-        AGAIN,
-        fine,
-        cost,
-        cap,
-        &mut price,
-        full,
-        parent,
-        sources_below,
-        terminals_below,
-        residual,
-        potential,
-        key,
-    );
+    simplex(m, n, PASSES, cost, cap, lanes, tree, residual, potentials);
+    try_again(m, n, cost, cap, lanes, tree, residual, potentials);
 }
 
 // A cheapest plan at these amounts into x, where there is one, its potentials, and the tree that it is on. x is lent cleared; what it holds on lanes that
@@ -375,25 +253,29 @@ pub fn solve(
     demand: &[u32; 96],
     x: &mut [u32; 2048],
     pot: &mut [u32; 96],
-    parent: &mut [u32; 128],
-    sources_below: &mut [u32; 128],
-    terminals_below: &mut [u64; 128],
+    tree: &mut Tree,
 )
     ensures { (length x.new ≡ 2048) × (length pot.new ≡ 96) }
 {
-    *sources_below = [0u32; 128];
-    *terminals_below = [0u64; 128];
-    let mut full = [0u64; 32];
-    let mut residual = [0u64; 128];
-    let mut potential = [0u32; 32];
-    let mut key = [0u32; 64];
+    tree.clear();
     places(x);
-    let sources = at_most(m, 32);
-    let terminals = at_most(n, 64);
+    let sources = usize::min(m, 32);
+    let terminals = usize::min(n, 64);
     if !fits(sources, terminals, cap, amounts, demand) {
         *pot = [0u32; 96];
         return;
     }
+    let mut residual = [0u64; 128];
+    let mut potentials = Potentials {
+        source: [0u32; 32],
+        key: [0u32; 64],
+    };
+    let mut lanes = Lanes {
+        fine: fine_for(sources, terminals, cost),
+        price: *cost,
+        full: [0u64; 32],
+    };
+    lanes.close(sources, terminals, cap);
     best_tree(
         sources,
         terminals,
@@ -401,17 +283,12 @@ pub fn solve(
         cap,
         amounts,
         demand,
-        &mut full,
-        parent,
-        sources_below,
-        terminals_below,
+        &mut lanes,
+        tree,
         &mut residual,
-        &mut potential,
-        &mut key,
+        &mut potentials,
     );
-    carried(parent, &residual, cap, x);
-    full_lanes(&full, cap, x);
-    *pot = [600_000_000u32; 96];
-    source_potentials(&potential, pot);
-    terminal_potentials(&key, pot);
+    carried(tree, &residual, cap, x);
+    full_lanes(&lanes.full, cap, x);
+    potentials.write(pot);
 }

@@ -1,158 +1,77 @@
 // A first tree: the sources but source 0, one after the other, each for its cheapest terminal that still wants drums; of the two the one that is used up
 // is attached to the other, or the lane is full and stays out of the tree. A lane may go above its ceiling, at a fine, where a source has no other.
 // The terminals that are left are attached to source 0.
-use super::prices::fill;
-use super::residuals::{VAST, attach, pair};
-use simplex::book::{Placed, alone, follow_all, keys, smaller, stock, wants, without};
+// Stays: place, places and rest are no twins of those of `simplex`: there sources take turns and no lane is filled or fined.
+use super::prices::Lanes;
+use super::residuals::{VAST, pair};
+use simplex::book::{Book, attach_spent, open_tree};
+use simplex::potentials::Potentials;
 use simplex::price::least;
 use spanningtree::NONE;
-use std::num::{wrapping_add_u32, wrapping_sub_u32};
+use spanningtree::tree::Tree;
 
 // The key of a terminal that has its drums, where keys are numbers: above every price, and below 2^31 with any.
 const SHUT: u32 = 1_300_000_000;
-
-// Source i and terminal j, a node, have an amount less to send and to get; the one that is used up is attached to the other by a lane of this pair. The
-// book has what the sources still have, what the terminals still want, from 32 on, and the nodes in the order in which they were attached, from 128 on.
-fn attach_spent(
-    i: u32,
-    j: u32,
-    now: Placed,
-    own: u64,
-    book: &mut [u32; 256],
-    key: &mut [u32; 64],
-    parent: &mut [u32; 128],
-    sources_below: &mut [u32; 128],
-    terminals_below: &mut [u64; 128],
-    residual: &mut [u64; 128],
-) -> Placed {
-    let s = (i % 32) as usize;
-    let t = (j % 128) as usize;
-    let a = book[s];
-    let b = book[t];
-    let amount = smaller(a, b);
-    let spent = a <= b;
-    let child = if spent { i } else { j };
-    let host = if spent { j } else { i };
-    book[s] = a - amount;
-    book[t] = b - amount;
-    if !spent {
-        let number = (j % 128 + 32) % 64;
-        key[number as usize] = SHUT + number;
-    }
-    book[128 + (now.count % 128) as usize] = child;
-    attach(
-        child,
-        host,
-        own,
-        parent,
-        sources_below,
-        terminals_below,
-        residual,
-    );
-    Placed {
-        open: if spent {
-            without(now.open, i)
-        } else {
-            now.open
-        },
-        count: now.count % 128 + 1,
-    }
-}
 
 // Source i sends what it can to its cheapest open terminal.
 fn place(
     n: usize,
     i: u32,
-    now: Placed,
-    fine: u32,
     cost: &[u32; 2048],
     cap: &[u32; 2048],
-    price: &mut [u32; 2048],
-    full: &mut [u64; 32],
-    book: &mut [u32; 256],
+    lanes: &mut Lanes,
+    book: &mut Book,
     key: &mut [u32; 64],
-    parent: &mut [u32; 128],
-    sources_below: &mut [u32; 128],
-    terminals_below: &mut [u64; 128],
+    tree: &mut Tree,
     residual: &mut [u64; 128],
-) -> Placed {
-    let j = least(i, n, price, key) % 64;
+) {
+    let j = least(i, n, &lanes.price, key) % 64;
     let s = (i % 32) as usize;
     let k = s * 64 + j as usize;
     let t = 32 + j as usize;
-    let amount = smaller(book[s], book[t]);
+    let amount = u32::min(book.left[s], book.left[t]);
     let u = cap[k];
-    let over = price[k] != cost[k];
+    let over = lanes.price[k] != cost[k];
     if !over & (u < amount) {
-        book[s] = wrapping_sub_u32(book[s], u);
-        book[t] = wrapping_sub_u32(book[t], u);
-        fill(k, true, fine, cost, cap, price, full);
-        return now;
+        book.left[s] = book.left[s].wrapping_sub(u);
+        book.left[t] = book.left[t].wrapping_sub(u);
+        lanes.fill(k, cost, cap);
+        return;
     }
     if over {
-        full[s] = full[s] & (u64::MAX ^ (1u64 << j));
+        lanes.unfill(k);
     }
-    let take = if over {
-        VAST
-    } else {
-        wrapping_sub_u32(u, amount)
-    };
+    let take = if over { VAST } else { u.wrapping_sub(amount) };
     attach_spent(
         i,
         32 + j,
-        now,
         pair(amount, take),
+        SHUT,
         book,
         key,
-        parent,
-        sources_below,
-        terminals_below,
+        tree,
         residual,
-    )
+    );
 }
 
 // Each open source, one after the other, until it is open no more.
 fn places(
     n: usize,
-    first: Placed,
-    fine: u32,
     cost: &[u32; 2048],
     cap: &[u32; 2048],
-    price: &mut [u32; 2048],
-    full: &mut [u64; 32],
-    book: &mut [u32; 256],
+    lanes: &mut Lanes,
+    book: &mut Book,
     key: &mut [u32; 64],
-    parent: &mut [u32; 128],
-    sources_below: &mut [u32; 128],
-    terminals_below: &mut [u64; 128],
+    tree: &mut Tree,
     residual: &mut [u64; 128],
-) -> u32 {
-    let mut now = first;
-    let mut left: u32 = 2_200;
-    while 0 < left {
-        if now.open == 0 {
-            return now.count;
+) {
+    for _ in 0..2_200 {
+        if book.open == 0 {
+            return;
         }
-        let i = u32::trailing_zeros(now.open) % 32;
-        now = place(
-            n,
-            i,
-            now,
-            fine,
-            cost,
-            cap,
-            price,
-            full,
-            book,
-            key,
-            parent,
-            sources_below,
-            terminals_below,
-            residual,
-        );
-        left = left - 1;
+        let i = u32::trailing_zeros(book.open) % 32;
+        place(n, i, cost, cap, lanes, book, key, tree, residual);
     }
-    now.count
 }
 
 // What the lane from source 0 to terminal j, a node that wants b, carries: its pair, and the fine where that is above its ceiling.
@@ -167,97 +86,52 @@ fn rest_pair(b: u32, u: u32) -> u64 {
 // The terminals below n that are attached to no source are attached to source 0.
 fn rest(
     n: usize,
-    first: u32,
-    fine: u32,
     cost: &[u32; 2048],
     cap: &[u32; 2048],
-    price: &mut [u32; 2048],
-    book: &mut [u32; 256],
-    parent: &mut [u32; 128],
-    sources_below: &mut [u32; 128],
-    terminals_below: &mut [u64; 128],
+    lanes: &mut Lanes,
+    book: &mut Book,
+    tree: &mut Tree,
     residual: &mut [u64; 128],
-) -> u32 {
-    let mut count = first % 128;
+) {
     for j in 0..64 {
         if j < n {
-            if parent[32 + j] == NONE {
-                let b = book[32 + j];
+            if tree.parent[32 + j] == NONE {
+                let v = (32 + j) as u32;
+                let b = book.left[32 + j];
                 let u = cap[j];
-                price[j] = wrapping_add_u32(cost[j], if u < b { fine } else { 0 });
-                attach(
-                    (32 + j) as u32,
-                    0,
-                    rest_pair(b, u),
-                    parent,
-                    sources_below,
-                    terminals_below,
-                    residual,
-                );
-                book[128 + (count % 128) as usize] = (32 + j) as u32;
-                count = count % 128 + 1;
+                lanes.price[j] = cost[j].wrapping_add(if u < b { lanes.fine } else { 0 });
+                tree.attach(v, 0, rest_pair(b, u), residual);
+                book.note(v);
             }
         }
     }
-    count
 }
 
 // The first tree with its potentials.
 pub fn start(
     m: usize,
     n: usize,
-    fine: u32,
     cost: &[u32; 2048],
     cap: &[u32; 2048],
-    price: &mut [u32; 2048],
-    full: &mut [u64; 32],
+    lanes: &mut Lanes,
     amounts: &[u32; 32],
     demand: &[u32; 96],
-    parent: &mut [u32; 128],
-    sources_below: &mut [u32; 128],
-    terminals_below: &mut [u64; 128],
+    tree: &mut Tree,
     residual: &mut [u64; 128],
-    potential: &mut [u32; 32],
-    key: &mut [u32; 64],
+    potentials: &mut Potentials,
 ) {
-    *parent = [NONE; 128];
-    *potential = [16_777_216u32; 32];
-    let mut book = [0u32; 256];
-    wants(demand, &mut book);
-    alone(sources_below, terminals_below);
-    keys(n, key);
-    let first = Placed {
-        open: stock(m, amounts, &mut book),
-        count: 0,
-    };
-    let some = places(
+    open_tree(n, tree, potentials);
+    let mut book = Book::new(m, amounts, demand);
+    places(
         n,
-        first,
-        fine,
         cost,
         cap,
-        price,
-        full,
+        lanes,
         &mut book,
-        key,
-        parent,
-        sources_below,
-        terminals_below,
+        &mut potentials.key,
+        tree,
         residual,
     );
-    let count = rest(
-        n,
-        some,
-        fine,
-        cost,
-        cap,
-        price,
-        &mut book,
-        parent,
-        sources_below,
-        terminals_below,
-        residual,
-    );
-    keys(0, key);
-    follow_all(count, &book, price, parent, potential, key);
+    rest(n, cost, cap, lanes, &mut book, tree, residual);
+    book.potentials(&lanes.price, tree, potentials);
 }

@@ -7,12 +7,12 @@ ghost use Rattle.std.specs.Prelude.{◌≡◌, ◌≤◌, length};
 use bounds_files::{bounds_files, low_stands};
 use csv_table::table::tariff_stands;
 use file_causes::amounts::say_high;
-use file_causes::refusal::explain_file;
+use file_causes::sentence::explain_file;
 use file_io::about::told_version;
 use file_io::arguments::{argument, argument_count, argument_room, is_help};
 use file_io::file::{file_room, first, read_file};
 use file_io::message::{say, say_with};
-use plan_command::refusal::{explain, explain_table};
+use plan_command::sentence::{explain, explain_table};
 use plan_files::planned::Printed;
 use std::io;
 

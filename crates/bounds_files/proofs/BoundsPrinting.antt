@@ -14,15 +14,16 @@ use lib.ListN.{length, get_or, take, drop, replicate, length-map, length-append,
 use lib.Seq.{sets, take_at, take_all, sets-eq, length-sets, length-take-le}
 use Rattle.transport.specs.Listing.{up_from}
 use Rattle.transport.proofs.ListMembers.{up_from_length}
+use Rattle.std.proofs.Common.{Ok, Err}
+use Rattle.refusal.specs.Number.{number_of}
+use Rattle.refusal.specs.declared.Refusal.{Refusal}
 use Rattle.csv_print.specs.Text.{refusal_text}
 use Rattle.csv_answers.specs.Bounds.{bounds_text, MarksFit}
 use Rattle.problem.specs.Case.{Case, supply, least_split}
 use Rattle.problem.specs.Outcome.{first_from}
 use Rattle.problem.specs.Outcome as planner
-use Rattle.csv_case.specs.declared.case.CaseAnswer.{CaseAnswer}
-use Rattle.csv_case.specs.declared.case.CaseAnswer.TheVariants as answers
 use Rattle.plan_files.specs.declared.planned.Printed.{Printed}
-use Rattle.csv_case.specs.CaseFiles.{case_answer, entries_in, CaseStored, records_of}
+use Rattle.csv_case.specs.CaseFiles.{CaseAnswer, counts, case_answer, entries_in, CaseStored, records_of}
 use Rattle.csv_case.specs.Entries.{entries_of}
 use Rattle.plan_files.specs.Printed.{filed_case, file_case, Told}
 use Rattle.plan_files.specs.inner.StoredCase.{cut_case, Stored}
@@ -224,14 +225,14 @@ cut_printed m n entries more a b e f costs supplies demands ceilings low high ou
 module _ (t h : List ℕ) (spare : List ℤ) (sources terminals highs : List ℕ) (spare' : List ℤ) (sources' terminals' highs' : List ℕ) {answer : CaseAnswer}
     (stored : CaseStored t h spare sources terminals highs spare' sources' terminals' highs' answer) where
   -- it is refused
-  pub high_refused : {number place : ℕ} → answer ≡ answers.Refused number place → (c : Case) {out out' : List ℕ} {r : Printed}
-      → Told number place c.m c.n (refusal_text number place) out out' r → HighPrinted t h c out out' r
-  high_refused {number} {place} told c printed =
-      let e : case_answer t h ≡ answers.Refused number place = sym stored.answered ∙ told in
-      rw e (printed_refusal c (entries_of h) (refused number place) refl printed)
+  pub high_refused : {why : Refusal} → answer ≡ Err why → {number : ℕ} → number ≡ number_of why.cause → (c : Case) {out out' : List ℕ} {r : Printed}
+      → Told number why.place c.m c.n (refusal_text number why.place) out out' r → HighPrinted t h c out out' r
+  high_refused {why} told k c printed =
+      let e : case_answer t h ≡ Err why = sym stored.answered ∙ told in
+      rw e (printed_refusal c (entries_of h) (refused (number_of why.cause) why.place) refl (rw k at printed))
 
   -- its entries are stored
-  module _ (room : length highs ≡ 4002) (m n more : ℕ) (told : answer ≡ answers.Case m n more) where
+  module _ (room : length highs ≡ 4002) (m n more : ℕ) (told : answer ≡ counts m n more) where
     same_high : (c : Case) → Same c c (take (min more 4002) highs') (entries_of h)
     unfolding entries_of
     same_high c =
@@ -253,25 +254,25 @@ module _ (t h : List ℕ) (spare : List ℤ) (sources terminals highs : List ℕ
 
     pub high_stored : (c : Case) {out out' : List ℕ} {r : Printed} → CasePrinted c (take (min more 4002) highs') out out' r → HighPrinted t h c out out' r
     high_stored c printed =
-        let e : case_answer t h ≡ answers.Case m n more = sym stored.answered ∙ told in
+        let e : case_answer t h ≡ counts m n more = sym stored.answered ∙ told in
         rw e (carry c c (take (min more 4002) highs') (entries_of h) (same_high c) printed)
 
 -- ---- the tariff and the low file
 
 module _ (t l h : List ℕ) (costs : List ℤ) (supplies demands table : List ℕ) (costs' : List ℤ) (supplies' demands' table' : List ℕ) {answer : CaseAnswer}
     (stored : CaseStored t l costs supplies demands table costs' supplies' demands' table' answer) where
-  pub refused_files : {number place : ℕ} → answer ≡ answers.Refused number place → {out out' : List ℕ} {r : Printed}
-      → Told number place 0 0 (refusal_text number place) out out' r → FilesPrinted t l h out out' r
+  pub refused_files : {why : Refusal} → answer ≡ Err why → {number : ℕ} → number ≡ number_of why.cause → {out out' : List ℕ} {r : Printed}
+      → Told number why.place 0 0 (refusal_text number why.place) out out' r → FilesPrinted t l h out out' r
   unfolding files_outcome
-  refused_files {number} {place} told printed =
-      let e : case_answer t l ≡ answers.Refused number place = sym stored.answered ∙ told in
-      rw e (printed_refusal (file_case t l) (entries_of h) (refused number place) refl printed)
+  refused_files {why} told k printed =
+      let e : case_answer t l ≡ Err why = sym stored.answered ∙ told in
+      rw e (printed_refusal (file_case t l) (entries_of h) (refused (number_of why.cause) why.place) refl (rw k at printed))
 
-  pub case_files : (room : Stored costs supplies demands table) (m n entries : ℕ) → answer ≡ answers.Case m n entries → {out out' : List ℕ} {r : Printed}
+  pub case_files : (room : Stored costs supplies demands table) (m n entries : ℕ) → answer ≡ counts m n entries → {out out' : List ℕ} {r : Printed}
       → HighPrinted t h (cut_case m n entries costs' supplies' demands' table') out out' r → FilesPrinted t l h out out' r
   unfolding files_outcome
   case_files room m n entries told {out} {out'} {r} printed =
-      let e : case_answer t l ≡ answers.Case m n entries = sym stored.answered ∙ told in
+      let e : case_answer t l ≡ counts m n entries = sym stored.answered ∙ told in
       let a = cut_alike t l costs supplies demands table costs' supplies' demands' table' room m n entries told stored in
       rw e (step a (case_answer t h) printed)
     where
@@ -279,5 +280,5 @@ module _ (t l h : List ℕ) (costs : List ℤ) (supplies demands table : List �
           → OutcomePrinted (cut_case m n entries costs' supplies' demands' table') (entries_of h)
           (files_then x (case_outcome (cut_case m n entries costs' supplies' demands' table') (entries_of h))) m n out out' r
           → OutcomePrinted (file_case t l) (entries_of h) (files_then x (case_outcome (file_case t l) (entries_of h))) m n out out' r
-      step a (answers.Case m' n' entries') p = carry (cut_case m n entries costs' supplies' demands' table') (file_case t l) (entries_of h) (entries_of h) (same_case (entries_of h) a) p
-      step a (answers.Refused k q) p = printed_refusal (file_case t l) (entries_of h) (refused k q) refl (p.refusal k q refl)
+      step a (Ok k) p = carry (cut_case m n entries costs' supplies' demands' table') (file_case t l) (entries_of h) (entries_of h) (same_case (entries_of h) a) p
+      step a (Err q) p = printed_refusal (file_case t l) (entries_of h) (refused (number_of q.cause) q.place) refl (p.refusal (number_of q.cause) q.place refl)

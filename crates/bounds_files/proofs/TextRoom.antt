@@ -23,9 +23,8 @@ use Rattle.problem.specs.Outcome.{first_from}
 use Rattle.problem.proofs.FirstFailing.{none_passes}
 use Rattle.problem.proofs.Integers.{above_pos}
 use Rattle.problem.proofs.TestsPassed.{either_second}
-use Rattle.csv_case.specs.declared.case.CaseAnswer.{CaseAnswer}
-use Rattle.csv_case.specs.declared.case.CaseAnswer.TheVariants as answers
-use Rattle.csv_case.specs.CaseFiles.{case_answer}
+use Rattle.std.proofs.Common.{Ok, Err}
+use Rattle.csv_case.specs.CaseFiles.{CaseAnswer, case_answer}
 use Rattle.csv_case.specs.Entries.{entries_of}
 use Rattle.plan_files.specs.declared.planned.Printed.{Printed}
 use Rattle.plan_files.specs.Printed.{file_case}
@@ -154,9 +153,9 @@ unfolding files_outcome
 known_case t l h i n s v e = by (case_answer t l) (case_answer t h) e
   where
     by : (a b : CaseAnswer) → files_then a (files_then b (case_outcome (file_case t l) (entries_of h))) ≡ known i n s v → case_outcome (file_case t l) (entries_of h) ≡ known i n s v
-    by (answers.Refused k p) b e = absurd (let z : ◌≡◌ {A = ℕ} 0 1 = cc in omega arith)
-    by (answers.Case m k j) (answers.Refused q p) e = absurd (let z : ◌≡◌ {A = ℕ} 0 1 = cc in omega arith)
-    by (answers.Case m k j) (answers.Case m' k' j') e = e
+    by (Err k) b e = absurd (let z : ◌≡◌ {A = ℕ} 0 1 = cc in omega arith)
+    by (Ok k) (Err q) e = absurd (let z : ◌≡◌ {A = ℕ} 0 1 = cc in omega arith)
+    by (Ok k) (Ok j) e = e
 
 -- what `bounds_files` prints has room in 172,286 bytes
 pub text_fits : (t l h out out' : List ℕ) (answer : Printed) → FilesPrinted t l h out out' answer → answer.number < 2 ^ 64 → answer.place < 2 ^ 64 → answer.length ≤ 172286

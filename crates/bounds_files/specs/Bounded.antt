@@ -1,13 +1,12 @@
 -- What is printed of a tariff file and two production files, one of the low and one of the high entries: the outcome of the case that the
 -- tariff and the low file are, and the bytes. Assumes nothing.
-use Rattle.std.specs.Prelude.{◌≡◌, Bool, true, false, List, ℕ, ◌-◌, ℤ, get_or}
+use Rattle.std.specs.Prelude.{◌≡◌, Bool, true, false, List, ℕ, ◌-◌, ℤ, get_or, Ok, Err}
+use Rattle.refusal.specs.Number.{number_of}
 use Rattle.csv_print.specs.Text.{refusal_text}
 use Rattle.csv_answers.specs.Bounds.{bounds_text}
 use Rattle.problem.specs.Case as planner-case
-use Rattle.csv_case.specs.declared.case.CaseAnswer.{CaseAnswer}
-use Rattle.csv_case.specs.declared.case.CaseAnswer.TheVariants.{Case, Refused}
 use Rattle.plan_files.specs.declared.planned.Printed.{Printed}
-use Rattle.csv_case.specs.CaseFiles.{case_answer}
+use Rattle.csv_case.specs.CaseFiles.{CaseAnswer, case_answer}
 use Rattle.csv_case.specs.Entries.{entries_of}
 use Rattle.plan_files.specs.Printed.{file_case, sources_told, terminals_told, Told}
 use Rattle.problem.specs.Case.{least_split}
@@ -20,8 +19,8 @@ case_outcome c high = outcome_of c high 4001
 
 -- refusals 20 to 22 of two files, then the rest
 abbrev pub files_then : CaseAnswer → Outcome → Outcome
-files_then (Refused number place) o = refused number place
-files_then (Case m n entries) o = o
+files_then (Err r) o = refused (number_of r.cause) r.place
+files_then (Ok k) o = o
 
 -- the tariff is judged by 20 to 22, then the low file, then the high one; then the case
 unfoldable pub files_outcome : List ℕ → List ℕ → List ℕ → Outcome
@@ -56,5 +55,5 @@ FilesPrinted t l h out out' answer =
 
 -- neither of two files is refused by 20 to 22
 abbrev pub both_stand : CaseAnswer → Bool
-both_stand (Refused number place) = false
-both_stand (Case m n entries) = true
+both_stand (Err r) = false
+both_stand (Ok k) = true

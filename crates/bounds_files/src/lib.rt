@@ -8,12 +8,11 @@ ghost use Rattle.plan_files.specs.Printed.{filed_case, Told};
 ghost use Rattle.plan_files.specs.inner.StoredCase.{cut_case, Stored};
 ghost use Rattle.bounds_files.specs.Bounded.{CasePrinted, HighPrinted, FilesPrinted, both_stand};
 
-use bounds_problem::Answer;
 use bounds_splits::possible_splits;
 use csv_answers::bounds::put_bounds;
-use csv_case::case::{CaseAnswer, read_case};
+use csv_case::case::read_case;
 use csv_case::cells::{cost_cells, entry_cells, lane_ceilings, stop_cells};
-use csv_table::store::smaller;
+use lent_case::Case;
 use plan_files::planned::{Printed, print_refusal};
 
 // Prints the two totals and the marks in the first count cells, of the splits from the first on.
@@ -58,27 +57,21 @@ fn print_case(
         high.now out.old out.new result }
 {
     let mut answers = stop_cells();
-    let answer = possible_splits(
+    let case = Case {
         m,
         n,
-        0,
-        0,
+        run1: 0,
+        run2: 0,
         costs,
         supplies,
         demands,
         ceilings,
-        low,
-        high,
-        &mut answers,
-    );
+        table: low,
+    };
+    let answer = possible_splits(&case, high, &mut answers);
     match answer {
-        Answer::Refused { number, place } => print_refusal(out, number, place, m, n),
-        Answer::Known {
-            first,
-            count,
-            smallest,
-            largest,
-        } => print_known(out, m, n, smallest, largest, first, count, &answers),
+        Err(r) => print_refusal(out, r.cause.number(), r.place, m, n),
+        Ok(k) => print_known(out, m, n, k.smallest, k.largest, k.first, k.count, &answers),
     }
 }
 
@@ -100,10 +93,10 @@ fn print_stored(
         (cut_case m n entries costs.now supplies.now demands.now low.now)
         (take (min more 4002) high.now) out.old out.new result }
 {
-    let a = smaller(m, 32);
-    let b = smaller(n, 64);
-    let e = smaller(entries, 4002);
-    let f = smaller(more, 4002);
+    let a = m.min(32);
+    let b = n.min(64);
+    let e = entries.min(4002);
+    let f = more.min(4002);
     let lanes = a * b;
     let ceilings = lane_ceilings();
     print_case(
@@ -150,13 +143,9 @@ fn print_with_high(
         &mut highs,
     );
     match answer {
-        CaseAnswer::Refused { number, place } => print_refusal(out, number, place as u64, m, n),
-        CaseAnswer::Case {
-            m: _,
-            n: _,
-            entries: more,
-        } => print_stored(
-            m, n, entries, more, costs, supplies, demands, low, &highs, out,
+        Err(r) => print_refusal(out, r.cause.number(), r.place, m, n),
+        Ok(k) => print_stored(
+            m, n, entries, k.entries, costs, supplies, demands, low, &highs, out,
         ),
     }
 }
@@ -179,9 +168,9 @@ pub fn bounds_files(tariff: &[u8], low: &[u8], high: &[u8], out: &mut [u8]) -> P
         &mut lows,
     );
     match answer {
-        CaseAnswer::Refused { number, place } => print_refusal(out, number, place as u64, 0, 0),
-        CaseAnswer::Case { m, n, entries } => print_with_high(
-            tariff, high, m, n, entries, &costs, &supplies, &demands, &lows, out,
+        Err(r) => print_refusal(out, r.cause.number(), r.place, 0, 0),
+        Ok(k) => print_with_high(
+            tariff, high, k.m, k.n, k.entries, &costs, &supplies, &demands, &lows, out,
         ),
     }
 }
@@ -194,23 +183,13 @@ pub fn low_stands(tariff: &[u8], low: &[u8]) -> bool
     let mut supplies = [0u64; 1];
     let mut demands = [0u64; 1];
     let mut table = [0u64; 1];
-    let answer = read_case(
+    read_case(
         tariff,
         low,
         &mut costs,
         &mut supplies,
         &mut demands,
         &mut table,
-    );
-    match answer {
-        CaseAnswer::Refused {
-            number: _,
-            place: _,
-        } => false,
-        CaseAnswer::Case {
-            m: _,
-            n: _,
-            entries: _,
-        } => true,
-    }
+    )
+    .is_ok()
 }

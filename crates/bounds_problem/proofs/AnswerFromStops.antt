@@ -23,7 +23,7 @@ use Rattle.problem.proofs.FirstFailing.{moved, first_moved, none_passes, some_fi
 use Rattle.problem.proofs.Integers.{above_le, above_pos}
 use Rattle.bounds_problem.specs.Tables.{Split, after, total_with, Smallest, Largest, least_over, least_total, can_be, mark, marks}
 use Rattle.bounds_problem.specs.inner.Heights.{height, Moderate, Line, Drawn, Drawing, Summed, least_up_to, least_sum, marks_by, first_bad}
-use Rattle.bounds_problem.specs.Answers.{Outcome, known, refused, badEntry, place28, laterOf, outcome_of, Given, Answered}
+use Rattle.bounds_problem.specs.Answers.{known, refused, badEntry, place28, laterOf, outcome_of, Given, Answered}
 use Rattle.bounds_problem.specs.inner.Settled.{Listed, settled_of}
 use Rattle.bounds_problem.proofs.PlannedCase.{Ready, ready}
 use Rattle.bounds_problem.proofs.BetweenStops.{height_at, stops_of_lem, some_stop, first_stop, last_stop, stop_in, stop_line}

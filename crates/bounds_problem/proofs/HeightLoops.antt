@@ -56,28 +56,28 @@ product_small n a h l = omega (arith, mul-le-mul h l)
 pub on_line : {g : ℕ → ℕ} {p q a b : ℕ} → Line g p q a b → (y : ℕ) → p ≤ y → y ≤ q → ((q - y) * a + (y - p) * b) / (q - p) ≡ g y
 on_line {g} {p} {q} {a} {b} l y h k = div-eq_of_eq-mul_right (omega (arith, l.rises)) (sym (l.straight y h k))
 
--- the cells after p up to y hold the line to q, and all others are as they were
+-- the cells after p and before y hold the line to q, and all others are as they were
 pub record StretchSoFar (lo p q a b y : ℕ) (cells cells' : List ℕ) : Type 0 where
   pub long : length cells' ≡ length cells
-  pub points : (z : ℕ) → p < z → z ≤ y → get_or cells' (z - lo) 0 ≡ point_at p q a b z
-  pub kept : (k : ℕ) → (p < k + lo → k + lo ≤ y → ⊥) → get_or cells' k 0 ≡ get_or cells k 0
+  pub points : (z : ℕ) → p < z → z < y → get_or cells' (z - lo) 0 ≡ point_at p q a b z
+  pub kept : (k : ℕ) → (p < k + lo → k + lo < y → ⊥) → get_or cells' k 0 ≡ get_or cells k 0
 
 module _ {lo p q a b : ℕ} where
-  pub stretch_start : (cells : List ℕ) → StretchSoFar lo p q a b p cells cells
+  pub stretch_start : (cells : List ℕ) → StretchSoFar lo p q a b (p + 1) cells cells
   stretch_start cells = record { long = refl; points = λ z h l. absurd (omega arith); kept = λ k no. refl }
 
   -- one cell more
   pub stretch_next :
-      (y : ℕ) (cells cells' : List ℕ) (v : ℕ) → StretchSoFar lo p q a b y cells cells' → lo ≤ p → p ≤ y → y + 1 - lo < length cells → v ≡ point_at p q a b (y + 1) →
-      StretchSoFar lo p q a b (y + 1) cells (set cells' (y + 1 - lo) v)
+      (y : ℕ) (cells cells' : List ℕ) (v : ℕ) → StretchSoFar lo p q a b y cells cells' → lo ≤ p → p < y → y - lo < length cells → v ≡ point_at p q a b y →
+      StretchSoFar lo p q a b (y + 1) cells (set cells' (y - lo) v)
   stretch_next y cells cells' v s from up room e = record {
-    long = length-set cells' (y + 1 - lo) v ∙ s.long;
-    points = λ z h l. elim (ℕ_discrete z (y + 1)) [
-      | yes same ↦ subst (λ (w : ℕ). get_or (set cells' (y + 1 - lo) v) (w - lo) 0 ≡ point_at p q a b w) (sym same) (get_or-set_same cells' (y + 1 - lo) v 0 (omega (arith, s.long)) ∙ e)
-      | no other ↦ get_or-set_other cells' (y + 1 - lo) (z - lo) v 0 (λ same. other (omega arith)) ∙ s.points z h (omega arith)
+    long = length-set cells' (y - lo) v ∙ s.long;
+    points = λ z h l. elim (ℕ_discrete z y) [
+      | yes same ↦ subst (λ (w : ℕ). get_or (set cells' (y - lo) v) (w - lo) 0 ≡ point_at p q a b w) (sym same) (get_or-set_same cells' (y - lo) v 0 (omega (arith, s.long)) ∙ e)
+      | no other ↦ get_or-set_other cells' (y - lo) (z - lo) v 0 (λ same. other (omega arith)) ∙ s.points z h (omega arith)
     ];
     kept = λ k no.
-        get_or-set_other cells' (y + 1 - lo) k v 0 (λ same. no (omega arith) (omega arith)) ∙ s.kept k (λ h l. no h (omega arith));
+        get_or-set_other cells' (y - lo) k v 0 (λ same. no (omega arith) (omega arith)) ∙ s.kept k (λ h l. no h (omega arith));
   }
 
 -- a curve that is straight there is drawn on

@@ -1,13 +1,14 @@
 -- What a case with two tables is answered: the refusals 28 and 11 after the planner's, and all that is promised of an answer. Assumes nothing.
-use Rattle.std.specs.Prelude.{◌≡◌, Bool, cond, ◌||◌, List, ℕ, ◌+◌, ◌-◌, ◌≤◌, ◌<◌, eqb, ltb, ℤ, length, get_or}
+use Rattle.std.specs.Prelude.{◌≡◌, Bool, cond, ◌||◌, List, ℕ, ◌+◌, ◌-◌, eqb, ltb, ℤ, length, get_or, Result, Ok, Err}
 use Rattle.std.proofs.Math.Option.{Option, none, some}
 use Rattle.transport.specs.Curve.{written}
 use Rattle.problem.specs.Case.{Case, supply, entry, least_split, lent}
 use Rattle.problem.specs.Outcome.{first_from}
 use Rattle.problem.specs.Outcome as planner
 use Rattle.bounds_problem.specs.Tables.{Split, after, Possible, least_total, Smallest, Largest, marks}
-use Rattle.bounds_problem.specs.declared.Answer.{Answer}
-use Rattle.bounds_problem.specs.declared.Answer.TheVariants.{Known, Refused}
+use Rattle.refusal.specs.Number.{number_of}
+use Rattle.refusal.specs.declared.Refusal.{Refusal}
+use Rattle.bounds_problem.specs.declared.Known.{Known}
 
 pub data Outcome : Type 0 where
   -- the first split, how many splits there are, and the smallest and the largest that the least total can be
@@ -15,10 +16,10 @@ pub data Outcome : Type 0 where
   -- number, place
   refused : ℕ → ℕ → Outcome
 
--- the answer's enum in the paper's numbers and values
-abbrev pub outcome : Answer → Outcome
-outcome (Known first count smallest largest) = known first count smallest largest
-outcome (Refused number place) = refused number place
+-- an answer in the paper's numbers and values
+abbrev pub outcome : Result Known Refusal → Outcome
+outcome (Ok k) = known k.first k.count k.smallest k.largest
+outcome (Err r) = refused (number_of r.cause) r.place
 
 -- the case with the low table as its own, and with room for any plan and any stops: 2,048 lanes and 4,001 splits
 abbrev pub lowCase : ℕ → ℕ → ℕ → ℕ → List ℤ → List ℕ → List ℕ → List ℕ → List ℕ → Case

@@ -1,5 +1,5 @@
 // The freight curve at every split, from its stops, and the two passes over it. Freights stand as heights above -128,000,000,000.
-ghost use Rattle.std.specs.Prelude.{◌≡◌, min, ◌≤◌, ◌<◌, cond, leb, length};
+ghost use Rattle.std.specs.Prelude.{◌≡◌, ◌≤◌, ◌<◌, cond, leb, length};
 ghost use Rattle.std.proofs.Math.IntN.{sub_ℕ};
 ghost use Rattle.transport.specs.Curve.{written};
 ghost use Rattle.bounds_problem.specs.inner.Heights.{height, Moderate, point_at, Stretch, StretchDrawn, Drawing, CurveDrawn, Summed};
@@ -34,9 +34,7 @@ fn draw_stretch(lo: u64, p: u64, q: u64, a: u64, b: u64, to: &mut [u64])
     requires { Stretch lo p q a b (length to.old) }
     ensures { StretchDrawn lo p q a b to.old to.new }
 {
-    let mut y = p;
-    while y < q {
-        y += 1;
+    for y in p + 1..q + 1 {
         to[(y - lo) as usize] = between(p, q, a, b, y);
     }
 }
@@ -50,21 +48,13 @@ pub fn draw(splits: &[u64], freights: &[i64], count: usize, to: &mut [u64])
     let mut last = lo;
     let mut level = height_of(freights[0]);
     to[0] = level;
-    let mut k: usize = 1;
-    while k < count {
+    for k in 1..count {
         let next = splits[k];
         let rise = height_of(freights[k]);
         draw_stretch(lo, last, next, level, rise, to);
         last = next;
         level = rise;
-        k += 1;
     }
-}
-
-pub fn smaller(a: u64, b: u64) -> u64
-    ensures { result ≡ min a b }
-{
-    if a < b { a } else { b }
 }
 
 // The least of the curve with the table on top.
@@ -73,10 +63,8 @@ pub fn least_sum(curve: &[u64], table: &[u64]) -> u64
     ensures { result ≡ least_sum curve.now table.now }
 {
     let mut least = curve[0] + table[0];
-    let mut k: usize = 1;
-    while k < table.len() {
-        least = smaller(least, curve[k] + table[k]);
-        k += 1;
+    for k in 1..table.len() {
+        least = least.min(curve[k] + table[k]);
     }
     least
 }
@@ -85,7 +73,7 @@ pub fn least_sum(curve: &[u64], table: &[u64]) -> u64
 pub fn mark_of(sum: u64, bound: u64) -> u64
     ensures { result ≡ cond (leb sum bound) 1 0 }
 {
-    if sum <= bound { 1 } else { 0 }
+    u64::from(sum <= bound)
 }
 
 // Marks where the curve with the table on top is at most the bound.
@@ -93,32 +81,20 @@ pub fn mark_all(curve: &[u64], table: &[u64], bound: u64, to: &mut [u64])
     requires { Summed curve.now table.now × (length table.now ≤ length to.old) }
     ensures { to.new ≡ written (marks_by curve.now table.now bound) to.old }
 {
-    for k in 0..table.len() {
-        to[k] = mark_of(curve[k] + table[k], bound);
+    for (k, &entry) in table.iter().enumerate() {
+        to[k] = mark_of(curve[k] + entry, bound);
     }
-}
-
-// An index, if there is one.
-#[derive(Drop)]
-pub enum Found {
-    At(usize),
-    Nowhere,
 }
 
 // The first index at which the high entry is below the low one or above 1,000,000,000.
-pub fn first_bad(low: &[u64], high: &[u64]) -> Found
+pub fn first_bad(low: &[u64], high: &[u64]) -> Option<usize>
     requires { length low.now ≤ length high.now }
     ensures { found result ≡ first_bad low.now high.now }
 {
-    let mut k: usize = 0;
-    while k < low.len() {
-        if high[k] < low[k] {
-            return Found::At(k);
+    for (k, &entry) in low.iter().enumerate() {
+        if high[k] < entry || 1_000_000_000 < high[k] {
+            return Some(k);
         }
-        if 1_000_000_000 < high[k] {
-            return Found::At(k);
-        }
-        k += 1;
     }
-    Found::Nowhere
+    None
 }

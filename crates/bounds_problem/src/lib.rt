@@ -4,17 +4,11 @@
 pub mod curve;
 pub mod settle;
 
-// The first split, how many splits there are, and the smallest and the largest that the least total can be; or the case is refused.
-#[derive(Drop)]
-pub enum Answer {
-    Known {
-        first: u64,
-        count: usize,
-        smallest: i64,
-        largest: i64,
-    },
-    Refused {
-        number: u64,
-        place: u64,
-    },
+// The first split, how many splits there are, and the smallest and the largest that the least total can be.
+#[derive(Clone, Copy, Debug, PartialEq, Eq)]
+pub struct Known {
+    pub first: u64,
+    pub count: usize,
+    pub smallest: i64,
+    pub largest: i64,
 }

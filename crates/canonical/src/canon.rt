@@ -10,13 +10,32 @@ ghost use Rattle.canonical.specs.inner.Canonize.{priced, Tights, PartReady, Clea
 
 use augment::send::{measure, push, serve};
 use reachability::reach::{drop_source, reach};
+use residual::lanes::Lanes;
+
+// The lanes that are free: the ceiling of each, 0 where it is closed, the terminals that each source has one to, and the sources that have one to
+// each terminal, a bit for each.
+#[derive(Drop)]
+struct FreeLanes {
+    cap: [u32; 2048],
+    ways: [u64; 32],
+    doors: [u32; 64],
+}
+
+// What the free lanes carry: the drums on each, and the sources that serve each terminal, a bit for each.
+#[derive(Drop)]
+struct Load {
+    x: [u32; 2048],
+    serves: [u32; 64],
+}
 
 // The tight lanes of source i, a bit for each.
-fn tight_lanes(m: usize, n: usize, i: usize, cost: &[u32; 2048], pot: &[u32; 96]) -> u64
-    requires i_lt_m { i < m }
-    requires part_ready { PartReady (priced m n (cells cost.now)) pot.now }
-    ensures { Tights (cells cost.now) pot.now i n result }
+fn tight_lanes(lanes: &Lanes<'_>, i: usize, pot: &[u32; 96]) -> u64
+    requires i_lt_m { i < lanes.now.m }
+    requires part_ready { PartReady (priced lanes.now.m lanes.now.n (cells lanes.now.cost.now)) pot.now }
+    ensures { Tights (cells lanes.now.cost.now) pot.now i lanes.now.n result }
 {
+    let n = lanes.n;
+    let cost = lanes.cost;
     let own = pot[i];
     let mut all: u64 = 0;
     for j in 0..n {
@@ -29,147 +48,149 @@ fn tight_lanes(m: usize, n: usize, i: usize, cost: &[u32; 2048], pot: &[u32; 96]
 
 // Lane (i, j) is free, with its ceiling and its drums, and noted with its terminal.
 fn free_lane(
-    m: usize,
-    n: usize,
+    lanes: &Lanes<'_>,
     i: usize,
     j: usize,
-    cap: &[u32; 2048],
     plan: &mut [u32; 2048],
-    free: &mut [u32; 2048],
-    x: &mut [u32; 2048],
-    serves: &mut [u32; 64],
-    doors: &mut [u32; 64],
+    free: &mut FreeLanes,
+    load: &mut Load,
 )
-    requires reach_at { ReachAt m n i j }
-    requires clear { Clear i j plan.old free.old x.old }
-    requires covers { Covers m n x.old serves.old }
-    requires doors { Doors m n free.old doors.old }
-    ensures lane_freed { LaneFreed (cells cap.now) i j plan.old free.old x.old plan.new
-        free.new x.new }
-    ensures covers_2 { Covers m n x.new serves.new }
-    ensures doors_2 { Doors m n free.new doors.new }
+    requires reach_at { ReachAt lanes.now.m lanes.now.n i j }
+    requires clear { Clear i j plan.old free.old.cap load.old.x }
+    requires covers { Covers lanes.now.m lanes.now.n load.old.x load.old.serves }
+    requires doors { Doors lanes.now.m lanes.now.n free.old.cap free.old.doors }
+    ensures lane_freed { LaneFreed (cells lanes.now.cap.now) i j plan.old free.old.cap load.old.x plan.new
+        free.new.cap load.new.x }
+    ensures covers_2 { Covers lanes.now.m lanes.now.n load.new.x load.new.serves }
+    ensures doors_2 { Doors lanes.now.m lanes.now.n free.new.cap free.new.doors }
+    ensures same_ways { free.new.ways ≡ free.old.ways }
 {
     let k = i * 64 + j;
-    free[k] = cap[k];
-    doors[j] = doors[j] | (1 << i);
+    free.cap[k] = lanes.cap[k];
+    free.doors[j] = free.doors[j] | (1 << i);
     let amount = plan[k];
     if 0 < amount {
-        x[k] = amount;
+        load.x[k] = amount;
         plan[k] = 0;
-        serve(32 + j, i, serves);
+        serve(32 + j, i, &mut load.serves);
     }
 }
 
 // The lanes of source i are parted: a tight one is free; what another carries stays in the plan, set aside.
 fn part_row(
-    m: usize,
-    n: usize,
+    lanes: &Lanes<'_>,
     i: usize,
-    cost: &[u32; 2048],
-    cap: &[u32; 2048],
     pot: &[u32; 96],
     plan: &mut [u32; 2048],
-    free: &mut [u32; 2048],
-    x: &mut [u32; 2048],
-    serves: &mut [u32; 64],
-    ways: &mut [u64; 32],
-    doors: &mut [u32; 64],
+    free: &mut FreeLanes,
+    load: &mut Load,
 )
-    requires i_lt_m { i < m }
-    requires part_ready { PartReady (bare m n (cells cost.now) (cells cap.now)) pot.now }
-    requires parted_to { PartedTo (bare m n (cells cost.now) (cells cap.now)) pot.now (i * 64) plan.old free.old x.old serves.old
-        ways.old doors.old }
-    ensures parted_to_2 { PartedTo (bare m n (cells cost.now) (cells cap.now)) pot.now (i * 64 + 64)
-        plan.new free.new x.new serves.new ways.new doors.new }
-    ensures kept { Kept plan.old x.old plan.new x.new }
+    requires i_lt_m { i < lanes.now.m }
+    requires part_ready { PartReady (bare lanes.now.m lanes.now.n (cells lanes.now.cost.now) (cells lanes.now.cap.now)) pot.now }
+    requires parted_to { PartedTo (bare lanes.now.m lanes.now.n (cells lanes.now.cost.now) (cells lanes.now.cap.now)) pot.now (i * 64) plan.old
+        free.old.cap load.old.x load.old.serves free.old.ways free.old.doors }
+    ensures parted_to_2 { PartedTo (bare lanes.now.m lanes.now.n (cells lanes.now.cost.now) (cells lanes.now.cap.now)) pot.now (i * 64 + 64)
+        plan.new free.new.cap load.new.x load.new.serves free.new.ways free.new.doors }
+    ensures kept { Kept plan.old load.old.x plan.new load.new.x }
 {
-    let all = tight_lanes(m, n, i, cost, pot);
-    ways[i] = all;
+    let all = tight_lanes(lanes, i, pot);
+    free.ways[i] = all;
     let mut rest = all;
+    // Stays: no index is counted; the bits of a word are taken off one by one.
     while 0 < rest {
         let j = u64::trailing_zeros(rest) as usize;
-        free_lane(m, n, i, j, cap, plan, free, x, serves, doors);
+        free_lane(lanes, i, j, plan, free, load);
         rest = rest & (rest - 1);
     }
 }
 
 // All lanes are parted.
 fn part(
-    m: usize,
-    n: usize,
-    cost: &[u32; 2048],
-    cap: &[u32; 2048],
+    lanes: &Lanes<'_>,
     pot: &[u32; 96],
     plan: &mut [u32; 2048],
-    free: &mut [u32; 2048],
-    x: &mut [u32; 2048],
-    serves: &mut [u32; 64],
-    ways: &mut [u64; 32],
-    doors: &mut [u32; 64],
+    free: &mut FreeLanes,
+    load: &mut Load,
 )
-    requires part_ready { PartReady (bare m n (cells cost.now) (cells cap.now)) pot.now }
-    requires parted_to { PartedTo (bare m n (cells cost.now) (cells cap.now)) pot.now 0 plan.old free.old x.old serves.old ways.old doors.old }
-    ensures parted_to_2 { PartedTo (bare m n (cells cost.now) (cells cap.now)) pot.now (m * 64)
-        plan.new free.new x.new serves.new ways.new doors.new }
-    ensures kept { Kept plan.old x.old plan.new x.new }
+    requires part_ready { PartReady (bare lanes.now.m lanes.now.n (cells lanes.now.cost.now) (cells lanes.now.cap.now)) pot.now }
+    requires parted_to { PartedTo (bare lanes.now.m lanes.now.n (cells lanes.now.cost.now) (cells lanes.now.cap.now)) pot.now 0 plan.old
+        free.old.cap load.old.x load.old.serves free.old.ways free.old.doors }
+    ensures parted_to_2 { PartedTo (bare lanes.now.m lanes.now.n (cells lanes.now.cost.now) (cells lanes.now.cap.now)) pot.now (lanes.now.m * 64)
+        plan.new free.new.cap load.new.x load.new.serves free.new.ways free.new.doors }
+    ensures kept { Kept plan.old load.old.x plan.new load.new.x }
 {
-    for i in 0..m {
-        part_row(m, n, i, cost, cap, pot, plan, free, x, serves, ways, doors);
+    for i in 0..lanes.m {
+        part_row(lanes, i, pot, plan, free, load);
     }
 }
 
 // Sends what can go, limit drums at most, along the way from source i to terminal j that was found.
 fn follow(
-    m: usize,
-    n: usize,
+    lanes: &Lanes<'_>,
     i: usize,
     j: usize,
     limit: u32,
     prev: &[u32; 96],
-    free: &[u32; 2048],
-    x: &mut [u32; 2048],
-    serves: &mut [u32; 64],
+    free: &FreeLanes,
+    load: &mut Load,
 ) -> u32
-    requires free_ready { FreeReady m n i j free.now x.old }
+    requires free_ready { FreeReady lanes.now.m lanes.now.n i j free.now.cap load.old.x }
     requires limit_nonzero { 0 < limit }
-    requires trodden { Trodden m n i j limit free.now x.old prev.now }
-    requires covers { Covers m n x.old serves.old }
-    ensures followed { Followed m n i j limit free.now x.old x.new prev.now result }
-    ensures covers_2 { Covers m n x.new serves.new }
+    requires trodden { Trodden lanes.now.m lanes.now.n i j limit free.now.cap load.old.x prev.now }
+    requires covers { Covers lanes.now.m lanes.now.n load.old.x load.old.serves }
+    ensures followed { Followed lanes.now.m lanes.now.n i j limit free.now.cap load.old.x load.new.x prev.now result }
+    ensures covers_2 { Covers lanes.now.m lanes.now.n load.new.x load.new.serves }
 {
     let goal = 32 + j;
-    let way = measure(prev, i, goal, limit, x, free);
-    push(prev, way.count, goal, way.amount, x, serves);
+    let way = measure(prev, i, goal, limit, &load.x, &free.cap);
+    push(
+        prev,
+        way.count,
+        goal,
+        way.amount,
+        &mut load.x,
+        &mut load.serves,
+    );
     way.amount
 }
 
 // Sends amount from source i to terminal j on free lanes, which cost nothing; what is left.
 fn reroute(
-    m: usize,
-    n: usize,
-    ways: &[u64; 32],
-    free: &[u32; 2048],
+    lanes: &Lanes<'_>,
     i: usize,
     j: usize,
     amount: u32,
-    x: &mut [u32; 2048],
+    free: &FreeLanes,
+    load: &mut Load,
     supplied: &mut u64,
-    serves: &mut [u32; 64],
 ) -> u32
-    requires free_ready { FreeReady m n i j free.now x.old }
-    requires j_value { get_or free.now (i * 64 + j) 0 ≡ 0 }
-    requires known { Known m n i j x.old supplied.old }
-    requires opens { Opens m n free.now ways.now }
-    requires covers { Covers m n x.old serves.old }
-    ensures rerouted { Rerouted m n i j amount free.now x.old x.new result }
-    ensures supplied { Supplied m n i x.new supplied.new }
-    ensures covers_2 { Covers m n x.new serves.new }
+    requires free_ready { FreeReady lanes.now.m lanes.now.n i j free.now.cap load.old.x }
+    requires j_value { get_or free.now.cap (i * 64 + j) 0 ≡ 0 }
+    requires known { Known lanes.now.m lanes.now.n i j load.old.x supplied.old }
+    requires opens { Opens lanes.now.m lanes.now.n free.now.cap free.now.ways }
+    requires covers { Covers lanes.now.m lanes.now.n load.old.x load.old.serves }
+    ensures rerouted { Rerouted lanes.now.m lanes.now.n i j amount free.now.cap load.old.x load.new.x result }
+    ensures supplied { Supplied lanes.now.m lanes.now.n i load.new.x supplied.new }
+    ensures covers_2 { Covers lanes.now.m lanes.now.n load.new.x load.new.serves }
 {
     let mut prev = [0u32; 96];
     let mut left = amount;
+    // Stays: no index is counted; each way takes as many drums as can go along it.
     while 0 < left {
-        if reach(m, n, i, j, left, ways, free, x, supplied, serves, &mut prev) {
-            left = left - follow(m, n, i, j, left, &prev, free, x, serves);
+        if reach(
+            lanes.m,
+            lanes.n,
+            i,
+            j,
+            left,
+            &free.ways,
+            &free.cap,
+            &load.x,
+            supplied,
+            &mut load.serves,
+            &mut prev,
+        ) {
+            left = left - follow(lanes, i, j, left, &prev, free, load);
         } else {
             return left;
         }
@@ -180,120 +201,101 @@ fn reroute(
 // Sends amount round the closed lane (i, j), as far as it can go; what is left. No search is made where no lane to terminal j is free, or where
 // source i has no free lane to another terminal that a source after i may serve.
 fn resend(
-    m: usize,
-    n: usize,
-    ways: &[u64; 32],
-    free: &[u32; 2048],
+    lanes: &Lanes<'_>,
     i: usize,
     j: usize,
     amount: u32,
-    x: &mut [u32; 2048],
+    free: &FreeLanes,
+    load: &mut Load,
     supplied: &mut u64,
-    serves: &mut [u32; 64],
-    doors: &[u32; 64],
 ) -> u32
-    requires free_ready { FreeReady m n i j free.now x.old }
-    requires j_value { get_or free.now (i * 64 + j) 0 ≡ 0 }
-    requires known { Known m n i j x.old supplied.old }
-    requires opens { Opens m n free.now ways.now }
-    requires covers { Covers m n x.old serves.old }
-    requires doors { Doors m n free.now doors.now }
-    ensures resent { Resent m n i j amount free.now x.old x.new result }
-    ensures supplied { Supplied m n i x.new supplied.new }
-    ensures covers_2 { Covers m n x.new serves.new }
+    requires free_ready { FreeReady lanes.now.m lanes.now.n i j free.now.cap load.old.x }
+    requires j_value { get_or free.now.cap (i * 64 + j) 0 ≡ 0 }
+    requires known { Known lanes.now.m lanes.now.n i j load.old.x supplied.old }
+    requires opens { Opens lanes.now.m lanes.now.n free.now.cap free.now.ways }
+    requires covers { Covers lanes.now.m lanes.now.n load.old.x load.old.serves }
+    requires doors { Doors lanes.now.m lanes.now.n free.now.cap free.now.doors }
+    ensures resent { Resent lanes.now.m lanes.now.n i j amount free.now.cap load.old.x load.new.x result }
+    ensures supplied { Supplied lanes.now.m lanes.now.n i load.new.x supplied.new }
+    ensures covers_2 { Covers lanes.now.m lanes.now.n load.new.x load.new.serves }
 {
-    if doors[j] == 0 {
+    if free.doors[j] == 0 {
         return amount;
     }
-    if ways[i] & (*supplied - (1 << j)) == 0 {
+    if free.ways[i] & (*supplied - (1 << j)) == 0 {
         return amount;
     }
-    reroute(m, n, ways, free, i, j, amount, x, supplied, serves)
+    reroute(lanes, i, j, amount, free, load, supplied)
 }
 
 // Lane (i, j) keeps what cannot go another way, and is closed.
 fn settle_lane(
-    m: usize,
-    n: usize,
+    lanes: &Lanes<'_>,
     i: usize,
     j: usize,
-    ways: &[u64; 32],
     aside: &mut [u32; 2048],
-    free: &mut [u32; 2048],
-    x: &mut [u32; 2048],
+    free: &mut FreeLanes,
+    load: &mut Load,
     supplied: &mut u64,
-    serves: &mut [u32; 64],
-    doors: &mut [u32; 64],
 )
-    requires i_lt_m { (i < m) × (j < n) }
-    requires supplied { Supplied m n i x.old supplied.old }
-    requires fact { Open m n aside.old free.old x.old serves.old ways.now doors.old }
-    ensures lane_settled { LaneSettled m n i j aside.old free.old x.old aside.new free.new x.new }
-    ensures fact_2 { Open m n aside.new free.new x.new serves.new ways.now doors.new }
-    ensures supplied_2 { Supplied m n i x.new supplied.new }
+    requires i_lt_m { (i < lanes.now.m) × (j < lanes.now.n) }
+    requires supplied { Supplied lanes.now.m lanes.now.n i load.old.x supplied.old }
+    requires fact { Open lanes.now.m lanes.now.n aside.old free.old.cap load.old.x load.old.serves free.old.ways free.old.doors }
+    ensures lane_settled { LaneSettled lanes.now.m lanes.now.n i j aside.old free.old.cap load.old.x aside.new free.new.cap load.new.x }
+    ensures fact_2 { Open lanes.now.m lanes.now.n aside.new free.new.cap load.new.x load.new.serves free.old.ways free.new.doors }
+    ensures same_ways { free.new.ways ≡ free.old.ways }
+    ensures supplied_2 { Supplied lanes.now.m lanes.now.n i load.new.x supplied.new }
 {
     let k = i * 64 + j;
-    let amount = x[k];
-    free[k] = 0;
-    doors[j] = doors[j] & (u32::MAX - (1 << i));
+    let amount = load.x[k];
+    free.cap[k] = 0;
+    free.doors[j] = free.doors[j] & (u32::MAX - (1 << i));
     if amount == 0 {
         return;
     }
-    x[k] = 0;
-    drop_source(i, j, serves);
+    load.x[k] = 0;
+    drop_source(i, j, &mut load.serves);
     *supplied = *supplied | (1 << j);
-    let left = resend(m, n, ways, free, i, j, amount, x, supplied, serves, doors);
+    let left = resend(lanes, i, j, amount, free, load, supplied);
     aside[k] = aside[k] + left;
 }
 
 // The free lanes of source i are settled.
 fn settle_row(
-    m: usize,
-    n: usize,
+    lanes: &Lanes<'_>,
     i: usize,
-    ways: &mut [u64; 32],
     aside: &mut [u32; 2048],
-    free: &mut [u32; 2048],
-    x: &mut [u32; 2048],
+    free: &mut FreeLanes,
+    load: &mut Load,
     supplied: &mut u64,
-    serves: &mut [u32; 64],
-    doors: &mut [u32; 64],
 )
-    requires i_lt_m { i < m }
-    requires supplied { Supplied m n 32 x.old supplied.old }
-    requires fact { Open m n aside.old free.old x.old serves.old ways.old doors.old }
-    ensures onward { Onward m n (i * 64) (i * 64 + 64) aside.old free.old x.old aside.new
-        free.new x.new }
-    ensures fact_2 { Open m n aside.new free.new x.new serves.new ways.new doors.new }
-    ensures supplied_2 { Supplied m n 32 x.new supplied.new }
+    requires i_lt_m { i < lanes.now.m }
+    requires supplied { Supplied lanes.now.m lanes.now.n 32 load.old.x supplied.old }
+    requires fact { Open lanes.now.m lanes.now.n aside.old free.old.cap load.old.x load.old.serves free.old.ways free.old.doors }
+    ensures onward { Onward lanes.now.m lanes.now.n (i * 64) (i * 64 + 64) aside.old free.old.cap load.old.x aside.new
+        free.new.cap load.new.x }
+    ensures fact_2 { Open lanes.now.m lanes.now.n aside.new free.new.cap load.new.x load.new.serves free.new.ways free.new.doors }
+    ensures supplied_2 { Supplied lanes.now.m lanes.now.n 32 load.new.x supplied.new }
 {
-    let mut rest = ways[i];
+    let mut rest = free.ways[i];
+    // Stays: no index is counted; the bits of a word are taken off one by one.
     while 0 < rest {
         let j = u64::trailing_zeros(rest) as usize;
-        settle_lane(m, n, i, j, ways, aside, free, x, supplied, serves, doors);
+        settle_lane(lanes, i, j, aside, free, load, supplied);
         rest = rest & (rest - 1);
-        ways[i] = rest;
+        free.ways[i] = rest;
     }
 }
 
 // All lanes are settled.
-fn settle(
-    m: usize,
-    n: usize,
-    ways: &mut [u64; 32],
-    aside: &mut [u32; 2048],
-    free: &mut [u32; 2048],
-    x: &mut [u32; 2048],
-    serves: &mut [u32; 64],
-    doors: &mut [u32; 64],
-)
-    requires { Open m n aside.old free.old x.old serves.old ways.old doors.old }
-    ensures onward { Onward m n 0 (m * 64) aside.old free.old x.old aside.new free.new x.new }
-    ensures fact { Open m n aside.new free.new x.new serves.new ways.new doors.new }
+fn settle(lanes: &Lanes<'_>, aside: &mut [u32; 2048], free: &mut FreeLanes, load: &mut Load)
+    requires { Open lanes.now.m lanes.now.n aside.old free.old.cap load.old.x load.old.serves free.old.ways free.old.doors }
+    ensures onward { Onward lanes.now.m lanes.now.n 0 (lanes.now.m * 64) aside.old free.old.cap load.old.x aside.new free.new.cap load.new.x }
+    ensures fact { Open lanes.now.m lanes.now.n aside.new free.new.cap load.new.x load.new.serves free.new.ways free.new.doors }
 {
     let mut supplied = u64::MAX;
-    for i in 0..m {
-        settle_row(m, n, i, ways, aside, free, x, &mut supplied, serves, doors);
+    for i in 0..lanes.m {
+        settle_row(lanes, i, aside, free, load, &mut supplied);
     }
 }
 
@@ -307,44 +309,20 @@ fn places(plan: &[u32; 2048]) -> usize
 
 // Puts the plan for everybody in the place of a plan that is slack with the given potentials. Any contents will do in cells past the case: nothing
 // reads them.
-pub fn canonize(
-    m: usize,
-    n: usize,
-    cost: &[u32; 2048],
-    cap: &[u32; 2048],
-    pot: &[u32; 96],
-    plan: &mut [u32; 2048],
-)
-    requires { CanonReady (net m n cost.now cap.now plan.old) pot.now }
-    ensures { Canonized (net m n cost.now cap.now plan.old) plan.new }
+pub fn canonize(lanes: &Lanes<'_>, pot: &[u32; 96], plan: &mut [u32; 2048])
+    requires { CanonReady (net lanes.now.m lanes.now.n lanes.now.cost.now lanes.now.cap.now plan.old) pot.now }
+    ensures { Canonized (net lanes.now.m lanes.now.n lanes.now.cost.now lanes.now.cap.now plan.old) plan.new }
 {
     places(plan);
-    let mut free = [0u32; 2048];
-    let mut x = [0u32; 2048];
-    let mut serves = [0u32; 64];
-    let mut ways = [0u64; 32];
-    let mut doors = [0u32; 64];
-    part(
-        m,
-        n,
-        cost,
-        cap,
-        pot,
-        plan,
-        &mut free,
-        &mut x,
-        &mut serves,
-        &mut ways,
-        &mut doors,
-    );
-    settle(
-        m,
-        n,
-        &mut ways,
-        plan,
-        &mut free,
-        &mut x,
-        &mut serves,
-        &mut doors,
-    );
+    let mut free = FreeLanes {
+        cap: [0u32; 2048],
+        ways: [0u64; 32],
+        doors: [0u32; 64],
+    };
+    let mut load = Load {
+        x: [0u32; 2048],
+        serves: [0u32; 64],
+    };
+    part(lanes, pot, plan, &mut free, &mut load);
+    settle(lanes, plan, &mut free, &mut load);
 }

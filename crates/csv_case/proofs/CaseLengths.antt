@@ -7,13 +7,11 @@ use lib.IntN.{ℤ, pos, nat_abs}
 use lib.ListN.{length, get_or, take, length-map}
 use lib.Seq.{length-take-le}
 use Rattle.csv_form.specs.declared.Kind.TheVariants.{Tariff, Production}
-use Rattle.csv_table.specs.declared.table.Table.{Table}
-use Rattle.csv_table.specs.declared.table.Table.TheVariants.{Whole, Refused}
-use Rattle.csv_case.specs.declared.case.CaseAnswer.TheVariants as answers
+use Rattle.std.proofs.Common.{Ok, Err}
 use Rattle.csv_form.specs.Records.{whole, form_of}
-use Rattle.csv_table.specs.Files.{wanted, table_of, in_order}
-use Rattle.csv_case.specs.CaseFiles.{sources_in, terminals_in, source_records, costs_in, supplies_in, demands_in, entries_in, answer_of, case_answer}
-use Rattle.csv_case.proofs.TariffCase.{Even, accepted, even_length}
+use Rattle.csv_table.specs.Files.{Table, shaped, wanted, table_of, in_order}
+use Rattle.csv_case.specs.CaseFiles.{counts, sources_in, terminals_in, source_records, costs_in, supplies_in, demands_in, entries_in, answer_of, case_answer}
+use Rattle.csv_case.proofs.TariffCase.{same_counts, Even, accepted, even_length}
 
 -- the first k fields of each of the first m records
 even_take : (w k m : ℕ) (rs : List (List ℤ)) → k ≤ w → Even w rs → Even k (map (λ (r : List ℤ). take k r) (take m rs))
@@ -65,7 +63,7 @@ pub record BothStand (t p : List ℕ) (m n entries : ℕ) : Type 0 where
 
 module _ (t p : List ℕ) (m n entries : ℕ) where
   standing :
-      (records fields one : ℕ) → table_of Tariff t ≡ Whole records fields → table_of Production p ≡ Whole entries one → records - 1 ≡ m → fields - 1 ≡ n →
+      (records fields one : ℕ) → table_of Tariff t ≡ shaped records fields → table_of Production p ≡ shaped entries one → records - 1 ≡ m → fields - 1 ≡ n →
       BothStand t p m n entries
   unfolding sources_in terminals_in wanted entries_in
   standing records fields one ea eb em en =
@@ -87,13 +85,13 @@ module _ (t p : List ℕ) (m n entries : ℕ) where
         table_long = length-map (in_order b.rows) nat_abs ∙ even_length one b.rows b.all ∙ omega (arith, ap (λ (x : ℕ). length b.rows * x) b.width, b.counted);
       }
 
-  pub both_stand : case_answer t p ≡ answers.Case m n entries → BothStand t p m n entries
+  pub both_stand : case_answer t p ≡ counts m n entries → BothStand t p m n entries
   unfolding case_answer
   both_stand e = go (table_of Tariff t) refl (table_of Production p) refl e
     where
-      go : (a : Table) → table_of Tariff t ≡ a → (b : Table) → table_of Production p ≡ b → answer_of a b ≡ answers.Case m n entries → BothStand t p m n entries
-      go (Refused k q) ea b eb e = absurd (let z : ◌≡◌ {A = ℕ} 0 1 = cc in omega arith)
-      go (Whole records fields) ea (Refused k q) eb e = absurd (let z : ◌≡◌ {A = ℕ} 0 1 = cc in omega arith)
-      go (Whole records fields) ea (Whole count one) eb e =
-          let ec : count ≡ entries = cc in
-          standing records fields one ea (eb ∙ ap (λ (x : ℕ). Whole x one) ec) (cc) (cc)
+      go : (a : Table) → table_of Tariff t ≡ a → (b : Table) → table_of Production p ≡ b → answer_of a b ≡ counts m n entries → BothStand t p m n entries
+      go (Err r) ea b eb e = absurd (let z : ◌≡◌ {A = ℕ} 0 1 = cc in omega arith)
+      go (Ok k) ea (Err r) eb e = absurd (let z : ◌≡◌ {A = ℕ} 0 1 = cc in omega arith)
+      go (Ok k) ea (Ok q) eb e =
+          let p = same_counts e in
+          standing k.records k.fields q.fields ea (eb ∙ ap (λ (x : ℕ). shaped x q.fields) p.2) p.0 p.1

@@ -1,6 +1,6 @@
 -- The records of a tariff, shared out. Assumes nothing.
 use mathlib.Core.Path.{◌≡◌, refl, ap, sym, ◌∙◌}
-use mathlib.Core.List.{List}
+use mathlib.Core.List.{List, [], ◌∷◌, map}
 use Prim.Native.Nat.{ℕ, suc, ◌+◌, ◌-◌, ◌*◌, ◌≤◌, ◌<◌}
 use native.Mathlib.Omega.{arith}
 use native.Mathlib.Nat.{zero-mul, suc-mul, mul-le-mul_right, sub-zero}
@@ -10,6 +10,11 @@ use lib.ListN.{length, get_or, take, drop, set, length-set}
 use lib.Seq.{sets, length-sets, drop-drop, get_or-drop}
 use Rattle.csv_case.specs.CaseFiles.{cost_rows, supply_rows}
 use Rattle.csv_print.proofs.Stores.{sets_append, part_length}
+
+-- fields that are stored as they are
+pub map_same : (l : List ℤ) → map (λ (v : ℤ). v) l ≡ l
+map_same [] = refl
+map_same (z ∷ l) = ap (λ (r : List ℤ). z ∷ r) (map_same l)
 
 -- the loop over the sources, after i of them
 pub record Sharing (cells : List ℤ) (m n : ℕ) (costs₀ : List ℤ) (supplies₀ : List ℕ) (costs : List ℤ) (supplies : List ℕ) (start at i : ℕ) : Type 0 where

@@ -13,16 +13,32 @@ use lib.ListN.{length, get_or, take, drop, length-append, get_or-append}
 use lib.Seq.{sets, sets-eq, take-append-le, take_at, take_all, take-take, drop-drop, drop_at}
 use Rattle.csv_form.specs.declared.Kind.{Kind}
 use Rattle.csv_form.specs.declared.Kind.TheVariants.{Tariff, Production}
-use Rattle.csv_table.specs.declared.table.Table.{Table}
-use Rattle.csv_table.specs.declared.table.Table.TheVariants.{Whole, Refused}
+use Rattle.std.proofs.Common.{Ok, Err}
+use Rattle.refusal.specs.declared.Refusal.{Refusal}
+use Rattle.refusal.specs.declared.Cause.TheVariants as causes
 use Rattle.csv_form.specs.Records.{Form, whole, broken, form_of}
-use Rattle.csv_table.specs.Files.{pick, wanted, odd_from, judge, table_of, pick_table, in_order}
-use Rattle.csv_case.specs.declared.case.CaseAnswer.TheVariants as answers
+use Rattle.csv_table.specs.Files.{Table, shaped, refused, pick, wanted, odd_from, judge, table_of, pick_table, in_order}
 use Rattle.csv_table.specs.inner.Tallies.{TableRead}
-use Rattle.csv_case.specs.CaseFiles.{sources_in, terminals_in, source_records, costs_in, supplies_in, demands_in, entries_in, cost_rows, supply_rows}
-use Rattle.csv_case.specs.CaseFiles.{on_refused, case_answer, TariffKept, Shared, CaseStored}
+use Rattle.csv_case.specs.CaseFiles.{CaseAnswer, counts, sources_in, terminals_in, source_records, costs_in, supplies_in, demands_in, entries_in, cost_rows, supply_rows}
+use Rattle.csv_case.specs.CaseFiles.{case_answer, TariffKept, Shared, CaseStored}
 use Rattle.csv_table.proofs.FieldCounts.{judged_whole}
 use Rattle.csv_print.proofs.Stores.{stored_part}
+
+-- the same counts have the same parts
+abbrev sources_of : CaseAnswer → ℕ
+sources_of (Ok k) = k.m
+sources_of (Err r) = 0
+
+abbrev terminals_of : CaseAnswer → ℕ
+terminals_of (Ok k) = k.n
+terminals_of (Err r) = 0
+
+abbrev entries_counted : CaseAnswer → ℕ
+entries_counted (Ok k) = k.entries
+entries_counted (Err r) = 0
+
+pub same_counts : {m m' n n' entries entries' : ℕ} → counts m n entries ≡ counts m' n' entries' → (m ≡ m') × (n ≡ n') × (entries ≡ entries')
+same_counts e = (ap sources_of e, ap terminals_of e, ap entries_counted e)
 
 -- every record has w fields
 abbrev pub Even : ℕ → List (List ℤ) → Type 0
@@ -47,11 +63,11 @@ pub record Accepted (kind : Kind) (s : List ℕ) (records fields : ℕ) : Type 0
   pub width : fields ≡ wanted kind rows
   pub all : Even fields rows
 
-pub accepted : (kind : Kind) (s : List ℕ) (records fields : ℕ) → table_of kind s ≡ Whole records fields → Accepted kind s records fields
+pub accepted : (kind : Kind) (s : List ℕ) (records fields : ℕ) → table_of kind s ≡ shaped records fields → Accepted kind s records fields
 unfolding table_of judge
 accepted kind s records fields e = by_size (ltb 65536 (length s)) refl e
   where
-    by_form : length s ≤ 65536 → (f : Form) → form_of kind s ≡ f → judge kind f ≡ Whole records fields → Accepted kind s records fields
+    by_form : length s ≤ 65536 → (f : Form) → form_of kind s ≡ f → judge kind f ≡ shaped records fields → Accepted kind s records fields
     by_form short (broken place) k w = absurd (let z : ◌≡◌ {A = ℕ} 0 1 = cc in omega arith)
     by_form short (whole rs) k w =
         let p = judged_whole (odd_from (wanted kind rs) 1 rs) (length rs) (wanted kind rs) records fields w in
@@ -64,14 +80,14 @@ accepted kind s records fields e = by_size (ltb 65536 (length s)) refl e
           all = subst (λ (n : ℕ). Even n rs) p.2 (even (wanted kind rs) 0 rs p.0);
         }
 
-    by_size : (b : Bool) → ltb 65536 (length s) ≡ b → pick_table b (Refused 20 0) (judge kind (form_of kind s)) ≡ Whole records fields → Accepted kind s records fields
+    by_size : (b : Bool) → ltb 65536 (length s) ≡ b → pick_table b (refused causes.File 0) (judge kind (form_of kind s)) ≡ shaped records fields → Accepted kind s records fields
     by_size true k w = absurd (let z : ◌≡◌ {A = ℕ} 0 1 = cc in omega arith)
     by_size false k w = by_form (ltb-false 65536 (length s) k) (form_of kind s) refl w
 
 -- what an accepted file leaves in the cells
 pub fields_read :
     {kind : Kind} {s : List ℕ} {cells cells' : List ℤ} {answer : Table} {records fields : ℕ} {rs : List (List ℤ)} → TableRead kind s cells cells' answer →
-    table_of kind s ≡ Whole records fields → form_of kind s ≡ whole rs → cells' ≡ sets cells 0 (in_order rs)
+    table_of kind s ≡ shaped records fields → form_of kind s ≡ whole rs → cells' ≡ sets cells 0 (in_order rs)
 fields_read {kind} {s} {cells} {cells'} {answer} {records} {fields} {rs} read e f = read.stored ∙ rw (e, f) refl
 
 -- all fields of records of w fields each
@@ -201,38 +217,37 @@ too_large m n cells costs supplies demands no_room = record {
 }
 
 module _ (t p : List ℕ) (costs : List ℤ) (supplies demands table : List ℕ) where
-  refused_case : (number place : ℕ) → answers.Refused number place ≡ case_answer t p → CaseStored t p costs supplies demands table costs supplies demands table (answers.Refused number place)
-  refused_case number place e = record {
+  refused_case : (r : Refusal) → Err r ≡ case_answer t p → CaseStored t p costs supplies demands table costs supplies demands table (Err r)
+  refused_case r e = record {
     answered = e;
     tariff_stored = λ rs m n entries f w. absurd (let z : ◌≡◌ {A = ℕ} 0 1 = cc in omega arith);
     large_kept = λ m n entries w. absurd (let z : ◌≡◌ {A = ℕ} 0 1 = cc in omega arith);
     table_stored = λ qs m n entries f w. absurd (let z : ◌≡◌ {A = ℕ} 0 1 = cc in omega arith);
-    refused_kept = λ _ _ _. untouched costs supplies demands;
-    table_kept = λ _ _ _. refl;
+    refused_kept = λ _ _. untouched costs supplies demands;
+    table_kept = λ _ _. refl;
   }
 
-  pub tariff_refused : (a : Table) (number place : ℕ) → a ≡ Refused number place → a ≡ table_of Tariff t → CaseStored t p costs supplies demands table costs supplies demands table (on_refused a)
+  pub tariff_refused : (a : Table) (r : Refusal) → a ≡ Err r → a ≡ table_of Tariff t → CaseStored t p costs supplies demands table costs supplies demands table (Err r)
   unfolding case_answer
-  tariff_refused a number place e k = rw e (refused_case number place (let w : table_of Tariff t ≡ Refused number place = sym k ∙ e in rw w refl))
+  tariff_refused a r e k = refused_case r (let w : table_of Tariff t ≡ Err r = sym k ∙ e in rw w refl)
 
   pub production_refused :
-      (records fields : ℕ) (b : Table) (number place : ℕ) → Whole records fields ≡ table_of Tariff t → b ≡ Refused number place → b ≡ table_of Production p →
-      CaseStored t p costs supplies demands table costs supplies demands table (on_refused b)
+      (records fields : ℕ) (b : Table) (r : Refusal) → shaped records fields ≡ table_of Tariff t → b ≡ Err r → b ≡ table_of Production p →
+      CaseStored t p costs supplies demands table costs supplies demands table (Err r)
   unfolding case_answer
-  production_refused records fields b number place a e k =
-      rw e (refused_case number place (let w : table_of Production p ≡ Refused number place = sym k ∙ e in rw (← a, w) refl))
+  production_refused records fields b r a e k = refused_case r (let w : table_of Production p ≡ Err r = sym k ∙ e in rw (← a, w) refl)
 
   pub both_accepted :
       (costs' : List ℤ) (supplies' demands' table' : List ℕ) (cells cells' held₀ held : List ℤ) (records fields entries one : ℕ) (whole-a whole-b : Table) →
-      length cells ≡ 2145 → length held₀ ≡ 4002 → whole-a ≡ Whole records fields →
-      TableRead Tariff t cells cells' whole-a → whole-b ≡ Whole entries one → TableRead Production p held₀ held whole-b →
+      length cells ≡ 2145 → length held₀ ≡ 4002 → whole-a ≡ shaped records fields →
+      TableRead Tariff t cells cells' whole-a → whole-b ≡ shaped entries one → TableRead Production p held₀ held whole-b →
       Shared (records - 1) (fields - 1) cells' costs supplies demands costs' supplies' demands' →
       table' ≡ sets table 0 (map nat_abs (take (min entries 4002) held)) →
-      CaseStored t p costs supplies demands table costs' supplies' demands' table' (answers.Case (records - 1) (fields - 1) entries)
+      CaseStored t p costs supplies demands table costs' supplies' demands' table' (counts (records - 1) (fields - 1) entries)
   unfolding case_answer wanted
   both_accepted costs' supplies' demands' table' cells cells' held₀ held records fields entries one whole-a whole-b long long-held ea a' eb b' share shared-entries =
-      let a : TableRead Tariff t cells cells' (Whole records fields) = subst (λ (x : Table). TableRead Tariff t cells cells' x) ea a' in
-      let b : TableRead Production p held₀ held (Whole entries one) = subst (λ (x : Table). TableRead Production p held₀ held x) eb b' in
+      let a : TableRead Tariff t cells cells' (shaped records fields) = subst (λ (x : Table). TableRead Tariff t cells cells' x) ea a' in
+      let b : TableRead Production p held₀ held (shaped entries one) = subst (λ (x : Table). TableRead Production p held₀ held x) eb b' in
       let m = records - 1 in
       let n = fields - 1 in
       let wa = accepted Tariff t records fields (sym a.answered) in
@@ -242,8 +257,8 @@ module _ (t p : List ℕ) (costs : List ℤ) (supplies demands table : List ℕ)
         answered = rw (← a.answered, ← b.answered) refl;
         tariff_stored = λ rs m' n' entries' f w few' narrow'.
             let same : wa.rows ≡ rs = (let k = wa.form in cc) in
-            let em : m ≡ m' = cc in
-            let en : n ≡ n' = cc in
+            let em : m ≡ m' = (same_counts w).0 in
+            let en : n ≡ n' = (same_counts w).1 in
             let few : m ≤ 32 = omega arith in
             let narrow : n ≤ 64 = omega arith in
             let count : length rs ≡ m + 1 = omega (arith, wa.counted, ap length same) in
@@ -262,11 +277,11 @@ module _ (t p : List ℕ) (costs : List ℤ) (supplies demands table : List ℕ)
                   ap (λ (l : List ℕ). sets demands 0 l) (ap (λ (l : List ℤ). map nat_abs (take n (drop (m * (n + 1)) l))) kept ∙ stored_demands cells rs m n long count even-rows few narrow width);
             };
         large_kept = λ m' n' entries' w no_room.
-            let em : m ≡ m' = cc in
-            let en : n ≡ n' = cc in
+            let em : m ≡ m' = (same_counts w).0 in
+            let en : n ≡ n' = (same_counts w).1 in
             share.large_kept (λ few narrow. no_room (omega arith) (omega arith));
-        refused_kept = λ number place w. absurd (let z : ◌≡◌ {A = ℕ} 0 1 = cc in omega arith);
-        table_kept = λ number place w. absurd (let z : ◌≡◌ {A = ℕ} 0 1 = cc in omega arith);
+        refused_kept = λ r w. absurd (let z : ◌≡◌ {A = ℕ} 0 1 = cc in omega arith);
+        table_kept = λ r w. absurd (let z : ◌≡◌ {A = ℕ} 0 1 = cc in omega arith);
         table_stored = λ qs m' n' entries' f w.
             let same : wb.rows ≡ qs = (let k = wb.form in cc) in
             let count : length (in_order qs) ≡ entries =

@@ -1,13 +1,11 @@
 -- The case that the records of two files are, and what the reader of a case stores. Assumes nothing.
-use Rattle.std.specs.Prelude.{◌≡◌, List, [], ◌∷◌, ◌++◌, map, ℕ, zero, suc, ◌+◌, ◌-◌, ◌*◌, ◌≤◌, ℤ, pos, nat_abs, length, get_or, take, drop}
+use Rattle.std.specs.Prelude.{◌≡◌, List, [], ◌∷◌, ◌++◌, map, ℕ, zero, suc, ◌+◌, ◌-◌, ◌*◌, ◌≤◌, ℤ, pos, nat_abs, length, get_or, take, drop, Result, Ok, Err}
 use Rattle.std.proofs.lemmas.List.Edits.{sets}
 use Rattle.csv_form.specs.declared.Kind.TheVariants.{Tariff, Production}
-use Rattle.csv_table.specs.declared.table.Table.{Table}
-use Rattle.csv_table.specs.declared.table.Table.TheVariants as tables
-use Rattle.csv_case.specs.declared.case.CaseAnswer.{CaseAnswer}
-use Rattle.csv_case.specs.declared.case.CaseAnswer.TheVariants.{Case, Refused}
+use Rattle.csv_case.specs.declared.case.CaseShape.{CaseShape}
+use Rattle.refusal.specs.declared.Refusal.{Refusal}
 use Rattle.csv_form.specs.Records.{Form, whole, broken, form_of}
-use Rattle.csv_table.specs.Files.{wanted, table_of, in_order}
+use Rattle.csv_table.specs.Files.{Table, wanted, table_of, in_order}
 
 -- the records of a file, none where it has not the form
 abbrev pub records_of : Form → List (List ℤ)
@@ -38,15 +36,18 @@ demands_in rs = map nat_abs (take (terminals_in rs) (get_or rs (sources_in rs) [
 unfoldable pub entries_in : List (List ℤ) → List ℕ
 entries_in qs = map nat_abs (in_order qs)
 
--- the tariff is judged by 20 to 22, then the production file; the counts are m, n and the count of entries
-abbrev pub on_refused : Table → CaseAnswer
-on_refused (tables.Whole records fields) = Refused 0 0
-on_refused (tables.Refused number place) = Refused number place
+-- the counts of a case, or a refusal
+abbrev pub CaseAnswer : Type 0
+CaseAnswer = Result CaseShape Refusal
 
+abbrev pub counts : ℕ → ℕ → ℕ → CaseAnswer
+counts m' n' entries' = Ok (record { m = m'; n = n'; entries = entries' })
+
+-- the tariff is judged by 20 to 22, then the production file; the counts are m, n and the count of entries
 abbrev pub answer_of : Table → Table → CaseAnswer
-answer_of (tables.Refused number place) p = Refused number place
-answer_of (tables.Whole records fields) (tables.Refused number place) = Refused number place
-answer_of (tables.Whole records fields) (tables.Whole entries one) = Case (records - 1) (fields - 1) entries
+answer_of (Err r) p = Err r
+answer_of (Ok t) (Err r) = Err r
+answer_of (Ok t) (Ok p) = counts (t.records - 1) (t.fields - 1) p.records
 
 unfoldable pub case_answer : List ℕ → List ℕ → CaseAnswer
 case_answer t p = answer_of (table_of Tariff t) (table_of Production p)
@@ -84,9 +85,9 @@ pub record TariffStored (rs : List (List ℤ)) (costs : List ℤ) (supplies dema
 pub record CaseStored (t p : List ℕ) (costs : List ℤ) (supplies demands table : List ℕ) (costs' : List ℤ) (supplies' demands' table' : List ℕ) (answer : CaseAnswer) : Type 0 where
   pub answered : answer ≡ case_answer t p
   pub tariff_stored :
-      (rs : List (List ℤ)) (m n entries : ℕ) → form_of Tariff t ≡ whole rs → answer ≡ Case m n entries → m ≤ 32 → n ≤ 64 →
+      (rs : List (List ℤ)) (m n entries : ℕ) → form_of Tariff t ≡ whole rs → answer ≡ counts m n entries → m ≤ 32 → n ≤ 64 →
       TariffStored rs costs supplies demands costs' supplies' demands'
-  pub large_kept : (m n entries : ℕ) → answer ≡ Case m n entries → (m ≤ 32 → n ≤ 64 → ⊥) → TariffKept costs supplies demands costs' supplies' demands'
-  pub table_stored : (qs : List (List ℤ)) (m n entries : ℕ) → form_of Production p ≡ whole qs → answer ≡ Case m n entries → table' ≡ sets table 0 (take 4002 (entries_in qs))
-  pub refused_kept : (number place : ℕ) → answer ≡ Refused number place → TariffKept costs supplies demands costs' supplies' demands'
-  pub table_kept : (number place : ℕ) → answer ≡ Refused number place → table' ≡ table
+  pub large_kept : (m n entries : ℕ) → answer ≡ counts m n entries → (m ≤ 32 → n ≤ 64 → ⊥) → TariffKept costs supplies demands costs' supplies' demands'
+  pub table_stored : (qs : List (List ℤ)) (m n entries : ℕ) → form_of Production p ≡ whole qs → answer ≡ counts m n entries → table' ≡ sets table 0 (take 4002 (entries_in qs))
+  pub refused_kept : (r : Refusal) → answer ≡ Err r → TariffKept costs supplies demands costs' supplies' demands'
+  pub table_kept : (r : Refusal) → answer ≡ Err r → table' ≡ table

@@ -2,25 +2,20 @@
 ghost use Rattle.std.specs.Prelude.{◌≡◌, map, min, ◌+◌, ◌-◌, ◌*◌, ◌≤◌, nat_abs, length, take};
 ghost use Rattle.std.proofs.lemmas.List.Edits.{sets};
 ghost use Rattle.csv_case.specs.Entries.{EntriesStored};
-ghost use Rattle.csv_case.specs.CaseFiles.{cost_rows, supply_rows, Shared, on_refused, CaseStored};
+ghost use Rattle.csv_case.specs.CaseFiles.{cost_rows, supply_rows, Shared, CaseStored};
 
 use csv_form::Kind;
 use csv_print::magnitude;
-use csv_table::store::{copy_signed, copy_sizes, put, smaller};
-use csv_table::table::{Table, read_table};
+use csv_table::store::{copy_fields, put};
+use csv_table::table::{Shape, read_table};
+use refusal::Refusal;
 
-// The counts of sources, terminals and production entries, or a refusal.
-#[derive(Drop)]
-pub enum CaseAnswer {
-    Case { m: usize, n: usize, entries: usize },
-    Refused { number: u64, place: usize },
-}
-
-// The count of a production table's entries, or a refusal.
-#[derive(Drop)]
-pub enum Entries {
-    Read { count: usize },
-    Refused { number: u64, place: usize },
+// The counts of sources, terminals and production entries.
+#[derive(Clone, Copy, Debug, PartialEq, Eq)]
+pub struct CaseShape {
+    pub m: usize,
+    pub n: usize,
+    pub entries: usize,
 }
 
 // Cells for the fields of a tariff of 32 sources and 64 terminals: 33 records of 65 fields.
@@ -43,7 +38,7 @@ fn share_sources(cells: &[i64], m: usize, n: usize, costs: &mut [i64], supplies:
     let mut start: usize = 0;
     let mut at: usize = 0;
     for i in 0..m {
-        copy_signed(cells, start, n, costs, at);
+        copy_fields(cells, start, n, costs, at);
         put(supplies, i, magnitude(cells[start + n]));
         start = start + n + 1;
         at = at + n;
@@ -70,7 +65,7 @@ fn share(
         return;
     }
     share_sources(cells, m, n, costs, supplies);
-    copy_sizes(cells, m * (n + 1), n, demands, 0);
+    copy_fields(cells, m * (n + 1), n, demands, 0);
 }
 
 // Shares out the entries of the production file, 4,002 at most.
@@ -78,23 +73,7 @@ fn share_entries(cells: &[i64], entries: usize, table: &mut [u64])
     requires { length cells.now ≡ 4002 }
     ensures { table.new ≡ sets table.old 0 (map nat_abs (take (min entries 4002) cells.now)) }
 {
-    let count = smaller(entries, 4002);
-    copy_sizes(cells, 0, count, table, 0);
-}
-
-fn handed_on(t: Table) -> CaseAnswer
-    ensures { result ≡ on_refused t }
-{
-    match t {
-        Table::Whole {
-            records: _,
-            fields: _,
-        } => CaseAnswer::Refused {
-            number: 0,
-            place: 0,
-        },
-        Table::Refused { number, place } => CaseAnswer::Refused { number, place },
-    }
+    copy_fields(cells, 0, entries.min(4002), table, 0);
 }
 
 // Reads both files. Stores unit costs, supplies and demands, where there are at most 32 sources and 64 terminals, and at most 4,002
@@ -106,42 +85,28 @@ pub fn read_case(
     supplies: &mut [u64],
     demands: &mut [u64],
     table: &mut [u64],
-) -> CaseAnswer
+) -> Result<CaseShape, Refusal>
     ensures { CaseStored tariff.now production.now costs.old supplies.old
         demands.old table.old costs.new supplies.new demands.new table.new result }
 {
     let mut cells = blank();
-    let t = read_table(Kind::Tariff, tariff, &mut cells);
-    let Table::Whole { records, fields } = t else {
-        return handed_on(t);
-    };
+    let Shape { records, fields } = read_table(Kind::Tariff, tariff, &mut cells)?;
     let mut held = entry_blank();
-    let p = read_table(Kind::Production, production, &mut held);
-    let Table::Whole {
-        records: entries,
-        fields: _,
-    } = p
-    else {
-        return handed_on(p);
-    };
+    let p = read_table(Kind::Production, production, &mut held)?;
+    let entries = p.records;
     let m = records - 1;
     let n = fields - 1;
     share(&cells, m, n, costs, supplies, demands);
     share_entries(&held, entries, table);
-    CaseAnswer::Case { m, n, entries }
+    Ok(CaseShape { m, n, entries })
 }
 
 // Reads a production file alone. Stores at most 4,002 entries, as far as there are cells.
-pub fn read_entries(production: &[u8], table: &mut [u64]) -> Entries
+pub fn read_entries(production: &[u8], table: &mut [u64]) -> Result<usize, Refusal>
     ensures { EntriesStored production.now table.old table.new result }
 {
     let mut held = entry_blank();
-    let p = read_table(Kind::Production, production, &mut held);
-    match p {
-        Table::Whole { records, fields: _ } => {
-            share_entries(&held, records, table);
-            Entries::Read { count: records }
-        }
-        Table::Refused { number, place } => Entries::Refused { number, place },
-    }
+    let p = read_table(Kind::Production, production, &mut held)?;
+    share_entries(&held, p.records, table);
+    Ok(p.records)
 }

@@ -11,7 +11,8 @@ use mathlib.Core.List.{List}
 use Rattle.csv_form.specs.declared.Kind.{Kind}
 use Rattle.csv_form.specs.declared.Kind.TheVariants.{Tariff, Production}
 use Rattle.csv_form.specs.Form.{Mark, digit, minus, quote, comma, cr, lf, other, pick_mark, mark}
-use Rattle.csv_form.specs.inner.Reader.{digit_or10, is_minus}
+use Rattle.std.proofs.Common.{Option, Some, None}
+use Rattle.csv_form.specs.inner.Reader.{digit_or10, digit_of, is_minus}
 
 abbrev pub NotDigit : Mark → Type 0
 NotDigit (digit d) = ⊥
@@ -56,6 +57,24 @@ below_ten b h = ten (mark b) (below_digit b h)
 
 pub above_ten : (b : ℕ) → 57 < b → 10 ≡ digit_or10 (mark b)
 above_ten b h = ten (mark b) (above_digit b h)
+
+no_digit_of : (m : Mark) → NotDigit m → None ≡ digit_of m
+no_digit_of (digit d) h = absurd h
+no_digit_of minus h = refl
+no_digit_of quote h = refl
+no_digit_of comma h = refl
+no_digit_of cr h = refl
+no_digit_of lf h = refl
+no_digit_of other h = refl
+
+pub below_none : (b : ℕ) → b < 48 → None ≡ digit_of (mark b)
+below_none b h = no_digit_of (mark b) (below_digit b h)
+
+pub above_none : (b : ℕ) → 57 < b → None ≡ digit_of (mark b)
+above_none b h = no_digit_of (mark b) (above_digit b h)
+
+pub nothing_none : (s : List ℕ) (at : ℕ) → length s ≤ at → None ≡ digit_of (mark (get_or s at 0))
+nothing_none s at h = rw (get_or-eq_default s 0 h) (below_none 0 (omega arith))
 
 -- past the end of a list there is no digit
 pub nothing_ten : (s : List ℕ) (at : ℕ) → length s ≤ at → 10 ≡ digit_or10 (mark (get_or s at 0))
@@ -173,4 +192,38 @@ digit_small b d e =
         | no hi ↦ absurd (subst (λ (m : Mark). NotDigit m) e (above_digit b (omega arith)))
       ]
       | no lo ↦ absurd (subst (λ (m : Mark). NotDigit m) e (below_digit b (omega arith)))
+    ]
+
+-- what the digit at an offset says, found or not
+abbrev or10 : Option ℕ → ℕ
+or10 (Some d) = d
+or10 None = 10
+
+or10_digit : (m : Mark) → digit_or10 m ≡ or10 (digit_of m)
+or10_digit (digit d) = refl
+or10_digit minus = refl
+or10_digit quote = refl
+or10_digit comma = refl
+or10_digit cr = refl
+or10_digit lf = refl
+or10_digit other = refl
+
+abbrev found : Option ℕ → Bool
+found (Some d) = true
+found None = false
+
+pub none_above : (m : Mark) → None ≡ digit_of m → 9 < digit_or10 m
+none_above m e = let k : digit_or10 m ≡ 10 = or10_digit m ∙ ap or10 (sym e) in omega arith
+
+pub some_is : (m : Mark) (d : ℕ) → Some d ≡ digit_of m → digit_or10 m ≡ d
+some_is m d e = or10_digit m ∙ ap or10 (sym e)
+
+pub some_small : (b d : ℕ) → Some d ≡ digit_of (mark b) → d ≤ 9
+some_small b d e =
+    elim (dec_le 48 b) [
+      | yes lo ↦ elim (dec_le b 57) [
+        | yes hi ↦ (let k : digit_or10 (mark b) ≡ b - 48 = ap digit_or10 (mark_digit b lo hi) in omega (arith, some_is (mark b) d e))
+        | no hi ↦ absurd (false≢true (ap found (above_none b (omega arith) ∙ sym e)))
+      ]
+      | no lo ↦ absurd (false≢true (ap found (below_none b (omega arith) ∙ sym e)))
     ]

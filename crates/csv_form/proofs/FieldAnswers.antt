@@ -1,5 +1,5 @@
 -- The answer at a field by the tests that are made, and what it means for the run. Assumes nothing.
-use mathlib.Core.Path.{◌≡◌, refl, sym, ap, ◌∙◌, subst}
+use mathlib.Core.Path.{◌≡◌, refl, sym, subst, ap}
 use mathlib.Core.Bool.{Bool, true, false}
 use mathlib.Core.List.{List}
 use Prim.Native.Nat.{ℕ, zero, suc, ◌+◌, ◌*◌, ◌-◌, ◌≤◌, ◌<◌}
@@ -7,15 +7,30 @@ use native.Mathlib.Omega.{arith}
 use native.Mathlib.Decide.{ℕ_discrete, dec_lt}
 use borrow.Author.Tests.{eq-eqb, ne_eqb, lt-ltb, le-ltb}
 use lib.ListN.{length, get_or}
+use Rattle.std.proofs.Common.{Ok, Err}
 use Rattle.csv_form.specs.declared.Kind.{Kind}
-use Rattle.csv_form.specs.declared.field.Field.{Field}
-use Rattle.csv_form.specs.declared.field.Field.TheVariants.{Value, Refused}
 use Rattle.csv_form.specs.Form.{mark, field, opened}
-use Rattle.csv_form.specs.inner.Reader.{digit_or10, is_minus, number_from, number_at, DigitsRead, NumberRead, close_quote, digits_to, digits_from, number_of, signed_at, field_at, FieldRead}
+use Rattle.csv_form.specs.inner.Reader.{FieldAnswer, read, misfit, digit_or10, is_minus, number_from, number_at, DigitsRead, NumberRead, close_quote, digits_to, digits_from, number_of, signed_at, field_at, FieldRead}
 use Rattle.csv_form.proofs.AfterAnswers.{present}
 use Rattle.csv_form.proofs.ByteMarks.{past, nothing_ten, no_minus, minus_inside}
 use Rattle.csv_form.proofs.Digits.{DigitsSoFar, none_yet, one_more, no_more, all_ten}
 use Rattle.csv_form.proofs.Fields.{opened_plain, opened_minus, field_plain, field_minus, field_quoted}
+
+-- ---- the same answer has the same parts
+abbrev value_of : FieldAnswer → ℕ
+value_of (Ok f) = f.value
+value_of (Err e) = 0
+
+abbrev minus_of : FieldAnswer → Bool
+minus_of (Ok f) = f.minus
+minus_of (Err e) = false
+
+abbrev next_of : FieldAnswer → ℕ
+next_of (Ok f) = f.next
+next_of (Err e) = 0
+
+pub same_read : {v v' : ℕ} {m m' : Bool} {n n' : ℕ} → read v m n ≡ read v' m' n' → (v ≡ v') × (m ≡ m') × (n ≡ n')
+same_read e = (ap value_of e, ap minus_of e, ap next_of e)
 
 -- ---- digits
 module _ (s : List ℕ) where
@@ -83,7 +98,7 @@ module _ (s : List ℕ) where
         on q false e = rw e (field_plain kind s at (number_of false s at) q e (means_number false at h))
 
     -- ---- the answers
-    pub field_past : (at : ℕ) → length s ≤ at → Refused at ≡ field_at kind s at
+    pub field_past : (at : ℕ) → length s ≤ at → misfit at ≡ field_at kind s at
     unfolding field_at signed_at number_of
     field_past at h =
         rw (ne_eqb (get_or s at 0) 34 (past s at 33 h)) (rw (sym (no_minus kind s at h)) (rw (nothing (digit_or10 (mark (get_or s (at + 1) 0)))) refl))

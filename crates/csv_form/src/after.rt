@@ -2,9 +2,9 @@
 ghost use Rattle.std.specs.Prelude.{◌≡◌, ◌≤◌, length};
 ghost use Rattle.csv_form.specs.inner.Reader.{cost_at, last_at, demand_at, comma_at, record_at, after_at, at_last};
 
-use crate::Kind;
+use crate::{Kind, Misfit};
 
-#[derive(Drop)]
+#[derive(Clone, Copy, Debug, PartialEq, Eq)]
 pub enum After {
     // A further field of the record begins at next.
     Field { next: usize },
@@ -14,51 +14,50 @@ pub enum After {
     End,
     // The record ends with an empty field, and the file ends.
     Empty,
-    Refused { place: usize },
 }
 
 // After the CR of the demands: LF, and the file ends.
-fn after_demands(s: &[u8], at: usize) -> After
+fn after_demands(s: &[u8], at: usize) -> Result<After, Misfit>
     requires { at ≤ length s.now }
     ensures { result ≡ last_at s.now at }
 {
     if s.len() <= at {
-        return After::Refused { place: at };
+        return Err(Misfit { place: at });
     }
-    if s[at] != 10 {
-        return After::Refused { place: at };
+    if s[at] != b'\n' {
+        return Err(Misfit { place: at });
     }
     let next = at + 1;
     if next < s.len() {
-        return After::Refused { place: next };
+        return Err(Misfit { place: next });
     }
-    After::Empty
+    Ok(After::Empty)
 }
 
 // After a comma in a record of the tariff that may be the demands': a field, or the empty last field of the demands.
-fn after_demand(s: &[u8], at: usize) -> After
+fn after_demand(s: &[u8], at: usize) -> Result<After, Misfit>
     requires { at ≤ length s.now }
     ensures { result ≡ demand_at s.now at }
 {
     if s.len() <= at {
-        return After::Empty;
+        return Ok(After::Empty);
     }
-    if s[at] == 13 {
+    if s[at] == b'\r' {
         return after_demands(s, at + 1);
     }
-    After::Field { next: at }
+    Ok(After::Field { next: at })
 }
 
 // After a comma, in a record that is known to be a source's or not.
-fn after_comma(kind: Kind, source: bool, s: &[u8], at: usize) -> After
+fn after_comma(kind: Kind, source: bool, s: &[u8], at: usize) -> Result<After, Misfit>
     requires { at ≤ length s.now }
     ensures { result ≡ comma_at kind source s.now at }
 {
     match kind {
-        Kind::Production => After::Field { next: at },
+        Kind::Production => Ok(After::Field { next: at }),
         Kind::Tariff => {
             if source {
-                After::Field { next: at }
+                Ok(After::Field { next: at })
             } else {
                 after_demand(s, at)
             }
@@ -67,55 +66,61 @@ fn after_comma(kind: Kind, source: bool, s: &[u8], at: usize) -> After
 }
 
 // After the CR of a record: LF, and a further record, or, in the production file, the end.
-fn after_record(kind: Kind, s: &[u8], at: usize) -> After
+fn after_record(kind: Kind, s: &[u8], at: usize) -> Result<After, Misfit>
     requires { at ≤ length s.now }
     ensures { result ≡ record_at kind s.now at }
 {
     if s.len() <= at {
-        return After::Refused { place: at };
+        return Err(Misfit { place: at });
     }
-    if s[at] != 10 {
-        return After::Refused { place: at };
+    if s[at] != b'\n' {
+        return Err(Misfit { place: at });
     }
     let next = at + 1;
     match kind {
-        Kind::Tariff => After::Record { next },
+        Kind::Tariff => Ok(After::Record { next }),
         Kind::Production => {
             if next < s.len() {
-                After::Record { next }
+                Ok(After::Record { next })
             } else {
-                After::End
+                Ok(After::End)
             }
         }
     }
 }
 
 // Where the file ends after a field: the production file may.
-fn after_all(kind: Kind, at: usize) -> After
+fn after_all(kind: Kind, at: usize) -> Result<After, Misfit>
     ensures { result ≡ at_last kind at }
 {
     match kind {
-        Kind::Tariff => After::Refused { place: at },
-        Kind::Production => After::End,
+        Kind::Tariff => Err(Misfit { place: at }),
+        Kind::Production => Ok(After::End),
     }
 }
 
 // After a field with a minus, which is a unit cost: a comma, and a further field.
-fn after_cost(s: &[u8], at: usize) -> After
+fn after_cost(s: &[u8], at: usize) -> Result<After, Misfit>
     requires { at ≤ length s.now }
     ensures { result ≡ cost_at s.now at }
 {
     if s.len() <= at {
-        return After::Refused { place: at };
+        return Err(Misfit { place: at });
     }
-    if s[at] != 44 {
-        return After::Refused { place: at };
+    if s[at] != b',' {
+        return Err(Misfit { place: at });
     }
-    After::Field { next: at + 1 }
+    Ok(After::Field { next: at + 1 })
 }
 
 // What stands after a field, with a minus or not, that ends at an offset, in a record that is known to be a source's or not.
-pub fn read_after(kind: Kind, minus: bool, source: bool, s: &[u8], at: usize) -> After
+pub fn read_after(
+    kind: Kind,
+    minus: bool,
+    source: bool,
+    s: &[u8],
+    at: usize,
+) -> Result<After, Misfit>
     requires { at ≤ length s.now }
     ensures { result ≡ after_at kind minus source s.now at }
 {
@@ -127,11 +132,11 @@ pub fn read_after(kind: Kind, minus: bool, source: bool, s: &[u8], at: usize) ->
     }
     let b = s[at];
     let next = at + 1;
-    if b == 44 {
+    if b == b',' {
         return after_comma(kind, source, s, next);
     }
-    if b == 13 {
+    if b == b'\r' {
         return after_record(kind, s, next);
     }
-    After::Refused { place: at }
+    Err(Misfit { place: at })
 }

@@ -1,45 +1,40 @@
 // A field, bare or in double quotes: 0, or 1 to 10 digits of which the first is not 0; these may have one minus before them in the tariff.
-ghost use Rattle.std.specs.Prelude.{◌≡◌, ◌+◌, ◌≤◌, ◌<◌, ◌^◌, length, get_or};
+ghost use Rattle.std.specs.Prelude.{◌≡◌, ◌+◌, ◌≤◌, ◌<◌, ◌^◌, length, get_or, Ok};
 ghost use Rattle.csv_form.specs.Form.{mark};
 ghost use Rattle.csv_form.specs.Records.{signed};
-ghost use Rattle.csv_form.specs.inner.Reader.{digit_or10, is_minus, number_at, digits_from, number_of, close_quote, signed_at, field_at};
+ghost use Rattle.csv_form.specs.inner.Reader.{digit_of, is_minus, number_at, digits_from, number_of, close_quote, signed_at, field_at};
 
-use crate::Kind;
+use crate::{Kind, Misfit};
 
-// What is read at a field: its value, and whether a minus stands before it, with the next offset; or a refusal with its place.
-#[derive(Drop)]
-pub enum Field {
-    Value {
-        value: u64,
-        minus: bool,
-        next: usize,
-    },
-    Refused {
-        place: usize,
-    },
+// What is read at a field: its value, and whether a minus stands before it, with the next offset.
+#[derive(Clone, Copy, Debug, PartialEq, Eq)]
+pub struct Field {
+    pub value: u64,
+    pub minus: bool,
+    pub next: usize,
 }
 
-#[derive(Drop)]
+#[derive(Clone, Copy, Debug, PartialEq, Eq)]
 pub struct Digits {
     pub value: u64,
     pub next: usize,
 }
 
-// The digit at an offset, or 10 where there is none.
-fn digit_at(s: &[u8], at: usize) -> u64
-    ensures { result ≡ digit_or10 (mark (get_or s.now at 0)) }
+// The digit at an offset, if there is one.
+fn digit_at(s: &[u8], at: usize) -> Option<u64>
+    ensures { result ≡ digit_of (mark (get_or s.now at 0)) }
 {
     if s.len() <= at {
-        return 10;
+        return None;
     }
     let b = s[at];
-    if b < 48 {
-        return 10;
+    if b < b'0' {
+        return None;
     }
-    if 57 < b {
-        return 10;
+    if b'9' < b {
+        return None;
     }
-    (b - 48) as u64
+    Some((b - b'0') as u64)
 }
 
 // Is there a minus at an offset, in a file whose numbers may have one?
@@ -52,7 +47,7 @@ fn minus_at(kind: Kind, s: &[u8], at: usize) -> bool
             if s.len() <= at {
                 return false;
             }
-            s[at] == 45
+            s[at] == b'-'
         }
     }
 }
@@ -63,101 +58,87 @@ fn read_digits(s: &[u8], at: usize) -> Digits
     ensures { result ≡ digits_from 10 s.now 0 at }
 {
     let mut value: u64 = 0;
-    let mut next = at;
-    let mut left: u64 = 10;
-    while 0 < left {
-        let d = digit_at(s, next);
-        if 9 < d {
+    for next in at..at + 10 {
+        let Some(d) = digit_at(s, next) else {
             return Digits { value, next };
-        }
+        };
         value = value * 10 + d;
-        next += 1;
-        left -= 1;
     }
-    Digits { value, next }
+    Digits {
+        value,
+        next: at + 10,
+    }
 }
 
 // Does a number begin at an offset, after a minus or not? With a digit that is not 0, or after no minus with a 0 that no digit follows.
 fn number_at(minus: bool, s: &[u8], at: usize) -> bool
     ensures { result ≡ number_at minus s.now at }
 {
-    let d = digit_at(s, at);
-    if 9 < d {
-        return false;
+    match digit_at(s, at) {
+        None => false,
+        Some(0) => {
+            if minus {
+                return false;
+            }
+            digit_at(s, at + 1).is_none()
+        }
+        Some(_) => true,
     }
-    if 0 < d {
-        return true;
-    }
-    if minus {
-        return false;
-    }
-    9 < digit_at(s, at + 1)
 }
 
 // The number whose digits begin at an offset, after a minus or not.
-fn read_number(minus: bool, s: &[u8], at: usize) -> Field
+fn read_number(minus: bool, s: &[u8], at: usize) -> Result<Field, Misfit>
     requires { at ≤ length s.now }
     ensures { result ≡ number_of minus s.now at }
 {
-    if number_at(minus, s, at) {
-        let d = read_digits(s, at);
-        return Field::Value {
-            value: d.value,
-            minus,
-            next: d.next,
-        };
+    if !number_at(minus, s, at) {
+        return Err(Misfit { place: at });
     }
-    Field::Refused { place: at }
+    let Digits { value, next } = read_digits(s, at);
+    Ok(Field { value, minus, next })
 }
 
 // A number that was read, and the quote that closes it.
-fn close_quote(s: &[u8], f: Field) -> Field
-    ensures { result ≡ close_quote s.now f }
+fn close_quote(s: &[u8], f: Field) -> Result<Field, Misfit>
+    ensures { result ≡ close_quote s.now (Ok f) }
 {
-    let Field::Value { value, minus, next } = f else {
-        return f;
-    };
+    let next = f.next;
     if s.len() <= next {
-        return Field::Refused { place: next };
+        return Err(Misfit { place: next });
     }
-    if s[next] != 34 {
-        return Field::Refused { place: next };
+    if s[next] != b'"' {
+        return Err(Misfit { place: next });
     }
-    Field::Value {
-        value,
-        minus,
+    Ok(Field {
         next: next + 1,
-    }
+        ..f
+    })
 }
 
-// The rest of a field after the quote that opens it.
-fn read_quoted(kind: Kind, s: &[u8], at: usize) -> Field
+// A number with the minus before it, if there is one.
+fn read_signed(kind: Kind, s: &[u8], at: usize) -> Result<Field, Misfit>
     requires { at ≤ length s.now }
-    ensures { result ≡ close_quote s.now (signed_at kind s.now at) }
+    ensures { result ≡ signed_at kind s.now at }
 {
-    if minus_at(kind, s, at) {
-        let f = read_number(true, s, at + 1);
-        return close_quote(s, f);
-    }
-    let f = read_number(false, s, at);
-    close_quote(s, f)
-}
-
-// The field at an offset.
-pub fn read_field(kind: Kind, s: &[u8], at: usize) -> Field
-    requires { at ≤ length s.now }
-    ensures { result ≡ field_at kind s.now at }
-{
-    if s.len() <= at {
-        return Field::Refused { place: at };
-    }
-    if s[at] == 34 {
-        return read_quoted(kind, s, at + 1);
-    }
     if minus_at(kind, s, at) {
         return read_number(true, s, at + 1);
     }
     read_number(false, s, at)
+}
+
+// The field at an offset.
+pub fn read_field(kind: Kind, s: &[u8], at: usize) -> Result<Field, Misfit>
+    requires { at ≤ length s.now }
+    ensures { result ≡ field_at kind s.now at }
+{
+    if s.len() <= at {
+        return Err(Misfit { place: at });
+    }
+    if s[at] != b'"' {
+        return read_signed(kind, s, at);
+    }
+    let f = read_signed(kind, s, at + 1)?;
+    close_quote(s, f)
 }
 
 // A number of at most ten digits as an integer: below 0, or 0, where it has a minus.

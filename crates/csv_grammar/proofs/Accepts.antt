@@ -9,14 +9,12 @@ use lib.IntN.{ℤ, pos}
 use lib.ListN.{length, drop}
 use Rattle.csv_form.specs.declared.Kind.{Kind}
 use Rattle.csv_form.specs.declared.Kind.TheVariants.{Tariff, Production}
-use Rattle.csv_form.specs.declared.field.Field as answer
-use Rattle.csv_form.specs.declared.field.Field.TheVariants as answers
-use Rattle.csv_form.specs.declared.after.After.{After}
+use Rattle.std.proofs.Common.{Ok, Err}
 use Rattle.csv_form.specs.declared.after.After.TheVariants as afters
 use Rattle.csv_form.specs.Form.{field}
 use Rattle.csv_form.specs.Records.{reading, run, row_with, rows_with, is_first, Form, whole, broken, form_of}
 use Rattle.csv_form.specs.Records as machine
-use Rattle.csv_form.specs.inner.Reader.{field_at, after_at, on_after, FieldRead, AfterRead, at_field, Known}
+use Rattle.csv_form.specs.inner.Reader.{FieldAnswer, AfterAnswer, field_at, after_at, on_after, FieldRead, AfterRead, at_field, Known}
 use Rattle.csv_form.proofs.FieldAnswers.{means_field}
 use Rattle.csv_form.proofs.AfterAnswers.{means_after}
 use Rattle.csv_grammar.specs.Grammar.{Each, Field, IsPlain, signed, number_in, value_after, field_text, record_text, Row, row_text}
@@ -101,15 +99,15 @@ module _ (kind : Kind) (s : List ℕ) (records : List (List ℤ)) where
         (numbers ∙ append_assoc rows (row_with (machine.signed m v) row ∷ []) tail ∙ ap (λ (z : ℤ). rows ++ ((row ++ (z ∷ [])) ∷ tail)) same_number)
 
     -- what stands after the field
-    after : (a : After) → after_at kind m ((m || b) || is_first rows) s next ≡ a → on_after kind (machine.signed m v) (m || b) row rows s a ≡ whole records →
+    after : (a : AfterAnswer) → after_at kind m ((m || b) || is_first rows) s next ≡ a → on_after kind (machine.signed m v) (m || b) row rows s a ≡ whole records →
         AfterText kind m ((m || b) || is_first rows) s next a →
-        ((start : ℕ) → a ≡ afters.Field start → Rest kind (m || b) (row_with (machine.signed m v) row) rows (drop start s) records) →
-        ((start : ℕ) → a ≡ afters.Record start → Rest kind false [] (rows_with (machine.signed m v) row rows) (drop start s) records) →
+        ((start : ℕ) → a ≡ Ok (afters.Field start) → Rest kind (m || b) (row_with (machine.signed m v) row) rows (drop start s) records) →
+        ((start : ℕ) → a ≡ Ok (afters.Record start) → Rest kind false [] (rows_with (machine.signed m v) row rows) (drop start s) records) →
         Rest kind b row rows (drop at s) records
     unfolding record_text
-    after (afters.Field start) k w text on_field_lem on_record = with_field start text (on_field_lem start refl)
-    after (afters.Record start) k w text on_field_lem on_record = with_record start text.0 text.1 (on_record start refl)
-    after afters.End k w text on_field_lem on_record = ends kind text.1 t.text same_number (plain_field text.0) w
+    after (Ok (afters.Field start)) k w text on_field_lem on_record = with_field start text (on_field_lem start refl)
+    after (Ok (afters.Record start)) k w text on_field_lem on_record = with_record start text.0 text.1 (on_record start refl)
+    after (Ok afters.End) k w text on_field_lem on_record = ends kind text.1 t.text same_number (plain_field text.0) w
       where
         ends : (k : Kind) → k ≡ Production → drop at s ≡ field_text t.it ++ drop next s → machine.signed m v ≡ number_in t.it → IsPlain t.it →
             whole (rows_with (machine.signed m v) row rows) ≡ whole records → Rest k b row rows (drop at s) records
@@ -118,7 +116,7 @@ module _ (kind : Kind) (s : List ℕ) (records : List (List ℤ)) where
             let all : rows_with (machine.signed m v) row rows ≡ records = cc in
             last_now t.it [] text.2.ended (z, tt) tt (x ∙ ap (λ (l : List ℕ). field_text t.it ++ l) text.2.text)
             (sym all ∙ ap (λ (n : ℤ). rows ++ ((row ++ (n ∷ [])) ∷ [])) y)
-    after afters.Empty k w text on_field_lem on_record = ends kind text.1 t.text same_number (plain_field text.0) w
+    after (Ok afters.Empty) k w text on_field_lem on_record = ends kind text.1 t.text same_number (plain_field text.0) w
       where
         may : (m : Bool) → m ≡ false → ((m || b) || is_first rows) ≡ false → (b || is_first rows) ≡ false
         may true p e = absurd (true≢false p)
@@ -131,7 +129,7 @@ module _ (kind : Kind) (s : List ℕ) (records : List (List ℤ)) where
             let all : rows_with (pos 0) (row_with (machine.signed m v) row) rows ≡ records = cc in
             last_now t.it [] text.3.ended (z, tt) (may m text.0 text.2) (x ∙ ap (λ (l : List ℕ). field_text t.it ++ l) text.3.text)
             (sym all ∙ ap (λ (n : ℤ). rows ++ (((row ++ (n ∷ [])) ++ (pos 0 ∷ [])) ∷ [])) y)
-    after (afters.Refused place) k w text on_field_lem on_record = absurd (let z : ◌≡◌ {A = ℕ} 0 1 = cc in omega arith)
+    after (Err e) k w text on_field_lem on_record = absurd (let z : ◌≡◌ {A = ℕ} 0 1 = cc in omega arith)
 
   rest : (fuel at : ℕ) → at ≤ length s → length s - at < fuel → (b : Bool) (row : List ℤ) (rows : List (List ℤ)) →
       run kind at (reading field 0 false b row rows) (drop at s) ≡ whole records → Rest kind b row rows (drop at s) records
@@ -140,23 +138,26 @@ module _ (kind : Kind) (s : List ℕ) (records : List (List ℤ)) where
     where
       on : ((at' : ℕ) → at' ≤ length s → length s - at' < fuel → (b' : Bool) (row' : List ℤ) (rows' : List (List ℤ)) →
           run kind at' (reading field 0 false b' row' rows') (drop at' s) ≡ whole records → Rest kind b' row' rows' (drop at' s) records) →
-          (a : answer.Field) → field_at kind s at ≡ a → Rest kind b row rows (drop at s) records
-      on again (answers.Refused place) e =
-          absurd (let k = sym ((subst (λ (x : answer.Field). FieldRead kind field s at x) e (means_field s kind at h)).meaning b row rows) ∙ w in let z : ◌≡◌ {A = ℕ} 0 1 = cc in omega arith)
-      on again (answers.Value v m next) e =
-          let read = subst (λ (x : answer.Field). FieldRead kind field s at x) e (means_field s kind at h) in
+          (a : FieldAnswer) → field_at kind s at ≡ a → Rest kind b row rows (drop at s) records
+      on again (Err x) e =
+          absurd (let k = sym ((subst (λ (x : FieldAnswer). FieldRead kind field s at x) e (means_field s kind at h)).meaning b row rows) ∙ w in let z : ◌≡◌ {A = ℕ} 0 1 = cc in omega arith)
+      on again (Ok f) e =
+          let v = f.value in
+          let m = f.minus in
+          let next = f.next in
+          let got = subst (λ (x : FieldAnswer). FieldRead kind field s at x) e (means_field s kind at h) in
           let source = (m || b) || is_first rows in
           let then = means_after s kind m source next in
-          let said = sym (then.meaning m v (m || b) row rows (refl, refl)) ∙ sym (read.meaning b row rows) ∙ w in
+          let said = sym (then.meaning m v (m || b) row rows (refl, refl)) ∙ sym (got.meaning b row rows) ∙ w in
           after b row rows at v next m (field_text_lem kind s at v m next e) (after_at kind m source s next) refl said (after_text kind m source s next)
           (λ start k.
-          let r = subst (λ (x : After). AfterRead at_field (Known m source) kind s next x) k then in
-          again start r.ends.1 (omega (arith, read.ends.0, r.ends.0, r.ends.1)) (m || b) (row_with (machine.signed m v) row) rows
-          (sym (r.meaning m v (m || b) row rows (refl, refl)) ∙ sym (read.meaning b row rows) ∙ w))
+          let r = subst (λ (x : AfterAnswer). AfterRead at_field (Known m source) kind s next x) k then in
+          again start r.ends.1 (omega (arith, got.ends.0, r.ends.0, r.ends.1)) (m || b) (row_with (machine.signed m v) row) rows
+          (sym (r.meaning m v (m || b) row rows (refl, refl)) ∙ sym (got.meaning b row rows) ∙ w))
           (λ start k.
-          let r = subst (λ (x : After). AfterRead at_field (Known m source) kind s next x) k then in
-          again start r.ends.1 (omega (arith, read.ends.0, r.ends.0, r.ends.1)) false [] (rows_with (machine.signed m v) row rows)
-          (sym (r.meaning m v (m || b) row rows (refl, refl)) ∙ sym (read.meaning b row rows) ∙ w))
+          let r = subst (λ (x : AfterAnswer). AfterRead at_field (Known m source) kind s next x) k then in
+          again start r.ends.1 (omega (arith, got.ends.0, r.ends.0, r.ends.1)) false [] (rows_with (machine.signed m v) row rows)
+          (sym (r.meaning m v (m || b) row rows (refl, refl)) ∙ sym (got.meaning b row rows) ∙ w))
 
 -- ---- the two files
 production_fields : (f : Field) (fs : List Field) → Fields Production f fs → Each IsPlain (f ∷ fs)

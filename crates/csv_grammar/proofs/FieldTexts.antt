@@ -12,13 +12,12 @@ use lib.ListN.{length, get_or, drop, drop_of_length-le}
 use lib.Seq.{drop-cons}
 use Rattle.csv_form.specs.declared.Kind.{Kind}
 use Rattle.csv_form.specs.declared.Kind.TheVariants.{Tariff, Production}
-use Rattle.csv_form.specs.declared.field.Field as answer
-use Rattle.csv_form.specs.declared.field.Field.TheVariants as answers
-use Rattle.csv_form.specs.declared.after.After.{After}
+use Rattle.std.proofs.Common.{Ok, Err}
 use Rattle.csv_form.specs.declared.after.After.TheVariants as afters
 use Rattle.csv_form.specs.Form.{mark}
-use Rattle.csv_form.specs.inner.Reader.{digit_or10, is_minus, pick_field, number_from, number_at, digits_from, valued, number_of, signed_at}
+use Rattle.csv_form.specs.inner.Reader.{FieldAnswer, AfterAnswer, read, misfit, digit_or10, is_minus, pick_field, number_from, number_at, digits_from, valued, number_of, signed_at}
 use Rattle.csv_form.specs.inner.Reader.{close_quote, field_at, at_last, last_at, comma_at, line_at, record_at, after_at}
+use Rattle.csv_form.proofs.FieldAnswers.{same_read}
 use Rattle.csv_form.proofs.ByteMarks.{mark_digit, below_ten, above_ten, inside, minus_byte}
 use Rattle.csv_form.proofs.AfterAnswers.{present, cost_yes, cost_no, last_no, last_more, last_end, demand_past, demand_return, demand_other, line_more}
 use Rattle.csv_form.proofs.AfterAnswers.{line_end_lem, record-no, record-yes, plain_past, plain_comma, plain_return, plain_none}
@@ -104,17 +103,18 @@ starts m d e h = elim (dec_lt 9 d) [
     past_zero true h few none' = absurd (false≢true (sym (rw (le-ltb 9 d few) (rw (le-ltb 0 d none') refl)) ∙ h))
     past_zero false h few none' = ltb-true 9 e (sym (rw (le-ltb 9 d few) (rw (le-ltb 0 d none') refl)) ∙ h)
 
-number_text : (s : List ℕ) (m : Bool) (at v : ℕ) (m' : Bool) (next : ℕ) → number_of m s at ≡ answers.Value v m' next → (m' ≡ m) × NumberText s m at v next
+number_text : (s : List ℕ) (m : Bool) (at v : ℕ) (m' : Bool) (next : ℕ) → number_of m s at ≡ read v m' next → (m' ≡ m) × NumberText s m at v next
 unfolding number_of
 number_text s m at v m' next e = go (number_at m s at) refl e
   where
-    go : (b : Bool) → number_at m s at ≡ b → pick_field b (valued m (digits_from 10 s 0 at)) (answers.Refused at) ≡ answers.Value v m' next → (m' ≡ m) × NumberText s m at v next
+    go : (b : Bool) → number_at m s at ≡ b → pick_field b (valued m (digits_from 10 s 0 at)) (misfit at) ≡ read v m' next → (m' ≡ m) × NumberText s m at v next
     go false n k = absurd (let z : ◌≡◌ {A = ℕ} 0 1 = cc in omega arith)
     go true n k =
         let t = digits_text s 10 0 at in
-        let ev : (digits_from 10 s 0 at).value ≡ v = cc in
-        let en : (digits_from 10 s 0 at).next ≡ next = cc in
-        let em : m ≡ m' = cc in
+        let p = same_read k in
+        let ev : (digits_from 10 s 0 at).value ≡ v = p.0 in
+        let en : (digits_from 10 s 0 at).next ≡ next = p.2 in
+        let em : m ≡ m' = p.1 in
         let b = starts m (digit_or10 (mark (get_or s at 0))) (digit_or10 (mark (get_or s (at + 1) 0))) n in
         let head = t.head (omega arith) b.0 in (
           sym em,
@@ -146,7 +146,7 @@ is_minus_lem : (kind : Kind) (b : ℕ) → is_minus kind (mark b) ≡ true → (
 is_minus_lem Tariff b e = (refl, eqb-true b 45 (minus_byte b ∙ e))
 is_minus_lem Production b e = absurd (false≢true e)
 
-signed_text : (kind : Kind) (s : List ℕ) (at v : ℕ) (m : Bool) (next : ℕ) → signed_at kind s at ≡ answers.Value v m next → SignedText kind s at v m next
+signed_text : (kind : Kind) (s : List ℕ) (at v : ℕ) (m : Bool) (next : ℕ) → signed_at kind s at ≡ read v m next → SignedText kind s at v m next
 unfolding signed_at
 signed_text kind s at v m next e = go (is_minus kind (mark (get_or s at 0))) refl e
   where
@@ -165,7 +165,7 @@ signed_text kind s at v m next e = go (is_minus kind (mark (get_or s at 0))) ref
       text = byte_at s at 45 (present s at 44 h) h ∙ ap (λ (l : List ℕ). 45 ∷ l) t.text;
     }
 
-    go : (b : Bool) → is_minus kind (mark (get_or s at 0)) ≡ b → pick_field b (number_of true s (at + 1)) (number_of false s at) ≡ answers.Value v m next → SignedText kind s at v m next
+    go : (b : Bool) → is_minus kind (mark (get_or s at 0)) ≡ b → pick_field b (number_of true s (at + 1)) (number_of false s at) ≡ read v m next → SignedText kind s at v m next
     go true k h = let t = number_text s true (at + 1) v m next h in let w = is_minus_lem kind (get_or s at 0) k in costs m t.0 w.0 w.1 t.1
     go false k h = let t = number_text s false at v m next h in plain m t.0 t.1
 
@@ -178,7 +178,7 @@ pub record FieldText (kind : Kind) (s : List ℕ) (at v : ℕ) (m : Bool) (next 
   pub is : v ≡ value_after 0 it.digits
   pub text : drop at s ≡ field_text it ++ drop next s
 
-pub field_text_lem : (kind : Kind) (s : List ℕ) (at v : ℕ) (m : Bool) (next : ℕ) → field_at kind s at ≡ answers.Value v m next → FieldText kind s at v m next
+pub field_text_lem : (kind : Kind) (s : List ℕ) (at v : ℕ) (m : Bool) (next : ℕ) → field_at kind s at ≡ read v m next → FieldText kind s at v m next
 unfolding field_at field_text
 field_text_lem kind s at v m next e = elim (ℕ_discrete (get_or s at 0) 34) [
   | yes q ↦ in_quotes_lem q (signed_at kind s (at + 1)) refl (sym (rw (eq-eqb (get_or s at 0) 34 q) refl) ∙ e)
@@ -209,46 +209,47 @@ field_text_lem kind s at v m next e = elim (ℕ_discrete (get_or s at 0) 34) [
           ∙ sym (append_assoc (sign_text m ++ map digit_text t.ds) (34 ∷ []) (drop next s)));
     }
 
-    in_quotes_lem : get_or s at 0 ≡ 34 → (a : answer.Field) → signed_at kind s (at + 1) ≡ a → close_quote s a ≡ answers.Value v m next → FieldText kind s at v m next
-    in_quotes_lem q (answers.Refused place) k h = absurd (let z : ◌≡◌ {A = ℕ} 0 1 = cc in omega arith)
-    in_quotes_lem q (answers.Value v' m' n) k h = go (eqb (get_or s n 0) 34) refl h
+    in_quotes_lem : get_or s at 0 ≡ 34 → (a : FieldAnswer) → signed_at kind s (at + 1) ≡ a → close_quote s a ≡ read v m next → FieldText kind s at v m next
+    in_quotes_lem q (Err e) k h = absurd (let z : ◌≡◌ {A = ℕ} 0 1 = cc in omega arith)
+    in_quotes_lem q (Ok f) k h = go (eqb (get_or s f.next 0) 34) refl h
       where
-        go : (b : Bool) → eqb (get_or s n 0) 34 ≡ b → pick_field b (answers.Value v' m' (n + 1)) (answers.Refused n) ≡ answers.Value v m next → FieldText kind s at v m next
+        go : (b : Bool) → eqb (get_or s f.next 0) 34 ≡ b → pick_field b (read f.value f.minus (f.next + 1)) (misfit f.next) ≡ read v m next → FieldText kind s at v m next
         go false c w = absurd (let z : ◌≡◌ {A = ℕ} 0 1 = cc in omega arith)
         go true c w =
-            let ev : v' ≡ v = cc in
-            let em : m' ≡ m = cc in
-            let en : n + 1 ≡ next = cc in
-            closed' q n (eqb-true (get_or s n 0) 34 c) en
-            (signed_text kind s (at + 1) v m n (k ∙ ap (λ (x : ℕ). answers.Value x m' n) ev ∙ ap (λ (x : Bool). answers.Value v x n) em))
+            let p = same_read w in
+            let ev : f.value ≡ v = p.0 in
+            let em : f.minus ≡ m = p.1 in
+            let en : f.next + 1 ≡ next = p.2 in
+            closed' q f.next (eqb-true (get_or s f.next 0) 34 c) en
+            (signed_text kind s (at + 1) v m f.next (k ∙ ap (λ (x : ℕ). read x f.minus f.next) ev ∙ ap (λ (x : Bool). read v x f.next) em))
 
 -- ---- after a field
 pub record Ended (s : List ℕ) (at : ℕ) (before : List ℕ) : Type 0 where
   pub ended : Bool
   pub text : drop at s ≡ before ++ line_end ended
 
-abbrev pub AfterText : Kind → Bool → Bool → List ℕ → ℕ → After → Type 0
-AfterText kind m source s at (afters.Field next) = drop at s ≡ 44 ∷ drop next s
-AfterText kind m source s at (afters.Record next) = (m ≡ false) × (drop at s ≡ 13 ∷ 10 ∷ drop next s)
-AfterText kind m source s at afters.End = (m ≡ false) × (kind ≡ Production) × Ended s at []
-AfterText kind m source s at afters.Empty = (m ≡ false) × (kind ≡ Tariff) × (source ≡ false) × Ended s at (44 ∷ [])
-AfterText kind m source s at (afters.Refused place) = Unit {0}
+abbrev pub AfterText : Kind → Bool → Bool → List ℕ → ℕ → AfterAnswer → Type 0
+AfterText kind m source s at (Ok (afters.Field next)) = drop at s ≡ 44 ∷ drop next s
+AfterText kind m source s at (Ok (afters.Record next)) = (m ≡ false) × (drop at s ≡ 13 ∷ 10 ∷ drop next s)
+AfterText kind m source s at (Ok afters.End) = (m ≡ false) × (kind ≡ Production) × Ended s at []
+AfterText kind m source s at (Ok afters.Empty) = (m ≡ false) × (kind ≡ Tariff) × (source ≡ false) × Ended s at (44 ∷ [])
+AfterText kind m source s at (Err e) = Unit {0}
 
 -- from the CR of a record on
-abbrev LineText : Kind → List ℕ → ℕ → After → Type 0
-LineText kind s at (afters.Field next) = ⊥
-LineText kind s at (afters.Record next) = drop at s ≡ 10 ∷ drop next s
-LineText kind s at afters.End = (kind ≡ Production) × (drop at s ≡ 10 ∷ [])
-LineText kind s at afters.Empty = ⊥
-LineText kind s at (afters.Refused place) = Unit {0}
+abbrev LineText : Kind → List ℕ → ℕ → AfterAnswer → Type 0
+LineText kind s at (Ok (afters.Field next)) = ⊥
+LineText kind s at (Ok (afters.Record next)) = drop at s ≡ 10 ∷ drop next s
+LineText kind s at (Ok afters.End) = (kind ≡ Production) × (drop at s ≡ 10 ∷ [])
+LineText kind s at (Ok afters.Empty) = ⊥
+LineText kind s at (Err e) = Unit {0}
 
 -- after the comma of a record that may be the demands'
-abbrev CommaText : Kind → Bool → List ℕ → ℕ → After → Type 0
-CommaText kind source s at (afters.Field next) = drop at s ≡ drop next s
-CommaText kind source s at (afters.Record next) = ⊥
-CommaText kind source s at afters.End = ⊥
-CommaText kind source s at afters.Empty = (kind ≡ Tariff) × (source ≡ false) × Ended s at []
-CommaText kind source s at (afters.Refused place) = Unit {0}
+abbrev CommaText : Kind → Bool → List ℕ → ℕ → AfterAnswer → Type 0
+CommaText kind source s at (Ok (afters.Field next)) = drop at s ≡ drop next s
+CommaText kind source s at (Ok (afters.Record next)) = ⊥
+CommaText kind source s at (Ok afters.End) = ⊥
+CommaText kind source s at (Ok afters.Empty) = (kind ≡ Tariff) × (source ≡ false) × Ended s at []
+CommaText kind source s at (Err e) = Unit {0}
 
 nothing_left : (s : List ℕ) (at : ℕ) → length s ≤ at → drop at s ≡ []
 nothing_left s at h = drop_of_length-le s h
@@ -315,19 +316,19 @@ after_text kind false source s at = elim (dec_lt at (length s)) [
   | no h ↦ subst (AfterText kind false source s at) (plain_past s at kind source (omega arith)) (on_end kind (omega arith))
 ]
   where
-    on_comma : at < length s → get_or s at 0 ≡ 44 → (a : After) → CommaText kind source s (at + 1) a → AfterText kind false source s at a
-    on_comma h e (afters.Field next) t = byte_at s at 44 h e ∙ ap (λ (l : List ℕ). 44 ∷ l) t
-    on_comma h e (afters.Record next) t = absurd t
-    on_comma h e afters.End t = absurd t
-    on_comma h e afters.Empty t = (refl, t.0, t.1, record { ended = t.2.ended; text = byte_at s at 44 h e ∙ ap (λ (l : List ℕ). 44 ∷ l) t.2.text })
-    on_comma h e (afters.Refused place) t = tt
+    on_comma : at < length s → get_or s at 0 ≡ 44 → (a : AfterAnswer) → CommaText kind source s (at + 1) a → AfterText kind false source s at a
+    on_comma h e (Ok (afters.Field next)) t = byte_at s at 44 h e ∙ ap (λ (l : List ℕ). 44 ∷ l) t
+    on_comma h e (Ok (afters.Record next)) t = absurd t
+    on_comma h e (Ok afters.End) t = absurd t
+    on_comma h e (Ok afters.Empty) t = (refl, t.0, t.1, record { ended = t.2.ended; text = byte_at s at 44 h e ∙ ap (λ (l : List ℕ). 44 ∷ l) t.2.text })
+    on_comma h e (Err x) t = tt
 
-    on_line : at < length s → get_or s at 0 ≡ 13 → (a : After) → LineText kind s (at + 1) a → AfterText kind false source s at a
-    on_line h e (afters.Field next) t = absurd t
-    on_line h e (afters.Record next) t = (refl, byte_at s at 13 h e ∙ ap (λ (l : List ℕ). 13 ∷ l) t)
-    on_line h e afters.End t = (refl, t.0, record { ended = true; text = byte_at s at 13 h e ∙ ap (λ (l : List ℕ). 13 ∷ l) t.1 })
-    on_line h e afters.Empty t = absurd t
-    on_line h e (afters.Refused place) t = tt
+    on_line : at < length s → get_or s at 0 ≡ 13 → (a : AfterAnswer) → LineText kind s (at + 1) a → AfterText kind false source s at a
+    on_line h e (Ok (afters.Field next)) t = absurd t
+    on_line h e (Ok (afters.Record next)) t = (refl, byte_at s at 13 h e ∙ ap (λ (l : List ℕ). 13 ∷ l) t)
+    on_line h e (Ok afters.End) t = (refl, t.0, record { ended = true; text = byte_at s at 13 h e ∙ ap (λ (l : List ℕ). 13 ∷ l) t.1 })
+    on_line h e (Ok afters.Empty) t = absurd t
+    on_line h e (Err x) t = tt
 
     on_end : (kind : Kind) → length s ≤ at → AfterText kind false source s at (at_last kind at)
     on_end Tariff h = tt

@@ -9,12 +9,13 @@ use borrow.Author.Tests.{ne_eqb}
 use lib.Dec.{eqb, eqb-suc-zero}
 use lib.IntN.{ℤ}
 use lib.ListN.{length, length-append}
+use Rattle.std.proofs.Common.{Ok, Err}
 use Rattle.csv_form.specs.declared.Kind.{Kind}
 use Rattle.csv_form.specs.declared.Kind.TheVariants.{Tariff, Production}
-use Rattle.csv_table.specs.declared.table.Table.TheVariants.{Whole, Refused}
+use Rattle.refusal.specs.declared.Cause.TheVariants as causes
 use Rattle.csv_table.specs.declared.table.Tally.{Tally}
 use Rattle.csv_form.specs.Records.{row_with, is_first}
-use Rattle.csv_table.specs.Files.{pick, judged, wanted, odd_from, in_order}
+use Rattle.csv_table.specs.Files.{Table, shaped, refused, pick, judged, wanted, odd_from, in_order}
 use Rattle.csv_table.specs.inner.Tallies.{start_tally, field_tally, width_or, odd_or, record_tally, source_tally}
 
 wanted_snoc :
@@ -106,10 +107,22 @@ tally_source {b = b} {rs = rs} k = rw (k.rebate, k.records) (ap (λ (x : Bool). 
     first [] = refl
     first (x ∷ rs) = sym (eqb-suc-zero (length rs))
 
-pub judged_odd : (odd records fields : ℕ) → (odd ≡ 0 → ⊥) → Refused 22 odd ≡ judged odd records fields
+pub judged_odd : (odd records fields : ℕ) → (odd ≡ 0 → ⊥) → refused causes.Fields odd ≡ judged odd records fields
 judged_odd zero records fields h = absurd (h refl)
 judged_odd (suc odd) records fields h = refl
 
-pub judged_whole : (odd records fields records' fields' : ℕ) → judged odd records fields ≡ Whole records' fields' → (odd ≡ 0) × (records ≡ records') × (fields ≡ fields')
-judged_whole zero records fields records' fields' e = (refl, cc, cc)
+-- the same counts have the same parts
+abbrev records_of : Table → ℕ
+records_of (Ok t) = t.records
+records_of (Err r) = 0
+
+abbrev fields_of : Table → ℕ
+fields_of (Ok t) = t.fields
+fields_of (Err r) = 0
+
+pub same_shape : {records records' fields fields' : ℕ} → shaped records fields ≡ shaped records' fields' → (records ≡ records') × (fields ≡ fields')
+same_shape e = (ap records_of e, ap fields_of e)
+
+pub judged_whole : (odd records fields records' fields' : ℕ) → judged odd records fields ≡ shaped records' fields' → (odd ≡ 0) × (records ≡ records') × (fields ≡ fields')
+judged_whole zero records fields records' fields' e = (refl, (same_shape e).0, (same_shape e).1)
 judged_whole (suc odd) records fields records' fields' e = absurd (let z : ◌≡◌ {A = ℕ} 0 1 = cc in omega arith)

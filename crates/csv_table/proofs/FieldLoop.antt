@@ -9,17 +9,15 @@ use lib.IntN.{ℤ, pos}
 use lib.ListN.{length, set, drop, length-append}
 use lib.Seq.{sets, length-sets}
 use Rattle.csv_form.specs.declared.Kind.{Kind}
-use Rattle.csv_form.specs.declared.field.Field.{Field}
-use Rattle.csv_form.specs.declared.field.Field.TheVariants as field-answers
-use Rattle.csv_form.specs.declared.after.After.{After}
+use Rattle.std.proofs.Common.{Ok}
 use Rattle.csv_form.specs.declared.after.After.TheVariants as after-answers
-use Rattle.csv_table.specs.declared.table.Table.TheVariants.{Refused}
+use Rattle.refusal.specs.declared.Cause.TheVariants as causes
 use Rattle.csv_table.specs.declared.table.Tally.{Tally}
 use Rattle.csv_form.specs.Form.{field}
 use Rattle.csv_form.specs.Records.{reading, run, signed, row_with, rows_with, whole, broken, form_of}
-use Rattle.csv_table.specs.Files.{table_of, judge, judged, in_order}
-use Rattle.csv_form.specs.inner.Reader.{closed_as, field_at, after_at, FieldRead, AfterRead, at_field, Known}
-use Rattle.csv_table.specs.inner.Tallies.{start_tally, field_tally, record_tally, source_tally, Countable, handed_on, Scanned}
+use Rattle.csv_table.specs.Files.{refused, table_of, judge, judged, in_order}
+use Rattle.csv_form.specs.inner.Reader.{FieldAnswer, AfterAnswer, read, misfit, closed_as, field_at, after_at, FieldRead, AfterRead, at_field, Known}
+use Rattle.csv_table.specs.inner.Tallies.{start_tally, field_tally, record_tally, source_tally, Countable, Scanned}
 use Rattle.csv_table.proofs.FieldCounts.{Tallied, tally_start, tally_field, tally_record, tally_source, in_order_snoc, judged_whole}
 use Rattle.csv_form.proofs.FieldAnswers.{means_field}
 use Rattle.csv_form.proofs.AfterAnswers.{means_after}
@@ -80,7 +78,7 @@ valued_length {cells₀ = cells₀} {m = m} {v = v} valued = ap length valued.st
 
 -- a file of the wrong form
 broken_table :
-    (kind : Kind) (s : List ℕ) (cells cells' : List ℤ) (place : ℕ) → length s ≤ 65536 → form_of kind s ≡ broken place → Scanned kind s cells cells' (Refused 21 place)
+    (kind : Kind) (s : List ℕ) (cells cells' : List ℤ) (place : ℕ) → length s ≤ 65536 → form_of kind s ≡ broken place → Scanned kind s cells cells' (refused causes.Form place)
 unfolding table_of judge
 broken_table kind s cells cells' place short e = record {
   answered = rw (le-ltb 65536 (length s) short, e) refl;
@@ -101,7 +99,7 @@ whole_table kind s cells cells' rs t short e h k c = record {
   stored = λ rs' _ w. c ∙ ap (λ (l : List (List ℤ)). sets cells 0 (in_order l)) (let z : rs ≡ rs' = cc in z);
 }
 
-pub long_table : (kind : Kind) (s : List ℕ) (cells : List ℤ) → 65536 < length s → Scanned kind s cells cells (Refused 20 0)
+pub long_table : (kind : Kind) (s : List ℕ) (cells : List ℤ) → 65536 < length s → Scanned kind s cells cells (refused causes.File 0)
 unfolding table_of
 long_table kind s cells h = record {
   answered = rw (lt-ltb 65536 (length s) h) refl;
@@ -110,25 +108,25 @@ long_table kind s cells h = record {
 }
 
 module _ (kind : Kind) (s : List ℕ) (cells₀ : List ℤ) where
-  module _ (cells : List ℤ) (t : Tally) (at : ℕ) (along : Along kind s cells₀ cells t at) (f : Field) (answered : f ≡ field_at kind s at) where
-    same : (a : Field) → f ≡ a → FieldRead kind field s at a
-    same a e = subst (λ (x : Field). FieldRead kind field s at x) (sym answered ∙ e) (means_field s kind at along.upto)
+  module _ (cells : List ℤ) (t : Tally) (at : ℕ) (along : Along kind s cells₀ cells t at) (f : FieldAnswer) (answered : f ≡ field_at kind s at) where
+    same : (a : FieldAnswer) → f ≡ a → FieldRead kind field s at a
+    same a e = subst (λ (x : FieldAnswer). FieldRead kind field s at x) (sym answered ∙ e) (means_field s kind at along.upto)
 
-    pub field_refused : (place : ℕ) (cells' : List ℤ) → length s ≤ 65536 → f ≡ field-answers.Refused place → Scanned kind s cells₀ cells' (handed_on f)
+    pub field_refused : (place : ℕ) (cells' : List ℤ) → length s ≤ 65536 → f ≡ misfit place → Scanned kind s cells₀ cells' (refused causes.Form place)
     field_refused place cells' short e =
-        rw e (broken_table kind s cells₀ cells' place short (along.so_far ∙ (same (field-answers.Refused place) e).meaning along.rebate along.row along.rows))
+        (broken_table kind s cells₀ cells' place short (along.so_far ∙ (same (misfit place) e).meaning along.rebate along.row along.rows))
 
-    pub field_ahead : (v : ℕ) (m : Bool) (next : ℕ) → f ≡ field-answers.Value v m next → at < next
-    field_ahead v m next e = (same (field-answers.Value v m next) e).ends.0
+    pub field_ahead : (v : ℕ) (m : Bool) (next : ℕ) → f ≡ read v m next → at < next
+    field_ahead v m next e = (same (read v m next) e).ends.0
 
-    pub field_small : (v : ℕ) (m : Bool) (next : ℕ) → f ≡ field-answers.Value v m next → v < 10 ^ 10
-    field_small v m next e = (same (field-answers.Value v m next) e).ends.2
+    pub field_small : (v : ℕ) (m : Bool) (next : ℕ) → f ≡ read v m next → v < 10 ^ 10
+    field_small v m next e = (same (read v m next) e).ends.2
 
     pub field_valued :
-        (v : ℕ) (m : Bool) (next : ℕ) (t' : Tally) (cells' : List ℤ) (y : ℤ) → f ≡ field-answers.Value v m next → t' ≡ field_tally m t →
+        (v : ℕ) (m : Bool) (next : ℕ) (t' : Tally) (cells' : List ℤ) (y : ℤ) → f ≡ read v m next → t' ≡ field_tally m t →
         cells' ≡ set cells t.values y → y ≡ signed m v → Valued kind s cells₀ cells' t' m v next
     field_valued v m next t' cells' y e et ec ey =
-        let known = same (field-answers.Value v m next) e in
+        let known = same (read v m next) e in
         let z = signed m v in
         let count : t.values ≡ 0 + length (in_order along.rows ++ along.row) = omega (arith, along.tally.values, length-append (in_order along.rows) along.row) in
         record {
@@ -147,28 +145,28 @@ module _ (kind : Kind) (s : List ℕ) (cells₀ : List ℤ) where
               (record { values = omega (arith, along.few, known.ends.0); parts = omega (arith, along.few) });
         }
 
-  module _ (cells : List ℤ) (t : Tally) (m : Bool) (v next : ℕ) (valued : Valued kind s cells₀ cells t m v next) (source : Bool) (told : source ≡ source_tally t) (a : After)
+  module _ (cells : List ℤ) (t : Tally) (m : Bool) (v next : ℕ) (valued : Valued kind s cells₀ cells t m v next) (source : Bool) (told : source ≡ source_tally t) (a : AfterAnswer)
       (answered : a ≡ after_at kind m source s next) where
-    onward' : (b : After) → a ≡ b → AfterRead at_field (Known m source) kind s next b
-    onward' b e = subst (λ (x : After). AfterRead at_field (Known m source) kind s next x) (sym answered ∙ e) (means_after s kind m source next)
+    onward' : (b : AfterAnswer) → a ≡ b → AfterRead at_field (Known m source) kind s next b
+    onward' b e = subst (λ (x : AfterAnswer). AfterRead at_field (Known m source) kind s next x) (sym answered ∙ e) (means_after s kind m source next)
 
     -- what is known of this field and this record
     held : Known m source m valued.rebate valued.rows
     held = (refl, tally_source valued.tally ∙ sym told)
 
-    pub field_next : (start : ℕ) → a ≡ after-answers.Field start → (next ≤ start) × (start ≤ length s)
-    field_next start e = (onward' (after-answers.Field start) e).ends
+    pub field_next : (start : ℕ) → a ≡ Ok (after-answers.Field start) → (next ≤ start) × (start ≤ length s)
+    field_next start e = (onward' (Ok (after-answers.Field start)) e).ends
 
-    pub record-next : (start : ℕ) → a ≡ after-answers.Record start → (next ≤ start) × (start ≤ length s)
-    record-next start e = (onward' (after-answers.Record start) e).ends
+    pub record-next : (start : ℕ) → a ≡ Ok (after-answers.Record start) → (next ≤ start) × (start ≤ length s)
+    record-next start e = (onward' (Ok (after-answers.Record start)) e).ends
 
     -- a record has at least this field
     row_some : 0 < length (row_with (signed m v) valued.row)
     row_some = omega (arith, length-append valued.row (signed m v ∷ []))
 
-    pub on_field_lem : (start : ℕ) → a ≡ after-answers.Field start → Along kind s cells₀ cells t start
+    pub on_field_lem : (start : ℕ) → a ≡ Ok (after-answers.Field start) → Along kind s cells₀ cells t start
     on_field_lem start e =
-        let known = onward' (after-answers.Field start) e in
+        let known = onward' (Ok (after-answers.Field start)) e in
         record {
           rebate = valued.rebate;
           row = row_with (signed m v) valued.row;
@@ -190,9 +188,9 @@ module _ (kind : Kind) (s : List ℕ) (cells₀ : List ℤ) where
         subst (λ (x : Tally). Tallied kind false (rows_with (signed m v) valued.row valued.rows) [] x) (sym et)
         (tally_record kind valued.rebate valued.rows (row_with (signed m v) valued.row) t row_some valued.tally)
 
-    pub on_record : (start : ℕ) (t' : Tally) → a ≡ after-answers.Record start → t' ≡ record_tally t → Along kind s cells₀ cells t' start
+    pub on_record : (start : ℕ) (t' : Tally) → a ≡ Ok (after-answers.Record start) → t' ≡ record_tally t → Along kind s cells₀ cells t' start
     on_record start t' e et =
-        let known = onward' (after-answers.Record start) e in
+        let known = onward' (Ok (after-answers.Record start)) e in
         record {
           rebate = false;
           row = [];
@@ -205,9 +203,9 @@ module _ (kind : Kind) (s : List ℕ) (cells₀ : List ℤ) where
               (record { values = omega (arith, valued.few, known.ends.0); parts = omega (arith, valued.few, valued.tally.fields, row_some) });
         }
 
-    pub on_end : (t' : Tally) → length s ≤ 65536 → a ≡ after-answers.End → t' ≡ record_tally t → Scanned kind s cells₀ cells (judged t'.odd t'.records t'.width)
+    pub on_end : (t' : Tally) → length s ≤ 65536 → a ≡ Ok after-answers.End → t' ≡ record_tally t → Scanned kind s cells₀ cells (judged t'.odd t'.records t'.width)
     on_end t' short e et =
-        let known = onward' after-answers.End e in
+        let known = onward' (Ok after-answers.End) e in
         whole_table kind s cells₀ cells (rows_with (signed m v) valued.row valued.rows) t' short
         (valued.so_far ∙ known.meaning m v valued.rebate valued.row valued.rows held)
         (omega (arith, length-append valued.rows (row_with (signed m v) valued.row ∷ [])))
@@ -215,10 +213,10 @@ module _ (kind : Kind) (s : List ℕ) (cells₀ : List ℤ) where
         (valued.stored ∙ ap (λ (l : List ℤ). sets cells₀ 0 l) (sym (in_order_snoc valued.rows (row_with (signed m v) valued.row))))
 
     pub on_empty :
-        (t' : Tally) (cells' : List ℤ) → length s ≤ 65536 → a ≡ after-answers.Empty → t' ≡ record_tally (field_tally false t) → cells' ≡ set cells t.values (pos 0) →
+        (t' : Tally) (cells' : List ℤ) → length s ≤ 65536 → a ≡ Ok after-answers.Empty → t' ≡ record_tally (field_tally false t) → cells' ≡ set cells t.values (pos 0) →
         Scanned kind s cells₀ cells' (judged t'.odd t'.records t'.width)
     on_empty t' cells' short e et ec =
-        let known = onward' after-answers.Empty e in
+        let known = onward' (Ok after-answers.Empty) e in
         let whole_row = row_with (signed m v) valued.row in
         let count : t.values ≡ 0 + length (in_order valued.rows ++ whole_row) = omega (arith, valued.tally.values, length-append (in_order valued.rows) whole_row) in
         whole_table kind s cells₀ cells' (rows_with (pos 0) whole_row valued.rows) t' short
@@ -230,8 +228,8 @@ module _ (kind : Kind) (s : List ℕ) (cells₀ : List ℤ) where
         (ec ∙ rw (valued.stored, count) (sym (sets_snoc cells₀ 0 (in_order valued.rows ++ whole_row) (pos 0)))
         ∙ ap (λ (l : List ℤ). sets cells₀ 0 l) (append_assoc (in_order valued.rows) whole_row (pos 0 ∷ []) ∙ sym (in_order_snoc valued.rows (row_with (pos 0) whole_row))))
 
-    pub on_refused : (place : ℕ) → length s ≤ 65536 → a ≡ after-answers.Refused place → Scanned kind s cells₀ cells (Refused 21 place)
+    pub on_refused : (place : ℕ) → length s ≤ 65536 → a ≡ misfit place → Scanned kind s cells₀ cells (refused causes.Form place)
     on_refused place short e =
-        let known = onward' (after-answers.Refused place) e in
+        let known = onward' (misfit place) e in
         broken_table kind s cells₀ cells place short
         (valued.so_far ∙ known.meaning m v valued.rebate valued.row valued.rows held)

@@ -69,6 +69,12 @@ advance_next a b = record {
   sound = λ cap t c o. b.sound cap t (a.covers c) (a.sound cap t c o);
 }
 
+-- the same, where the second is of a plan x' that is x
+pub advance_on :
+    {m n : ℕ} {cost table columns x x' s p s₁ p₁ s' p' : List ℕ} → x' ≡ x → Advanced m n cost table columns x s p s₁ p₁ →
+    Advanced m n cost table columns x' s₁ p₁ s' p' → Advanced m n cost table columns x s p s' p'
+advance_on e a b = advance_next a (rw (← e) b)
+
 -- the next cut can be made
 pub advance_ready : {m n : ℕ} {cost table columns x s p s' p' : List ℕ} → CutReady m n table columns p → Advanced m n cost table columns x s p s' p'
     → CutReady m n table columns p'

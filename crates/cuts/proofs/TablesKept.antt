@@ -3,7 +3,7 @@ use mathlib.Core.Path.{◌≡◌, sym, ap, ◌∙◌}
 use mathlib.Core.Logic.{◌≢◌}
 use mathlib.Core.Bool.{Bool, true, false, true≢false}
 use mathlib.Core.List.{List}
-use Prim.Native.Nat.{ℕ, ◌+◌, ◌-◌, ◌*◌, ◌≤◌, ◌<◌}
+use Prim.Native.Nat.{ℕ, ◌+◌, ◌*◌, ◌<◌}
 use native.Mathlib.Decide.{ℕ_discrete}
 use native.Mathlib.Omega.{arith}
 use lib.ListN.{length, set, length-set}
@@ -12,7 +12,7 @@ use Rattle.residual.specs.inner.Cells.{cells}
 use Rattle.residual.specs.inner.Network.{get}
 use Rattle.cuts.specs.inner.Columns.{by_terminal, TransposeReady, Filled, Transposed}
 use Rattle.cuts.specs.inner.Cut.{WeightsReady, CutReady, Priced, Ahead}
-use Rattle.cuts.specs.inner.Tables.{Fresh, Roomy, Tables, Written, Renewed}
+use Rattle.cuts.specs.inner.Tables.{Fresh, Roomy, Tables, Written}
 use Rattle.cuts.specs.inner.Advance.{Advanced, AdvancedUnder}
 
 -- ---- how they come about

@@ -1,32 +1,32 @@
 // Cuts until the path of the tree leads over open and tight arcs, or the tree is given up. After a cut that left the potentials as they were another tight
 // lane is looked for first: it takes no cut. Nothing is asked of the tree.
-ghost use Rattle.std.specs.Prelude.{◌≡◌, ◌<◌, length};
+ghost use Rattle.std.specs.Prelude.{◌≡◌, ◌<◌, length, IfSome};
 ghost use Rattle.residual.specs.inner.Network.{net};
 ghost use Rattle.treepath.specs.inner.Follow.{Followed};
 ghost use Rattle.cuts.specs.inner.Cut.{WeightsReady, CutReady, Priced, Shifted};
 ghost use Rattle.cuts.specs.inner.Advance.{Forgot, Advanced, AdvancedUnder};
 ghost use Rattle.cuts.specs.inner.Tables.{Tables};
 
-use super::cut::cut;
-use size::limits::Size;
+use super::columns::CutTables;
+use super::cut::{Met, cut};
+use residual::lanes::{Flow, Lanes};
 use spanningtree::NONE;
-use spanningtree::entering::{came_in, tight_lane};
-use spanningtree::parts::reattach;
+use spanningtree::entering::{Lane, came_in, tight_lane};
+use spanningtree::tree::{Part, Tree};
 use treepath::follow::follow;
 
-// The node whose arc is taken to end the tree's path, NONE where none is known; and whether the last cut left the potentials as they were. Nothing is
-// promised of either.
+// The node whose arc is taken to end the tree's path, where one is known; and whether the last cut left the potentials as they were. Nothing is promised
+// of either.
 #[derive(Clone, Copy)]
 pub struct Hint {
-    pub node: u32,
+    pub node: Option<u32>,
     pub flat: bool,
 }
 
-// What a stretch goes by: the size of the case, how many drums it is to send at most, whether no ceiling was found to be below a demand, and a hint. The
-// last two decide how cuts are made, and show in no answer.
+// What a stretch goes by: how many drums it is to send at most, whether no ceiling was found to be below a demand, and a hint. The last two decide how cuts
+// are made, and show in no answer.
 #[derive(Clone, Copy)]
 pub struct Task {
-    pub size: Size,
     pub limit: u32,
     pub wide: bool,
     pub hint: Hint,
@@ -45,176 +45,110 @@ fn forget(i: usize, j: usize, x: &[u32; 2048], serves: &mut [u32; 64])
     }
 }
 
-// The lane that comes in: its node in the part, and the other; and whether the last cut left the potentials as they were.
-#[derive(Drop)]
-struct Joint {
-    inner: u32,
-    outer: u32,
-    flat: bool,
-}
-
-// The lane that comes in by the cut of the part; NONE where no cut is made.
+// The lane that comes in by the cut of the part; none where no cut is made.
 fn cut_in(
     wide: bool,
-    m: usize,
-    n: usize,
-    part: u32,
-    below: u64,
-    cost: &[u32; 2048],
+    lanes: &Lanes<'_>,
+    part: Part,
     table: &[u32; 2048],
     columns: &[u32; 2048],
     x: &[u32; 2048],
     serves: &[u32; 64],
     pot: &mut [u32; 96],
-) -> Joint
-    requires cut_ready { CutReady m n table.now columns.now pot.old }
-    requires priced { Priced m n cost.now }
-    ensures { Shifted m n cost.now table.now columns.now x.now serves.now
+) -> Option<Lane>
+    requires cut_ready { CutReady lanes.now.m lanes.now.n table.now columns.now pot.old }
+    requires priced { Priced lanes.now.m lanes.now.n lanes.now.cost.now }
+    ensures { Shifted lanes.now.m lanes.now.n lanes.now.cost.now table.now columns.now x.now serves.now
         pot.old pot.new }
 {
-    let made = cut(
-        wide, m, n, part, below, cost, table, columns, x, serves, pot,
-    );
-    if !made.done {
-        return Joint {
-            inner: NONE,
-            outer: NONE,
-            flat: false,
-        };
-    }
-    if made.out {
-        let k = (made.node % 2048) as u32;
-        return Joint {
-            inner: k / 64,
-            outer: 32 + k % 64,
-            flat: false,
-        };
-    }
-    let lane = came_in(m, made.node, part, below, table, columns, pot);
-    Joint {
-        inner: lane.terminal,
-        outer: lane.source,
-        flat: false,
+    match cut(wide, lanes, part, table, columns, x, serves, pot)? {
+        Met::Out(cell) => {
+            let k = (cell % 2048) as u32;
+            Some(Lane {
+                inner: k / 64,
+                outer: 32 + k % 64,
+            })
+        }
+        Met::In(node) => came_in(lanes.m, node, part, table, columns, pot),
     }
 }
 
-// The lane by which the part is to hang: a tight one where the last cut changed nothing, else the one that a cut brings in. NONE where there is none.
+// The lane that comes in, and whether the last cut left the potentials as they were.
+#[derive(Drop)]
+struct Joint {
+    lane: Lane,
+    flat: bool,
+}
+
+// The lane by which the part is to hang: a tight one where the last cut changed nothing, else the one that a cut brings in.
 fn next_lane(
     wide: bool,
-    m: usize,
-    n: usize,
+    lanes: &Lanes<'_>,
     flat: bool,
-    part: u32,
-    below: u64,
-    cost: &[u32; 2048],
+    part: Part,
     table: &[u32; 2048],
     columns: &[u32; 2048],
     x: &[u32; 2048],
     serves: &[u32; 64],
     pot: &mut [u32; 96],
-) -> Joint
-    requires cut_ready { CutReady m n table.now columns.now pot.old }
-    requires priced { Priced m n cost.now }
-    ensures { Shifted m n cost.now table.now columns.now x.now serves.now
+) -> Option<Joint>
+    requires cut_ready { CutReady lanes.now.m lanes.now.n table.now columns.now pot.old }
+    requires priced { Priced lanes.now.m lanes.now.n lanes.now.cost.now }
+    ensures { Shifted lanes.now.m lanes.now.n lanes.now.cost.now table.now columns.now x.now serves.now
         pot.old pot.new }
 {
     if flat {
-        let tight = tight_lane(m, part, below, columns, pot);
-        if tight.source < NONE {
-            return Joint {
-                inner: tight.terminal,
-                outer: tight.source,
-                flat: true,
-            };
+        if let Some(lane) = tight_lane(lanes.m, part, columns, pot) {
+            return Some(Joint { lane, flat: true });
         }
     }
     let first = pot[0];
     let second = pot[1];
-    let lane = cut_in(
-        wide, m, n, part, below, cost, table, columns, x, serves, pot,
-    );
+    let lane = cut_in(wide, lanes, part, table, columns, x, serves, pot)?;
     let still = (first == pot[0]) & (second == pot[1]);
-    Joint {
-        inner: lane.inner,
-        outer: lane.outer,
-        flat: still,
-    }
+    Some(Joint { lane, flat: still })
 }
 
 // The lane above node v, where v is a source and the lane is empty, is no longer noted as one in use.
-fn forget_above(v: u32, x: &[u32; 2048], serves: &mut [u32; 64], parent: &[u32; 128])
+fn forget_above(v: u32, x: &[u32; 2048], serves: &mut [u32; 64], tree: &Tree)
     ensures { Forgot x.now serves.old serves.new }
 {
     if v < 32 {
-        let k = v as usize;
-        let t = ((parent[k] % 128 + 32) % 64) as usize;
-        forget(k, t, x, serves);
+        let t = ((tree.above(v) % 128 + 32) % 64) as usize;
+        forget(v as usize, t, x, serves);
     }
 }
 
-// Whether a cut was made as it was wanted, and whether the last one left the potentials as they were.
-#[derive(Drop)]
-struct Made {
-    done: bool,
-    flat: bool,
-}
-
-// The lane above the node of the hint, where it is one, leaves the tree; the part below it hangs from another. Whether that was done.
+// The lane above the node of the hint, where it is one, leaves the tree; the part below it hangs from another. Whether the last cut left the potentials as
+// they were; none where a cut was not made as it was wanted.
 fn step(
     wide: bool,
-    m: usize,
-    n: usize,
+    lanes: &Lanes<'_>,
     hint: Hint,
-    cost: &[u32; 2048],
     table: &[u32; 2048],
     columns: &[u32; 2048],
     x: &[u32; 2048],
     serves: &mut [u32; 64],
     pot: &mut [u32; 96],
-    parent: &mut [u32; 128],
-    sources_below: &mut [u32; 128],
-    terminals_below: &mut [u64; 128],
-) -> Made
-    requires cut_ready { CutReady m n table.now columns.now pot.old }
-    requires priced { Priced m n cost.now }
-    ensures { Advanced m n cost.now table.now columns.now x.now serves.old
+    tree: &mut Tree,
+) -> Option<bool>
+    requires cut_ready { CutReady lanes.now.m lanes.now.n table.now columns.now pot.old }
+    requires priced { Priced lanes.now.m lanes.now.n lanes.now.cost.now }
+    ensures { Advanced lanes.now.m lanes.now.n lanes.now.cost.now table.now columns.now x.now serves.old
         pot.old serves.new pot.new }
 {
-    let v = hint.node;
-    if NONE <= v {
-        return Made {
-            done: true,
-            flat: hint.flat,
-        };
-    }
-    forget_above(v, x, serves, parent);
-    let k = (v % 128) as usize;
-    let part = sources_below[k];
-    let below = terminals_below[k];
-    let lane = next_lane(
-        wide, m, n, hint.flat, part, below, cost, table, columns, x, serves, pot,
-    );
-    if NONE <= lane.outer {
-        return Made {
-            done: false,
-            flat: false,
-        };
-    }
-    reattach(
-        v,
-        lane.inner,
-        lane.outer,
-        parent,
-        sources_below,
-        terminals_below,
-    );
-    Made {
-        done: true,
-        flat: lane.flat,
-    }
+    let flat = hint.flat;
+    let Some(v) = hint.node else {
+        return Some(flat);
+    };
+    forget_above(v, x, serves, tree);
+    let part = tree.part(v);
+    let joint = next_lane(wide, lanes, flat, part, table, columns, x, serves, pot)?;
+    tree.reattach(v, joint.lane.inner, joint.lane.outer);
+    Some(joint.flat)
 }
 
-// The arcs of the tree's path (0: it has none), how many drums can go along it, and whether the last cut left the potentials as they were.
+// The arcs of the tree's path, how many drums can go along it, and whether the last cut left the potentials as they were.
 #[derive(Drop)]
 pub struct Course {
     pub count: u32,
@@ -222,78 +156,60 @@ pub struct Course {
     pub flat: bool,
 }
 
-// Cuts until the tree's path leads over open and tight arcs, by the tables given. Any answer 0 will do: a path is then searched for.
+// Cuts until the tree's path leads over open and tight arcs, by the tables given. None will always do: a path is then searched for.
 fn cut_until(
-    wide: bool,
-    m: usize,
-    n: usize,
-    limit: u32,
-    hint: Hint,
-    cost: &[u32; 2048],
-    cap: &[u32; 2048],
+    task: Task,
+    lanes: &Lanes<'_>,
     table: &[u32; 2048],
     columns: &[u32; 2048],
-    x: &[u32; 2048],
-    serves: &mut [u32; 64],
-    pot: &mut [u32; 96],
-    parent: &mut [u32; 128],
-    sources_below: &mut [u32; 128],
-    terminals_below: &mut [u64; 128],
+    flow: &mut Flow,
+    tree: &mut Tree,
     prev: &mut [u32; 96],
-) -> Course
-    requires cut_ready { CutReady m n table.now columns.now pot.old }
-    requires priced { Priced m n cost.now }
-    requires lt_m { (1 < m) × (length prev.old ≡ 96) }
-    ensures advanced { Advanced m n cost.now table.now columns.now x.now serves.old
-        pot.old serves.new pot.new }
+) -> Option<Course>
+    requires cut_ready { CutReady lanes.now.m lanes.now.n table.now columns.now flow.old.pot }
+    requires priced { Priced lanes.now.m lanes.now.n lanes.now.cost.now }
+    requires lt_m { (1 < lanes.now.m) × (length prev.old ≡ 96) }
+    ensures advanced { Advanced lanes.now.m lanes.now.n lanes.now.cost.now table.now columns.now flow.old.x flow.old.serves
+        flow.old.pot flow.new.serves flow.new.pot }
+    ensures same { flow.new.x ≡ flow.old.x }
     ensures prev_len { length prev.new ≡ 96 }
-    ensures followed { 0 < result.count →
-        Followed (net m n cost.now cap.now x.now) pot.new limit prev.new result.count result.amount }
+    ensures followed { IfSome result (λ c.
+        Followed (net lanes.now.m lanes.now.n lanes.now.cost.now lanes.now.cap.now flow.old.x) flow.new.pot
+        task.limit prev.new c.count c.amount) }
 {
-    let none = Course {
-        count: 0,
-        amount: 0,
-        flat: false,
-    };
-    if NONE <= parent[1] {
-        return none;
+    if NONE <= tree.parent[1] {
+        return None;
     }
-    let mut at = hint;
-    let mut left: u32 = 200;
-    while 0 < left {
-        let made = step(
-            wide,
-            m,
-            n,
+    let mut at = task.hint;
+    for _ in 0..200 {
+        let flat = step(
+            task.wide,
+            lanes,
             at,
-            cost,
             table,
             columns,
-            x,
-            serves,
-            pot,
-            parent,
-            sources_below,
-            terminals_below,
-        );
-        if !made.done {
-            return none;
+            &flow.x,
+            &mut flow.serves,
+            &mut flow.pot,
+            tree,
+        )?;
+        match follow(lanes, flow, &tree.parent, task.limit, prev) {
+            Ok(traced) => {
+                return Some(Course {
+                    count: traced.count,
+                    amount: traced.amount,
+                    flat,
+                });
+            }
+            Err(stop) => {
+                at = Hint {
+                    node: Some(stop),
+                    flat,
+                };
+            }
         }
-        let traced = follow(m, n, cost, cap, x, pot, parent, limit, prev);
-        if 0 < traced.count {
-            return Course {
-                count: traced.count,
-                amount: traced.amount,
-                flat: made.flat,
-            };
-        }
-        at = Hint {
-            node: traced.stop,
-            flat: made.flat,
-        };
-        left = left - 1;
     }
-    none
+    None
 }
 
 // The path of the tree, for as many drums as the task has at most, into prev: cuts are made until it leads over open and tight arcs, or the tree is given
@@ -301,70 +217,35 @@ fn cut_until(
 // freight of a slack plan is the least at its split under each.
 pub fn advance(
     task: Task,
-    cost: &[u32; 2048],
-    cap: &[u32; 2048],
-    ahead: &[u32; 2048],
-    columns: &[u32; 2048],
-    x: &[u32; 2048],
-    serves: &mut [u32; 64],
-    pot: &mut [u32; 96],
-    parent: &mut [u32; 128],
-    sources_below: &mut [u32; 128],
-    terminals_below: &mut [u64; 128],
+    lanes: &Lanes<'_>,
+    tables: &CutTables,
+    flow: &mut Flow,
+    tree: &mut Tree,
     prev: &mut [u32; 96],
-) -> Course
-    requires tables { Tables task.wide task.size.sources task.size.terminals cost.now cap.now x.now ahead.now columns.now }
-    requires weights_ready { WeightsReady pot.old }
-    requires priced { Priced task.size.sources task.size.terminals cost.now }
-    requires lt_sources { (1 < task.size.sources) × (length prev.old ≡ 96) }
-    ensures advanced_under { AdvancedUnder task.size.sources task.size.terminals cost.now cap.now x.now
-        serves.old pot.old serves.new pot.new }
+) -> Option<Course>
+    requires tables { Tables task.wide lanes.now.m lanes.now.n lanes.now.cost.now lanes.now.cap.now flow.old.x
+        tables.now.ahead tables.now.columns }
+    requires weights_ready { WeightsReady flow.old.pot }
+    requires priced { Priced lanes.now.m lanes.now.n lanes.now.cost.now }
+    requires lt_sources { (1 < lanes.now.m) × (length prev.old ≡ 96) }
+    ensures advanced_under { AdvancedUnder lanes.now.m lanes.now.n lanes.now.cost.now lanes.now.cap.now flow.old.x
+        flow.old.serves flow.old.pot flow.new.serves flow.new.pot }
+    ensures same { flow.new.x ≡ flow.old.x }
     ensures prev_len { length prev.new ≡ 96 }
-    ensures followed { 0 < result.count →
-        Followed (net task.size.sources task.size.terminals cost.now cap.now x.now) pot.new
-        task.limit prev.new result.count result.amount }
+    ensures followed { IfSome result (λ c.
+        Followed (net lanes.now.m lanes.now.n lanes.now.cost.now lanes.now.cap.now flow.old.x) flow.new.pot
+        task.limit prev.new c.count c.amount) }
 {
-    let size = task.size;
-    let m = size.sources;
-    let n = size.terminals;
-    let limit = task.limit;
-    let hint = task.hint;
     if task.wide {
-        return cut_until(
-            true,
-            m,
-            n,
-            limit,
-            hint,
-            cost,
-            cap,
-            cost,
-            columns,
-            x,
-            serves,
-            pot,
-            parent,
-            sources_below,
-            terminals_below,
-            prev,
-        );
+        return cut_until(task, lanes, lanes.cost, &tables.columns, flow, tree, prev);
     }
     cut_until(
-        false,
-        m,
-        n,
-        limit,
-        hint,
-        cost,
-        cap,
-        ahead,
-        columns,
-        x,
-        serves,
-        pot,
-        parent,
-        sources_below,
-        terminals_below,
+        task,
+        lanes,
+        &tables.ahead,
+        &tables.columns,
+        flow,
+        tree,
         prev,
     )
 }

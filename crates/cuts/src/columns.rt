@@ -4,6 +4,15 @@ ghost use Rattle.std.specs.Prelude.{◌≡◌, ◌+◌, ◌<◌, length};
 ghost use Rattle.cuts.specs.inner.Columns.{TransposeReady, Filled, Transposed};
 ghost use Rattle.cuts.specs.inner.Tables.{Fresh, Roomy, Tables, Written, LaneEnds, Renewed};
 
+use residual::lanes::Lanes;
+
+// The unit costs of the lanes with room: ahead by source, columns by terminal.
+#[derive(Drop)]
+pub struct CutTables {
+    pub ahead: [u32; 2048],
+    pub columns: [u32; 2048],
+}
+
 // What a full lane has.
 const FULL: u32 = 200_000_000;
 
@@ -41,77 +50,54 @@ fn fresh(cost: u32, cap: u32, x: u32) -> u32
 }
 
 // The table by source.
-fn with_room(cost: &[u32; 2048], cap: &[u32; 2048], x: &[u32; 2048], to: &mut [u32; 2048])
+fn with_room(lanes: &Lanes<'_>, x: &[u32; 2048], to: &mut [u32; 2048])
     requires { length to.old ≡ 2048 }
-    ensures { Roomy cost.now cap.now x.now 2048 to.new }
+    ensures { Roomy lanes.now.cost.now lanes.now.cap.now x.now 2048 to.new }
 {
+    let cost = lanes.cost;
+    let cap = lanes.cap;
     for k in 0..2048 {
         to[k] = fresh(cost[k], cap[k], x[k]);
     }
 }
 
-// Both tables, into arrays that are lent cleared. Where ceilings are wide the table by source is the unit costs themselves. Any
+// Both tables, lent cleared. Where ceilings are wide the table by source is the unit costs themselves. Any
 // bound will do for a lane that the case has not: it is read, and does not count.
-pub fn tables(
-    wide: bool,
-    m: usize,
-    n: usize,
-    cost: &[u32; 2048],
-    cap: &[u32; 2048],
-    x: &[u32; 2048],
-    ahead: &mut [u32; 2048],
-    columns: &mut [u32; 2048],
-)
-    requires transpose_ready { TransposeReady m n cost.now × Filled m cost.now 0 0 columns.old }
-    requires x_len { (length x.now ≡ 2048) × (length ahead.old ≡ 2048) }
-    ensures { Tables wide m n cost.now cap.now x.now ahead.new columns.new }
+pub fn tables(wide: bool, lanes: &Lanes<'_>, x: &[u32; 2048], tables: &mut CutTables)
+    requires transpose_ready { TransposeReady lanes.now.m lanes.now.n lanes.now.cost.now × Filled lanes.now.m lanes.now.cost.now 0 0 tables.old.columns }
+    requires x_len { (length x.now ≡ 2048) × (length tables.old.ahead ≡ 2048) }
+    ensures { Tables wide lanes.now.m lanes.now.n lanes.now.cost.now lanes.now.cap.now x.now tables.new.ahead tables.new.columns }
 {
     if wide {
-        by_terminal(m, n, cost, columns);
+        by_terminal(lanes.m, lanes.n, lanes.cost, &mut tables.columns);
         return;
     }
-    with_room(cost, cap, x, ahead);
-    by_terminal(m, n, ahead, columns);
+    with_room(lanes, x, &mut tables.ahead);
+    by_terminal(lanes.m, lanes.n, &tables.ahead, &mut tables.columns);
 }
 
 // The lane from source i to terminal j, in both tables.
-fn write(
-    i: usize,
-    j: usize,
-    cost: &[u32; 2048],
-    cap: &[u32; 2048],
-    x: &[u32; 2048],
-    ahead: &mut [u32; 2048],
-    columns: &mut [u32; 2048],
-)
+fn write(i: usize, j: usize, lanes: &Lanes<'_>, x: &[u32; 2048], tables: &mut CutTables)
     requires { (i < 32) × (j < 64) }
-    ensures { Written i j cost.now cap.now x.now ahead.old columns.old
-        ahead.new columns.new }
+    ensures { Written i j lanes.now.cost.now lanes.now.cap.now x.now tables.old.ahead tables.old.columns
+        tables.new.ahead tables.new.columns }
 {
     let k = i * 64 + j;
-    let cell = fresh(cost[k], cap[k], x[k]);
-    ahead[k] = cell;
-    columns[j * 32 + i] = cell;
+    let cell = fresh(lanes.cost[k], lanes.cap[k], x[k]);
+    tables.ahead[k] = cell;
+    tables.columns[j * 32 + i] = cell;
 }
 
 // The lane of an arc from w to v that drums went over. Any two tables will do that are at most the unit costs of lanes with
 // room: potentials that rise by less leave a slack plan slack.
-pub fn renew(
-    v: usize,
-    w: usize,
-    cost: &[u32; 2048],
-    cap: &[u32; 2048],
-    x: &[u32; 2048],
-    ahead: &mut [u32; 2048],
-    columns: &mut [u32; 2048],
-)
+pub fn renew(v: usize, w: usize, lanes: &Lanes<'_>, x: &[u32; 2048], tables: &mut CutTables)
     requires { LaneEnds v w }
-    ensures { Renewed v w cost.now cap.now x.now ahead.old columns.old
-        ahead.new columns.new }
+    ensures { Renewed v w lanes.now.cost.now lanes.now.cap.now x.now tables.old.ahead tables.old.columns
+        tables.new.ahead tables.new.columns }
 {
     if v < 32 {
-        write(v, w - 32, cost, cap, x, ahead, columns);
+        write(v, w - 32, lanes, x, tables);
     } else {
-        write(w, v - 32, cost, cap, x, ahead, columns);
+        write(w, v - 32, lanes, x, tables);
     }
 }

@@ -9,6 +9,9 @@ ghost use Rattle.cuts.specs.inner.Cut.{Nearer, OutReady, OutTo, ExitReady, ExitT
 ghost use Rattle.cuts.specs.inner.Cut.{FoldReady, Folded, WeightsReady, Weighed, LowsReady, Lows, LeastReady, Counted, LowTo, Low, SourcesReady};
 ghost use Rattle.cuts.specs.inner.Cut.{TerminalsReady, Nearest, NearReady, Near, Top, Bottom, CutReady, LiftReady, Lifted, Shifted};
 
+use residual::lanes::Lanes;
+use spanningtree::tree::Part;
+
 // The bits below n that are not in the part.
 fn others(n: usize, part: u64) -> u64
     requires { n ≤ 64 }
@@ -22,6 +25,7 @@ fn others(n: usize, part: u64) -> u64
 }
 
 // Does no source of the part serve a terminal that is not in it?
+// Stays: no index is counted; the bits of a word are taken off one by one.
 fn closed(n: usize, rows: u32, cols: u64, serves: &[u32; 64]) -> bool
     requires { n ≤ 64 }
     ensures { result ≡ true → Shut n rows cols serves.now }
@@ -75,6 +79,7 @@ fn weights(pot: &[u32; 96]) -> [u32; 96]
 
 // The least of unit cost and weight in each of 32 places, over the nodes of a part: bit b of it is node at + b, whose cells stand from
 // b * stride + first on.
+// Stays: no index is counted; the bits of a word are taken off one by one.
 fn lows(
     part: u64,
     at: usize,
@@ -97,6 +102,7 @@ fn lows(
 }
 
 // The least reduced cost into the part, and 800,000,000 more; and one end of a lane that has it.
+// Stays: a key above all others stands for no lane, so that the least of many is taken without a test; an Option would be tested at each of them.
 #[derive(Drop)]
 pub struct Entry {
     pub key: u32,
@@ -125,6 +131,7 @@ fn nearer(amount: u32, node: usize, key: u32, far: Entry) -> Entry
 
 // The least of a key and of what the potential of terminal j is above that of a source of the part and the unit cost together, 1,000,000,000 more, over
 // the lanes in use; and the cell of a lane that has it.
+// Stays: no index is counted; the bits of a word are taken off one by one.
 fn least_out(
     j: usize,
     from: u64,
@@ -150,25 +157,25 @@ fn least_out(
 }
 
 // The same over all lanes in use from the sources inside to terminals outside cols.
+// Stays: no index is counted; the bits of a word are taken off one by one.
 fn leaving(
-    m: usize,
-    n: usize,
+    lanes: &Lanes<'_>,
     inside: u32,
     cols: u64,
-    cost: &[u32; 2048],
     x: &[u32; 2048],
     serves: &[u32; 64],
     pot: &[u32; 96],
 ) -> Entry
-    requires exit_ready { ExitReady m n cost.now pot.now }
-    requires inside_bound { inside < 2 ^ m }
-    ensures { ExitTo n inside cols cost.now x.now serves.now pot.now 0 result.key }
+    requires exit_ready { ExitReady lanes.now.m lanes.now.n lanes.now.cost.now pot.now }
+    requires inside_bound { inside < 2 ^ lanes.now.m }
+    ensures { ExitTo lanes.now.n inside cols lanes.now.cost.now x.now serves.now pot.now 0 result.key }
 {
     let mut far = Entry {
         key: 4_000_000_000,
         node: 0,
     };
-    let mut left = others(n, cols);
+    let cost = lanes.cost;
+    let mut left = others(lanes.n, cols);
     while 0 < left {
         let j = u64::trailing_zeros(left) as usize;
         let from = serves[j] & inside;
@@ -182,20 +189,18 @@ fn leaving(
 // is not to have such lanes: 0 where it has.
 fn way_out(
     wide: bool,
-    m: usize,
-    n: usize,
+    lanes: &Lanes<'_>,
     rows: u32,
     cols: u64,
-    cost: &[u32; 2048],
     x: &[u32; 2048],
     serves: &[u32; 64],
     pot: &[u32; 96],
 ) -> Entry
-    requires { ExitReady m n cost.now pot.now }
-    ensures { Exit m n rows cols cost.now x.now serves.now pot.now result.key }
+    requires { ExitReady lanes.now.m lanes.now.n lanes.now.cost.now pot.now }
+    ensures { Exit lanes.now.m lanes.now.n rows cols lanes.now.cost.now x.now serves.now pot.now result.key }
 {
     if wide {
-        if closed(n, rows, cols, serves) {
+        if closed(lanes.n, rows, cols, serves) {
             return Entry {
                 key: 4_000_000_000,
                 node: 0,
@@ -203,8 +208,8 @@ fn way_out(
         }
         return Entry { key: 0, node: 0 };
     }
-    let inside = rows & others(m, 0) as u32;
-    leaving(m, n, inside, cols, cost, x, serves, pot)
+    let inside = rows & others(lanes.m, 0) as u32;
+    leaving(lanes, inside, cols, x, serves, pot)
 }
 
 // A key, where bit b is in the part; else a number that no key is above.
@@ -348,6 +353,7 @@ fn bottom(pot: &[u32; 96]) -> u32
 }
 
 // The nodes of the part rise by up and fall by down; its bit k is node first + k.
+// Stays: no index is counted; the bits of a word are taken off one by one.
 fn change(part: u64, first: usize, up: u32, down: u32, pot: &mut [u32; 96])
     requires { ChangeReady part first up down pot.old }
     ensures { Changed part first up down pot.old 0 pot.new }
@@ -360,12 +366,11 @@ fn change(part: u64, first: usize, up: u32, down: u32, pot: &mut [u32; 96])
     }
 }
 
-// Whether a cut was made, and whether the lane that has the least leads out of the part: its cell then, else one end of it.
+// A lane that has the least of a cut: one that leads into the part, by one of its ends, or one that leads out of it, by its cell.
 #[derive(Drop)]
-pub struct Outcome {
-    pub done: bool,
-    pub out: bool,
-    pub node: usize,
+pub enum Met {
+    In(usize),
+    Out(usize),
 }
 
 // The rise of a part by d, where it is plain that no potential comes above 800,000,000.
@@ -418,55 +423,43 @@ fn lift(m: usize, n: usize, rows: u32, cols: u64, d: u32, pot: &mut [u32; 96]) -
     rise(rows, cols, d, pot)
 }
 
-// The cut of a part, whichever it is. The tables have the unit costs of lanes with room, by source and by terminal; full lanes may have more. Whether
-// ceilings are wide only decides how lanes in use out of the part are looked for. Any cut will do: what was slack under the
-// potentials before is slack under those after it.
+// The cut of a part, whichever it is, and a lane that it meets; none where no cut is made. The tables have the unit costs of lanes with room, by source
+// and by terminal; full lanes may have more. Whether ceilings are wide only decides how lanes in use out of the part are looked for. Any cut will do: what
+// was slack under the potentials before is slack under those after it.
 pub fn cut(
     wide: bool,
-    m: usize,
-    n: usize,
-    rows: u32,
-    cols: u64,
-    cost: &[u32; 2048],
+    lanes: &Lanes<'_>,
+    part: Part,
     table: &[u32; 2048],
     columns: &[u32; 2048],
     x: &[u32; 2048],
     serves: &[u32; 64],
     pot: &mut [u32; 96],
-) -> Outcome
-    requires cut_ready { CutReady m n table.now columns.now pot.old }
-    requires priced { Priced m n cost.now }
-    ensures { Shifted m n cost.now table.now columns.now x.now serves.now
+) -> Option<Met>
+    requires cut_ready { CutReady lanes.now.m lanes.now.n table.now columns.now pot.old }
+    requires priced { Priced lanes.now.m lanes.now.n lanes.now.cost.now }
+    ensures { Shifted lanes.now.m lanes.now.n lanes.now.cost.now table.now columns.now x.now serves.now
         pot.old pot.new }
 {
-    let none = Outcome {
-        done: false,
-        out: false,
-        node: 0,
-    };
-    let exit = way_out(wide, m, n, rows, cols, cost, x, serves, pot);
+    let m = lanes.m;
+    let n = lanes.n;
+    let rows = part.sources;
+    let cols = part.terminals;
+    let exit = way_out(wide, lanes, rows, cols, x, serves, pot);
     if exit.key < 1_000_000_000 {
-        return none;
+        return None;
     }
     let weight = weights(pot);
     let far = nearest(m, n, rows, cols, table, columns, &weight);
     if far.key < 800_000_000 {
-        return none;
+        return None;
     }
     let ahead = far.key - 800_000_000;
     let back = exit.key - 1_000_000_000;
     if back < ahead {
         let done = lift(m, n, rows, cols, back, pot);
-        return Outcome {
-            done,
-            out: true,
-            node: exit.node,
-        };
+        return done.then_some(Met::Out(exit.node));
     }
     let done = lift(m, n, rows, cols, ahead, pot);
-    Outcome {
-        done,
-        out: false,
-        node: far.node,
-    }
+    done.then_some(Met::In(far.node))
 }

@@ -12,19 +12,18 @@ use lib.IntN.{ℤ}
 use lib.ListN.{length, get_or, take, drop, length-append, length-drop}
 use lib.Seq.{drop-cons, take-suc, take_all, get_or-drop}
 use borrow.Author.Tests.{eq-eqb, ne_eqb, lt-ltb, le-ltb}
-use Rattle.dimacs.specs.declared.form.Form.TheVariants as forms
+use Rattle.std.proofs.Common.{Option as Maybe, Some, None}
 use Rattle.dimacs.specs.declared.form.Tally.{Tally}
-use Rattle.dimacs.specs.declared.form.Next as next-answer
-use Rattle.dimacs.specs.declared.form.Next.TheVariants as nexts
 use Rattle.dimacs.specs.declared.line.Line as line-answer
 use Rattle.dimacs.specs.declared.line.Line.TheVariants as lines
 use Rattle.dimacs.specs.Bytes.{◌>>=◌}
 use Rattle.dimacs.specs.Form.{before, pieces, ArcLine, Line, line_of, File, file, Stage, opening, reading, is_empty, only_if, step, Form, broken, at_end, last, run, form_of}
 use Rattle.dimacs.specs.Arc.{arc}
-use Rattle.csv_form.specs.Records.{signed as with_sign}
+use Rattle.dimacs.specs.declared.line.NodeNumbers as node-answer
+use Rattle.dimacs.specs.declared.line.ArcNumbers as arc-answer
 use Rattle.dimacs.specs.inner.LineReader.{on_line, WholeLine}
 use Rattle.dimacs.specs.inner.Stored.{lines_of, stage_of}
-use Rattle.dimacs.specs.inner.FormReader.{LineEnd, tally_of, on_problem, on_node, on_arc, next_of, end_of}
+use Rattle.dimacs.specs.inner.FormReader.{wrong_line, counted, LineEnd, tally_of, on_problem, on_node, on_arc, next_of, end_of}
 use Rattle.dimacs.proofs.LineOffsets.{nothing}
 
 -- ---- lines
@@ -128,9 +127,9 @@ Stands t opening = t.opened ≡ false
 Stands t (reading f) = (t.opened ≡ true) × (t.nodes ≡ f.nodes) × (t.said ≡ f.said) × (t.arcs ≡ length f.arcs) × (length f.arcs ≤ f.said)
 
 -- what a further line makes of both
-abbrev pub Moved : Stage → line-answer.Line → next-answer.Next → Type 0
-Moved s l nexts.Wrong = (on_line l >>= step s) ≡ none
-Moved s l (nexts.On t) = (s' : Stage) × ((on_line l >>= step s) ≡ some s') × Stands t s'
+abbrev pub Moved : Stage → Maybe line-answer.Line → Maybe Tally → Type 0
+Moved s l None = (on_line l >>= step s) ≡ none
+Moved s l (Some t) = (s' : Stage) × ((on_line l >>= step s) ≡ some s') × Stands t s'
 
 empty_is : (l : List ArcLine) → length l ≡ 0 → is_empty l ≡ true
 empty_is [] h = refl
@@ -150,7 +149,7 @@ abbrev with_arc : File → ArcLine → Stage
 with_arc f v = reading (file f.nodes f.said f.supplies (f.arcs ++ (v ∷ [])))
 
 module _ (t : Tally) (s : Stage) where
-  moved_comment : Stands t s → Moved s lines.Comment (nexts.On t)
+  moved_comment : Stands t s → Moved s (Some lines.Comment) (Some t)
   unfolding ◌>>=◌ step
   moved_comment h = (s, at_comment s, h)
     where
@@ -158,63 +157,63 @@ module _ (t : Tally) (s : Stage) where
       at_comment opening = refl
       at_comment (reading f) = refl
 
-moved_problem : (t : Tally) (s : Stage) (n a : ℕ) → Stands t s → Moved s (lines.Problem n a) (on_problem t n a)
+moved_problem : (t : Tally) (s : Stage) (n a : ℕ) → Stands t s → Moved s (Some (lines.Problem n a)) (on_problem t n a)
 unfolding ◌>>=◌ step
 moved_problem t opening n a h =
-    subst (λ (b : Bool). Moved opening (lines.Problem n a) (cond b nexts.Wrong (nexts.On (tally_of true n a 0)))) (sym h)
+    subst (λ (b : Bool). Moved opening (Some (lines.Problem n a)) (cond b None (Some (tally_of true n a 0)))) (sym h)
     (reading (file n a [] []), refl, (refl, refl, refl, refl, omega arith))
 moved_problem t (reading f) n a h =
-    subst (λ (b : Bool). Moved (reading f) (lines.Problem n a) (cond b nexts.Wrong (nexts.On (tally_of true n a 0)))) (sym h.0) refl
+    subst (λ (b : Bool). Moved (reading f) (Some (lines.Problem n a)) (cond b None (Some (tally_of true n a 0)))) (sym h.0) refl
 
-moved_node : (t : Tally) (s : Stage) (i : ℕ) (m : Bool) (v : ℕ) → Stands t s → Moved s (lines.Node i m v) (on_node t)
+moved_node : (t : Tally) (s : Stage) (v : node-answer.NodeNumbers) → Stands t s → Moved s (Some (lines.Node v)) (on_node t)
 unfolding ◌>>=◌ step
-moved_node t opening i m v h =
-    subst (λ (b : Bool). Moved opening (lines.Node i m v) (cond b (cond (ltb 0 t.arcs) nexts.Wrong (nexts.On t)) nexts.Wrong)) (sym h) refl
-moved_node t (reading f) i m v h =
-    subst (λ (b : Bool). Moved (reading f) (lines.Node i m v) (cond b (cond (ltb 0 t.arcs) nexts.Wrong (nexts.On t)) nexts.Wrong)) (sym h.0)
+moved_node t opening v h =
+    subst (λ (b : Bool). Moved opening (Some (lines.Node v)) (cond b (cond (ltb 0 t.arcs) None (Some t)) None)) (sym h) refl
+moved_node t (reading f) v h =
+    subst (λ (b : Bool). Moved (reading f) (Some (lines.Node v)) (cond b (cond (ltb 0 t.arcs) None (Some t)) None)) (sym h.0)
     (elim (dec_lt 0 t.arcs) [
       | yes l ↦
-          subst (λ (b : Bool). Moved (reading f) (lines.Node i m v) (cond b nexts.Wrong (nexts.On t))) (sym (lt-ltb 0 t.arcs l))
-          (ap (λ (b : Bool). only_if b (with_node f i (with_sign m v))) (full_is f.arcs (omega (arith, h.3))))
+          subst (λ (b : Bool). Moved (reading f) (Some (lines.Node v)) (cond b None (Some t))) (sym (lt-ltb 0 t.arcs l))
+          (ap (λ (b : Bool). only_if b (with_node f v.id v.supply)) (full_is f.arcs (omega (arith, h.3))))
       | no l ↦
-          subst (λ (b : Bool). Moved (reading f) (lines.Node i m v) (cond b nexts.Wrong (nexts.On t))) (sym (le-ltb 0 t.arcs (omega arith)))
-          (with_node f i (with_sign m v), ap (λ (b : Bool). only_if b (with_node f i (with_sign m v))) (empty_is f.arcs (omega (arith, h.3))), (h.0, h.1, h.2, h.3, h.4))
+          subst (λ (b : Bool). Moved (reading f) (Some (lines.Node v)) (cond b None (Some t))) (sym (le-ltb 0 t.arcs (omega arith)))
+          (with_node f v.id v.supply, ap (λ (b : Bool). only_if b (with_node f v.id v.supply)) (empty_is f.arcs (omega (arith, h.3))), (h.0, h.1, h.2, h.3, h.4))
     ])
 
-moved_arc : (t : Tally) (s : Stage) (a e low most : ℕ) (m : Bool) (c : ℕ) → Stands t s → Moved s (lines.Arc a e low most m c) (on_arc t)
+moved_arc : (t : Tally) (s : Stage) (v : arc-answer.ArcNumbers) → Stands t s → Moved s (Some (lines.Arc v)) (on_arc t)
 unfolding ◌>>=◌ step
-moved_arc t opening a e low most m c h =
-    subst (λ (b : Bool). Moved opening (lines.Arc a e low most m c) (cond b (cond (ltb t.arcs t.said) (nexts.On (tally_of true t.nodes t.said (t.arcs + 1))) nexts.Wrong) nexts.Wrong))
+moved_arc t opening v h =
+    subst (λ (b : Bool). Moved opening (Some (lines.Arc v)) (cond b (cond (ltb t.arcs t.said) (Some (tally_of true t.nodes t.said (t.arcs + 1))) None) None))
     (sym h) refl
-moved_arc t (reading f) a e low most m c h =
-    subst (λ (b : Bool). Moved (reading f) (lines.Arc a e low most m c) (cond b (cond (ltb t.arcs t.said) (nexts.On (tally_of true t.nodes t.said (t.arcs + 1))) nexts.Wrong) nexts.Wrong))
+moved_arc t (reading f) v h =
+    subst (λ (b : Bool). Moved (reading f) (Some (lines.Arc v)) (cond b (cond (ltb t.arcs t.said) (Some (tally_of true t.nodes t.said (t.arcs + 1))) None) None))
     (sym h.0)
     (elim (dec_lt t.arcs t.said) [
       | yes l ↦
-          subst (λ (b : Bool). Moved (reading f) (lines.Arc a e low most m c) (cond b (nexts.On (tally_of true t.nodes t.said (t.arcs + 1))) nexts.Wrong)) (sym (lt-ltb t.arcs t.said l)) (
-            with_arc f (made a e low most (with_sign m c)),
-            ap (λ (b : Bool). only_if b (with_arc f (made a e low most (with_sign m c)))) (lt-ltb (length f.arcs) f.said (omega (arith, h.2, h.3))),
+          subst (λ (b : Bool). Moved (reading f) (Some (lines.Arc v)) (cond b (Some (tally_of true t.nodes t.said (t.arcs + 1))) None)) (sym (lt-ltb t.arcs t.said l)) (
+            with_arc f (made v.start v.end v.low v.ceiling v.cost),
+            ap (λ (b : Bool). only_if b (with_arc f (made v.start v.end v.low v.ceiling v.cost))) (lt-ltb (length f.arcs) f.said (omega (arith, h.2, h.3))),
             (
               refl,
               h.1,
               h.2,
-              omega (arith, h.3, length-append f.arcs (made a e low most (with_sign m c) ∷ [])),
-              omega (arith, h.2, h.3, length-append f.arcs (made a e low most (with_sign m c) ∷ [])),
+              omega (arith, h.3, length-append f.arcs (made v.start v.end v.low v.ceiling v.cost ∷ [])),
+              omega (arith, h.2, h.3, length-append f.arcs (made v.start v.end v.low v.ceiling v.cost ∷ [])),
             ),
           )
       | no l ↦
-          subst (λ (b : Bool). Moved (reading f) (lines.Arc a e low most m c) (cond b (nexts.On (tally_of true t.nodes t.said (t.arcs + 1))) nexts.Wrong))
+          subst (λ (b : Bool). Moved (reading f) (Some (lines.Arc v)) (cond b (Some (tally_of true t.nodes t.said (t.arcs + 1))) None))
           (sym (le-ltb t.arcs t.said (omega arith)))
-          (ap (λ (b : Bool). only_if b (with_arc f (made a e low most (with_sign m c)))) (le-ltb (length f.arcs) f.said (omega (arith, h.2, h.3))))
+          (ap (λ (b : Bool). only_if b (with_arc f (made v.start v.end v.low v.ceiling v.cost))) (le-ltb (length f.arcs) f.said (omega (arith, h.2, h.3))))
     ])
 
-pub moved : (t : Tally) (s : Stage) (l : line-answer.Line) → Stands t s → Moved s l (next_of t l)
+pub moved : (t : Tally) (s : Stage) (l : Maybe line-answer.Line) → Stands t s → Moved s l (next_of t l)
 unfolding ◌>>=◌
-moved t s lines.Comment h = moved_comment t s h
-moved t s (lines.Problem n a) h = moved_problem t s n a h
-moved t s (lines.Node i m v) h = moved_node t s i m v h
-moved t s (lines.Arc a e low most m c) h = moved_arc t s a e low most m c h
-moved t s lines.Wrong h = refl
+moved t s (Some lines.Comment) h = moved_comment t s h
+moved t s (Some (lines.Problem n a)) h = moved_problem t s n a h
+moved t s (Some (lines.Node v)) h = moved_node t s v h
+moved t s (Some (lines.Arc v)) h = moved_arc t s v h
+moved t s None h = refl
 
 -- ---- the loop over the lines
 
@@ -280,22 +279,22 @@ module _ (s : List ℕ) (t : Tally) (at line e : ℕ) (r : SoFar s t at line) (d
   unfolding lines_of
   stage_ends h = r.staged ∙ ap (lines_of r.stage) (d.last h)
 
-  module _ (h : e < length s) (l : line-answer.Line) (w : WholeLine (take (e - at) (drop at s)) l) where
-    pub form_wrong : next_of t l ≡ nexts.Wrong → form_of s ≡ broken line
+  module _ (h : e < length s) (l : Maybe line-answer.Line) (w : WholeLine (take (e - at) (drop at s)) l) where
+    pub form_wrong : next_of t l ≡ None → form_of s ≡ broken line
     form_wrong q =
         r.meaning
         ∙ ap (run line r.stage) (d.line h)
         ∙ run_wrong line r.stage (take (e - at) (drop at s)) (drop (e + 1) s)
         (ap (λ (o : Option Line). o >>= step r.stage) w.meaning ∙ subst (Moved r.stage l) q (moved t r.stage l r.stands))
 
-    pub stage_wrong : next_of t l ≡ nexts.Wrong → stage_of s ≡ r.stage
+    pub stage_wrong : next_of t l ≡ None → stage_of s ≡ r.stage
     stage_wrong q =
         r.staged
         ∙ ap (lines_of r.stage) (d.line h)
         ∙ lines_wrong line r.stage (take (e - at) (drop at s)) (drop (e + 1) s)
         (ap (λ (o : Option Line). o >>= step r.stage) w.meaning ∙ subst (Moved r.stage l) q (moved t r.stage l r.stands))
 
-    pub form_on : (t' : Tally) → next_of t l ≡ nexts.On t' → (z : SoFar s t' (e + 1) (line + 1)) × ((on_line l >>= step r.stage) ≡ some z.stage)
+    pub form_on : (t' : Tally) → next_of t l ≡ Some t' → (z : SoFar s t' (e + 1) (line + 1)) × ((on_line l >>= step r.stage) ≡ some z.stage)
     form_on t' q =
         let m = subst (Moved r.stage l) q (moved t r.stage l r.stands) in (
           record {
@@ -320,44 +319,44 @@ module _ (s : List ℕ) (t : Tally) (at line e : ℕ) (r : SoFar s t at line) (d
 
 -- ---- the counts' functions
 
-pub end_closed : (t : Tally) (line : ℕ) → t.opened ≡ false → forms.Refused line ≡ end_of t line
-end_closed t line e = sym (ap (λ (b : Bool). cond b (cond (ltb t.arcs t.said) (forms.Refused line) (forms.Whole t.nodes t.said)) (forms.Refused line)) e)
+pub end_closed : (t : Tally) (line : ℕ) → t.opened ≡ false → wrong_line line ≡ end_of t line
+end_closed t line e = sym (ap (λ (b : Bool). cond b (cond (ltb t.arcs t.said) (wrong_line line) (counted t.nodes t.said)) (wrong_line line)) e)
 
-pub end_short : (t : Tally) (line : ℕ) → t.opened ≡ true → t.arcs < t.said → forms.Refused line ≡ end_of t line
+pub end_short : (t : Tally) (line : ℕ) → t.opened ≡ true → t.arcs < t.said → wrong_line line ≡ end_of t line
 end_short t line e h =
-    sym (ap (λ (b : Bool). cond b (cond (ltb t.arcs t.said) (forms.Refused line) (forms.Whole t.nodes t.said)) (forms.Refused line)) e
-    ∙ ap (λ (b : Bool). cond b (forms.Refused line) (forms.Whole t.nodes t.said)) (lt-ltb t.arcs t.said h))
+    sym (ap (λ (b : Bool). cond b (cond (ltb t.arcs t.said) (wrong_line line) (counted t.nodes t.said)) (wrong_line line)) e
+    ∙ ap (λ (b : Bool). cond b (wrong_line line) (counted t.nodes t.said)) (lt-ltb t.arcs t.said h))
 
-pub end_whole : (t : Tally) (line : ℕ) → t.opened ≡ true → t.said ≤ t.arcs → forms.Whole t.nodes t.said ≡ end_of t line
+pub end_whole : (t : Tally) (line : ℕ) → t.opened ≡ true → t.said ≤ t.arcs → counted t.nodes t.said ≡ end_of t line
 end_whole t line e h =
-    sym (ap (λ (b : Bool). cond b (cond (ltb t.arcs t.said) (forms.Refused line) (forms.Whole t.nodes t.said)) (forms.Refused line)) e
-    ∙ ap (λ (b : Bool). cond b (forms.Refused line) (forms.Whole t.nodes t.said)) (le-ltb t.arcs t.said h))
+    sym (ap (λ (b : Bool). cond b (cond (ltb t.arcs t.said) (wrong_line line) (counted t.nodes t.said)) (wrong_line line)) e
+    ∙ ap (λ (b : Bool). cond b (wrong_line line) (counted t.nodes t.said)) (le-ltb t.arcs t.said h))
 
-pub problem_first : (t : Tally) (n a : ℕ) → t.opened ≡ false → nexts.On (tally_of true n a 0) ≡ on_problem t n a
-problem_first t n a e = sym (ap (λ (b : Bool). cond b nexts.Wrong (nexts.On (tally_of true n a 0))) e)
+pub problem_first : (t : Tally) (n a : ℕ) → t.opened ≡ false → Some (tally_of true n a 0) ≡ on_problem t n a
+problem_first t n a e = sym (ap (λ (b : Bool). cond b None (Some (tally_of true n a 0))) e)
 
-pub node_closed : (t : Tally) → t.opened ≡ false → nexts.Wrong ≡ on_node t
-node_closed t e = sym (ap (λ (b : Bool). cond b (cond (ltb 0 t.arcs) nexts.Wrong (nexts.On t)) nexts.Wrong) e)
+pub node_closed : (t : Tally) → t.opened ≡ false → None ≡ on_node t
+node_closed t e = sym (ap (λ (b : Bool). cond b (cond (ltb 0 t.arcs) None (Some t)) None) e)
 
-pub node_late : (t : Tally) → t.opened ≡ true → 0 < t.arcs → nexts.Wrong ≡ on_node t
+pub node_late : (t : Tally) → t.opened ≡ true → 0 < t.arcs → None ≡ on_node t
 node_late t e h =
-    sym (ap (λ (b : Bool). cond b (cond (ltb 0 t.arcs) nexts.Wrong (nexts.On t)) nexts.Wrong) e
-    ∙ ap (λ (b : Bool). cond b nexts.Wrong (nexts.On t)) (lt-ltb 0 t.arcs h))
+    sym (ap (λ (b : Bool). cond b (cond (ltb 0 t.arcs) None (Some t)) None) e
+    ∙ ap (λ (b : Bool). cond b None (Some t)) (lt-ltb 0 t.arcs h))
 
-pub node_good : (t : Tally) → t.opened ≡ true → t.arcs ≤ 0 → nexts.On t ≡ on_node t
+pub node_good : (t : Tally) → t.opened ≡ true → t.arcs ≤ 0 → Some t ≡ on_node t
 node_good t e h =
-    sym (ap (λ (b : Bool). cond b (cond (ltb 0 t.arcs) nexts.Wrong (nexts.On t)) nexts.Wrong) e
-    ∙ ap (λ (b : Bool). cond b nexts.Wrong (nexts.On t)) (le-ltb 0 t.arcs h))
+    sym (ap (λ (b : Bool). cond b (cond (ltb 0 t.arcs) None (Some t)) None) e
+    ∙ ap (λ (b : Bool). cond b None (Some t)) (le-ltb 0 t.arcs h))
 
-pub arc_closed : (t : Tally) → t.opened ≡ false → nexts.Wrong ≡ on_arc t
-arc_closed t e = sym (ap (λ (b : Bool). cond b (cond (ltb t.arcs t.said) (nexts.On (tally_of true t.nodes t.said (t.arcs + 1))) nexts.Wrong) nexts.Wrong) e)
+pub arc_closed : (t : Tally) → t.opened ≡ false → None ≡ on_arc t
+arc_closed t e = sym (ap (λ (b : Bool). cond b (cond (ltb t.arcs t.said) (Some (tally_of true t.nodes t.said (t.arcs + 1))) None) None) e)
 
-pub arc_good : (t : Tally) → t.opened ≡ true → t.arcs < t.said → nexts.On (tally_of true t.nodes t.said (t.arcs + 1)) ≡ on_arc t
+pub arc_good : (t : Tally) → t.opened ≡ true → t.arcs < t.said → Some (tally_of true t.nodes t.said (t.arcs + 1)) ≡ on_arc t
 arc_good t e h =
-    sym (ap (λ (b : Bool). cond b (cond (ltb t.arcs t.said) (nexts.On (tally_of true t.nodes t.said (t.arcs + 1))) nexts.Wrong) nexts.Wrong) e
-    ∙ ap (λ (b : Bool). cond b (nexts.On (tally_of true t.nodes t.said (t.arcs + 1))) nexts.Wrong) (lt-ltb t.arcs t.said h))
+    sym (ap (λ (b : Bool). cond b (cond (ltb t.arcs t.said) (Some (tally_of true t.nodes t.said (t.arcs + 1))) None) None) e
+    ∙ ap (λ (b : Bool). cond b (Some (tally_of true t.nodes t.said (t.arcs + 1))) None) (lt-ltb t.arcs t.said h))
 
-pub arc_late : (t : Tally) → t.opened ≡ true → t.said ≤ t.arcs → nexts.Wrong ≡ on_arc t
+pub arc_late : (t : Tally) → t.opened ≡ true → t.said ≤ t.arcs → None ≡ on_arc t
 arc_late t e h =
-    sym (ap (λ (b : Bool). cond b (cond (ltb t.arcs t.said) (nexts.On (tally_of true t.nodes t.said (t.arcs + 1))) nexts.Wrong) nexts.Wrong) e
-    ∙ ap (λ (b : Bool). cond b (nexts.On (tally_of true t.nodes t.said (t.arcs + 1))) nexts.Wrong) (le-ltb t.arcs t.said h))
+    sym (ap (λ (b : Bool). cond b (cond (ltb t.arcs t.said) (Some (tally_of true t.nodes t.said (t.arcs + 1))) None) None) e
+    ∙ ap (λ (b : Bool). cond b (Some (tally_of true t.nodes t.said (t.arcs + 1))) None) (le-ltb t.arcs t.said h))

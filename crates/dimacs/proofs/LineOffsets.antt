@@ -8,16 +8,15 @@ use native.Mathlib.Nat.{not-suc-le-zero, le_of_suc-le-suc, pow-suc, pow-le-pow_r
 use native.Mathlib.Numerals.{add-one}
 use native.Mathlib.Decide.{dec_lt}
 use native.Mathlib.Omega.{arith}
-use lib.Dec.{T, leb, leb→le}
+use lib.Dec.{leb}
 use lib.ListN.{length, get_or, drop, get_or-eq_default}
 use lib.Seq.{drop-cons}
 use borrow.Author.Tests.{le-leb, lt-leb, eq-eqb, ne_eqb}
 use Rattle.dimacs.specs.Bytes.{Got, got, ◌>>=◌, is_digit, digits, counting, number, negative, not_negative, signed, spaces, gap, field, signed_field}
-use Rattle.dimacs.specs.declared.bytes.Number.{Number}
-use Rattle.dimacs.specs.declared.bytes.Number.TheVariants as numbers
-use Rattle.dimacs.specs.declared.bytes.Signed.{Signed}
-use Rattle.dimacs.specs.declared.bytes.Signed.TheVariants as signeds
-use Rattle.dimacs.specs.inner.Reader.{DigitsRead, SpacesRead, on_number, number_ends, NumberRead, on_signed, signed_ends, sign_in, SignedRead, signed_answer}
+use Rattle.std.proofs.Common.{Option as Maybe, Some, None, ℤ, nat_abs}
+use Rattle.csv_form.specs.Records.{signed as with_sign}
+use Rattle.dimacs.specs.declared.bytes.Read.{Read}
+use Rattle.dimacs.specs.inner.Reader.{DigitsRead, SpacesRead, on_read, number_ends, NumberRead, SignedRead}
 
 -- an element that is there does not depend on the default
 pub at_any : (s : List ℕ) (at d e : ℕ) → at < length s → get_or s at d ≡ get_or s at e
@@ -127,8 +126,11 @@ module _ (s : List ℕ) (at first value next left : ℕ) (r : SoFar s at first v
 
 -- ---- numbers
 
+abbrev pub read : ℕ → ℕ → Maybe (Read ℕ)
+read v n = Some (record { value = v; next = n })
+
 module _ (s : List ℕ) (at b : ℕ) (e : b ≡ get_or s at 10) where
-  counting_none : (leb 49 b && leb b 57) ≡ false → NumberRead counting s at numbers.Wrong
+  counting_none : (leb 49 b && leb b 57) ≡ false → NumberRead counting s at None
   unfolding counting
   counting_none h = record {
     ends = tt;
@@ -138,13 +140,13 @@ module _ (s : List ℕ) (at b : ℕ) (e : b ≡ get_or s at 10) where
     ];
   }
 
-  pub counting_low : b < 49 → NumberRead counting s at numbers.Wrong
+  pub counting_low : b < 49 → NumberRead counting s at None
   counting_low h = counting_none (ap (λ (x : Bool). x && leb b 57) (lt-leb 49 b h))
 
-  pub counting_high : 57 < b → NumberRead counting s at numbers.Wrong
+  pub counting_high : 57 < b → NumberRead counting s at None
   counting_high h = counting_none (ap (λ (x : Bool). leb 49 b && x) (lt-leb b 57 h) ∙ and-false (leb 49 b))
 
-  pub counting_read : 49 ≤ b → b ≤ 57 → (d v next : ℕ) → d ≡ b - 48 → DigitsRead s (at + 1) d v next → NumberRead counting s at (numbers.Value v next)
+  pub counting_read : 49 ≤ b → b ≤ 57 → (d v next : ℕ) → d ≡ b - 48 → DigitsRead s (at + 1) d v next → NumberRead counting s at (read v next)
   unfolding counting
   counting_read h l d v next q r = record {
     ends = (r.upto, r.small);
@@ -154,14 +156,14 @@ module _ (s : List ℕ) (at b : ℕ) (e : b ≡ get_or s at 10) where
         (ap (λ (g : Got ℕ). some g) (ap (λ (t : ℕ). digits 9 t (drop (at + 1) s)) (sym q) ∙ r.meaning));
   }
 
-  pub number_zero : b ≡ 48 → NumberRead number s at (numbers.Value 0 (at + 1))
+  pub number_zero : b ≡ 48 → NumberRead number s at (read 0 (at + 1))
   unfolding number
   number_zero h = let l = there s at b e (λ q. omega arith) in record {
     ends = (omega arith, omega arith);
     meaning = ap number (front s at b e l) ∙ rw (eq-eqb b 48 h, number);
   }
 
-  pub number_other : (b ≡ 48 → ⊥) → (a : Number) → NumberRead counting s at a → NumberRead number s at a
+  pub number_other : (b ≡ 48 → ⊥) → (a : Maybe (Read ℕ)) → NumberRead counting s at a → NumberRead number s at a
   unfolding number counting
   number_other h a r = record {
     ends = r.ends;
@@ -176,85 +178,68 @@ module _ (s : List ℕ) (at b : ℕ) (e : b ≡ get_or s at 10) where
 
 -- ---- signs
 
-signed_ends_lem : (s : List ℕ) (minus : Bool) (a : Number) → number_ends s a → signed_ends s (signed_answer minus a)
-signed_ends_lem s minus (numbers.Value v next) h = h
-signed_ends_lem s minus numbers.Wrong h = h
+size_small : (minus : Bool) (v : ℕ) → v < 10 ^ 10 → nat_abs (with_sign minus v) < 10 ^ 10
+size_small true zero h = omega arith
+size_small true (suc v) h = h
+size_small false v h = h
 
--- a number without a 0 in front is above 0
-digits_least : (left v : ℕ) (l : List ℕ) → v ≤ (digits left v l).value
-unfolding digits
-digits_least left v [] = omega arith
-digits_least zero v (b ∷ l) = omega arith
-digits_least (suc left) v (b ∷ l) = by (is_digit b) (digits_least left (v * 10 + (b - 48)) l)
-  where
-    by : (x : Bool) → v * 10 + (b - 48) ≤ (digits left (v * 10 + (b - 48)) l).value →
-        (let g : Got ℕ = elim x [ true ↦ digits left (v * 10 + (b - 48)) l | false ↦ got v (b ∷ l) ] in v ≤ g.value)
-    by true h = omega arith
-    by false h = omega arith
-
-counting_above : (l : List ℕ) (v : ℕ) (rest : List ℕ) → counting l ≡ some (got v rest) → 0 < v
-unfolding counting
-counting_above [] v rest e = absurd (let z : ◌≡◌ {A = ℕ} 0 1 = cc in omega arith)
-counting_above (b ∷ l) v rest e = by (leb 49 b) (leb b 57) (λ q. leb→le 49 b (subst T (sym q) tt)) e
-  where
-    by : (x y : Bool) → (x ≡ true → 49 ≤ b) → elim (x && y) [ true ↦ some (digits 9 (b - 48) l) | false ↦ none ] ≡ some (got v rest) → 0 < v
-    by true true h e =
-        let q : digits 9 (b - 48) l ≡ got v rest = cc in
-        omega (arith, h refl, digits_least 9 (b - 48) l, ap (λ (g : Got ℕ). g.value) q)
-    by true false h e = absurd (let z : ◌≡◌ {A = ℕ} 0 1 = cc in omega arith)
-    by false y h e = absurd (let z : ◌≡◌ {A = ℕ} 0 1 = cc in omega arith)
-
-minus_told : (s : List ℕ) (at : ℕ) (a : Number) → NumberRead counting s at a → sign_in (signed_answer true a)
-minus_told s at (numbers.Value v next) r = λ e. counting_above (drop at s) v (drop next s) r.meaning
-minus_told s at numbers.Wrong r = tt
-
-plain_told : (a : Number) → sign_in (signed_answer false a)
-plain_told (numbers.Value v next) = λ e. absurd (let z : false ≡ true = e in let w : ◌≡◌ {A = ℕ} 0 1 = cc in omega arith)
-plain_told numbers.Wrong = tt
-
-minus_is : (s : List ℕ) (a : Number) → (on_number s a >>= negative) ≡ on_signed s (signed_answer true a)
+minus_none : (s : List ℕ) → (on_read {A = ℕ} s None >>= negative) ≡ none
 unfolding ◌>>=◌
-minus_is s (numbers.Value v next) = refl
-minus_is s numbers.Wrong = refl
+minus_none s = refl
 
-plain_is : (s : List ℕ) (a : Number) → (on_number s a >>= not_negative) ≡ on_signed s (signed_answer false a)
+minus_some : (s : List ℕ) (r : Read ℕ) (z : ℤ) → z ≡ with_sign true r.value → (on_read s (Some r) >>= negative) ≡ on_read s (Some (record { value = z; next = r.next }))
 unfolding ◌>>=◌
-plain_is s (numbers.Value v next) = refl
-plain_is s numbers.Wrong = refl
+minus_some s r z e = rw e refl
+
+plain_none : (s : List ℕ) → (on_read {A = ℕ} s None >>= not_negative) ≡ none
+unfolding ◌>>=◌
+plain_none s = refl
+
+plain_some : (s : List ℕ) (r : Read ℕ) (z : ℤ) → z ≡ with_sign false r.value → (on_read s (Some r) >>= not_negative) ≡ on_read s (Some (record { value = z; next = r.next }))
+unfolding ◌>>=◌
+plain_some s r z e = rw e refl
 
 none_here : signed [] ≡ (number [] >>= not_negative)
 unfolding signed number ◌>>=◌
 none_here = refl
 
 module _ (s : List ℕ) (at b : ℕ) (e : b ≡ get_or s at 10) where
-  pub signed_minus : b ≡ 45 → (a : Number) → NumberRead counting s (at + 1) a → SignedRead signed s at (signed_answer true a)
+  behind_minus : b ≡ 45 → signed (drop at s) ≡ (counting (drop (at + 1) s) >>= negative)
   unfolding signed
-  signed_minus h a r = record {
-    ends = signed_ends_lem s true a r.ends;
-    sign = minus_told s (at + 1) a r;
-    meaning =
-        ap signed (front s at b e (there s at b e (λ q. omega arith)))
-        ∙ rw (eq-eqb b 45 h, signed) (ap (λ (o : Option (Got ℕ)). o >>= negative) r.meaning ∙ minus_is s a);
-  }
+  behind_minus h = ap signed (front s at b e (there s at b e (λ q. omega arith))) ∙ rw (eq-eqb b 45 h, signed)
 
-  pub signed_plain : (b ≡ 45 → ⊥) → (a : Number) → NumberRead number s at a → SignedRead signed s at (signed_answer false a)
+  as_it_stands : (b ≡ 45 → ⊥) → signed (drop at s) ≡ (number (drop at s) >>= not_negative)
   unfolding signed
-  signed_plain h a r = record {
-    ends = signed_ends_lem s false a r.ends;
-    sign = plain_told a;
-    meaning = elim (dec_lt at (length s)) [
-      | yes l ↦
-          ap signed (front s at b e l)
-          ∙ rw (ne_eqb b 45 h, signed)
-          (ap (λ (l : List ℕ). number l >>= not_negative) (sym (front s at b e l)) ∙ ap (λ (o : Option (Got ℕ)). o >>= not_negative) r.meaning ∙ plain_is s a)
-      | no l ↦
-          ap signed (nothing s at (omega arith))
-          ∙ none_here
-          ∙ ap (λ (l : List ℕ). number l >>= not_negative) (sym (nothing s at (omega arith)))
-          ∙ ap (λ (o : Option (Got ℕ)). o >>= not_negative) r.meaning
-          ∙ plain_is s a
-    ];
-  }
+  as_it_stands h = elim (dec_lt at (length s)) [
+    | yes l ↦ ap signed (front s at b e l) ∙ rw (ne_eqb b 45 h, signed) (ap (λ (l : List ℕ). number l >>= not_negative) (sym (front s at b e l)))
+    | no l ↦ ap signed (nothing s at (omega arith)) ∙ none_here ∙ ap (λ (l : List ℕ). number l >>= not_negative) (sym (nothing s at (omega arith)))
+  ]
+
+  module _ (h : b ≡ 45) (a : Maybe (Read ℕ)) (r : NumberRead counting s (at + 1) a) where
+    pub minus_without : a ≡ None → SignedRead signed s at None
+    minus_without q = record {
+      ends = tt;
+      meaning = behind_minus h ∙ ap (λ (o : Option (Got ℕ)). o >>= negative) (r.meaning ∙ ap (on_read s) q) ∙ minus_none s;
+    }
+
+    pub signed_minus : (n : Read ℕ) (z : ℤ) → a ≡ Some n → z ≡ with_sign true n.value → SignedRead signed s at (Some (record { value = z; next = n.next }))
+    signed_minus n z q k = let ends = subst (number_ends s) q r.ends in record {
+      ends = (ends.0, rw k (size_small true n.value ends.1));
+      meaning = behind_minus h ∙ ap (λ (o : Option (Got ℕ)). o >>= negative) (r.meaning ∙ ap (on_read s) q) ∙ minus_some s n z k;
+    }
+
+  module _ (h : b ≡ 45 → ⊥) (a : Maybe (Read ℕ)) (r : NumberRead number s at a) where
+    pub plain_without : a ≡ None → SignedRead signed s at None
+    plain_without q = record {
+      ends = tt;
+      meaning = as_it_stands h ∙ ap (λ (o : Option (Got ℕ)). o >>= not_negative) (r.meaning ∙ ap (on_read s) q) ∙ plain_none s;
+    }
+
+    pub signed_plain : (n : Read ℕ) (z : ℤ) → a ≡ Some n → z ≡ with_sign false n.value → SignedRead signed s at (Some (record { value = z; next = n.next }))
+    signed_plain n z q k = let ends = subst (number_ends s) q r.ends in record {
+      ends = (ends.0, rw k (size_small false n.value ends.1));
+      meaning = as_it_stands h ∙ ap (λ (o : Option (Got ℕ)). o >>= not_negative) (r.meaning ∙ ap (on_read s) q) ∙ plain_some s n z k;
+    }
 
   -- ---- spaces
 
@@ -282,18 +267,18 @@ module _ (s : List ℕ) (at b : ℕ) (e : b ≡ get_or s at 10) where
 
   -- ---- fields
 
-  pub field_none : (b ≡ 32 → ⊥) → NumberRead field s at numbers.Wrong
+  pub field_none : (b ≡ 32 → ⊥) → NumberRead field s at None
   unfolding field ◌>>=◌
   field_none h = record { ends = tt; meaning = ap (λ (o : Option (List ℕ)). o >>= number) (gap_none h) }
 
-  pub field_some : b ≡ 32 → (next : ℕ) → SpacesRead s (at + 1) next → (a : Number) → NumberRead number s next a → NumberRead field s at a
+  pub field_some : b ≡ 32 → (next : ℕ) → SpacesRead s (at + 1) next → (a : Maybe (Read ℕ)) → NumberRead number s next a → NumberRead field s at a
   unfolding field ◌>>=◌
   field_some h next r a n = record { ends = n.ends; meaning = ap (λ (o : Option (List ℕ)). o >>= number) (gap_some h next r) ∙ n.meaning }
 
-  pub signed_field_none : (b ≡ 32 → ⊥) → SignedRead signed_field s at signeds.Wrong
+  pub signed_field_none : (b ≡ 32 → ⊥) → SignedRead signed_field s at None
   unfolding signed_field ◌>>=◌
-  signed_field_none h = record { ends = tt; sign = tt; meaning = ap (λ (o : Option (List ℕ)). o >>= signed) (gap_none h) }
+  signed_field_none h = record { ends = tt; meaning = ap (λ (o : Option (List ℕ)). o >>= signed) (gap_none h) }
 
-  pub signed_field_some : b ≡ 32 → (next : ℕ) → SpacesRead s (at + 1) next → (a : Signed) → SignedRead signed s next a → SignedRead signed_field s at a
+  pub signed_field_some : b ≡ 32 → (next : ℕ) → SpacesRead s (at + 1) next → (a : Maybe (Read ℤ)) → SignedRead signed s next a → SignedRead signed_field s at a
   unfolding signed_field ◌>>=◌
-  signed_field_some h next r a n = record { ends = n.ends; sign = n.sign; meaning = ap (λ (o : Option (List ℕ)). o >>= signed) (gap_some h next r) ∙ n.meaning }
+  signed_field_some h next r a n = record { ends = n.ends; meaning = ap (λ (o : Option (List ℕ)). o >>= signed) (gap_some h next r) ∙ n.meaning }

@@ -1,19 +1,19 @@
 -- The n lines and the a lines, one more at the end. Assumes nothing.
 use mathlib.Core.Path.{◌≡◌, refl, sym, ap, ap₂, ◌∙◌}
-use mathlib.Core.Logic.{◌⊎◌, inl, inr}
+use mathlib.Core.Logic.{inl, inr}
 use mathlib.Core.Bool.{Bool, true, false, cond, ◌||◌, true≢false}
 use mathlib.Core.List.{List, [], ◌∷◌, ◌++◌}
-use Prim.Native.Nat.{ℕ, zero, suc, ◌-◌, ◌≤◌, ◌<◌, ◌^◌}
+use Prim.Native.Nat.{ℕ, suc, ◌-◌, ◌≤◌, ◌<◌, ◌^◌}
 use native.Mathlib.Decide.{ℕ_discrete, dec_lt}
 use native.Mathlib.Omega.{arith}
 use lib.Dec.{eqb, ltb}
-use lib.IntN.{pos, negsuc, neg_ℤ, sub_ℕ}
+use lib.IntN.{ℤ, pos, negsuc, neg_ℤ, nat_abs, sub_ℕ}
+use Rattle.dimacs.specs.declared.line.ArcNumbers.{ArcNumbers}
 use lib.Signed.{lt_z}
 use borrow.Author.Tests.{eq-eqb, ne_eqb, lt-ltb, le-ltb}
 use Rattle.dimacs.specs.Form.{NodeLine}
 use Rattle.dimacs.specs.Lines.{supply_in, any_of, no_node, twice, bad_arc}
-use Rattle.csv_form.specs.Records.{signed as with_sign}
-use Rattle.dimacs.specs.inner.Stored.{arc_made}
+use Rattle.dimacs.specs.inner.Stored.{arc_made, Parts}
 
 -- ---- tests one after the other
 
@@ -98,75 +98,62 @@ other_supply l v i h =
     ∙ ap (λ (b : Bool). cond (any_of (λ (z : NodeLine). eqb z.id i) l) (supply_in i l) (cond b v.supply (pos 0))) h
     ∙ none_listed l i (any_of (λ (z : NodeLine). eqb z.id i) l) refl)
 
+-- ---- a supply by its size
+
+-- what is given less what is taken is the supply, where the one is below 0 and where it is not
+supply_taken : (z : ℤ) → lt_z z (pos 0) ≡ true → sub_ℕ 0 (nat_abs z) ≡ z
+supply_taken (pos v) e = absurd (true≢false (sym e ∙ le-ltb v 0 (omega arith)))
+supply_taken (negsuc v) e = ap (λ (b : Bool). cond b (negsuc (suc v - 1)) (pos (0 - suc v))) (lt-ltb 0 (suc v) (omega arith)) ∙ ap negsuc (let q : suc v - 1 ≡ v = omega arith in q)
+
+supply_given : (z : ℤ) → lt_z z (pos 0) ≡ false → sub_ℕ (nat_abs z) 0 ≡ z
+supply_given (pos v) e = ap (λ (b : Bool). cond b (negsuc (0 - suc v)) (pos (v - 0))) (le-ltb v 0 (omega arith)) ∙ ap pos (let q : v - 0 ≡ v = omega arith in q)
+supply_given (negsuc v) e = absurd (true≢false e)
+
+pub parts_taken : (z : ℤ) → nat_abs z < 10 ^ 10 → lt_z z (pos 0) ≡ true → Parts z 0 (nat_abs z)
+parts_taken z h e = record { is = supply_taken z e; way = inl refl; give_small = omega arith; take_small = h }
+
+pub parts_given : (z : ℤ) → nat_abs z < 10 ^ 10 → lt_z z (pos 0) ≡ false → Parts z (nat_abs z) 0
+parts_given z h e = record { is = supply_given z e; way = inr refl; give_small = h; take_small = omega arith }
+
 -- ---- the range of a cost, by its size
 
-pub cost_range : (m : Bool) (c : ℕ) → ltb 1000000 c ≡ (lt_z (with_sign m c) (neg_ℤ (pos 1000000)) || lt_z (pos 1000000) (with_sign m c))
-cost_range false c = refl
-cost_range true zero = refl
-cost_range true (suc c) = elim (dec_lt 1000000 (suc c)) [
+cost_range : (z : ℤ) → ltb 1000000 (nat_abs z) ≡ (lt_z z (neg_ℤ (pos 1000000)) || lt_z (pos 1000000) z)
+cost_range (pos c) = refl
+cost_range (negsuc c) = elim (dec_lt 1000000 (suc c)) [
   | yes h ↦ lt-ltb 1000000 (suc c) h ∙ sym (ap (λ (b : Bool). b || false) (lt-ltb 999999 c (omega arith)))
   | no h ↦ le-ltb 1000000 (suc c) (omega arith) ∙ sym (ap (λ (b : Bool). b || false) (le-ltb 999999 c (omega arith)))
 ]
 
--- what is given less what is taken is the supply
-pub supply_parts : (m : Bool) (v : ℕ) → sub_ℕ (cond m 0 v) (cond m v 0) ≡ with_sign m v
-supply_parts true zero = refl
-supply_parts true (suc v) = ap (λ (b : Bool). cond b (negsuc (suc v - 1)) (pos (0 - suc v))) (lt-ltb 0 (suc v) (omega arith)) ∙ ap negsuc (let q : suc v - 1 ≡ v = omega arith in q)
-supply_parts false v = ap (λ (b : Bool). cond b (negsuc (0 - suc v)) (pos (v - 0))) (le-ltb v 0 (omega arith)) ∙ ap pos (let q : v - 0 ≡ v = omega arith in q)
-
--- one of the two is 0
-pub one_part : (m : Bool) (v : ℕ) → (cond m 0 v ≡ 0) ⊎ (cond m v 0 ≡ 0)
-one_part true v = inl refl
-one_part false v = inr refl
-
-pub given_small : (m : Bool) (v : ℕ) → v < 10 ^ 10 → cond m 0 v < 10 ^ 10
-given_small true v h = omega arith
-given_small false v h = h
-
-pub taken_small : (m : Bool) (v : ℕ) → v < 10 ^ 10 → cond m v 0 < 10 ^ 10
-taken_small true v h = h
-taken_small false v h = omega arith
-
 -- ---- an arc out of the limits
 
-module _ (nodes s e low most : ℕ) (m : Bool) (c : ℕ) where
-  pub bad_1 : s < 1 → true ≡ any_of (bad_arc nodes) (arc_made s e low most m c)
-  unfolding any_of
-  bad_1 h = sym (let q : any_of (bad_arc nodes) (arc_made s e low most m c) ≡ true = simp (lt-ltb s 1 h, or_true) in q)
+or_false : (a : Bool) → (a || false) ≡ a
+or_false true = refl
+or_false false = refl
 
-  pub bad_2 : nodes < s → true ≡ any_of (bad_arc nodes) (arc_made s e low most m c)
+module _ (nodes : ℕ) (v : ArcNumbers) where
+  pub bad_start : no_node nodes v.start ≡ true → true ≡ any_of (bad_arc nodes) (arc_made v)
   unfolding any_of
-  bad_2 h = sym (let q : any_of (bad_arc nodes) (arc_made s e low most m c) ≡ true = simp (lt-ltb nodes s h, or_true) in q)
+  bad_start h = sym (let q : any_of (bad_arc nodes) (arc_made v) ≡ true = simp (h, or_true) in q)
 
-  pub bad_3 : e < 1 → true ≡ any_of (bad_arc nodes) (arc_made s e low most m c)
+  pub bad_end : no_node nodes v.end ≡ true → true ≡ any_of (bad_arc nodes) (arc_made v)
   unfolding any_of
-  bad_3 h = sym (let q : any_of (bad_arc nodes) (arc_made s e low most m c) ≡ true = simp (lt-ltb e 1 h, or_true) in q)
+  bad_end h = sym (let q : any_of (bad_arc nodes) (arc_made v) ≡ true = simp (h, or_true) in q)
 
-  pub bad_4 : nodes < e → true ≡ any_of (bad_arc nodes) (arc_made s e low most m c)
+  pub bad_loop : v.start ≡ v.end → true ≡ any_of (bad_arc nodes) (arc_made v)
   unfolding any_of
-  bad_4 h = sym (let q : any_of (bad_arc nodes) (arc_made s e low most m c) ≡ true = simp (lt-ltb nodes e h, or_true) in q)
+  bad_loop h = sym (let q : any_of (bad_arc nodes) (arc_made v) ≡ true = simp (eq-eqb v.start v.end h, or_true) in q)
 
-  pub bad_5 : s ≡ e → true ≡ any_of (bad_arc nodes) (arc_made s e low most m c)
+  pub bad_low : 0 < v.low → true ≡ any_of (bad_arc nodes) (arc_made v)
   unfolding any_of
-  bad_5 h = sym (let q : any_of (bad_arc nodes) (arc_made s e low most m c) ≡ true = simp (eq-eqb s e h, or_true) in q)
+  bad_low h = sym (let q : any_of (bad_arc nodes) (arc_made v) ≡ true = simp (lt-ltb 0 v.low h, or_true) in q)
 
-  pub bad_6 : 0 < low → true ≡ any_of (bad_arc nodes) (arc_made s e low most m c)
+  pub bad_ceiling : 4000 < v.ceiling → true ≡ any_of (bad_arc nodes) (arc_made v)
   unfolding any_of
-  bad_6 h = sym (let q : any_of (bad_arc nodes) (arc_made s e low most m c) ≡ true = simp (lt-ltb 0 low h, or_true) in q)
+  bad_ceiling h = sym (let q : any_of (bad_arc nodes) (arc_made v) ≡ true = simp (lt-ltb 4000 v.ceiling h, or_true) in q)
 
-  pub bad_7 : 4000 < most → true ≡ any_of (bad_arc nodes) (arc_made s e low most m c)
+  pub bad_cost : no_node nodes v.start ≡ false → no_node nodes v.end ≡ false → (v.start ≡ v.end → ⊥) → v.low ≤ 0 → v.ceiling ≤ 4000 →
+      ltb 1000000 (nat_abs v.cost) ≡ any_of (bad_arc nodes) (arc_made v)
   unfolding any_of
-  bad_7 h = sym (let q : any_of (bad_arc nodes) (arc_made s e low most m c) ≡ true = simp (lt-ltb 4000 most h, or_true) in q)
-
-  pub bad_8 : 1 ≤ s → s ≤ nodes → 1 ≤ e → e ≤ nodes → (s ≡ e → ⊥) → low ≤ 0 → most ≤ 4000 → ltb 1000000 c ≡ any_of (bad_arc nodes) (arc_made s e low most m c)
-  unfolding any_of
-  bad_8 h1 h2 h3 h4 h5 h6 h7 =
-      or_skip _ _ _ (no_node_lem s h1 h2) (or_skip _ _ _ (no_node_lem e h3 h4) (or_skip _ _ _ (ne_eqb s e h5) (or_skip _ _ _ (le-ltb 0 low h6) (or_skip _ _ _ (le-ltb 4000 most h7) (cost_range m c)))))
+  bad_cost h1 h2 h3 h4 h5 =
+      or_skip _ _ _ h1 (or_skip _ _ _ h2 (or_skip _ _ _ (ne_eqb v.start v.end h3) (or_skip _ _ _ (le-ltb 0 v.low h4) (or_skip _ _ _ (le-ltb 4000 v.ceiling h5) (cost_range v.cost)))))
       ∙ sym (or_false _)
-    where
-      no_node_lem : (i : ℕ) → 1 ≤ i → i ≤ nodes → no_node nodes i ≡ false
-      no_node_lem i a b = sym (or_skip _ _ _ (le-ltb i 1 a) (sym (le-ltb nodes i b)))
-
-      or_false : (a : Bool) → (a || false) ≡ a
-      or_false true = refl
-      or_false false = refl

@@ -12,7 +12,10 @@ use lib.IntN.{ℤ, pos, sub_ℕ}
 use lib.ListN.{length, get_or, set, length-set, length-append, get_or-append, get_or-eq_default}
 use lib.Seq.{get_or-set_same, get_or-set_other, get_or-append_seam}
 use borrow.Author.Tests.{eqb-true, eq-eqb, ne_eqb, lt-ltb, le-ltb}
-use Rattle.dimacs.specs.declared.form.Form as form-answer
+use Rattle.std.proofs.Common.{Option as Maybe, Some, None, Result, Ok, Err}
+use Rattle.refusal.specs.declared.Refusal.{Refusal}
+use Rattle.dimacs.specs.declared.form.Counts.{Counts}
+use Rattle.dimacs.specs.declared.store.Reading as reading-answer
 use Rattle.dimacs.specs.declared.form.Tally.{Tally}
 use Rattle.dimacs.specs.declared.line.Line as line-answer
 use Rattle.dimacs.specs.declared.line.Line.TheVariants as lines
@@ -22,7 +25,7 @@ use Rattle.dimacs.specs.Form.{ArcLine, NodeLine, file, Stage, opening, reading, 
 use Rattle.dimacs.specs.Lines.{supply_in, any_of, twice, bad_arc}
 use Rattle.dimacs.specs.inner.LineReader.{on_line}
 use Rattle.dimacs.specs.inner.FormReader.{tally_of, end_of}
-use Rattle.dimacs.specs.inner.Stored.{node_in, arc_in, no_line, arc_on, HeldBy, ArcsRead, listed_node, no_cell, NodesRead, flagged, stage_of, nodes_in, arcs_in, supplies_in, LinesKept, ReadAs}
+use Rattle.dimacs.specs.inner.Stored.{node_in, arc_in, no_line, arc_on, HeldBy, ArcsRead, listed_node, no_cell, NodesRead, stage_of, nodes_in, arcs_in, supplies_in, LinesKept, ReadAs}
 use Rattle.dimacs.proofs.FileLines.{Stands, SoFar, end_closed, end_short, end_whole}
 use Rattle.dimacs.proofs.NodeAndArcLines.{or_first, or_next, any_joined, any_more, twice_more, supply_more, other_supply}
 
@@ -256,47 +259,47 @@ only true x y e = cc
 only false x y e = absurd (never y e)
 
 module _ (P Q : ℕ → List ArcLine → Type 0) (p0 : (n m : ℕ) → P n [] → P m []) (q0 : (n m : ℕ) → Q n [] → Q m []) where
-  pub arcs_on : (t : Tally) (s s' : Stage) (l : line-answer.Line) → Stands t s → (on_line l >>= step s) ≡ some s' → P (nodes_in s) (arcs_in s)
+  pub arcs_on : (t : Tally) (s s' : Stage) (l : Maybe line-answer.Line) → Stands t s → (on_line l >>= step s) ≡ some s' → P (nodes_in s) (arcs_in s)
       → ((arcs : List ArcLine) → (0 < length (arc_in l) → length arcs ≡ t.arcs) → P t.nodes arcs → Q t.nodes (arcs ++ arc_in l)) → Q (nodes_in s') (arcs_in s')
   unfolding ◌>>=◌ step
-  arcs_on t opening s' lines.Comment h e p k = subst (λ (z : Stage). Q (nodes_in z) (arcs_in z)) (one _ _ e) (q0 _ _ (k [] (λ z. absurd (omega arith)) (p0 _ _ p)))
-  arcs_on t opening s' (lines.Problem n a) h e p k = subst (λ (z : Stage). Q (nodes_in z) (arcs_in z)) (one _ _ e) (q0 _ _ (k [] (λ z. absurd (omega arith)) (p0 _ _ p)))
-  arcs_on t opening s' (lines.Node i m v) h e p k = absurd (never s' e)
-  arcs_on t opening s' (lines.Arc a b low most m c) h e p k = absurd (never s' e)
-  arcs_on t opening s' lines.Wrong h e p k = absurd (never s' e)
-  arcs_on t (reading f) s' lines.Comment h e p k =
+  arcs_on t opening s' (Some lines.Comment) h e p k = subst (λ (z : Stage). Q (nodes_in z) (arcs_in z)) (one _ _ e) (q0 _ _ (k [] (λ z. absurd (omega arith)) (p0 _ _ p)))
+  arcs_on t opening s' (Some (lines.Problem n a)) h e p k = subst (λ (z : Stage). Q (nodes_in z) (arcs_in z)) (one _ _ e) (q0 _ _ (k [] (λ z. absurd (omega arith)) (p0 _ _ p)))
+  arcs_on t opening s' (Some (lines.Node v)) h e p k = absurd (never s' e)
+  arcs_on t opening s' (Some (lines.Arc v)) h e p k = absurd (never s' e)
+  arcs_on t opening s' None h e p k = absurd (never s' e)
+  arcs_on t (reading f) s' (Some lines.Comment) h e p k =
       subst (λ (z : Stage). Q (nodes_in z) (arcs_in z)) (one _ _ e)
       (subst (λ (n : ℕ). Q n f.arcs) h.1 (subst (Q t.nodes) (append-nil f.arcs) (k f.arcs (λ z. absurd (omega arith)) (subst (λ (n : ℕ). P n f.arcs) (sym h.1) p))))
-  arcs_on t (reading f) s' (lines.Problem n a) h e p k = absurd (never s' e)
-  arcs_on t (reading f) s' (lines.Node i m v) h e p k =
-      subst (λ (z : Stage). Q (nodes_in z) (arcs_in z)) (only (is_empty f.arcs) (reading (file f.nodes f.said (f.supplies ++ node_in (lines.Node i m v)) f.arcs)) s' e)
+  arcs_on t (reading f) s' (Some (lines.Problem n a)) h e p k = absurd (never s' e)
+  arcs_on t (reading f) s' (Some (lines.Node v)) h e p k =
+      subst (λ (z : Stage). Q (nodes_in z) (arcs_in z)) (only (is_empty f.arcs) (reading (file f.nodes f.said (f.supplies ++ node_in (Some (lines.Node v))) f.arcs)) s' e)
       (subst (λ (n : ℕ). Q n f.arcs) h.1 (subst (Q t.nodes) (append-nil f.arcs) (k f.arcs (λ z. absurd (omega arith)) (subst (λ (n : ℕ). P n f.arcs) (sym h.1) p))))
-  arcs_on t (reading f) s' (lines.Arc a b low most m c) h e p k =
-      subst (λ (z : Stage). Q (nodes_in z) (arcs_in z)) (only (ltb (length f.arcs) f.said) (reading (file f.nodes f.said f.supplies (f.arcs ++ arc_in (lines.Arc a b low most m c)))) s' e)
-      (subst (λ (n : ℕ). Q n (f.arcs ++ arc_in (lines.Arc a b low most m c))) h.1 (k f.arcs (λ z. sym h.3) (subst (λ (n : ℕ). P n f.arcs) (sym h.1) p)))
-  arcs_on t (reading f) s' lines.Wrong h e p k = absurd (never s' e)
+  arcs_on t (reading f) s' (Some (lines.Arc v)) h e p k =
+      subst (λ (z : Stage). Q (nodes_in z) (arcs_in z)) (only (ltb (length f.arcs) f.said) (reading (file f.nodes f.said f.supplies (f.arcs ++ arc_in (Some (lines.Arc v))))) s' e)
+      (subst (λ (n : ℕ). Q n (f.arcs ++ arc_in (Some (lines.Arc v)))) h.1 (k f.arcs (λ z. sym h.3) (subst (λ (n : ℕ). P n f.arcs) (sym h.1) p)))
+  arcs_on t (reading f) s' None h e p k = absurd (never s' e)
 
 module _ (P Q : ℕ → List NodeLine → Type 0) (p0 : (n m : ℕ) → P n [] → P m []) (q0 : (n m : ℕ) → Q n [] → Q m []) where
-  pub nodes_on : (t : Tally) (s s' : Stage) (l : line-answer.Line) → Stands t s → (on_line l >>= step s) ≡ some s' → P (nodes_in s) (supplies_in s)
+  pub nodes_on : (t : Tally) (s s' : Stage) (l : Maybe line-answer.Line) → Stands t s → (on_line l >>= step s) ≡ some s' → P (nodes_in s) (supplies_in s)
       → ((sup : List NodeLine) → P t.nodes sup → Q t.nodes (sup ++ node_in l)) → Q (nodes_in s') (supplies_in s')
   unfolding ◌>>=◌ step
-  nodes_on t opening s' lines.Comment h e p k = subst (λ (z : Stage). Q (nodes_in z) (supplies_in z)) (one _ _ e) (q0 _ _ (k [] (p0 _ _ p)))
-  nodes_on t opening s' (lines.Problem n a) h e p k = subst (λ (z : Stage). Q (nodes_in z) (supplies_in z)) (one _ _ e) (q0 _ _ (k [] (p0 _ _ p)))
-  nodes_on t opening s' (lines.Node i m v) h e p k = absurd (never s' e)
-  nodes_on t opening s' (lines.Arc a b low most m c) h e p k = absurd (never s' e)
-  nodes_on t opening s' lines.Wrong h e p k = absurd (never s' e)
-  nodes_on t (reading f) s' lines.Comment h e p k =
+  nodes_on t opening s' (Some lines.Comment) h e p k = subst (λ (z : Stage). Q (nodes_in z) (supplies_in z)) (one _ _ e) (q0 _ _ (k [] (p0 _ _ p)))
+  nodes_on t opening s' (Some (lines.Problem n a)) h e p k = subst (λ (z : Stage). Q (nodes_in z) (supplies_in z)) (one _ _ e) (q0 _ _ (k [] (p0 _ _ p)))
+  nodes_on t opening s' (Some (lines.Node v)) h e p k = absurd (never s' e)
+  nodes_on t opening s' (Some (lines.Arc v)) h e p k = absurd (never s' e)
+  nodes_on t opening s' None h e p k = absurd (never s' e)
+  nodes_on t (reading f) s' (Some lines.Comment) h e p k =
       subst (λ (z : Stage). Q (nodes_in z) (supplies_in z)) (one _ _ e)
       (subst (λ (n : ℕ). Q n f.supplies) h.1 (subst (Q t.nodes) (append-nil f.supplies) (k f.supplies (subst (λ (n : ℕ). P n f.supplies) (sym h.1) p))))
-  nodes_on t (reading f) s' (lines.Problem n a) h e p k = absurd (never s' e)
-  nodes_on t (reading f) s' (lines.Node i m v) h e p k =
-      subst (λ (z : Stage). Q (nodes_in z) (supplies_in z)) (only (is_empty f.arcs) (reading (file f.nodes f.said (f.supplies ++ node_in (lines.Node i m v)) f.arcs)) s' e)
-      (subst (λ (n : ℕ). Q n (f.supplies ++ node_in (lines.Node i m v))) h.1 (k f.supplies (subst (λ (n : ℕ). P n f.supplies) (sym h.1) p)))
-  nodes_on t (reading f) s' (lines.Arc a b low most m c) h e p k =
+  nodes_on t (reading f) s' (Some (lines.Problem n a)) h e p k = absurd (never s' e)
+  nodes_on t (reading f) s' (Some (lines.Node v)) h e p k =
+      subst (λ (z : Stage). Q (nodes_in z) (supplies_in z)) (only (is_empty f.arcs) (reading (file f.nodes f.said (f.supplies ++ node_in (Some (lines.Node v))) f.arcs)) s' e)
+      (subst (λ (n : ℕ). Q n (f.supplies ++ node_in (Some (lines.Node v)))) h.1 (k f.supplies (subst (λ (n : ℕ). P n f.supplies) (sym h.1) p)))
+  nodes_on t (reading f) s' (Some (lines.Arc v)) h e p k =
       subst (λ (z : Stage). Q (nodes_in z) (supplies_in z))
-      (only (ltb (length f.arcs) f.said) (reading (file f.nodes f.said f.supplies (f.arcs ++ arc_in (lines.Arc a b low most m c)))) s' e)
+      (only (ltb (length f.arcs) f.said) (reading (file f.nodes f.said f.supplies (f.arcs ++ arc_in (Some (lines.Arc v))))) s' e)
       (subst (λ (n : ℕ). Q n f.supplies) h.1 (subst (Q t.nodes) (append-nil f.supplies) (k f.supplies (subst (λ (n : ℕ). P n f.supplies) (sym h.1) p))))
-  nodes_on t (reading f) s' lines.Wrong h e p k = absurd (never s' e)
+  nodes_on t (reading f) s' None h e p k = absurd (never s' e)
 
 -- ---- the loop
 
@@ -328,6 +331,11 @@ no_nodes n m r = record {
   marks_long = r.marks_long;
 }
 
+-- the lines end: the answer with the two flags
+abbrev pub with_flags : Bool → Bool → Result Counts Refusal → Result reading-answer.Reading Refusal
+with_flags odd bad (Ok c) = Ok (record { nodes = c.nodes; arcs = c.arcs; odd = odd; bad = bad })
+with_flags odd bad (Err r) = Err r
+
 -- the lines so far are counted and kept
 pub record Kept (s : List ℕ) (t : Tally) (at line : ℕ) (odd bad : Bool) (starts ends ceilings : List ℕ) (costs : List ℤ) (gives takes marks : List ℕ) : Type 0 where
   pub so_far : SoFar s t at line
@@ -350,27 +358,27 @@ module _ (s : List ℕ) (starts ends ceilings : List ℕ) (costs : List ℤ) (gi
   kept_before {st} {odd} {bad} e a n =
       subst (λ (z : Stage). LinesKept z starts ends ceilings costs gives takes marks) (sym e) (record { bad = bad; odd = odd; arc_lines = a; node_lines = n })
 
-  pub kept_ends : (t : Tally) (line : ℕ) (odd bad : Bool) (st : Stage) → Stands t st → form_of s ≡ at_end line st → stage_of s ≡ st
+  pub kept_ends : (t : Tally) (line : ℕ) (odd bad : Bool) (st : Stage) (a : Result Counts Refusal) → a ≡ end_of t line → Stands t st → form_of s ≡ at_end line st → stage_of s ≡ st
       → ArcsRead (nodes_in st) (arcs_in st) bad starts ends ceilings costs → NodesRead (nodes_in st) (supplies_in st) odd gives takes marks
-      → ReadAs s (flagged (end_of t line) odd bad) starts ends ceilings costs gives takes marks
+      → ReadAs s (with_flags odd bad a) starts ends ceilings costs gives takes marks
   unfolding at_end
-  kept_ends t line odd bad opening h m b a n =
-      subst (λ (z : form-answer.Form). ReadAs s (flagged z odd bad) starts ends ceilings costs gives takes marks) (end_closed t line h) (m, kept_before b a n)
-  kept_ends t line odd bad (reading f) h m b a n = elim (dec_lt t.arcs t.said) [
+  kept_ends t line odd bad opening a ea h m b r n =
+      subst (λ (z : Result Counts Refusal). ReadAs s (with_flags odd bad z) starts ends ceilings costs gives takes marks) (end_closed t line h ∙ sym ea) (m, kept_before b r n, refl)
+  kept_ends t line odd bad (reading f) a ea h m b r n = elim (dec_lt t.arcs t.said) [
     | yes l ↦
-        subst (λ (z : form-answer.Form). ReadAs s (flagged z odd bad) starts ends ceilings costs gives takes marks) (end_short t line h.0 l)
-        (m ∙ ap (λ (b : Bool). whole_if b f line) (ne_eqb (length f.arcs) f.said (λ q. omega (arith, h.2, h.3))), kept_before b a n)
+        subst (λ (z : Result Counts Refusal). ReadAs s (with_flags odd bad z) starts ends ceilings costs gives takes marks) (end_short t line h.0 l ∙ sym ea)
+        (m ∙ ap (λ (b : Bool). whole_if b f line) (ne_eqb (length f.arcs) f.said (λ q. omega (arith, h.2, h.3))), kept_before b r n, refl)
     | no l ↦
-        subst (λ (z : form-answer.Form). ReadAs s (flagged z odd bad) starts ends ceilings costs gives takes marks) (end_whole t line h.0 (omega arith)) (
+        subst (λ (z : Result Counts Refusal). ReadAs s (with_flags odd bad z) starts ends ceilings costs gives takes marks) (end_whole t line h.0 (omega arith) ∙ sym ea) (
           f,
           m ∙ ap (λ (b : Bool). whole_if b f line) (eq-eqb (length f.arcs) f.said (omega (arith, h.2, h.3, h.4))),
-          record { nodes_are = h.1; arcs_are = omega (arith, h.2, h.3, h.4); arc_lines = a; node_lines = n },
+          record { nodes_are = h.1; arcs_are = omega (arith, h.2, h.3, h.4); arc_lines = r; node_lines = n },
         )
   ]
 
 pub kept_on : {s : List ℕ} {t t' : Tally} {at line at' line' : ℕ} {odd bad odd' bad' : Bool} {starts ends ceilings starts' ends' ceilings' : List ℕ} {costs costs' : List ℤ}
     {gives takes marks gives' takes' marks' : List ℕ} (r : Kept s t at line odd bad starts ends ceilings costs gives takes marks) (z : SoFar s t' at' line')
-    (l : line-answer.Line) → (on_line l >>= step r.so_far.stage) ≡ some z.stage
+    (l : Maybe line-answer.Line) → (on_line l >>= step r.so_far.stage) ≡ some z.stage
     → ((sup : List NodeLine) → NodesRead t.nodes sup odd gives takes marks → NodesRead t.nodes (sup ++ node_in l) odd' gives' takes' marks')
     → ((arcs : List ArcLine) → (0 < length (arc_in l) → length arcs ≡ t.arcs) → ArcsRead t.nodes arcs bad starts ends ceilings costs →
     ArcsRead t.nodes (arcs ++ arc_in l) bad' starts' ends' ceilings' costs')
@@ -386,23 +394,23 @@ kept_on {t = t} {odd = odd} {bad} {odd'} {bad'} {starts} {ends} {ceilings} {star
 }
 
 -- a line that is no a line, or no n line
-pub arc_none : {nodes : ℕ} {arcs : List ArcLine} {bad : Bool} {starts ends ceilings : List ℕ} {costs : List ℤ} (l : line-answer.Line) → arc_in l ≡ []
+pub arc_none : {nodes : ℕ} {arcs : List ArcLine} {bad : Bool} {starts ends ceilings : List ℕ} {costs : List ℤ} (l : Maybe line-answer.Line) → arc_in l ≡ []
     → ArcsRead nodes arcs bad starts ends ceilings costs → ArcsRead nodes (arcs ++ arc_in l) bad starts ends ceilings costs
 arc_none {nodes} {arcs} {bad} {starts} {ends} {ceilings} {costs} l e r =
     subst (λ (x : List ArcLine). ArcsRead nodes (arcs ++ x) bad starts ends ceilings costs) (sym e)
     (subst (λ (x : List ArcLine). ArcsRead nodes x bad starts ends ceilings costs) (sym (append-nil arcs)) r)
 
-pub node_nothing : {nodes : ℕ} {sup : List NodeLine} {odd : Bool} {gives takes marks : List ℕ} (l : line-answer.Line) → node_in l ≡ []
+pub node_nothing : {nodes : ℕ} {sup : List NodeLine} {odd : Bool} {gives takes marks : List ℕ} (l : Maybe line-answer.Line) → node_in l ≡ []
     → NodesRead nodes sup odd gives takes marks → NodesRead nodes (sup ++ node_in l) odd gives takes marks
 node_nothing {nodes} {sup} {odd} {gives} {takes} {marks} l e r =
     subst (λ (x : List NodeLine). NodesRead nodes (sup ++ x) odd gives takes marks) (sym e)
     (subst (λ (x : List NodeLine). NodesRead nodes x odd gives takes marks) (sym (append-nil sup)) r)
 
 -- a line that is one
-pub arc_some : {nodes : ℕ} {x : List ArcLine} {bad : Bool} {starts ends ceilings : List ℕ} {costs : List ℤ} (arcs : List ArcLine) (l : line-answer.Line) → arc_in l ≡ x
+pub arc_some : {nodes : ℕ} {x : List ArcLine} {bad : Bool} {starts ends ceilings : List ℕ} {costs : List ℤ} (arcs : List ArcLine) (l : Maybe line-answer.Line) → arc_in l ≡ x
     → ArcsRead nodes (arcs ++ x) bad starts ends ceilings costs → ArcsRead nodes (arcs ++ arc_in l) bad starts ends ceilings costs
 arc_some {nodes} {x} {bad} {starts} {ends} {ceilings} {costs} arcs l e r = subst (λ (x : List ArcLine). ArcsRead nodes (arcs ++ x) bad starts ends ceilings costs) (sym e) r
 
-pub node_some : {nodes : ℕ} {x : List NodeLine} {odd : Bool} {gives takes marks : List ℕ} (sup : List NodeLine) (l : line-answer.Line) → node_in l ≡ x
+pub node_some : {nodes : ℕ} {x : List NodeLine} {odd : Bool} {gives takes marks : List ℕ} (sup : List NodeLine) (l : Maybe line-answer.Line) → node_in l ≡ x
     → NodesRead nodes (sup ++ x) odd gives takes marks → NodesRead nodes (sup ++ node_in l) odd gives takes marks
 node_some {nodes} {x} {odd} {gives} {takes} {marks} sup l e r = subst (λ (x : List NodeLine). NodesRead nodes (sup ++ x) odd gives takes marks) (sym e) r

@@ -1,29 +1,14 @@
 // What stands in a line: spaces and numbers, each read at an offset of the line's bytes.
 ghost use Rattle.std.specs.Prelude.{◌≡◌, ◌+◌, ◌≤◌, ◌<◌, length, get_or};
 ghost use Rattle.dimacs.specs.Bytes.{counting, number, signed, field, signed_field};
-ghost use Rattle.dimacs.specs.inner.Reader.{signed_answer, DigitsRead, SpacesRead, NumberRead, SignedRead};
+ghost use Rattle.dimacs.specs.inner.Reader.{DigitsRead, SpacesRead, NumberRead, SignedRead};
 
-// A number with the offset after it, or none.
-#[derive(Drop)]
-pub enum Number {
-    Value { value: u64, next: usize },
-    Wrong,
-}
+use csv_form::field::with_sign;
 
-// The same with a minus or without.
-#[derive(Drop)]
-pub enum Signed {
-    Value {
-        minus: bool,
-        value: u64,
-        next: usize,
-    },
-    Wrong,
-}
-
-#[derive(Drop)]
-pub struct Digits {
-    pub value: u64,
+// What was read, with the offset after it.
+#[derive(Clone, Copy, Debug, PartialEq, Eq)]
+pub struct Read<T> {
+    pub value: T,
     pub next: usize,
 }
 
@@ -31,91 +16,80 @@ pub struct Digits {
 pub fn byte_at(s: &[u8], at: usize) -> u8
     ensures { result ≡ get_or s.now at 10 }
 {
-    if at < s.len() { s[at] } else { 10 }
-}
-
-fn wide(x: u8) -> u64
-    ensures { result ≡ x }
-{
-    x as u64
+    if at < s.len() { s[at] } else { b'\n' }
 }
 
 // Further digits after a first one, nine at most.
-fn read_digits(s: &[u8], at: usize, first: u64) -> Digits
+fn read_digits(s: &[u8], at: usize, first: u64) -> Read<u64>
     requires at_in_bounds { at ≤ length s.now }
     requires first_bound { first ≤ 9 }
     ensures { DigitsRead s.now at first result.value result.next }
 {
     let mut value = first;
-    let mut next = at;
-    let mut left: u64 = 9;
-    while 0 < left {
+    for next in at..at + 9 {
         let b = byte_at(s, next);
-        if b < 48 {
-            return Digits { value, next };
+        if b < b'0' {
+            return Read { value, next };
         }
-        if 57 < b {
-            return Digits { value, next };
+        if b'9' < b {
+            return Read { value, next };
         }
-        value = value * 10 + wide(b - 48);
-        next += 1;
-        left -= 1;
+        value = value * 10 + (b - b'0') as u64;
     }
-    Digits { value, next }
+    Read {
+        value,
+        next: at + 9,
+    }
 }
 
 // A number without a 0 in front.
-fn read_counting(s: &[u8], at: usize) -> Number
+fn read_counting(s: &[u8], at: usize) -> Option<Read<u64>>
     requires { at ≤ length s.now }
     ensures { NumberRead counting s.now at result }
 {
     let b = byte_at(s, at);
-    if b < 49 {
-        return Number::Wrong;
+    if b < b'1' {
+        return None;
     }
-    if 57 < b {
-        return Number::Wrong;
+    if b'9' < b {
+        return None;
     }
-    let d = read_digits(s, at + 1, wide(b - 48));
-    Number::Value {
-        value: d.value,
-        next: d.next,
-    }
+    Some(read_digits(s, at + 1, (b - b'0') as u64))
 }
 
 // The same, or a single 0.
-fn read_number(s: &[u8], at: usize) -> Number
+fn read_number(s: &[u8], at: usize) -> Option<Read<u64>>
     requires { at ≤ length s.now }
     ensures { NumberRead number s.now at result }
 {
-    if byte_at(s, at) == 48 {
-        return Number::Value {
+    if byte_at(s, at) == b'0' {
+        return Some(Read {
             value: 0,
             next: at + 1,
-        };
+        });
     }
     read_counting(s, at)
 }
 
-// The number as it stands, or behind a minus.
-fn with_sign(minus: bool, n: Number) -> Signed
-    ensures { result ≡ signed_answer minus n }
-{
-    match n {
-        Number::Value { value, next } => Signed::Value { minus, value, next },
-        Number::Wrong => Signed::Wrong,
-    }
-}
-
 // A number with or without a minus; -0 is none.
-fn read_signed(s: &[u8], at: usize) -> Signed
+fn read_signed(s: &[u8], at: usize) -> Option<Read<i64>>
     requires { at ≤ length s.now }
     ensures { SignedRead signed s.now at result }
 {
-    if byte_at(s, at) == 45 {
-        return with_sign(true, read_counting(s, at + 1));
+    if byte_at(s, at) == b'-' {
+        let n = read_counting(s, at + 1)?;
+        let value = with_sign(true, n.value);
+        return Some(Read {
+            value,
+            next: n.next,
+        });
     }
-    with_sign(false, read_number(s, at))
+    let n = read_number(s, at)?;
+    let value = with_sign(false, n.value);
+    Some(Read {
+        value,
+        next: n.next,
+    })
 }
 
 // The offset after the spaces.
@@ -125,7 +99,7 @@ pub fn skip_spaces(s: &[u8], at: usize) -> usize
 {
     let mut next = at;
     loop {
-        if byte_at(s, next) != 32 {
+        if byte_at(s, next) != b' ' {
             return next;
         }
         next += 1;
@@ -133,23 +107,23 @@ pub fn skip_spaces(s: &[u8], at: usize) -> usize
 }
 
 // A further field: one or more spaces, and a number.
-pub fn read_field(s: &[u8], at: usize) -> Number
+pub fn read_field(s: &[u8], at: usize) -> Option<Read<u64>>
     requires { at ≤ length s.now }
     ensures { NumberRead field s.now at result }
 {
-    if byte_at(s, at) != 32 {
-        return Number::Wrong;
+    if byte_at(s, at) != b' ' {
+        return None;
     }
     let next = skip_spaces(s, at + 1);
     read_number(s, next)
 }
 
-pub fn read_signed_field(s: &[u8], at: usize) -> Signed
+pub fn read_signed_field(s: &[u8], at: usize) -> Option<Read<i64>>
     requires { at ≤ length s.now }
     ensures { SignedRead signed_field s.now at result }
 {
-    if byte_at(s, at) != 32 {
-        return Signed::Wrong;
+    if byte_at(s, at) != b' ' {
+        return None;
     }
     let next = skip_spaces(s, at + 1);
     read_signed(s, next)

@@ -1,18 +1,19 @@
 // The form of a file: its lines one after the other, counted.
-ghost use Rattle.std.specs.Prelude.{◌≡◌, ◌+◌, ◌≤◌, ◌<◌, length};
+ghost use Rattle.std.specs.Prelude.{◌≡◌, ◌+◌, ◌≤◌, ◌<◌, length, Some};
 ghost use Rattle.dimacs.specs.inner.FormReader.{on_problem, on_node, on_arc, next_of, end_of, LineEnd};
 
 use crate::line::Line;
+use refusal::{Cause, Refusal};
 
-// A file's counts of nodes and of arcs as its p line says them, or the line that is not of the form.
-#[derive(Drop)]
-pub enum Form {
-    Whole { nodes: u64, arcs: u64 },
-    Refused { line: usize },
+// A file's counts of nodes and of arcs as its p line says them.
+#[derive(Clone, Copy, Debug, PartialEq, Eq)]
+pub struct Counts {
+    pub nodes: u64,
+    pub arcs: u64,
 }
 
 // What is known of the lines before: whether the p line was there, what it says, and how many a lines there were.
-#[derive(Clone, Copy)]
+#[derive(Clone, Copy, Debug, PartialEq, Eq)]
 pub struct Tally {
     pub opened: bool,
     pub nodes: u64,
@@ -20,109 +21,86 @@ pub struct Tally {
     pub arcs: u64,
 }
 
-#[derive(Drop)]
-pub enum Next {
-    On { tally: Tally },
-    Wrong,
-}
-
 // The offset of the next LF, or the end.
 pub fn line_end(s: &[u8], at: usize) -> usize
     requires { at ≤ length s.now }
     ensures { LineEnd s.now at result }
 {
-    let mut i = at;
-    while i < s.len() {
-        if s[i] == 10 {
+    for i in at..s.len() {
+        if s[i] == b'\n' {
             return i;
         }
-        i += 1;
     }
-    i
+    s.len()
 }
 
-fn with_problem(t: Tally, nodes: u64, said: u64) -> Next
+fn with_problem(t: Tally, nodes: u64, said: u64) -> Option<Tally>
     ensures { result ≡ on_problem t nodes said }
 {
     if t.opened {
-        return Next::Wrong;
+        return None;
     }
-    let tally = Tally {
+    Some(Tally {
         opened: true,
         nodes,
         said,
         arcs: 0,
-    };
-    Next::On { tally }
+    })
 }
 
-fn with_node(t: Tally) -> Next
+fn with_node(t: Tally) -> Option<Tally>
     ensures { result ≡ on_node t }
 {
     if !t.opened {
-        return Next::Wrong;
+        return None;
     }
     if 0 < t.arcs {
-        return Next::Wrong;
+        return None;
     }
-    Next::On { tally: t }
+    Some(t)
 }
 
-fn with_arc(t: Tally) -> Next
+fn with_arc(t: Tally) -> Option<Tally>
     ensures { result ≡ on_arc t }
 {
     if !t.opened {
-        return Next::Wrong;
+        return None;
     }
     let arcs = t.arcs;
-    if arcs < t.said {
-        let tally = Tally {
-            opened: true,
-            nodes: t.nodes,
-            said: t.said,
-            arcs: arcs + 1,
-        };
-        return Next::On { tally };
+    if t.said <= arcs {
+        return None;
     }
-    Next::Wrong
+    Some(Tally {
+        opened: true,
+        arcs: arcs + 1,
+        ..t
+    })
 }
 
 // One more line.
-pub fn with_line(t: Tally, l: Line) -> Next
-    ensures { result ≡ next_of t l }
+pub fn with_line(t: Tally, l: Line) -> Option<Tally>
+    ensures { result ≡ next_of t (Some l) }
 {
     match l {
-        Line::Comment => Next::On { tally: t },
+        Line::Comment => Some(t),
         Line::Problem { nodes, arcs } => with_problem(t, nodes, arcs),
-        Line::Node {
-            id: _,
-            minus: _,
-            supply: _,
-        } => with_node(t),
-        Line::Arc {
-            start: _,
-            end: _,
-            low: _,
-            ceiling: _,
-            minus: _,
-            cost: _,
-        } => with_arc(t),
-        Line::Wrong => Next::Wrong,
+        Line::Node { line: _ } => with_node(t),
+        Line::Arc { line: _ } => with_arc(t),
     }
 }
 
 // The lines end before this one.
-pub fn at_end(t: Tally, line: usize) -> Form
+pub fn at_end(t: Tally, line: usize) -> Result<Counts, Refusal>
     ensures { result ≡ end_of t line }
 {
     if !t.opened {
-        return Form::Refused { line };
+        return Err(Cause::Line.at(line as u64));
     }
     if t.arcs < t.said {
-        return Form::Refused { line };
+        return Err(Cause::Line.at(line as u64));
     }
-    Form::Whole {
+    Ok(Counts {
         nodes: t.nodes,
         arcs: t.said,
-    }
+    })
 }

@@ -1,60 +1,52 @@
 // A file's lines kept in cells: the arcs in file order, the supplies by node.
-ghost use Rattle.std.specs.Prelude.{◌≡◌, Bool, true, false, cond, ◌||◌, List, [], ◌++◌, ◌+◌, ◌<◌, ◌^◌, length};
+ghost use Rattle.std.specs.Prelude.{◌≡◌, false, List, [], ◌++◌, ◌+◌, ◌<◌, ◌^◌, length, nat_abs, Some};
 ghost use Rattle.dimacs.specs.Form.{ArcLine, NodeLine};
-ghost use Rattle.dimacs.specs.Lines.{any_of, bad_arc};
+ghost use Rattle.dimacs.specs.Lines.{any_of, no_node, bad_arc};
 ghost use Rattle.dimacs.specs.inner.LineReader.{Small};
-ghost use Rattle.dimacs.specs.inner.Stored.{arc_made, node_made, arc_in, node_in, ArcsRead, NodesRead, flagged, ReadIs};
+ghost use Rattle.dimacs.specs.inner.Stored.{arc_made, node_made, arc_in, node_in, ArcsRead, NodesRead, Parts, ReadIs};
 
-use crate::form::{Form, Next, Tally, at_end, line_end, with_line};
-use crate::line::{Line, read_line};
-use csv_form::field::with_sign;
+use crate::form::{Tally, at_end, line_end, with_line};
+use crate::line::{ArcNumbers, Line, NodeNumbers, read_line};
+use csv_print::magnitude;
+use refusal::{Cause, Refusal};
 
-// A file's counts, and whether one of its n lines or of its a lines is out of the limits; or the line that is not of the form.
-#[derive(Drop)]
-pub enum Reading {
-    Whole {
-        nodes: u64,
-        arcs: u64,
-        odd: bool,
-        bad: bool,
-    },
-    Refused {
-        line: usize,
-    },
+// A file's counts, and whether one of its n lines or of its a lines is out of the limits.
+#[derive(Clone, Copy, Debug, PartialEq, Eq)]
+pub struct Reading {
+    pub nodes: u64,
+    pub arcs: u64,
+    pub odd: bool,
+    pub bad: bool,
+}
+
+// Is a number no node's?
+fn no_node(nodes: u64, i: u64) -> bool
+    ensures { result ≡ no_node nodes i }
+{
+    i < 1 || nodes < i
 }
 
 // Is an arc out of the limits?
-fn bad_arc(nodes: u64, start: u64, end: u64, low: u64, ceiling: u64, cost: u64) -> bool
-    ensures { (minus : Bool) → result ≡ any_of (bad_arc nodes) (arc_made start end low ceiling minus cost) }
+fn bad_arc(nodes: u64, a: ArcNumbers) -> bool
+    requires { nat_abs a.cost < 10 ^ 10 }
+    ensures { result ≡ any_of (bad_arc nodes) (arc_made a) }
 {
-    if start < 1 {
+    if no_node(nodes, a.start) {
         return true;
     }
-    if nodes < start {
+    if no_node(nodes, a.end) {
         return true;
     }
-    if end < 1 {
+    if a.start == a.end {
         return true;
     }
-    if nodes < end {
+    if 0 < a.low {
         return true;
     }
-    if start == end {
+    if 4000 < a.ceiling {
         return true;
     }
-    if 0 < low {
-        return true;
-    }
-    if 4000 < ceiling {
-        return true;
-    }
-    1_000_000 < cost
-}
-
-fn either(a: bool, b: bool) -> bool
-    ensures { result ≡ (a || b) }
-{
-    if a { true } else { b }
+    1_000_000 < magnitude(a.cost)
 }
 
 // One more a line, the arc k.
@@ -62,80 +54,67 @@ fn put_arc(
     nodes: u64,
     k: u64,
     bad: bool,
-    start: u64,
-    end: u64,
-    low: u64,
-    ceiling: u64,
-    minus: bool,
-    cost: u64,
+    a: ArcNumbers,
     starts: &mut [u64; 64],
     ends: &mut [u64; 64],
     ceilings: &mut [u64; 64],
     costs: &mut [i64; 64],
 ) -> bool
-    requires { cost < 10 ^ 10 }
+    requires { nat_abs a.cost < 10 ^ 10 }
     ensures { (arcs : List ArcLine) → length arcs ≡ k →
         ArcsRead nodes arcs bad starts.old ends.old ceilings.old costs.old →
-        ArcsRead nodes (arcs ++ arc_made start end low ceiling minus cost) result starts.new ends.new ceilings.new
+        ArcsRead nodes (arcs ++ arc_made a) result starts.new ends.new ceilings.new
         costs.new }
 {
-    let worse = either(bad, bad_arc(nodes, start, end, low, ceiling, cost));
+    let worse = bad | bad_arc(nodes, a);
     if 64 <= k {
         return worse;
     }
     let j = k as usize;
-    let value = with_sign(minus, cost);
-    starts[j] = start;
-    ends[j] = end;
-    ceilings[j] = ceiling;
-    costs[j] = value;
+    starts[j] = a.start;
+    ends[j] = a.end;
+    ceilings[j] = a.ceiling;
+    costs[j] = a.cost;
     worse
 }
 
 // What a supply gives, and what it takes.
-fn given(minus: bool, size: u64) -> u64
-    ensures { result ≡ cond minus 0 size }
+fn parts(supply: i64) -> (u64, u64)
+    requires { nat_abs supply < 10 ^ 10 }
+    ensures { Parts supply result.0 result.1 }
 {
-    if minus { 0 } else { size }
-}
-
-fn taken(minus: bool, size: u64) -> u64
-    ensures { result ≡ cond minus size 0 }
-{
-    if minus { size } else { 0 }
+    let size = magnitude(supply);
+    if supply < 0 { (0, size) } else { (size, 0) }
 }
 
 // One more n line.
 fn put_node(
     nodes: u64,
     odd: bool,
-    id: u64,
-    minus: bool,
-    supply: u64,
+    v: NodeNumbers,
     gives: &mut [u64; 32],
     takes: &mut [u64; 32],
     marks: &mut [u64; 32],
 ) -> bool
-    requires { supply < 10 ^ 10 }
+    requires { nat_abs v.supply < 10 ^ 10 }
     ensures { (sup : List NodeLine) → NodesRead nodes sup odd gives.old takes.old marks.old →
-        NodesRead nodes (sup ++ node_made id minus supply) result gives.new takes.new marks.new }
+        NodesRead nodes (sup ++ node_made v) result gives.new takes.new marks.new }
 {
-    if id < 1 {
+    if v.id < 1 {
         return true;
     }
-    if 32 < id {
+    if 32 < v.id {
         return true;
     }
-    let i = (id - 1) as usize;
+    let i = (v.id - 1) as usize;
     if 0 < marks[i] {
         return true;
     }
-    let give = given(minus, supply);
-    let take = taken(minus, supply);
+    let (give, take) = parts(v.supply);
     gives[i] = give;
     takes[i] = take;
     marks[i] = 1;
-    either(nodes < id, odd)
+    nodes < v.id || odd
 }
 
 // A line, where it is an a line.
@@ -149,30 +128,14 @@ fn store_arc(
     ceilings: &mut [u64; 64],
     costs: &mut [i64; 64],
 ) -> bool
-    requires { Small l }
-    ensures { (arcs : List ArcLine) → (0 < length (arc_in l) → length arcs ≡ k) →
+    requires { Small (Some l) }
+    ensures { (arcs : List ArcLine) → (0 < length (arc_in (Some l)) → length arcs ≡ k) →
         ArcsRead nodes arcs bad starts.old ends.old ceilings.old costs.old →
-        ArcsRead nodes (arcs ++ arc_in l) result starts.new ends.new ceilings.new costs.new }
+        ArcsRead nodes (arcs ++ arc_in (Some l)) result starts.new ends.new ceilings.new costs.new }
 {
     match l {
-        Line::Comment => bad,
-        Line::Problem { nodes: _, arcs: _ } => bad,
-        Line::Node {
-            id: _,
-            minus: _,
-            supply: _,
-        } => bad,
-        Line::Arc {
-            start,
-            end,
-            low,
-            ceiling,
-            minus,
-            cost,
-        } => put_arc(
-            nodes, k, bad, start, end, low, ceiling, minus, cost, starts, ends, ceilings, costs,
-        ),
-        Line::Wrong => bad,
+        Line::Arc { line } => put_arc(nodes, k, bad, line, starts, ends, ceilings, costs),
+        Line::Comment | Line::Problem { .. } | Line::Node { .. } => bad,
     }
 }
 
@@ -185,39 +148,13 @@ fn store_node(
     takes: &mut [u64; 32],
     marks: &mut [u64; 32],
 ) -> bool
-    requires { Small l }
+    requires { Small (Some l) }
     ensures { (sup : List NodeLine) → NodesRead nodes sup odd gives.old takes.old marks.old →
-        NodesRead nodes (sup ++ node_in l) result gives.new takes.new marks.new }
+        NodesRead nodes (sup ++ node_in (Some l)) result gives.new takes.new marks.new }
 {
     match l {
-        Line::Comment => odd,
-        Line::Problem { nodes: _, arcs: _ } => odd,
-        Line::Node { id, minus, supply } => put_node(
-            nodes, odd, id, minus, supply, gives, takes, marks,
-        ),
-        Line::Arc {
-            start: _,
-            end: _,
-            low: _,
-            ceiling: _,
-            minus: _,
-            cost: _,
-        } => odd,
-        Line::Wrong => odd,
-    }
-}
-
-fn with_flags(f: Form, odd: bool, bad: bool) -> Reading
-    ensures { result ≡ flagged f odd bad }
-{
-    match f {
-        Form::Whole { nodes, arcs } => Reading::Whole {
-            nodes,
-            arcs,
-            odd,
-            bad,
-        },
-        Form::Refused { line } => Reading::Refused { line },
+        Line::Node { line } => put_node(nodes, odd, line, gives, takes, marks),
+        Line::Comment | Line::Problem { .. } | Line::Arc { .. } => odd,
     }
 }
 
@@ -231,7 +168,7 @@ pub fn read_file(
     gives: &mut [u64; 32],
     takes: &mut [u64; 32],
     marks: &mut [u64; 32],
-) -> Reading
+) -> Result<Reading, Refusal>
     requires arcs_read { ArcsRead 0 [] false starts.old ends.old ceilings.old costs.old }
     requires nodes_read { NodesRead 0 [] false gives.old takes.old marks.old }
     ensures { ReadIs s.now result starts.new ends.new ceilings.new costs.new
@@ -248,18 +185,22 @@ pub fn read_file(
     let mut odd = false;
     let mut bad = false;
     loop {
+        let wrong = Cause::Line.at(line as u64);
         let e = line_end(s, at);
         if s.len() <= e {
             if at < e {
-                return Reading::Refused { line };
+                return Err(wrong);
             }
-            return with_flags(at_end(t, line), odd, bad);
+            let c = at_end(t, line)?;
+            return Ok(Reading {
+                nodes: c.nodes,
+                arcs: c.arcs,
+                odd,
+                bad,
+            });
         }
-        let l = read_line(&s[at..e]);
-        let n = with_line(t, l);
-        let Next::On { tally } = n else {
-            return Reading::Refused { line };
-        };
+        let l = read_line(&s[at..e]).ok_or(wrong)?;
+        let tally = with_line(t, l).ok_or(wrong)?;
         odd = store_node(l, t.nodes, odd, gives, takes, marks);
         bad = store_arc(l, t.nodes, t.arcs, bad, starts, ends, ceilings, costs);
         t = tally;

@@ -7,6 +7,15 @@ use native.Mathlib.Decide.{ℕ_discrete, dec_lt}
 use native.Mathlib.Omega.{arith}
 use lib.ListN.{length, get_or, set, length-set, take, drop, length-take, length-drop, replicate, length-replicate, get_or-replicate, get_or-eq_default}
 use lib.Seq.{get_or-set_same, get_or-set_other, get_or-take, get_or-drop}
+use mathlib.Core.Bool.{Bool, true, false, ◌||◌}
+use Prim.Native.Nat.{◌^◌}
+use lib.IntN.{ℤ, pos, negsuc}
+use lib.Signed.{mag}
+use borrow.Author.Tests.{ltb-false}
+use mir.Syntax.{w64}
+use mir.Val.{to_z, of_z}
+use Rattle.problem.proofs.MachineIntegers.{read_back}
+use Rattle.problem.specs.Range.{outside}
 use Rattle.engine_arrays.specs.inner.Copy.{Narrow, Copied, RowsMoved, RowsKept, Supplied, Wanted}
 use Rattle.problem.proofs.CellRows.{row_at}
 
@@ -36,6 +45,16 @@ copy_next {s} {at} {k} {d} {e} q h l = record {
 
 pub copy_end : {s : List ℕ} {at k : ℕ} {d e : List ℕ} → Copying s at k d e → length s ≤ k → Copied s at d e
 copy_end {k = k} q h = record { long = q.long; here = λ j b. q.here j (omega arith); below = q.below; above = λ j b. q.above j (omega (arith, q.few)) }
+
+-- a unit cost in range is read back as it is
+pub cost_back : (z : ℤ) → outside z ≡ false → to_z w64 (of_z w64 z) ≡ z
+unfolding outside
+cost_back (pos n) e = read_back (pos n) (omega (arith, ltb-false 1000000 n e))
+cost_back (negsuc n) e = read_back (negsuc n) (omega (arith, ltb-false 999999 n (first _ e)))
+  where
+    first : (b : Bool) → (b || false) ≡ false → b ≡ false
+    first true e = e
+    first false e = refl
 
 -- the first k rows are copied from rows of p cells to rows of q, and the cells between them and from k × q on are as they were
 pub record Moving (n p q k : ℕ) (s d e : List ℕ) : Type 0 where

@@ -8,10 +8,8 @@ fn copy_into(source: &[u64], at: usize, to: &mut [u32])
     requires { (at + length source.now ≤ length to.old) × Narrow source.now }
     ensures { Copied source.now at to.old to.new }
 {
-    let mut k: usize = 0;
-    while k < source.len() {
-        to[at + k] = source[k] as u32;
-        k += 1;
+    for (k, &x) in source.iter().enumerate() {
+        to[at + k] = x as u32;
     }
 }
 
@@ -20,10 +18,8 @@ fn copy_out(cells: &[u32], at: usize, to: &mut [u64])
     requires { at + length cells.now ≤ length to.old }
     ensures { Copied cells.now at to.old to.new }
 {
-    let mut k: usize = 0;
-    while k < cells.len() {
-        to[at + k] = cells[k] as u64;
-        k += 1;
+    for (k, &x) in cells.iter().enumerate() {
+        to[at + k] = x as u64;
     }
 }
 
@@ -40,10 +36,8 @@ fn raise_into(source: &[i64], at: usize, to: &mut [u32])
     requires { (at + length source.now ≤ length to.old) × AllInside source.now }
     ensures { Copied (map raised_of source.now) at to.old to.new }
 {
-    let mut k: usize = 0;
-    while k < source.len() {
-        to[at + k] = raised(source[k]);
-        k += 1;
+    for (k, &x) in source.iter().enumerate() {
+        to[at + k] = raised(x);
     }
 }
 

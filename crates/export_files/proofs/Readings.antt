@@ -9,18 +9,17 @@ use lib.IntN.{ℤ}
 use lib.ListN.{length, set, take}
 use borrow.Author.Tests.{lt-ltb, le-ltb}
 use Rattle.transport.specs.Curve.{written}
+use Rattle.std.proofs.Common.{Result, Ok, Err}
+use Rattle.refusal.specs.declared.Cause.{Cause}
+use Rattle.refusal.specs.declared.Cause.TheVariants.{Room}
+use Rattle.refusal.specs.declared.Refusal.{Refusal}
+use Rattle.refusal.specs.Number.{number_of}
 use Rattle.size.specs.declared.limits.Size.{Size}
-use Rattle.size.specs.declared.limits.Checked.{Checked}
-use Rattle.size.specs.declared.limits.Checked.TheVariants as checks
 use Rattle.size.specs.Size.{checked_of}
 use Rattle.validation.proofs.FormTests.{Limits, in_limits}
 use Rattle.csv_form.specs.declared.Kind.TheVariants.{Production}
-use Rattle.csv_table.specs.Files.{table_of}
-use Rattle.csv_case.specs.declared.case.CaseAnswer.{CaseAnswer}
-use Rattle.csv_case.specs.declared.case.CaseAnswer.TheVariants as answers
-use Rattle.csv_case.specs.declared.case.Entries.{Entries}
-use Rattle.csv_case.specs.declared.case.Entries.TheVariants as entries
-use Rattle.csv_case.specs.CaseFiles.{case_answer, TariffStored, CaseStored}
+use Rattle.csv_table.specs.Files.{refused, table_of}
+use Rattle.csv_case.specs.CaseFiles.{CaseAnswer, counts, case_answer, TariffStored, CaseStored}
 use Rattle.csv_case.specs.Entries.{entries_of, entries_for, EntriesStored}
 use Rattle.csv_case.proofs.CaseLengths.{BothStand, both_stand}
 use Rattle.export_reports.specs.Report.{short_report}
@@ -63,37 +62,37 @@ module _ (m n count costs supplies demands table : ℕ) where
   unfolding roomy_reading
   roomy_read e = sym (ap (λ (b : Bool). cond b (Refused 11 0 0) (Read m n count)) e)
 
-  pub size_refused : (k : ℕ) → checked_of m n ≡ checks.Refused k → Refused k 0 0 ≡ sized_reading m n count costs supplies demands table
+  pub size_refused : (k : Cause) → checked_of m n ≡ Err k → Refused (number_of k) 0 0 ≡ sized_reading m n count costs supplies demands table
   unfolding sized_reading
-  size_refused k e = sym (ap (λ (x : Checked). by_size x (roomy_reading m n count costs supplies demands table)) e)
+  size_refused k e = sym (ap (λ (x : Result Size Cause). by_size x (roomy_reading m n count costs supplies demands table)) e)
 
-  pub size_fits : (z : Size) (r : Reading) → checked_of m n ≡ checks.Fits z → r ≡ roomy_reading m n count costs supplies demands table
+  pub size_fits : (z : Size) (r : Reading) → checked_of m n ≡ Ok z → r ≡ roomy_reading m n count costs supplies demands table
       → r ≡ sized_reading m n count costs supplies demands table
   unfolding sized_reading
-  size_fits z r e q = q ∙ sym (ap (λ (x : Checked). by_size x (roomy_reading m n count costs supplies demands table)) e)
+  size_fits z r e q = q ∙ sym (ap (λ (x : Result Size Cause). by_size x (roomy_reading m n count costs supplies demands table)) e)
 
 module _ (t p : List ℕ) (costs supplies demands table : ℕ) where
-  pub files_refused : (number place file : ℕ) → case_answer t p ≡ answers.Refused number place → file ≡ faulty_file t
-      → Refused number place file ≡ reading_of t p costs supplies demands table
+  pub files_refused : (why : Refusal) (file : ℕ) → case_answer t p ≡ Err why → file ≡ faulty_file t
+      → {number : ℕ} → number ≡ number_of why.cause → Refused number why.place file ≡ reading_of t p costs supplies demands table
   unfolding reading_of
-  files_refused number place file e q =
-      ap (λ (f : ℕ). Refused number place f) q ∙ sym (ap (λ (a : CaseAnswer). reading_for a (faulty_file t) costs supplies demands table) e)
+  files_refused why file e q k =
+      ap (λ (n : ℕ). Refused n why.place file) k ∙ ap (λ (f : ℕ). Refused (number_of why.cause) why.place f) q ∙ sym (ap (λ (a : CaseAnswer). reading_for a (faulty_file t) costs supplies demands table) e)
 
-  pub files_case : (m n count : ℕ) (r : Reading) → case_answer t p ≡ answers.Case m n count → r ≡ sized_reading m n count costs supplies demands table
+  pub files_case : (m n count : ℕ) (r : Reading) → case_answer t p ≡ counts m n count → r ≡ sized_reading m n count costs supplies demands table
       → r ≡ reading_of t p costs supplies demands table
   unfolding reading_of
   files_case m n count r e q = q ∙ sym (ap (λ (a : CaseAnswer). reading_for a (faulty_file t) costs supplies demands table) e)
 
   -- what is read was a case within the limits
   record Found (m n count : ℕ) : Type 0 where
-    case : case_answer t p ≡ answers.Case m n count
+    case : case_answer t p ≡ counts m n count
     limits : Limits m n
 
   found : (m n count : ℕ) → reading_of t p costs supplies demands table ≡ Read m n count → Found m n count
   unfolding reading_of roomy_reading sized_reading
   found m n count e = go (case_answer t p) refl e
     where
-      room : (x y z : ℕ) → case_answer t p ≡ answers.Case x y z → Limits x y → roomy_reading x y z costs supplies demands table ≡ Read m n count → Found m n count
+      room : (x y z : ℕ) → case_answer t p ≡ counts x y z → Limits x y → roomy_reading x y z costs supplies demands table ≡ Read m n count → Found m n count
       room x y z ea l e = at (too_short x y z costs supplies demands table) refl e
         where
           at : (b : Bool) → too_short x y z costs supplies demands table ≡ b → cond b (Refused 11 0 0) (Read x y z) ≡ Read m n count → Found m n count
@@ -104,16 +103,16 @@ module _ (t p : List ℕ) (costs supplies demands table : ℕ) where
               let ez : z ≡ count = cc in
               record { case = ea ∙ rw (ex, ey, ez) refl; limits = rw (← ex, ← ey) l }
 
-      size : (x y z : ℕ) → case_answer t p ≡ answers.Case x y z → sized_reading x y z costs supplies demands table ≡ Read m n count → Found m n count
+      size : (x y z : ℕ) → case_answer t p ≡ counts x y z → sized_reading x y z costs supplies demands table ≡ Read m n count → Found m n count
       size x y z ea e = at (checked_of x y) refl e
         where
-          at : (k : Checked) → checked_of x y ≡ k → by_size k (roomy_reading x y z costs supplies demands table) ≡ Read m n count → Found m n count
-          at (checks.Refused k) ek e = absurd (let z : ◌≡◌ {A = ℕ} 0 1 = cc in omega arith)
-          at (checks.Fits s) ek e = room x y z ea (in_limits x y s ek) e
+          at : (k : Result Size Cause) → checked_of x y ≡ k → by_size k (roomy_reading x y z costs supplies demands table) ≡ Read m n count → Found m n count
+          at (Err k) ek e = absurd (let z : ◌≡◌ {A = ℕ} 0 1 = cc in omega arith)
+          at (Ok s) ek e = room x y z ea (in_limits x y s ek) e
 
       go : (a : CaseAnswer) → case_answer t p ≡ a → reading_for a (faulty_file t) costs supplies demands table ≡ Read m n count → Found m n count
-      go (answers.Refused k q) ea e = absurd (let z : ◌≡◌ {A = ℕ} 0 1 = cc in omega arith)
-      go (answers.Case x y z) ea e = size x y z ea e
+      go (Err q) ea e = absurd (let z : ◌≡◌ {A = ℕ} 0 1 = cc in omega arith)
+      go (Ok k) ea e = size k.m k.n k.entries ea e
 
 -- ---- what is stored
 
@@ -132,7 +131,7 @@ module _ (t p : List ℕ) (costs : List ℤ) (supplies demands table : List ℕ)
     unfolding entries_of
     into_read a m n count answer k e s =
         let f : Found t p (length costs) (length supplies) (length demands) (length table) m n count = found t p _ _ _ _ m n count (sym k ∙ e) in
-        let told : answer ≡ answers.Case m n count = s.answered ∙ f.case in
+        let told : answer ≡ counts m n count = s.answered ∙ f.case in
         let b : BothStand t p m n count = both_stand t p m n count f.case in
         let held : TariffStored b.rs costs supplies demands costs' supplies' demands' = s.tariff_stored b.rs m n count b.tariff told f.limits.sources f.limits.terminals in
         record {
@@ -173,24 +172,24 @@ module _ (t p : List ℕ) (costs : List ℤ) (supplies demands table : List ℕ)
 -- ---- a production file alone
 
 module _ (p : List ℕ) (table : ℕ) where
-  pub entries_faulty : (a : Entries) (number place : ℕ) → a ≡ entries_for (table_of Production p) → a ≡ entries.Refused number place
-      → entries.Refused number place ≡ entries_answer p table
+  pub entries_faulty : (a : Result ℕ Refusal) (why : Refusal) → a ≡ entries_for (table_of Production p) → a ≡ Err why
+      → Err why ≡ entries_answer p table
   unfolding entries_answer
-  entries_faulty a number place k e = sym (ap (λ (x : Entries). entries_reading x table) (sym k ∙ e))
+  entries_faulty a why k e = sym (ap (λ (x : Result ℕ Refusal). entries_reading x table) (sym k ∙ e))
 
-  pub entries_short : (a : Entries) (count k : ℕ) → a ≡ entries_for (table_of Production p) → a ≡ entries.Read count → k ≡ min count 4002 → table < k
-      → entries.Refused 11 0 ≡ entries_answer p table
+  pub entries_short : (a : Result ℕ Refusal) (count k : ℕ) → a ≡ entries_for (table_of Production p) → a ≡ Ok count → k ≡ min count 4002 → table < k
+      → refused Room 0 ≡ entries_answer p table
   unfolding entries_answer
   entries_short a count k q e m h =
-      sym (ap (λ (x : Entries). entries_reading x table) (sym q ∙ e)
-      ∙ ap (λ (b : Bool). cond b (entries.Refused 11 0) (entries.Read count)) (ap (ltb table) (sym m) ∙ lt-ltb table k h))
+      sym (ap (λ (x : Result ℕ Refusal). entries_reading x table) (sym q ∙ e)
+      ∙ ap (λ (b : Bool). cond b (refused Room 0) (Ok count)) (ap (ltb table) (sym m) ∙ lt-ltb table k h))
 
-  pub entries_roomy : (a : Entries) (count k : ℕ) → a ≡ entries_for (table_of Production p) → a ≡ entries.Read count → k ≡ min count 4002 → k ≤ table
-      → entries.Read count ≡ entries_answer p table
+  pub entries_roomy : (a : Result ℕ Refusal) (count k : ℕ) → a ≡ entries_for (table_of Production p) → a ≡ Ok count → k ≡ min count 4002 → k ≤ table
+      → Ok count ≡ entries_answer p table
   unfolding entries_answer
   entries_roomy a count k q e m h =
-      sym (ap (λ (x : Entries). entries_reading x table) (sym q ∙ e)
-      ∙ ap (λ (b : Bool). cond b (entries.Refused 11 0) (entries.Read count)) (ap (ltb table) (sym m) ∙ le-ltb table k h))
+      sym (ap (λ (x : Result ℕ Refusal). entries_reading x table) (sym q ∙ e)
+      ∙ ap (λ (b : Bool). cond b (refused Room 0) (Ok count)) (ap (ltb table) (sym m) ∙ le-ltb table k h))
 
 module _ (p table report : List ℕ) where
   pub entries_untold : length report < 2 → EntriesExported p table table report report short_report
@@ -204,37 +203,37 @@ module _ (p table report : List ℕ) where
   entries_told table' reported r h x =
       subst (λ (b : Bool). cond b (EntriesUntold table table' report reported r) (EntriesTold p table table' report reported r)) (sym (le-ltb (length report) 2 h)) x
 
-  pub entries_refused : (a : Entries) (number place : ℕ) (reported : List ℕ) → 2 ≤ length report → a ≡ entries_answer p (length table) → a ≡ entries.Refused number place
-      → reported ≡ written (place ∷ []) report → EntriesExported p table table report reported number
-  entries_refused a number place reported h k e w =
-      let q : entries_answer p (length table) ≡ entries.Refused number place = sym k ∙ e in
+  pub entries_refused : (a : Result ℕ Refusal) (why : Refusal) (reported : List ℕ) → 2 ≤ length report → a ≡ entries_answer p (length table) → a ≡ Err why
+      → reported ≡ written (why.place ∷ []) report → {number : ℕ} → number ≡ number_of why.cause → EntriesExported p table table report reported number
+  entries_refused a why reported h k e w {number} n =
+      let q : entries_answer p (length table) ≡ Err why = sym k ∙ e in
       entries_told table reported number h
       record {
-        number = sym (ap entries_number q);
-        cells = w ∙ sym (ap (λ (x : Entries). written (entries_report x) report) q);
-        stored = sym (ap (λ (x : Entries). entries_if x (take 4002 (entries_of p)) table) q);
+        number = n ∙ sym (ap entries_number q);
+        cells = w ∙ sym (ap (λ (x : Result ℕ Refusal). written (entries_report x) report) q);
+        stored = sym (ap (λ (x : Result ℕ Refusal). entries_if x (take 4002 (entries_of p)) table) q);
       }
 
   -- what is read was no refusal of the file
-  read_count : (count : ℕ) → entries_answer p (length table) ≡ entries.Read count → entries_for (table_of Production p) ≡ entries.Read count
+  read_count : (count : ℕ) → entries_answer p (length table) ≡ Ok count → entries_for (table_of Production p) ≡ Ok count
   unfolding entries_answer
   read_count count e = go (entries_for (table_of Production p)) refl e
     where
-      go : (a : Entries) → entries_for (table_of Production p) ≡ a → entries_reading a (length table) ≡ entries.Read count → entries_for (table_of Production p) ≡ entries.Read count
-      go (entries.Refused k q) ea e = absurd (let z : ◌≡◌ {A = ℕ} 0 1 = cc in omega arith)
-      go (entries.Read k) ea e = at (ltb (length table) (min k 4002)) e
+      go : (a : Result ℕ Refusal) → entries_for (table_of Production p) ≡ a → entries_reading a (length table) ≡ Ok count → entries_for (table_of Production p) ≡ Ok count
+      go (Err q) ea e = absurd (let z : ◌≡◌ {A = ℕ} 0 1 = cc in omega arith)
+      go (Ok k) ea e = at (ltb (length table) (min k 4002)) e
         where
-          at : (b : Bool) → cond b (entries.Refused 11 0) (entries.Read k) ≡ entries.Read count → entries_for (table_of Production p) ≡ entries.Read count
+          at : (b : Bool) → cond b (refused Room 0) (Ok k) ≡ Ok count → entries_for (table_of Production p) ≡ Ok count
           at true e = absurd (let z : ◌≡◌ {A = ℕ} 0 1 = cc in omega arith)
           at false e = ea ∙ e
 
-  pub entries_stored : (a again : Entries) (count : ℕ) (table' reported : List ℕ) → 2 ≤ length report → a ≡ entries_answer p (length table) → a ≡ entries.Read count
+  pub entries_stored : (a again : Result ℕ Refusal) (count : ℕ) (table' reported : List ℕ) → 2 ≤ length report → a ≡ entries_answer p (length table) → a ≡ Ok count
       → EntriesStored p table table' again → reported ≡ written (count ∷ []) report → EntriesExported p table table' report reported 0
   entries_stored a again count table' reported h k e s w =
-      let q : entries_answer p (length table) ≡ entries.Read count = sym k ∙ e in
+      let q : entries_answer p (length table) ≡ Ok count = sym k ∙ e in
       entries_told table' reported 0 h
       record {
         number = sym (ap entries_number q);
-        cells = w ∙ sym (ap (λ (x : Entries). written (entries_report x) report) q);
-        stored = s.stored count (s.answered ∙ read_count count q) ∙ sym (ap (λ (x : Entries). entries_if x (take 4002 (entries_of p)) table) q);
+        cells = w ∙ sym (ap (λ (x : Result ℕ Refusal). written (entries_report x) report) q);
+        stored = s.stored count (s.answered ∙ read_count count q) ∙ sym (ap (λ (x : Result ℕ Refusal). entries_if x (take 4002 (entries_of p)) table) q);
       }

@@ -1,19 +1,18 @@
 -- What a caller outside Rattle is told of the numbers that files hold: a number, the numbers in lent slices, their counts or a refusal's place
 -- in another. Assumes nothing.
-use Rattle.std.specs.Prelude.{◌≡◌, Bool, cond, ◌||◌, List, [], ◌∷◌, ℕ, min, ◌*◌, ltb, ℤ, length, take}
+use Rattle.std.specs.Prelude.{◌≡◌, Bool, cond, ◌||◌, List, [], ◌∷◌, ℕ, min, ◌*◌, ltb, ℤ, length, take, Result, Ok, Err}
 use Rattle.std.proofs.lemmas.List.Edits.{sets}
 use Rattle.transport.specs.Curve.{written}
-use Rattle.size.specs.declared.limits.Checked.{Checked}
-use Rattle.size.specs.declared.limits.Checked.TheVariants as checks
+use Rattle.size.specs.declared.limits.Size.{Size}
+use Rattle.refusal.specs.declared.Cause.{Cause}
+use Rattle.refusal.specs.declared.Cause.TheVariants.{Room}
+use Rattle.refusal.specs.declared.Refusal.{Refusal}
+use Rattle.refusal.specs.Number.{number_of}
 use Rattle.size.specs.Size.{checked_of}
 use Rattle.csv_form.specs.declared.Kind.TheVariants.{Tariff, Production}
 use Rattle.csv_form.specs.Records.{form_of}
-use Rattle.csv_table.specs.Files.{table_of, stands}
-use Rattle.csv_case.specs.declared.case.CaseAnswer.{CaseAnswer}
-use Rattle.csv_case.specs.declared.case.CaseAnswer.TheVariants as answers
-use Rattle.csv_case.specs.declared.case.Entries.{Entries}
-use Rattle.csv_case.specs.declared.case.Entries.TheVariants as entries
-use Rattle.csv_case.specs.CaseFiles.{records_of, costs_in, supplies_in, demands_in, case_answer}
+use Rattle.csv_table.specs.Files.{refused, table_of, stands}
+use Rattle.csv_case.specs.CaseFiles.{CaseAnswer, records_of, costs_in, supplies_in, demands_in, case_answer}
 use Rattle.csv_case.specs.Entries.{entries_of, entries_for}
 use Rattle.export_reports.specs.Report.{short_report}
 use Rattle.export_files.specs.declared.reading.Reading.{Reading}
@@ -35,17 +34,17 @@ unfoldable pub roomy_reading : ℕ → ℕ → ℕ → ℕ → ℕ → ℕ → �
 roomy_reading m n count costs supplies demands table = cond (too_short m n count costs supplies demands table) (Refused 11 0 0) (Read m n count)
 
 -- a size that is never planned is refused by its number
-abbrev pub by_size : Checked → Reading → Reading
-by_size (checks.Refused k) a = Refused k 0 0
-by_size (checks.Fits z) a = a
+abbrev pub by_size : Result Size Cause → Reading → Reading
+by_size (Err k) a = Refused (number_of k) 0 0
+by_size (Ok z) a = a
 
 unfoldable pub sized_reading : ℕ → ℕ → ℕ → ℕ → ℕ → ℕ → ℕ → Reading
 sized_reading m n count costs supplies demands table = by_size (checked_of m n) (roomy_reading m n count costs supplies demands table)
 
 -- refusals 20 to 22 of the files, then 1 and 2, then 11
 abbrev pub reading_for : CaseAnswer → ℕ → ℕ → ℕ → ℕ → ℕ → Reading
-reading_for (answers.Refused number place) file costs supplies demands table = Refused number place file
-reading_for (answers.Case m n count) file costs supplies demands table = sized_reading m n count costs supplies demands table
+reading_for (Err r) file costs supplies demands table = Refused (number_of r.cause) r.place file
+reading_for (Ok k) file costs supplies demands table = sized_reading k.m k.n k.entries costs supplies demands table
 
 unfoldable pub reading_of : List ℕ → List ℕ → ℕ → ℕ → ℕ → ℕ → Reading
 reading_of t p costs supplies demands table = reading_for (case_answer t p) (faulty_file t) costs supplies demands table
@@ -98,24 +97,24 @@ ReadExported t p costs supplies demands table costs' supplies' demands' table' r
 -- ---- a production file alone
 
 -- refusals 20 to 22, then 11 where a slice of this length is too short
-abbrev pub entries_reading : Entries → ℕ → Entries
-entries_reading (entries.Refused number place) table = entries.Refused number place
-entries_reading (entries.Read count) table = cond (ltb table (min count most_entries)) (entries.Refused 11 0) (entries.Read count)
+abbrev pub entries_reading : Result ℕ Refusal → ℕ → Result ℕ Refusal
+entries_reading (Err r) table = Err r
+entries_reading (Ok count) table = cond (ltb table (min count most_entries)) (refused Room 0) (Ok count)
 
-abbrev pub entries_number : Entries → ℕ
-entries_number (entries.Read count) = 0
-entries_number (entries.Refused number place) = number
+abbrev pub entries_number : Result ℕ Refusal → ℕ
+entries_number (Ok count) = 0
+entries_number (Err r) = number_of r.cause
 
 -- the count of entries, or the place
-abbrev pub entries_report : Entries → List ℕ
-entries_report (entries.Read count) = count ∷ []
-entries_report (entries.Refused number place) = place ∷ []
+abbrev pub entries_report : Result ℕ Refusal → List ℕ
+entries_report (Ok count) = count ∷ []
+entries_report (Err r) = r.place ∷ []
 
-abbrev pub entries_if : Entries → List ℕ → List ℕ → List ℕ
-entries_if (entries.Read count) new old = sets old 0 new
-entries_if (entries.Refused number place) new old = old
+abbrev pub entries_if : Result ℕ Refusal → List ℕ → List ℕ → List ℕ
+entries_if (Ok count) new old = sets old 0 new
+entries_if (Err r) new old = old
 
-unfoldable pub entries_answer : List ℕ → ℕ → Entries
+unfoldable pub entries_answer : List ℕ → ℕ → Result ℕ Refusal
 entries_answer p table = entries_reading (entries_for (table_of Production p)) table
 
 pub record EntriesTold (p table table' report reported : List ℕ) (r : ℕ) : Type 0 where

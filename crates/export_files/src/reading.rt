@@ -6,10 +6,10 @@ ghost use Rattle.transport.specs.Curve.{written};
 ghost use Rattle.export_files.specs.Reading.{faulty_file, too_short, roomy_reading, sized_reading, reading_of, reading_number, reading_report};
 ghost use Rattle.export_files.specs.Reading.{CaseRead, ReadExported, entries_answer, EntriesExported};
 
-use csv_case::case::{CaseAnswer, Entries, read_case, read_entries};
-use csv_table::store::smaller;
+use csv_case::case::{read_case, read_entries};
 use csv_table::table::tariff_stands;
-use size::limits::{Checked, Size};
+use refusal::{Cause, Refusal};
+use size::limits::Size;
 
 // The counts of sources, terminals and entries, or a refusal with the file that it is about: 1 the tariff, 2 the production file, 0 neither.
 #[derive(Drop)]
@@ -47,7 +47,7 @@ fn too_short(
     if demands < n {
         return true;
     }
-    table < smaller(entries, 4002)
+    table < entries.min(4002)
 }
 
 // What is answered of a case of a size that can be planned.
@@ -87,12 +87,12 @@ fn sized(
 {
     let size = Size::checked(m, n);
     match size {
-        Checked::Refused(number) => Reading::Refused {
-            number,
+        Err(cause) => Reading::Refused {
+            number: cause.number(),
             place: 0,
             file: 0,
         },
-        Checked::Fits(_) => roomy(m, n, entries, costs, supplies, demands, table),
+        Ok(_) => roomy(m, n, entries, costs, supplies, demands, table),
     }
 }
 
@@ -113,14 +113,12 @@ fn judged(
     let mut t = [0u64; 1];
     let answer = read_case(tariff, production, &mut c, &mut s, &mut d, &mut t);
     match answer {
-        CaseAnswer::Refused { number, place } => Reading::Refused {
-            number,
-            place: place as u64,
+        Err(r) => Reading::Refused {
+            number: r.cause.number(),
+            place: r.place,
             file: faulty_file(tariff),
         },
-        CaseAnswer::Case { m, n, entries } => {
-            sized(m, n, entries, costs, supplies, demands, table)
-        }
+        Ok(k) => sized(k.m, k.n, k.entries, costs, supplies, demands, table),
     }
 }
 
@@ -155,7 +153,7 @@ fn read_into(
             file,
         },
         Reading::Read { m, n, entries } => {
-            read_case(tariff, production, costs, supplies, demands, table);
+            let _ = read_case(tariff, production, costs, supplies, demands, table);
             Reading::Read { m, n, entries }
         }
     }
@@ -207,23 +205,15 @@ pub fn read_files(
 }
 
 // What is answered of a production file alone, where the slice has this length; no number is stored.
-fn judged_entries(production: &[u8], table: usize) -> Entries
+fn judged_entries(production: &[u8], table: usize) -> Result<usize, Refusal>
     ensures { result ≡ entries_answer production.now table }
 {
     let mut spare = [0u64; 1];
-    let found = read_entries(production, &mut spare);
-    match found {
-        Entries::Refused { number, place } => Entries::Refused { number, place },
-        Entries::Read { count } => {
-            if table < smaller(count, 4002) {
-                return Entries::Refused {
-                    number: 11,
-                    place: 0,
-                };
-            }
-            Entries::Read { count }
-        }
+    let count = read_entries(production, &mut spare)?;
+    if table < count.min(4002) {
+        return Err(Cause::Room.at(0));
     }
+    Ok(count)
 }
 
 // Reads a production file alone, 4,002 entries at most, and tells their count or the refusal's place in a report of at least two cells.
@@ -235,12 +225,12 @@ pub fn read_table_file(production: &[u8], table: &mut [u64], report: &mut [u64])
     }
     let found = judged_entries(production, table.len());
     match found {
-        Entries::Refused { number, place } => {
-            report[0] = place as u64;
-            number
+        Err(r) => {
+            report[0] = r.place;
+            r.cause.number()
         }
-        Entries::Read { count } => {
-            read_entries(production, table);
+        Ok(count) => {
+            let _ = read_entries(production, table);
             report[0] = count as u64;
             0
         }

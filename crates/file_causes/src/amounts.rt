@@ -8,13 +8,9 @@ use std::io;
 
 // The bytes of a field up to its comma or line end.
 fn field_length(text: &[u8]) -> usize {
-    for i in 0..text.len() {
-        match text[i] {
-            10 | 13 | 44 => return i,
-            _ => (),
-        }
-    }
-    text.len()
+    text.iter()
+        .position(|&b| matches!(b, b'\n' | b'\r' | b','))
+        .unwrap_or(text.len())
 }
 
 // The bytes of a field, by its record and its place in it.
@@ -27,7 +23,7 @@ fn field_text(bytes: &[u8], record: u64, field: u64) -> &[u8] {
 fn with_byte(number: u64, byte: u8) -> u64 {
     if is_digit(byte) {
         if number < 1_000_000_000 {
-            return number * 10 + (byte % 16) as u64;
+            return number * 10 + u64::from(byte - b'0');
         }
     }
     number
@@ -36,28 +32,14 @@ fn with_byte(number: u64, byte: u8) -> u64 {
 // The number that a field holds.
 fn number_at(bytes: &[u8], record: u64, field: u64) -> u64 {
     let text = field_text(bytes, record, field);
-    let mut number: u64 = 0;
-    for i in 0..text.len() {
-        number = with_byte(number, text[i]);
-    }
-    number
-}
-
-// A sum that stays at the largest number.
-fn plus(a: u64, b: u64) -> u64 {
-    if u64::MAX - a < b { u64::MAX } else { a + b }
-}
-
-// A difference, or 0.
-fn less(a: u64, b: u64) -> u64 {
-    if a < b { 0 } else { a - b }
+    text.iter().fold(0, |number, &b| with_byte(number, b))
 }
 
 // The sum of a field over the records from one to before another.
 fn sum_down(bytes: &[u8], from: u64, to: u64, field: u64) -> u64 {
     let mut sum: u64 = 0;
     for i in from..to {
-        sum = plus(sum, number_at(bytes, i, field));
+        sum = sum.saturating_add(number_at(bytes, i, field));
     }
     sum
 }
@@ -66,7 +48,7 @@ fn sum_down(bytes: &[u8], from: u64, to: u64, field: u64) -> u64 {
 fn sum_across(bytes: &[u8], record: u64, to: u64) -> u64 {
     let mut sum: u64 = 0;
     for i in 1..to {
-        sum = plus(sum, number_at(bytes, record, i));
+        sum = sum.saturating_add(number_at(bytes, record, i));
     }
     sum
 }
@@ -74,8 +56,8 @@ fn sum_across(bytes: &[u8], record: u64, to: u64) -> u64 {
 // How many records there are.
 fn records_of(bytes: &[u8]) -> u64 {
     let records = record_at(bytes, bytes.len());
-    if last_of(bytes) == 10 {
-        return less(records, 1);
+    if last_of(bytes) == b'\n' {
+        return records.saturating_sub(1);
     }
     records
 }
@@ -127,7 +109,7 @@ fn say_too_many(err: &impl Print, demand: u64, stock: u64) -> io::Result<()> {
     )?;
     say_both(err, demand, stock)?;
     say(err, b" and the least runs make 0: ")?;
-    say_grouped(err, less(stock, demand))?;
+    say_grouped(err, stock.saturating_sub(demand))?;
     say(
         err,
         b" too many. No plan exists: the stock and what must be made cannot all leave. Lower a stock or a least run, or raise a demand.\n",
@@ -144,7 +126,7 @@ fn say_too_few(err: &impl Print, demand: u64, stock: u64, plants: u64) -> io::Re
     say(err, b" and the plants can make ")?;
     say_grouped(err, plants)?;
     say(err, b": ")?;
-    say_grouped(err, less(less(demand, stock), plants))?;
+    say_grouped(err, demand.saturating_sub(stock).saturating_sub(plants))?;
     say(
         err,
         b" too few. No plan exists. Raise a capacity or a stock, or lower a demand.\n",

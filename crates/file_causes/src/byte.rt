@@ -13,7 +13,7 @@ use std::io;
 
 // A letter of the Latin alphabet, or a byte of a letter that is none of these.
 fn is_letter(b: u8) -> bool {
-    ((64 < b) & (b < 91)) | ((96 < b) & (b < 123)) | (127 < b)
+    b.is_ascii_alphabetic() | !b.is_ascii()
 }
 
 // Whether a number can begin at an offset: at the start of the file or of a record, after a comma, a minus, or a quote that opens a field.
@@ -21,8 +21,8 @@ fn begins(bytes: &[u8], at: usize) -> bool {
     let back = byte_before(bytes, at, 1);
     match back {
         0 => at == 0,
-        10 | 44 | 45 => true,
-        34 => !is_digit(byte_before(bytes, at, 2)),
+        b'\n' | b',' | b'-' => true,
+        b'"' => !is_digit(byte_before(bytes, at, 2)),
         _ => false,
     }
 }
@@ -30,24 +30,19 @@ fn begins(bytes: &[u8], at: usize) -> bool {
 // Does a 0 that a number of several digits begins with stand there?
 fn leads(bytes: &[u8], at: usize) -> bool {
     if at < bytes.len() {
-        return (bytes[at] == 48) & is_digit(byte_at(bytes, at + 1)) & begins(bytes, at);
+        return (bytes[at] == b'0') & is_digit(byte_at(bytes, at + 1)) & begins(bytes, at);
     }
     false
 }
 
 // Is it after the record of the demands, which alone ends in a comma?
 fn is_after_demands(bytes: &[u8], at: usize) -> bool {
-    (byte_before(bytes, at, 1) == 10) & (byte_before(bytes, at, 3) == 44)
+    (byte_before(bytes, at, 1) == b'\n') & (byte_before(bytes, at, 3) == b',')
 }
 
 // Does a letter stand in a text?
 fn has_letter(text: &[u8]) -> bool {
-    for i in 0..text.len() {
-        if is_letter(text[i]) {
-            return true;
-        }
-    }
-    false
+    text.iter().any(|&b| is_letter(b))
 }
 
 // Is it in the first record, and has that a letter?
@@ -58,10 +53,10 @@ fn in_header(bytes: &[u8], at: usize) -> bool {
 // Is a field empty that ends with this byte? A quote ends it after another.
 fn is_empty(bytes: &[u8], at: usize) -> bool {
     let back = byte_before(bytes, at, 1);
-    if byte_at(bytes, at) == 34 {
-        return back == 34;
+    if byte_at(bytes, at) == b'"' {
+        return back == b'"';
     }
-    (at == 0) | (back == 44) | (back == 10)
+    (at == 0) | (back == b',') | (back == b'\n')
 }
 
 // The bytes of a record before an offset, from a field on.
@@ -74,15 +69,15 @@ fn from_field(bytes: &[u8], at: usize, field: u64) -> &[u8] {
 
 // Does the record of a CR end in the empty field of the demands though it has a minus?
 fn is_signed_end(bytes: &[u8], at: usize) -> bool {
-    let end = (byte_at(bytes, at) == 13) & (byte_before(bytes, at, 1) == 44);
-    end & has(from_field(bytes, at, 1), 45)
+    let end = (byte_at(bytes, at) == b'\r') & (byte_before(bytes, at, 1) == b',');
+    end & has(from_field(bytes, at, 1), b'-')
 }
 
 // Does a CR end a number with a minus, bare or in quotes?
 fn is_signed_last(bytes: &[u8], at: usize) -> bool {
     let text = from_field(bytes, at, field_at(bytes, at));
     let signed = starts(text, b"-") | starts(text, b"\"-");
-    (byte_at(bytes, at) == 13) & signed
+    (byte_at(bytes, at) == b'\r') & signed
 }
 
 // A record that a minus makes one of unit costs, at its end.
@@ -112,7 +107,7 @@ fn say_empty(err: &impl Print, bytes: &[u8], at: usize) -> io::Result<()> {
             b"an empty field, perhaps of a header line; the files have none (`yadvorkhul import` reads such files)",
         );
     }
-    if (byte_at(bytes, at) == 13) & (byte_before(bytes, at, 1) != 44) {
+    if (byte_at(bytes, at) == b'\r') & (byte_before(bytes, at, 1) != b',') {
         return say(err, b"a blank line; the files have none");
     }
     say(
@@ -124,7 +119,7 @@ fn say_empty(err: &impl Print, bytes: &[u8], at: usize) -> io::Result<()> {
 // A comma, CR or quote: after a digit or a quote a comma is part of a number, at the start of a field they leave it empty.
 fn said_empty(err: &impl Print, bytes: &[u8], at: usize) -> io::Result<bool> {
     let back = byte_before(bytes, at, 1);
-    if (byte_at(bytes, at) == 44) & (is_digit(back) | (back == 34)) {
+    if (byte_at(bytes, at) == b',') & (is_digit(back) | (back == b'"')) {
         say(err, b"a decimal comma; numbers are whole")?;
         return Ok(true);
     }
@@ -141,9 +136,9 @@ fn said_empty(err: &impl Print, bytes: &[u8], at: usize) -> io::Result<bool> {
 // A sign before a number, or a digit too many.
 fn said_rest(err: &impl Print, bytes: &[u8], at: usize, byte: u8) -> io::Result<bool> {
     match byte {
-        45 => say(err, b"a minus; it can stand only before a unit cost")?,
-        43 => say(err, b"a plus; a number has digits alone")?,
-        48..=57 => {
+        b'-' => say(err, b"a minus; it can stand only before a unit cost")?,
+        b'+' => say(err, b"a plus; a number has digits alone")?,
+        b'0'..=b'9' => {
             if !is_digit(byte_before(bytes, at, 1)) {
                 return Ok(false);
             }
@@ -172,16 +167,16 @@ fn said_alone(err: &impl Print, bytes: &[u8], at: usize, byte: u8) -> io::Result
 // A byte that parts records, fields or a number.
 fn said_parting(err: &impl Print, bytes: &[u8], at: usize, byte: u8) -> io::Result<bool> {
     match byte {
-        10 => say(
+        b'\n' => say(
             err,
             b"a line that ends in LF without CR; records end in CR LF (`yadvorkhul import` reads such files)",
         )?,
-        59 => say(
+        b';' => say(
             err,
             b"a semicolon; fields are parted by commas (`yadvorkhul import` reads such files)",
         )?,
-        46 => say(err, b"a decimal point; numbers are whole")?,
-        13 | 34 | 44 => return said_empty(err, bytes, at),
+        b'.' => say(err, b"a decimal point; numbers are whole")?,
+        b'\r' | b'"' | b',' => return said_empty(err, bytes, at),
         _ => return said_alone(err, bytes, at, byte),
     }
     Ok(true)
@@ -189,7 +184,7 @@ fn said_parting(err: &impl Print, bytes: &[u8], at: usize, byte: u8) -> io::Resu
 
 // Is it a 0 after a minus?
 fn is_signed_zero(bytes: &[u8], at: usize) -> bool {
-    (byte_at(bytes, at) == 48) & (byte_before(bytes, at, 1) == 45)
+    (byte_at(bytes, at) == b'0') & (byte_before(bytes, at, 1) == b'-')
 }
 
 // A 0 that begins a number, or follows a minus.
@@ -231,8 +226,8 @@ fn said_place(err: &impl Print, bytes: &[u8], at: usize) -> io::Result<bool> {
 fn say_byte(err: &impl Print, byte: u8) -> io::Result<()> {
     match byte {
         0 => say(err, b"NUL")?,
-        13 => say(err, b"CR")?,
-        33..=126 => {
+        b'\r' => say(err, b"CR")?,
+        b'!'..=b'~' => {
             let text = [byte];
             say(err, &text)?;
         }
@@ -250,7 +245,7 @@ fn said_comma(err: &impl Print, tariff: bool, bytes: &[u8], at: usize) -> io::Re
     if tariff {
         return Ok(false);
     }
-    if byte_at(bytes, at) != 48 {
+    if byte_at(bytes, at) != b'0' {
         return Ok(false);
     }
     said_entry(err, bytes, record_at(bytes, at))
@@ -258,7 +253,7 @@ fn said_comma(err: &impl Print, tariff: bool, bytes: &[u8], at: usize) -> io::Re
 
 // A CR that no LF follows, or the end of the file.
 fn said_end(err: &impl Print, bytes: &[u8], at: usize) -> io::Result<bool> {
-    if (byte_before(bytes, at, 1) == 13) & (byte_at(bytes, at) != 10) {
+    if (byte_before(bytes, at, 1) == b'\r') & (byte_at(bytes, at) != b'\n') {
         say(
             err,
             b"a line that ends in CR without LF; records end in CR LF (`yadvorkhul import` reads such files)",

@@ -18,22 +18,12 @@ fn record_text(bytes: &[u8], record: u64) -> &[u8] {
 
 // How many bytes stand before the first comma; all where there is none.
 fn head_length(text: &[u8]) -> usize {
-    for i in 0..text.len() {
-        if text[i] == 44 {
-            return i;
-        }
-    }
-    text.len()
+    text.iter().position(|&b| b == b',').unwrap_or(text.len())
 }
 
 // Are all bytes digits?
 fn are_digits(text: &[u8]) -> bool {
-    for i in 0..text.len() {
-        if !is_digit(text[i]) {
-            return false;
-        }
-    }
-    true
+    text.iter().all(|&b| is_digit(b))
 }
 
 // Is it one digit or two after the comma, and nothing else?
@@ -44,12 +34,13 @@ fn is_decimal(after: &[u8]) -> bool {
 
 // Are groups of three digits all that stands after a comma?
 fn are_groups(after: &[u8]) -> bool {
-    for i in 0..after.len() {
-        let comma = after[i] == 44;
-        if comma != (i % 4 == 3) {
-            return false;
-        }
-        if !comma & !is_digit(after[i]) {
+    for (i, &byte) in after.iter().enumerate() {
+        let stands = if i % 4 == 3 {
+            byte == b','
+        } else {
+            is_digit(byte)
+        };
+        if !stands {
             return false;
         }
     }
@@ -96,7 +87,7 @@ pub fn said_entry(err: &impl Print, bytes: &[u8], record: u64) -> io::Result<boo
 
 // A text without a minus in front.
 fn unsigned(text: &[u8]) -> &[u8] {
-    if byte_at(text, 0) == 45 {
+    if byte_at(text, 0) == b'-' {
         return rest(text, 1);
     }
     text
@@ -105,7 +96,7 @@ fn unsigned(text: &[u8]) -> &[u8] {
 // Is it digits, perhaps after a minus, and a comma behind them?
 fn is_head(text: &[u8]) -> bool {
     let digits = first(text, head_length(text));
-    (last_of(text) == 44) & is_digit(last_of(digits)) & are_digits(unsigned(digits))
+    (last_of(text) == b',') & is_digit(last_of(digits)) & are_digits(unsigned(digits))
 }
 
 // Is it two digits or three?

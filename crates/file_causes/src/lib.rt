@@ -6,6 +6,6 @@ pub mod amounts;
 pub mod byte;
 pub mod fields;
 pub mod number;
-pub mod refusal;
+pub mod sentence;
 pub mod spot;
 pub mod whole;

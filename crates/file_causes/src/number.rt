@@ -22,7 +22,7 @@ fn parts_thousands(before: &[u8], after: &[u8]) -> bool {
 
 // How many bytes a space takes, 0 of other bytes: 160 is one by itself and after 194; the narrow and the thin one have three bytes.
 fn space_width(text: &[u8]) -> usize {
-    if (byte_at(text, 0) == 32) | (byte_at(text, 0) == 160) {
+    if (byte_at(text, 0) == b' ') | (byte_at(text, 0) == 160) {
         return 1;
     }
     if starts(text, b"\xC2\xA0") {
@@ -36,7 +36,7 @@ fn space_width(text: &[u8]) -> usize {
 
 // The same of a space or an apostrophe.
 fn blank_width(text: &[u8]) -> usize {
-    if byte_at(text, 0) == 39 {
+    if byte_at(text, 0) == b'\'' {
         return 1;
     }
     if starts(text, b"\xE2\x80\x99") {
@@ -51,11 +51,11 @@ fn said_mark(err: &impl Print, mark: u8, before: &[u8], after: &[u8]) -> io::Res
         return Ok(false);
     }
     match mark {
-        46 => say(
+        b'.' => say(
             err,
             b"a point, of a decimal point or between thousands; numbers are whole and have digits alone",
         )?,
-        44 => say(
+        b',' => say(
             err,
             b"a comma within quotes, a decimal comma or one between thousands; numbers are whole and have digits alone",
         )?,
@@ -68,7 +68,7 @@ fn said_mark(err: &impl Print, mark: u8, before: &[u8], after: &[u8]) -> io::Res
 pub fn said_number(err: &impl Print, bytes: &[u8], at: usize) -> io::Result<bool> {
     let before = first(bytes, at);
     let text = rest(bytes, at);
-    if byte_at(text, 0) == 9 {
+    if byte_at(text, 0) == b'\t' {
         say(
             err,
             b"a tab; fields are parted by commas (`yadvorkhul import` reads such files)",
@@ -106,17 +106,14 @@ pub fn said_sign(err: &impl Print, text: &[u8]) -> io::Result<bool> {
 
 // Does a comma that parts thousands stand at an offset?
 fn parts_at(bytes: &[u8], at: usize) -> bool {
-    (byte_at(bytes, at) == 44) & parts_thousands(first(bytes, at), rest(rest(bytes, at), 1))
+    (byte_at(bytes, at) == b',') & parts_thousands(first(bytes, at), rest(rest(bytes, at), 1))
 }
 
 // How many bytes stand before the first comma that parts thousands; all where there is none.
 fn before_comma(text: &[u8]) -> usize {
-    for i in 0..text.len() {
-        if parts_at(text, i) {
-            return i;
-        }
-    }
-    text.len()
+    (0..text.len())
+        .find(|&i| parts_at(text, i))
+        .unwrap_or(text.len())
 }
 
 // How many digits stand before an end, three at most.
@@ -132,18 +129,7 @@ fn digits_back(before: &[u8]) -> usize {
 
 // Where those digits begin.
 fn digits_from(before: &[u8]) -> usize {
-    let size = before.len();
-    let digits = digits_back(before);
-    if size < digits { 0 } else { size - digits }
-}
-
-// A sum that stays at the largest offset.
-fn plus(a: usize, b: usize) -> usize {
-    if usize::MAX - a < b {
-        usize::MAX
-    } else {
-        a + b
-    }
+    before.len().saturating_sub(digits_back(before))
 }
 
 // Says some words and the first number of a text whose thousands a comma parts, as 1,234; false where there is none.
@@ -167,5 +153,10 @@ pub fn said_parted(err: &impl Print, words: &[u8], text: &[u8]) -> io::Result<bo
 pub fn say_parted_spot(err: &impl Print, bytes: &[u8], low: usize, text: &[u8]) -> io::Result<()> {
     let at = before_comma(text);
     let from = digits_from(first(text, at));
-    say_spot(err, bytes, plus(low, from), plus(low, plus(at, 4)))
+    say_spot(
+        err,
+        bytes,
+        low.saturating_add(from),
+        low.saturating_add(at.saturating_add(4)),
+    )
 }

@@ -9,10 +9,10 @@ use std::io;
 // A byte for the eye: names for CR, LF and tab, base 16 for what is no sign of ASCII, all in angle quotes.
 fn say_shown_byte(err: &impl Print, byte: u8) -> io::Result<()> {
     match byte {
-        32..=126 => say(err, &[byte]),
-        9 => say(err, b"\xE2\x80\xB9TAB\xE2\x80\xBA"),
-        10 => say(err, b"\xE2\x80\xB9LF\xE2\x80\xBA"),
-        13 => say(err, b"\xE2\x80\xB9CR\xE2\x80\xBA"),
+        b' '..=b'~' => say(err, &[byte]),
+        b'\t' => say(err, b"\xE2\x80\xB9TAB\xE2\x80\xBA"),
+        b'\n' => say(err, b"\xE2\x80\xB9LF\xE2\x80\xBA"),
+        b'\r' => say(err, b"\xE2\x80\xB9CR\xE2\x80\xBA"),
         _ => {
             say(err, b"\xE2\x80\xB9")?;
             say(err, &hex(byte))?;
@@ -25,8 +25,8 @@ fn say_shown_byte(err: &impl Print, byte: u8) -> io::Result<()> {
 fn say_below_byte(err: &impl Print, byte: u8, mark: &[u8]) -> io::Result<()> {
     say(err, mark)?;
     match byte {
-        32..=126 => {}
-        9 => {
+        b' '..=b'~' => {}
+        b'\t' => {
             say(err, mark)?;
             say(err, mark)?;
             say(err, mark)?;
@@ -42,15 +42,15 @@ fn say_below_byte(err: &impl Print, byte: u8, mark: &[u8]) -> io::Result<()> {
 }
 
 fn say_shown(err: &impl Print, text: &[u8]) -> io::Result<()> {
-    for i in 0..text.len() {
-        say_shown_byte(err, text[i])?;
+    for &byte in text {
+        say_shown_byte(err, byte)?;
     }
     Ok(())
 }
 
 fn say_below(err: &impl Print, text: &[u8], mark: &[u8]) -> io::Result<()> {
-    for i in 0..text.len() {
-        say_below_byte(err, text[i], mark)?;
+    for &byte in text {
+        say_below_byte(err, byte, mark)?;
     }
     Ok(())
 }
@@ -74,10 +74,7 @@ fn say_line_number(err: &impl Print, number: u64) -> io::Result<()> {
 
 // How many bytes of a line are not shown before a place: all but 48.
 fn passed(before: &[u8]) -> usize {
-    if before.len() < 48 {
-        return 0;
-    }
-    before.len() - 48
+    before.len().saturating_sub(48)
 }
 
 // The line, its part from low to high among it, with 48 bytes on each side of that at most.

@@ -9,13 +9,7 @@ use std::io;
 // How many bytes are 0 among every other of the first 64, from the first or the second on.
 fn zeros_of(bytes: &[u8], from: usize) -> u64 {
     let text = rest(first(bytes, 64), from);
-    let mut zeros: u64 = 0;
-    for i in 0..text.len() {
-        if (i % 2 == 0) & (text[i] == 0) {
-            zeros = next(zeros);
-        }
-    }
-    zeros
+    text.iter().step_by(2).filter(|&&b| b == 0).count() as u64
 }
 
 // Are so many of every other byte 0, and so many of those between, that it is UTF-16?
@@ -78,7 +72,7 @@ pub fn said_other(err: &impl Print, words: &[u8], bytes: &[u8]) -> io::Result<bo
 
 // Is a file that should be a tariff, and was read to its end, a single column?
 fn is_column(bytes: &[u8], at: usize) -> bool {
-    (bytes.len() <= at) & (0 < bytes.len()) & !has(bytes, 44)
+    (bytes.len() <= at) & (0 < bytes.len()) & !has(bytes, b',')
 }
 
 // The other file of the pair; false where it is not.
@@ -105,18 +99,15 @@ fn said_swapped(err: &impl Print, tariff: bool, bytes: &[u8], at: usize) -> io::
 
 // Does a byte end a line?
 fn ends_line(byte: u8) -> bool {
-    (byte == 10) | (byte == 13)
+    (byte == b'\n') | (byte == b'\r')
 }
 
 // The length without line ends at the end.
 fn text_end(bytes: &[u8]) -> usize {
-    let mut end: usize = 0;
-    for i in 0..bytes.len() {
-        if !ends_line(bytes[i]) {
-            end = i + 1;
-        }
-    }
-    end
+    bytes
+        .iter()
+        .rposition(|&b| !ends_line(b))
+        .map_or(0, |last| last + 1)
 }
 
 // Does the last record of a tariff lack only the comma behind the demands?
@@ -124,7 +115,7 @@ fn lacks_comma(bytes: &[u8], text: &[u8]) -> bool {
     let end = text.len();
     let fields = field_at(bytes, record_end(bytes, 1));
     let fewer = next(field_at(text, end)) == fields;
-    (2 < record_at(text, end)) & fewer & (last_of(text) != 44)
+    (2 < record_at(text, end)) & fewer & (last_of(text) != b',')
 }
 
 // Says so of a tariff that was read to its end, or to a blank line there.

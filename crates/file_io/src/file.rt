@@ -66,6 +66,7 @@ fn after_read(got: Option<usize>, at: usize, room: &[u8]) -> Taken
     }
 }
 
+// Stays: no index is counted; each read tells how many bytes it brought.
 // Reads to the end of the file or of the room, and gives how many bytes there are; the whole room where a read fails.
 fn read_all(file: &mut impl Read, room: &mut [u8]) -> usize
     ensures { length room.new ≡ length room.old }

@@ -25,29 +25,21 @@ fn say_group(err: &impl Print, n: u64) -> io::Result<()> {
     say_number(err, n % 10)
 }
 
-fn say_thousands(err: &impl Print, n: u64) -> io::Result<()> {
+// A number in groups of three digits; no number of a file has more than four of them.
+pub fn say_grouped(err: &impl Print, n: u64) -> io::Result<()> {
     if n < 1000 {
         return say_number(err, n);
     }
-    say_number(err, n / 1000)?;
-    say_group(err, n)
-}
-
-fn say_millions(err: &impl Print, n: u64) -> io::Result<()> {
-    if n < 1_000_000 {
-        return say_thousands(err, n);
+    let mut begun = false;
+    for part in [n / 1_000_000_000, n / 1_000_000, n / 1000, n] {
+        if begun {
+            say_group(err, part)?;
+        } else if 0 < part {
+            say_number(err, part)?;
+            begun = true;
+        }
     }
-    say_thousands(err, n / 1000)?;
-    say_group(err, n)
-}
-
-// A number in groups of three digits; no number of a file has more than four of them.
-pub fn say_grouped(err: &impl Print, n: u64) -> io::Result<()> {
-    if n < 1_000_000_000 {
-        return say_millions(err, n);
-    }
-    say_millions(err, n / 1000)?;
-    say_group(err, n)
+    Ok(())
 }
 
 // So many of a thing, in the singular where it is one.
@@ -71,9 +63,9 @@ fn say_byte(err: &impl Print, byte: u8, left: usize) -> io::Result<()> {
 // A name or a path, with nothing in it that a terminal would obey.
 pub fn say_name(err: &impl Print, name: &[u8]) -> io::Result<()> {
     let mut left: usize = 0;
-    for i in 0..name.len() {
+    for (i, &byte) in name.iter().enumerate() {
         left = left_of(&name[i..], left);
-        say_byte(err, name[i], left)?;
+        say_byte(err, byte, left)?;
     }
     Ok(())
 }

@@ -11,21 +11,54 @@ pub fn next(n: u64) -> u64
     if n == u64::MAX { n } else { n + 1 }
 }
 
-// The record after a byte of a record.
-fn record_after(record: u64, byte: u8) -> u64
-    ensures { result ≡ record_after «record» byte }
-{
-    if byte == 10 { next(record) } else { record }
+// A record, and a field in it, both from 1.
+#[derive(Clone, Copy, Drop)]
+struct Place {
+    record: u64,
+    field: u64,
 }
 
-// The field after a byte of a field.
-fn field_after(field: u64, byte: u8) -> u64
-    ensures { result ≡ field_after field byte }
-{
-    match byte {
-        10 => 1,
-        44 => next(field),
-        _ => field,
+impl Place {
+    // Where a file begins.
+    fn first() -> Place
+        ensures record { result.record ≡ 1 }
+        ensures field { result.field ≡ 1 }
+    {
+        Place {
+            record: 1,
+            field: 1,
+        }
+    }
+
+    // The place after a byte that stands here.
+    fn after(self, byte: u8) -> Place
+        ensures record { result.record ≡ record_after self.record byte }
+        ensures field { result.field ≡ field_after self.field byte }
+    {
+        match byte {
+            b'\n' => Place {
+                record: next(self.record),
+                field: 1,
+            },
+            b',' => Place {
+                record: self.record,
+                field: next(self.field),
+            },
+            _ => self,
+        }
+    }
+
+    // The place of an offset.
+    fn at(bytes: &[u8], at: usize) -> Place
+        ensures record { result.record ≡ record_over 1 (take at bytes.now) }
+        ensures field { result.field ≡ field_over 1 (take at bytes.now) }
+    {
+        let before = first(bytes, at);
+        let mut place = Place::first();
+        for &byte in before {
+            place = place.after(byte);
+        }
+        place
     }
 }
 
@@ -33,38 +66,28 @@ fn field_after(field: u64, byte: u8) -> u64
 pub fn record_at(bytes: &[u8], at: usize) -> u64
     ensures { result ≡ record_over 1 (take at bytes.now) }
 {
-    let before = first(bytes, at);
-    let mut record: u64 = 1;
-    for i in 0..before.len() {
-        record = record_after(record, before[i]);
-    }
-    record
+    Place::at(bytes, at).record
 }
 
 // The field of an offset in its record.
 pub fn field_at(bytes: &[u8], at: usize) -> u64
     ensures { result ≡ field_over 1 (take at bytes.now) }
 {
-    let before = first(bytes, at);
-    let mut field: u64 = 1;
-    for i in 0..before.len() {
-        field = field_after(field, before[i]);
-    }
-    field
+    Place::at(bytes, at).field
 }
 
 // The offset where a record ends: that of its CR, or the file's length.
 pub fn record_end(bytes: &[u8], record: u64) -> usize
     ensures { result ≡ end_from «record» 0 1 bytes.now }
 {
-    let mut here: u64 = 1;
-    for i in 0..bytes.len() {
-        if here == record {
-            if bytes[i] == 13 {
+    let mut here = Place::first();
+    for (i, &byte) in bytes.iter().enumerate() {
+        if here.record == record {
+            if byte == b'\r' {
                 return i;
             }
         }
-        here = record_after(here, bytes[i]);
+        here = here.after(byte);
     }
     bytes.len()
 }
@@ -73,16 +96,14 @@ pub fn record_end(bytes: &[u8], record: u64) -> usize
 pub fn field_start(bytes: &[u8], record: u64, field: u64) -> usize
     ensures { result ≡ start_from «record» field 0 1 1 bytes.now }
 {
-    let mut here: u64 = 1;
-    let mut part: u64 = 1;
-    for i in 0..bytes.len() {
-        if here == record {
-            if part == field {
+    let mut here = Place::first();
+    for (i, &byte) in bytes.iter().enumerate() {
+        if here.record == record {
+            if here.field == field {
                 return i;
             }
         }
-        here = record_after(here, bytes[i]);
-        part = field_after(part, bytes[i]);
+        here = here.after(byte);
     }
     bytes.len()
 }
@@ -108,5 +129,5 @@ pub fn byte_before(bytes: &[u8], at: usize, back: usize) -> u8
 pub fn is_digit(b: u8) -> bool
     ensures { result ≡ (ltb 47 b && ltb b 58) }
 {
-    (47 < b) & (b < 58)
+    b.is_ascii_digit()
 }

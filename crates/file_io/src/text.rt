@@ -3,7 +3,6 @@ ghost use Rattle.std.specs.Prelude.{◌≡◌, true, false, ◌||◌, eqb, lengt
 ghost use Rattle.file_io.specs.inner.Over.{over, found_after};
 ghost use Rattle.file_io.specs.inner.Places.{byte_back};
 
-use crate::file::first;
 use crate::place::byte_before;
 
 // The bytes after the first n; none where there are no more.
@@ -29,7 +28,7 @@ pub fn starts(s: &[u8], word: &[u8]) -> bool
     ensures { (result ≡ true → take (length word.now) s.now ≡ word.now) ×
         (take (length word.now) s.now ≡ word.now → result ≡ true) }
 {
-    first(s, word.len()) == word
+    s.starts_with(word)
 }
 
 fn found_after(found: bool, wanted: u8, byte: u8) -> bool
@@ -43,8 +42,8 @@ pub fn has(s: &[u8], byte: u8) -> bool
     ensures { result ≡ over (found_after byte) false s.now }
 {
     let mut found = false;
-    for i in 0..s.len() {
-        found = found_after(found, byte, s[i]);
+    for &b in s {
+        found = found_after(found, byte, b);
     }
     found
 }

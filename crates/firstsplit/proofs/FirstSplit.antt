@@ -13,6 +13,7 @@ use Rattle.transport.specs.inner.AtSplit.{At}
 use Rattle.residual.specs.inner.Cells.{cells}
 use Rattle.residual.specs.inner.Network.{Net, get, again}
 use Rattle.firstsplit.specs.inner.Shipment.{Shipped, NoWay, ShipDone}
+use Rattle.std.specs.Prelude.{Option, None, Some}
 use Rattle.firstsplit.specs.inner.FirstPlan.{Based, Sending, DepotsDone, Admitted, PlantsReady, FirstDone}
 use Rattle.transport.proofs.Sums.{sum_ext, sum_add, sum_at}
 use Rattle.transport.proofs.Tables.{rows_cols}
@@ -104,24 +105,15 @@ module _ {N : Net} {a : ℕ → ℕ} {room : List ℕ} {y z : ℕ} {p' room' x' 
           b.plant1,
         )
 
--- no plan
-pub first_none : {N : Net} {a : ℕ → ℕ} {room : List ℕ} {run0 run1 d : ℕ} {p' room' x' : List ℕ} (split : ℕ)
-    → ((w : Table) (y z : ℕ) → Admitted a run0 run1 d y z → At N.m N.n a (λ j. get room (32 + j)) y z w → Under N.m N.n w N.u → ⊥)
-    → FirstDone N a room run0 run1 d p' room' x' false split
-first_none split k = record {
-  sending = λ e. absurd (true≢false (sym e));
-  admitted = λ e. absurd (true≢false (sym e));
-  least = λ e. absurd (true≢false (sym e));
-  none = λ e. k;
-}
-
 module _ {N : Net} {a : ℕ → ℕ} {room : List ℕ} {run0 run1 d : ℕ} (two : 2 ≤ N.m) (r : PlantsReady a run0 run1 d) where
   -- plant 1 cannot send its least run
   pub run_stuck : {p' room' x' p'' room'' x'' : List ℕ} {left : ℕ} → Sending N a room 0 0 p' room' x' → ShipDone (again N x') room' 0 run0 p'' room'' x'' left
-      → 0 < left → FirstDone N a room run0 run1 d p'' room'' x'' false 0
-  run_stuck {left = left} b o l = first_none 0 (λ w y z s t h.
-      ⊎_elim (λ e. omega (arith, s.low0, o.shipped.most)) (λ e. omega (arith, s.low0, o.shipped.most))
-      (first_stuck two (send_first two b (run0 - left) o.shipped (omega (arith, o.shipped.most))) w y z t h (o.none l)))
+      → 0 < left → FirstDone N a room run0 run1 d p'' room'' x'' None
+  run_stuck {left = left} b o l = record {
+    cases = λ w y z s t h.
+        ⊎_elim (λ e. omega (arith, s.low0, o.shipped.most)) (λ e. omega (arith, s.low0, o.shipped.most))
+        (first_stuck two (send_first two b (run0 - left) o.shipped (omega (arith, o.shipped.most))) w y z t h (o.none l));
+  }
 
   pub run_sent : {p' room' x' p'' room'' x'' : List ℕ} {left : ℕ} → Sending N a room 0 0 p' room' x' → ShipDone (again N x') room' 0 run0 p'' room'' x'' left
       → left ≤ 0 → Sending N a room run0 0 p'' room'' x''
@@ -141,37 +133,40 @@ module _ {N : Net} {a : ℕ → ℕ} {room : List ℕ} {run0 run1 d : ℕ} (two 
       | no l ↦ omega (arith, s.high1, s.whole, s.low0)
     ]
 
-    pub second_stops : most - short < run1 → FirstDone N a room run0 run1 d p'' room'' x'' false 0
-    second_stops l = first_none 0 (λ w y z s t h. omega (arith, top w y z s t h, s.low1))
+    pub second_stops : most - short < run1 → FirstDone N a room run0 run1 d p'' room'' x'' None
+    second_stops l = record { cases = λ w y z s t h. omega (arith, top w y z s t h, s.low1) }
 
-    pub first_over : a 0 < d - (most - short) → FirstDone N a room run0 run1 d p'' room'' x'' false 0
-    first_over l = first_none 0 (λ w y z s t h. omega (arith, top w y z s t h, s.high0, s.whole))
+    pub first_over : a 0 < d - (most - short) → FirstDone N a room run0 run1 d p'' room'' x'' None
+    first_over l = record { cases = λ w y z s t h. omega (arith, top w y z s t h, s.high0, s.whole) }
 
     pub rest_fits : run0 ≤ d - (most - short)
     rest_fits = omega (arith, r.low)
 
     -- plant 1 sends the rest
     module _ {p₃ room₃ x₃ : List ℕ} {split left : ℕ} (es : split ≡ d - (most - short)) (q : ShipDone (again N x'') room'' 0 (split - run0) p₃ room₃ x₃ left) where
-      pub rest_stuck : 0 < left → FirstDone N a room run0 run1 d p₃ room₃ x₃ false 0
-      rest_stuck l = first_none 0 (λ w y z s t h.
-          ⊎_elim (λ e. omega (arith, top w y z s t h, s.whole, q.shipped.most, rest_fits))
-          (λ e. omega (arith, top w y z s t h, s.whole, q.shipped.most, rest_fits, r.low, r.high))
-          (first_stuck two (send_first two second_sent (split - left) q.shipped (omega (arith, q.shipped.most, rest_fits))) w y z t h (q.none l)))
+      pub rest_stuck : 0 < left → FirstDone N a room run0 run1 d p₃ room₃ x₃ None
+      rest_stuck l = record {
+        cases = λ w y z s t h.
+            ⊎_elim (λ e. omega (arith, top w y z s t h, s.whole, q.shipped.most, rest_fits))
+            (λ e. omega (arith, top w y z s t h, s.whole, q.shipped.most, rest_fits, r.low, r.high))
+            (first_stuck two (send_first two second_sent (split - left) q.shipped (omega (arith, q.shipped.most, rest_fits))) w y z t h (q.none l));
+      }
 
-      pub first_done : left ≤ 0 → run1 ≤ most - short → split ≤ a 0 → FirstDone N a room run0 run1 d p₃ room₃ x₃ true split
+      pub first_done : left ≤ 0 → run1 ≤ most - short → split ≤ a 0 → FirstDone N a room run0 run1 d p₃ room₃ x₃ (Some split)
       first_done l h1 h0 =
           let e : most - short ≡ d - split = omega (arith, r.low) in
           record {
-            sending = λ z. rw e at (send_first two second_sent split q.shipped (omega (arith, rest_fits)));
-            admitted = λ z. record {
-              low0 = omega (arith, rest_fits);
-              high0 = h0;
-              low1 = omega arith;
-              high1 = omega arith;
-              whole = omega arith;
+            cases = record {
+              sending = rw e at (send_first two second_sent split q.shipped (omega (arith, rest_fits)));
+              admitted = record {
+                low0 = omega (arith, rest_fits);
+                high0 = h0;
+                low1 = omega arith;
+                high1 = omega arith;
+                whole = omega arith;
+              };
+              least = λ w y v s t h. omega (arith, top w y v s t h, s.whole);
             };
-            least = λ z w y v s t h. omega (arith, top w y v s t h, s.whole);
-            none = λ z. absurd (true≢false z);
           }
 
 -- ---- whatever amounts the lanes began with
@@ -180,14 +175,15 @@ pub sending_again : {N : Net} {a : ℕ → ℕ} {room : List ℕ} {y z : ℕ} {p
     → Sending (record { m = N.m; n = N.n; c = N.c; u = N.u; x = x }) a room y z p' room' x'
 sending_again x b = record { stocked = b.stocked; plant0 = b.plant0; plant1 = b.plant1; depots = b.depots; cols = b.cols }
 
-pub first_again : {N : Net} {a : ℕ → ℕ} {room : List ℕ} {run0 run1 d : ℕ} {p' room' x' : List ℕ} {found : Bool} {split : ℕ} (x : Table)
-    → FirstDone N a room run0 run1 d p' room' x' found split → FirstDone (record { m = N.m; n = N.n; c = N.c; u = N.u; x = x }) a room run0 run1 d p' room' x' found split
-first_again x f = record { sending = λ e. sending_again x (f.sending e); admitted = f.admitted; least = f.least; none = f.none }
+pub first_again : {N : Net} {a : ℕ → ℕ} {room : List ℕ} {run0 run1 d : ℕ} {p' room' x' : List ℕ} (split : Option ℕ) (x : Table)
+    → FirstDone N a room run0 run1 d p' room' x' split → FirstDone (record { m = N.m; n = N.n; c = N.c; u = N.u; x = x }) a room run0 run1 d p' room' x' split
+first_again (Some split) x f = let q = f.cases in record { cases = record { sending = sending_again x q.sending; admitted = q.admitted; least = q.least } }
+first_again None x f = record { cases = f.cases }
 
 -- a depot is stuck
 pub depots_none : {N : Net} {supply room : List ℕ} (run0 run1 d : ℕ) {p' room' x' : List ℕ} {done : Bool} → DepotsDone N supply room p' room' x' done → done ≡ false
-    → FirstDone N (λ i. get supply i) room run0 run1 d p' room' x' false 0
-depots_none run0 run1 d q e = first_none 0 (λ w y z s t h. q.stuck e w y z t h)
+    → FirstDone N (λ i. get supply i) room run0 run1 d p' room' x' None
+depots_none run0 run1 d q e = record { cases = λ w y z s t h. q.stuck e w y z t h }
 
 -- ---- the plan at the first split
 

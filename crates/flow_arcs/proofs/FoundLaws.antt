@@ -2,7 +2,7 @@
 use mathlib.Core.Path.{◌≡◌, refl, sym, ap, ap₂, ◌∙◌}
 use mathlib.Core.Bool.{Bool, true, false, ◌||◌}
 use mathlib.Core.List.{List, ◌++◌, map, append_assoc}
-use Prim.Native.Nat.{ℕ, ◌-◌, ◌≤◌, ◌<◌}
+use Prim.Native.Nat.{ℕ, min, ◌-◌, ◌≤◌, ◌<◌}
 use native.Mathlib.Decide.{dec_lt}
 use native.Mathlib.Omega.{arith}
 use lib.Dec.{ltb}
@@ -15,7 +15,9 @@ use Rattle.dimacs.specs.Arc as file
 use Rattle.dimacs.specs.Arc.{arc}
 use Rattle.dimacs.specs.Form.{ArcLine, File, Form, whole, broken, form_of}
 use Rattle.dimacs.proofs.NodeAndArcLines.{or_true}
-use Rattle.flow_network.specs.declared.Answer.{Answer}
+use Rattle.std.specs.Prelude.{Result}
+use Rattle.refusal.specs.declared.Refusal.{Refusal}
+use Rattle.flow_network.specs.declared.Carried.{Carried}
 use Rattle.flow_problem.specs.Network.{cells}
 use Rattle.flow_problem.specs.Answer.{arcs_of, network_of, Room, bad_file, bad_name, out_of_limits, flows, least_total, Outcome, carried, refused, flow_outcome, limited, judged, outcome_of}
 use Rattle.flow_problem.specs.Promise.{Slices, room_of, Answered}
@@ -24,22 +26,10 @@ use Rattle.flow_problem.proofs.NodesAndSources.{cells_length, cells_at}
 use Rattle.flow_problem.proofs.Answers.{answer-29, answer-30}
 use Rattle.flow_arcs.specs.declared.Arc.{Arc}
 use Rattle.flow_arcs.specs.declared.find.Found.{Found}
-use Rattle.flow_arcs.specs.Lent.{lent_arc, room_for, ArcsAnswered, at_most, arc_at, arcs_found, FoundGiven, FoundIs}
+use Rattle.flow_arcs.specs.Lent.{lent_arc, room_for, ArcsAnswered, arc_at, arcs_found, FoundGiven, FoundIs}
 use Rattle.problem.proofs.TestsPassed.{either_first, either_second}
 
 -- ---- the cells that an array has of those lent
-
-pub at_most_64 : (room : ℕ) → at_most room ≤ 64
-at_most_64 room = elim (dec_lt 64 room) [
-  | yes l ↦ (let e : at_most room ≡ 64 = simp (lt-ltb 64 room l) in omega (arith, e))
-  | no l ↦ (let e : at_most room ≡ room = simp (le-ltb 64 room (omega (arith, l))) in omega (arith, e, l))
-]
-
-pub at_most_room : (room : ℕ) → at_most room ≤ room
-at_most_room room = elim (dec_lt 64 room) [
-  | yes l ↦ (let e : at_most room ≡ 64 = simp (lt-ltb 64 room l) in omega (arith, e, l))
-  | no l ↦ (let e : at_most room ≡ room = simp (le-ltb 64 room (omega (arith, l))) in omega (arith, e))
-]
 
 pub part_length : {A : Type 0} (r : ℕ) (a : A) → r ≤ 64 → length (take (r - 0) (drop 0 (replicate 64 a))) ≡ r
 part_length r a h = ap (λ (n : ℕ). length (take n (replicate 64 a))) (let q : r - 0 ≡ r = omega arith in q) ∙ length-take-le r (replicate 64 a) (omega (arith, length-replicate 64 a))
@@ -49,14 +39,15 @@ pub part_rest : {A : Type 0} (r : ℕ) (a : A) → take (r - 0) (drop 0 (replica
 part_rest r a = take-append-drop (r - 0) (replicate 64 a)
 
 -- at most 64 arcs do not tell the two apart
-short_same : (room n : ℕ) → n ≤ 64 → ltb (at_most room) n ≡ ltb room n
+short_same : (room n : ℕ) → n ≤ 64 → ltb (min room 64) n ≡ ltb room n
 short_same room n h = elim (dec_lt 64 room) [
-  | yes l ↦ (let e : at_most room ≡ 64 = simp (lt-ltb 64 room l) in ap (λ (m : ℕ). ltb m n) e ∙ le-ltb 64 n h ∙ sym (le-ltb room n (omega (arith, l, h))))
-  | no l ↦ (let e : at_most room ≡ room = simp (le-ltb 64 room (omega (arith, l))) in ap (λ (m : ℕ). ltb m n) e)
+  | yes l ↦
+      (let e : min room 64 ≡ 64 = omega arith in ap (λ (m : ℕ). ltb m n) e ∙ le-ltb 64 n h ∙ sym (le-ltb room n (omega (arith, l, h))))
+  | no l ↦ (let e : min room 64 ≡ room = omega arith in ap (λ (m : ℕ). ltb m n) e)
 ]
 
 module _ (place : ℕ) (table : List ℕ) (x room : ℕ) where
-  limits_same : (f : File) → out_of_limits f place table (room_for x (at_most room)) ≡ out_of_limits f place table (room_for x room)
+  limits_same : (f : File) → out_of_limits f place table (room_for x (min room 64)) ≡ out_of_limits f place table (room_for x room)
   unfolding out_of_limits bad_file
   limits_same f = elim (dec_lt 64 (length f.arcs)) [
     | yes l ↦
@@ -66,13 +57,13 @@ module _ (place : ℕ) (table : List ℕ) (x room : ℕ) where
         ap (λ (b : Bool). bad_file f || (bad_name (network_of f) place table || (ltb x (length f.arcs) || (b || (b || (b || b)))))) (short_same room (length f.arcs) (omega (arith, l)))
   ]
 
-  judged_same : (g : Form) → judged g place table (room_for x (at_most room)) ≡ judged g place table (room_for x room)
+  judged_same : (g : Form) → judged g place table (room_for x (min room 64)) ≡ judged g place table (room_for x room)
   unfolding judged limited
   judged_same (broken line) = refl
   judged_same (whole f) =
       ap (λ (b : Bool). elim b as (λ x. Outcome) [ true ↦ refused 30 0 | false ↦ flow_outcome (flows (network_of f)) (least_total (network_of f) (place - 1) table) ]) (limits_same f)
 
-  pub outcome_same : (bytes : List ℕ) → outcome_of bytes place table (room_for x (at_most room)) ≡ outcome_of bytes place table (room_for x room)
+  pub outcome_same : (bytes : List ℕ) → outcome_of bytes place table (room_for x (min room 64)) ≡ outcome_of bytes place table (room_for x room)
   unfolding outcome_of
   outcome_same bytes = judged_same (form_of bytes)
 
@@ -120,14 +111,14 @@ written_part l z w rest all h q e =
     ∙ append_assoc l (drop (length l) z) rest
     ∙ ap (λ (v : List _). l ++ v) (sym (drop-append-le (length l) z rest h) ∙ ap (drop (length l)) e)
 
-module _ (bytes : List ℕ) (place : ℕ) (table : List ℕ) (room : ℕ) (flow z e u : List ℕ) (c : List ℤ) (long-z : length z ≡ at_most room) (long-e : length e ≡ at_most room)
-    (long-u : length u ≡ at_most room) (long-c : length c ≡ at_most room) where
-  room_is : room_of (slices_of flow z e u c) ≡ room_for (length flow) (at_most room)
+module _ (bytes : List ℕ) (place : ℕ) (table : List ℕ) (room : ℕ) (flow z e u : List ℕ) (c : List ℤ) (long-z : length z ≡ min room 64) (long-e : length e ≡ min room 64)
+    (long-u : length u ≡ min room 64) (long-c : length c ≡ min room 64) where
+  room_is : room_of (slices_of flow z e u c) ≡ room_for (length flow) (min room 64)
   room_is =
       ap₂ (λ (a b : ℕ). record { flow = length flow; starts = a; ends = b; ceilings = length u; costs = length c }) long-z long-e
-      ∙ ap₂ (λ (a b : ℕ). record { flow = length flow; starts = at_most room; ends = at_most room; ceilings = a; costs = b }) long-u long-c
+      ∙ ap₂ (λ (a b : ℕ). record { flow = length flow; starts = min room 64; ends = min room 64; ceilings = a; costs = b }) long-u long-c
 
-  module _ (answer : Answer) (count : ℕ) (flow' ys es us : List ℕ) (cs : List ℤ) (rs re ru : List ℕ) (rc : List ℤ)
+  module _ (answer : Result Carried Refusal) (count : ℕ) (flow' ys es us : List ℕ) (cs : List ℤ) (rs re ru : List ℕ) (rc : List ℤ)
       (all-z : z ++ rs ≡ replicate 64 0) (all-e : e ++ re ≡ replicate 64 0) (all-u : u ++ ru ≡ replicate 64 0) (all-c : c ++ rc ≡ replicate 64 (pos 0))
       (A : Answered bytes place table (outcome answer) (slices_of flow z e u c) (slices_of flow' ys es us cs)) (told-count : count_in answer ≡ count_of (outcome answer) (arcs_said (form_of bytes)))
       (count_told : count ≡ count_in answer) where
@@ -137,7 +128,7 @@ module _ (bytes : List ℕ) (place : ℕ) (table : List ℕ) (room : ℕ) (flow 
     count_is : count ≡ count_of (outcome answer) (arcs_said (form_of bytes))
     count_is = count_told ∙ told-count
 
-    told : outcome answer ≡ outcome_of bytes place table (room_for (length flow) (at_most room))
+    told : outcome answer ≡ outcome_of bytes place table (room_for (length flow) (min room 64))
     told = A.answer ∙ ap (λ (s : Room). outcome_of bytes place table s) room_is
 
     module _ (f : File) (total : ℤ) (form : form_of bytes ≡ whole f) (carries : outcome answer ≡ carried total) where
@@ -145,10 +136,10 @@ module _ (bytes : List ℕ) (place : ℕ) (table : List ℕ) (room : ℕ) (flow 
       counted = count_is ∙ ap (λ (o : Outcome). count_of o (arcs_said (form_of bytes))) carries ∙ ap arcs_said form
 
       small : length f.arcs ≤ 64
-      small = few_arcs bytes place table (room_for (length flow) (at_most room)) f total form (sym carries ∙ told)
+      small = few_arcs bytes place table (room_for (length flow) (min room 64)) f total form (sym carries ∙ told)
 
-      roomy : length f.arcs ≤ at_most room
-      roomy = room_enough bytes place table (room_for (length flow) (at_most room)) f total form (sym carries ∙ told)
+      roomy : length f.arcs ≤ min room 64
+      roomy = room_enough bytes place table (room_for (length flow) (min room 64)) f total form (sym carries ∙ told)
 
       long_arcs : length (arcs_of f) ≡ length f.arcs
       long_arcs = length-map f.arcs (λ (v : ArcLine). v.arc)
@@ -187,9 +178,9 @@ module _ (bytes : List ℕ) (place : ℕ) (table : List ℕ) (room : ℕ) (flow 
 
     within : (o : Outcome) → outcome answer ≡ o → (g : Form) → form_of bytes ≡ g → (count ≤ 64) × (count ≤ room)
     within (refused k p) h g q = (omega (arith, none_counted k p h), omega (arith, none_counted k p h))
-    within (carried t) h (whole f) q = (omega (arith, counted f t q h, small f t q h), omega (arith, counted f t q h, roomy f t q h, at_most_room room))
+    within (carried t) h (whole f) q = (omega (arith, counted f t q h, small f t q h), omega (arith, counted f t q h, roomy f t q h))
     within (carried t) h (broken line) q =
-        absurd (let w : carried t ≡ refused 29 line = sym h ∙ told ∙ answer-29 bytes place table (room_for (length flow) (at_most room)) line q in let v : ◌≡◌ {A = ℕ} 0 1 = cc in omega arith)
+        absurd (let w : carried t ≡ refused 29 line = sym h ∙ told ∙ answer-29 bytes place table (room_for (length flow) (min room 64)) line q in let v : ◌≡◌ {A = ℕ} 0 1 = cc in omega arith)
 
     pub found : FoundIs bytes place table room flow flow' r
     found = record {
@@ -217,7 +208,7 @@ unfolding cells
 unwritten h arcs = refl
 
 pub arcs_answered :
-    (bytes : List ℕ) (place : ℕ) (table flow flow' : List ℕ) (arcs arcs' : List Arc) (r : Found) (t : Answer) (n : ℕ) → FoundIs bytes place table (length arcs) flow flow' r → n ≡ r.count
+    (bytes : List ℕ) (place : ℕ) (table flow flow' : List ℕ) (arcs arcs' : List Arc) (r : Found) (t : Result Carried Refusal) (n : ℕ) → FoundIs bytes place table (length arcs) flow flow' r → n ≡ r.count
     → arcs' ≡ written (cells n (arc_at r)) arcs → t ≡ r.answer → ArcsAnswered bytes place table (outcome t) flow flow' arcs arcs'
 arcs_answered bytes place table flow flow' arcs arcs' r t n F n-is arcs_are t-is =
     let q : outcome t ≡ outcome r.answer = ap outcome t-is in

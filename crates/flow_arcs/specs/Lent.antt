@@ -1,5 +1,5 @@
 -- All that is promised of an answer to a network whose arcs go to a slice of structs. Assumes nothing.
-use Rattle.std.specs.Prelude.{◌≡◌, cond, List, map, ℕ, ◌-◌, ◌≤◌, ltb, ℤ, pos, length, get_or, replicate}
+use Rattle.std.specs.Prelude.{◌≡◌, List, map, ℕ, ◌-◌, ◌≤◌, ℤ, pos, length, get_or, replicate}
 use Rattle.transport.specs.Curve.{written}
 use Rattle.dimacs.specs.Arc as file
 use Rattle.dimacs.specs.Form.{File, whole, form_of}
@@ -31,10 +31,6 @@ pub record ArcsAnswered (bytes : List ℕ) (place : ℕ) (table : List ℕ) (r :
   pub kept : (k p : ℕ) → r ≡ refused k p → (flowAfter ≡ flowBefore) × (arcsAfter ≡ arcsBefore)
 
 -- ---- the functions below: what is found is kept in arrays of 64 cells
-
--- how many of the cells lent an array has
-abbrev pub at_most : ℕ → ℕ
-at_most room = cond (ltb 64 room) 64 room
 
 -- arc i, and the arcs to be written
 abbrev pub arc_at : Found → ℕ → Arc

@@ -4,7 +4,7 @@
 pub mod find;
 
 // An arc as its line says it: the numbers of its two nodes, from 1, its ceiling and its cost.
-#[derive(Clone, Copy)]
+#[derive(Clone, Copy, Debug, PartialEq, Eq)]
 pub struct Arc {
     pub start: u64,
     pub end: u64,

@@ -1,15 +1,12 @@
 -- Loops that fill a lent slice cell by cell, and what the parts of the case are. Assumes nothing.
-use mathlib.Core.Path.{◌≡◌, refl, sym, ap, ap₂, ◌∙◌, subst}
-use mathlib.Core.Bool.{Bool, cond, ◌||◌}
+use mathlib.Core.Path.{◌≡◌, refl, sym, ap, ap₂, ◌∙◌}
 use mathlib.Core.List.{List}
-use Prim.Native.Nat.{ℕ, ◌+◌, ◌-◌, ◌≤◌, ◌<◌}
+use Prim.Native.Nat.{ℕ, ◌+◌, ◌≤◌, ◌<◌}
 use native.Mathlib.Numerals.{add-one}
 use native.Mathlib.Decide.{ℕ_discrete}
 use native.Mathlib.Omega.{arith}
-use lib.Dec.{eqb, ltb}
-use lib.ListN.{length, get_or, set, length-set, get_or-eq_default}
+use lib.ListN.{length, get_or, set, length-set}
 use lib.Seq.{get_or-set_same, get_or-set_other}
-use borrow.Author.Tests.{eq-eqb, ne_eqb, lt-ltb, le-ltb}
 use Rattle.transport.specs.Sum.{sum}
 use Rattle.transport.proofs.Sums.{sum_most}
 use Rattle.flow_problem.specs.Network.{at}
@@ -73,30 +70,6 @@ module _ (f : ℕ → ℕ) (before : List ℕ) where
     ];
     above = λ k l. get_or-set_other now n k v 0 (λ z. omega arith) ∙ r.above k (omega arith);
   }
-
-pub lane_start : (s e id : ℕ) → s ≡ id → ◌≡◌ {A = ℕ} 4000 (cond (eqb s id || eqb e id) 4000 0)
-lane_start s e id h = sym (ap {B = ℕ} (λ (t : Bool). cond (t || eqb e id) 4000 0) (eq-eqb s id h))
-
-pub lane_end : (s e id : ℕ) → (s ≡ id → ⊥) → e ≡ id → ◌≡◌ {A = ℕ} 4000 (cond (eqb s id || eqb e id) 4000 0)
-lane_end s e id d h = sym (ap₂ {C = ℕ} (λ (t q : Bool). cond (t || q) 4000 0) (ne_eqb s id d) (eq-eqb e id h))
-
-pub lane_closed : (s e id : ℕ) → (s ≡ id → ⊥) → (e ≡ id → ⊥) → ◌≡◌ {A = ℕ} 0 (cond (eqb s id || eqb e id) 4000 0)
-lane_closed s e id d h = sym (ap₂ {C = ℕ} (λ (t q : Bool). cond (t || q) 4000 0) (ne_eqb s id d) (ne_eqb e id h))
-
-pub filled_all : {f : ℕ → ℕ} {before after : List ℕ} (n m : ℕ) → n ≡ m → Filled f n before after → Filled f m before after
-filled_all {f} {before} {after} n m e r = subst (λ (k : ℕ). Filled f k before after) e r
-
--- ---- entries
-
-module _ (t : List ℕ) (at less : ℕ) where
-  pub entry_below : at < less → ◌≡◌ {A = ℕ} 0 (cond (ltb at less) 0 (get_or t (at - less) 0))
-  entry_below h = sym (ap (λ (b : Bool). cond b 0 (get_or t (at - less) 0)) (lt-ltb at less h))
-
-  pub entry_here : less ≤ at → get_or t (at - less) 0 ≡ cond (ltb at less) 0 (get_or t (at - less) 0)
-  entry_here h = sym (ap (λ (b : Bool). cond b 0 (get_or t (at - less) 0)) (le-ltb at less h))
-
-  pub entry_past : less ≤ at → length t ≤ at - less → ◌≡◌ {A = ℕ} 0 (cond (ltb at less) 0 (get_or t (at - less) 0))
-  entry_past h l = sym (get_or-eq_default t 0 l) ∙ entry_here h
 
 -- the ceilings into a node are at most 256,000
 pub into_most : (ends ceilings : List ℕ) (id : ℕ) → length ends ≡ length ceilings → Moderate ceilings → into ends ceilings id (length ends) ≤ 256000

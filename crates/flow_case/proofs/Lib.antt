@@ -2,4 +2,4 @@ pub mod FillLoops
 pub mod CaseParts
 pub mod RowLoops
 pub mod NetworkSlices
-pub mod UnevenTest
+pub mod CellTests

@@ -1,6 +1,5 @@
 -- Loops that write cells, row after row; tests of every cell. Assumes nothing.
-use mathlib.Core.Path.{◌≡◌, refl, sym, ap, ap₂, ◌∙◌, subst}
-use mathlib.Core.Bool.{Bool, true, false, ◌||◌}
+use mathlib.Core.Path.{◌≡◌, refl, sym, ap, ap₂, ◌∙◌}
 use mathlib.Core.List.{List, ◌++◌}
 use Prim.Native.Nat.{ℕ, zero, suc, ◌+◌, ◌*◌, ◌≤◌, ◌<◌}
 use native.Mathlib.Nat.{zero-mul, suc-mul, mul-le-mul_right, mul-le-mul, not-suc-le-zero}
@@ -12,34 +11,7 @@ use lib.Seq.{get_or-set_same, get_or-set_other, get_or-take, get_or-drop, ext_ge
 use Rattle.flow_problem.specs.Network.{cells}
 use Rattle.flow_problem.specs.inner.Reduce.{rows_of}
 use Rattle.flow_case.specs.inner.Build.{Put, RowsAre, RowsAfter}
-use Rattle.flow_problem.specs.Answer.{any_below}
 use Rattle.flow_problem.proofs.NodesAndSources.{cells_length, cells_at}
-use Rattle.flow_problem.proofs.FlowListing.{or_both}
-
--- ---- tests
-
-pub none_yet : (p : ℕ → Bool) → any_below 0 p ≡ false
-unfolding any_below
-none_yet p = refl
-
-pub none_next : (p : ℕ → Bool) (i : ℕ) → any_below i p ≡ false → p i ≡ false → any_below (i + 1) p ≡ false
-unfolding any_below
-none_next p i e d = ap (λ (k : ℕ). any_below k p) (add-one i) ∙ or_both (any_below i p) (p i) e d
-
-pub one_there : (p : ℕ → Bool) (k i : ℕ) → i < k → p i ≡ true → true ≡ any_below k p
-unfolding any_below
-one_there p zero i h e = absurd (not-suc-le-zero h)
-one_there p (suc k) i h e = elim (ℕ_discrete i k) [
-  | yes q ↦ last (any_below k p) (p k) (sym (sym (ap p q) ∙ e))
-  | no q ↦ early (any_below k p) (p k) (one_there p k i (omega arith) e)
-]
-  where
-    last : (a b : Bool) → true ≡ b → true ≡ (a || b)
-    last true b e = refl
-    last false b e = e
-
-    early : (a b : Bool) → true ≡ a → true ≡ (a || b)
-    early a b e = ap (λ (x : Bool). x || b) e
 
 -- ---- cells
 
@@ -57,9 +29,6 @@ module _ {A : Type 0} (d : A) (f : ℕ → A) (at : ℕ) (before : List A) where
     below = λ k l. get_or-set_other now i k x d (λ w. omega arith) ∙ r.below k l;
     above = λ k l. get_or-set_other now i k x d (λ w. omega arith) ∙ r.above k (omega arith);
   }
-
-pub put_all : {A : Type 0} {d : A} {f : ℕ → A} {at : ℕ} {before after : List A} (n m : ℕ) → n ≡ m → Put d f at n before after → Put d f at m before after
-put_all {d = d} {f} {at} {before} {after} n m e r = subst (λ (k : ℕ). Put d f at k before after) e r
 
 pub put_ext : {A : Type 0} {d : A} {f h : ℕ → A} {at n : ℕ} {before after : List A} → ((j : ℕ) → f j ≡ h j) → Put d f at n before after → Put d h at n before after
 put_ext e r = record { long = r.long; here = λ j l. r.here j l ∙ e j; below = r.below; above = r.above }

@@ -48,11 +48,9 @@ pub fn ceilings_into(ends: &[u64], ceilings: &[u64], id: u64) -> u64
     requires moderate { Moderate ceilings.now }
     ensures { result ≡ into ends.now ceilings.now id (length ends.now) }
 {
-    let mut sum: u64 = 0;
-    let mut j = 0;
-    while j < ends.len() {
-        sum += counted(ends[j], id, ceilings[j]);
-        j += 1;
+    let mut sum = 0;
+    for (j, &end) in ends.iter().enumerate() {
+        sum += counted(end, id, ceilings[j]);
     }
     sum
 }
@@ -69,10 +67,8 @@ pub fn fill_demands(ceilings: &[u64], named: usize, demands: &mut [u64])
     requires { length ceilings.now ≤ length demands.old }
     ensures { Filled (want_in ceilings.now named) (length ceilings.now) demands.old demands.new }
 {
-    let mut j = 0;
-    while j < ceilings.len() {
-        demands[j] = at_named(j, named, 0, ceilings[j]);
-        j += 1;
+    for (j, &ceiling) in ceilings.iter().enumerate() {
+        demands[j] = at_named(j, named, 0, ceiling);
     }
 }
 
@@ -80,10 +76,7 @@ pub fn fill_demands(ceilings: &[u64], named: usize, demands: &mut [u64])
 pub fn lane(start: u64, end: u64, id: u64) -> u64
     ensures { result ≡ cond (eqb start id || eqb end id) 4000 0 }
 {
-    if start == id {
-        return 4000;
-    }
-    if end == id { 4000 } else { 0 }
+    if start == id || end == id { 4000 } else { 0 }
 }
 
 fn moved_entry(table: &[u64], at: usize, less: usize) -> u64
@@ -102,9 +95,7 @@ pub fn fill_table(table: &[u64], ceiling: usize, most: usize, entries: &mut [u64
     requires most_bound { (most ≤ 4000) × (ceiling ≤ 4000) }
     ensures { Filled (entry_in table.now ceiling most) (most + 1) entries.old entries.new }
 {
-    let mut y = 0;
-    while y < most + 1 {
+    for y in 0..most + 1 {
         entries[y] = moved_entry(table, y + ceiling, most);
-        y += 1;
     }
 }

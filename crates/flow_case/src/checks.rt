@@ -6,17 +6,13 @@ ghost use Rattle.flow_problem.specs.Answer.{any_below};
 
 // Is an amount above 4,000?
 pub fn over(haves: &[u64], takes: &[u64]) -> bool
-    requires { (length haves.now ≡ length takes.now) × AtMostAll 10000000000 takes.now }
+    requires { length haves.now ≡ length takes.now }
     ensures { result ≡ any_below (length haves.now) (over_at haves.now takes.now) }
 {
-    let mut i = 0;
-    while i < haves.len() {
-        if takes[i] + 4000 < haves[i] {
-            return true;
-        }
-        i += 1;
-    }
-    false
+    haves
+        .iter()
+        .zip(takes)
+        .any(|(have, take)| 4000 < have.saturating_sub(*take))
 }
 
 // Is an amount below 0?
@@ -24,28 +20,14 @@ pub fn under(haves: &[u64], takes: &[u64]) -> bool
     requires { length haves.now ≡ length takes.now }
     ensures { result ≡ any_below (length haves.now) (under_at haves.now takes.now) }
 {
-    let mut i = 0;
-    while i < haves.len() {
-        if haves[i] < takes[i] {
-            return true;
-        }
-        i += 1;
-    }
-    false
+    haves.iter().zip(takes).any(|(have, take)| have < take)
 }
 
 // Is an entry above 1,000,000,000?
 pub fn dear(table: &[u64]) -> bool
     ensures { result ≡ any_below (length table.now) (dear_at table.now) }
 {
-    let mut i = 0;
-    while i < table.len() {
-        if 1_000_000_000 < table[i] {
-            return true;
-        }
-        i += 1;
-    }
-    false
+    table.iter().any(|entry| 1_000_000_000 < *entry)
 }
 
 // The sum of at most 32 numbers.
@@ -53,13 +35,7 @@ pub fn sum_of(l: &[u64]) -> u64
     requires { (length l.now ≤ 32) × AtMostAll 10000000000 l.now }
     ensures { result ≡ sum (length l.now) (λ i. get_or l.now i 0) }
 {
-    let mut total: u64 = 0;
-    let mut i = 0;
-    while i < l.len() {
-        total += l[i];
-        i += 1;
-    }
-    total
+    l.iter().sum()
 }
 
 // Do the supplies not sum to 0, or is an amount below 0?

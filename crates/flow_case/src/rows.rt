@@ -1,7 +1,8 @@
 // The slices of the case, from the network's.
 ghost use Rattle.std.specs.Prelude.{◌≡◌, cond, ℕ, ◌+◌, ◌-◌, ◌*◌, ◌≤◌, ◌<◌, eqb, pos, length, get_or};
+ghost use Rattle.transport.specs.Curve.{written};
 ghost use Rattle.flow_problem.specs.inner.Reduce.{node_of, source_of};
-ghost use Rattle.flow_case.specs.inner.Build.{Moderate, Put, RowsAre, RowsAfter, lane_in, cost_in, have_in, stock_in, flow_in, AtMostAll, cell_of};
+ghost use Rattle.flow_case.specs.inner.Build.{Moderate, Put, RowsAre, RowsAfter, lane_in, cost_in, have_in, stock_in, flow_in, AtMostAll};
 
 use crate::build::{at_named, ceilings_into, lane, node_of, source_of};
 
@@ -12,12 +13,10 @@ pub fn fill_haves(ends: &[u64], ceilings: &[u64], gives: &[u64], haves: &mut [u6
     ensures { Put 0 (have_in ends.now ceilings.now gives.now) 0 (length gives.now)
         haves.old haves.new }
 {
-    let mut i: usize = 0;
-    while i < gives.len() {
+    for (i, &give) in gives.iter().enumerate() {
         let id = i as u64 + 1;
         let into = ceilings_into(ends, ceilings, id);
-        haves[i] = gives[i] + into;
-        i += 1;
+        haves[i] = give + into;
     }
 }
 
@@ -29,11 +28,9 @@ pub fn fill_supplies(haves: &[u64], takes: &[u64], w: usize, v: usize, supplies:
     ensures { Put 0 (stock_in haves.now takes.now w v) 0 (length haves.now) supplies.old
         supplies.new }
 {
-    let mut s: usize = 0;
-    while s < haves.len() {
+    for s in 0..haves.len() {
         let i = node_of(w, v, s);
         supplies[s] = haves[i] - takes[i];
-        s += 1;
     }
 }
 
@@ -42,10 +39,8 @@ fn lanes_into(starts: &[u64], ends: &[u64], id: u64, at: usize, to: &mut [u64; 2
     requires { (length starts.now ≡ length ends.now) × (at + length starts.now ≤ 2048) × (length to.old ≡ 2048) }
     ensures { Put 0 (lane_in starts.now ends.now id) at (length starts.now) to.old to.new }
 {
-    let mut j: usize = 0;
-    while j < starts.len() {
-        to[at + j] = lane(starts[j], ends[j], id);
-        j += 1;
+    for (j, &start) in starts.iter().enumerate() {
+        to[at + j] = lane(start, ends[j], id);
     }
 }
 
@@ -57,11 +52,9 @@ pub fn lane_rows(m: usize, w: usize, v: usize, starts: &[u64], ends: &[u64], to:
         (length to.new ≡ 2048) ×
         RowsAfter 0 m (length starts.now) to.old to.new }
 {
-    let mut at: usize = 0;
     for s in 0..m {
         let i = node_of(w, v, s);
-        lanes_into(starts, ends, i as u64 + 1, at, to);
-        at = at + starts.len();
+        lanes_into(starts, ends, i as u64 + 1, s * starts.len(), to);
     }
 }
 
@@ -76,14 +69,13 @@ fn costs_into(starts: &[u64], costs: &[i64], id: u64, at: usize, to: &mut [i64; 
     requires { (length starts.now ≡ length costs.now) × (at + length starts.now ≤ 2048) × (length to.old ≡ 2048) }
     ensures { Put (pos 0) (cost_in starts.now costs.now id) at (length starts.now) to.old to.new }
 {
-    let mut j: usize = 0;
-    while j < starts.len() {
-        to[at + j] = rate(starts[j], id, costs[j]);
-        j += 1;
+    for (j, &start) in starts.iter().enumerate() {
+        to[at + j] = rate(start, id, costs[j]);
     }
 }
 
 // The unit costs, row after row; later cells are left as they are.
+// Stays: beside `lane_rows`, since a function of both would take the cell's closure and its law along, longer than this loop.
 pub fn cost_rows(m: usize, w: usize, v: usize, starts: &[u64], costs: &[i64], to: &mut [i64; 2048])
     requires m_bound { (m ≤ 32) × (length starts.now ≤ 64) × (length starts.now ≡ length costs.now) × (length to.old ≡ 2048) }
     requires by_index { (s : ℕ) → s < m → node_of w v s < m }
@@ -91,11 +83,9 @@ pub fn cost_rows(m: usize, w: usize, v: usize, starts: &[u64], costs: &[i64], to
         (length to.new ≡ 2048) ×
         RowsAfter (pos 0) m (length starts.now) to.old to.new }
 {
-    let mut at: usize = 0;
     for s in 0..m {
         let i = node_of(w, v, s);
-        costs_into(starts, costs, i as u64 + 1, at, to);
-        at = at + starts.len();
+        costs_into(starts, costs, i as u64 + 1, s * starts.len(), to);
     }
 }
 
@@ -114,34 +104,17 @@ pub fn fill_flow(
     ensures { Put 0 (flow_in plan.now starts.now w v named carried) 0 (length starts.now)
         flow.old flow.new }
 {
-    let mut j: usize = 0;
-    while j < starts.len() {
-        let s = source_of(w, v, (starts[j] - 1) as usize);
+    for (j, &start) in starts.iter().enumerate() {
+        let s = source_of(w, v, (start - 1) as usize);
         let at = s * starts.len() + j;
         flow[j] = at_named(j, named, carried, plan[at]);
-        j += 1;
     }
 }
 
-// Numbers copied to the front of a lent slice.
-pub fn copy_numbers(from: &[u64], to: &mut [u64])
+// The numbers copied to the front of a lent slice.
+pub fn copy_front<T: Copy>(from: &[T], to: &mut [T])
     requires { length from.now ≤ length to.old }
-    ensures { Put 0 (cell_of 0 from.now) 0 (length from.now) to.old to.new }
+    ensures { to.new ≡ written from.now to.old }
 {
-    let mut k: usize = 0;
-    while k < from.len() {
-        to[k] = from[k];
-        k += 1;
-    }
-}
-
-pub fn copy_costs(from: &[i64], to: &mut [i64])
-    requires { length from.now ≤ length to.old }
-    ensures { Put (pos 0) (cell_of (pos 0) from.now) 0 (length from.now) to.old to.new }
-{
-    let mut k: usize = 0;
-    while k < from.len() {
-        to[k] = from[k];
-        k += 1;
-    }
+    to[..from.len()].copy_from_slice(from);
 }

@@ -4,7 +4,7 @@
 
 ghost use Rattle.std.specs.Prelude.{◌≡◌, length};
 
-use file_causes::refusal::explain_file;
+use file_causes::sentence::explain_file;
 use file_io::about::told_version;
 use file_io::arguments::{argument, argument_count, argument_room, is_help};
 use file_io::file::{file_room, first, read_file};
@@ -166,6 +166,7 @@ pub fn answer_paths(
 }
 
 // Answers the files and the arc, unless one is the word for help.
+// Stays: `bounds` has the same three lines. One function for both takes the usage text and the answer as closures and requires that each can be called: longer.
 fn answer_or_help(rt: &HostRuntime, network: &[u8], arc: &[u8], table: &[u8]) -> io::Result<()> {
     if is_help(network) || is_help(arc) || is_help(table) {
         return usage(&rt.stderr());
@@ -174,6 +175,7 @@ fn answer_or_help(rt: &HostRuntime, network: &[u8], arc: &[u8], table: &[u8]) ->
 }
 
 // Answers the files and the arc that the three arguments name.
+// Stays: as above. The rooms are lent, so one function for both takes what is done with three arguments as a closure.
 fn with_arguments(rt: &HostRuntime) -> io::Result<()> {
     let mut network = argument_room();
     let mut arc = argument_room();

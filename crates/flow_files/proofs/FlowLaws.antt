@@ -13,8 +13,6 @@ use lib.ListN.{length, get_or, take, drop, length-map, get_or-map, get_or-append
 use lib.Seq.{length-sets, sets-eq, take_at, take_all, length-take-le}
 use Rattle.csv_print.specs.Text.{refusal_text}
 use Rattle.csv_answers.specs.inner.FlowFits.{FlowFits}
-use Rattle.csv_case.specs.declared.case.Entries.{Entries}
-use Rattle.csv_case.specs.declared.case.Entries.TheVariants as entries
 use Rattle.plan_files.specs.declared.planned.Printed.{Printed}
 use Rattle.plan_files.specs.Printed.{Told}
 use Rattle.csv_case.specs.Entries.{entries_of, EntriesStored}
@@ -27,11 +25,14 @@ use Rattle.flow_problem.specs.Promise.{Slices, room_of, Given, Answered}
 use Rattle.flow_problem.proofs.FlowListing.{none_of}
 use Rattle.flow_problem.proofs.Answers.{answer-29, answer-30}
 use Rattle.flow_problem.proofs.SoundNetwork.{proper, four, count_is, few_arcs}
-use Rattle.flow_network.specs.declared.Answer as flow-answer
-use Rattle.flow_network.specs.declared.Answer.TheVariants as answers
+use Rattle.std.proofs.Common.{Result, Ok, Err}
+use Rattle.refusal.specs.Number.{number_of}
+use Rattle.refusal.specs.declared.Refusal.{Refusal}
+use Rattle.refusal.specs.declared.Cause.{Cause}
+use Rattle.dimacs.specs.declared.store.Reading.{Reading}
+use Rattle.dimacs.specs.inner.Stored.{ReadAs}
+use Rattle.flow_network.specs.declared.Carried.{Carried}
 use Rattle.flow_network.specs.Answer.{outcome, count_in, count_of, arcs_said}
-use Rattle.flow_files.specs.declared.Formed.{Formed}
-use Rattle.flow_files.specs.declared.Formed.TheVariants as formeds
 use Rattle.flow_files.specs.Printing.{place_of, room, network_outcome, table_then, table_outcome, form_then, files_outcome, flow_bytes, FlowPrinted}
 use Rattle.flow_files.specs.Printing.{RefusalPrinted, OutcomePrinted, NetworkPrinted, TablePrinted, FilesPrinted}
 use Rattle.flow_files.specs.inner.ArcCells.{FormedIs, ArcsCut, cut_text}
@@ -192,9 +193,9 @@ abbrev CountIs : List ℕ → ℕ → Type 0
 CountIs s count = (f : File) → form_of s ≡ whole f → count ≡ length f.arcs
 
 -- the count that is told beside a flow is the file's
-pub count_known : (s : List ℕ) {a : flow-answer.Answer} {total : ℤ} {count : ℕ} → count_in a ≡ count_of (outcome a) (arcs_said (form_of s)) → a ≡ answers.Carried total count → CountIs s count
-count_known s {a} {total} {count} h e f form =
-    sym (ap count_in e) ∙ h ∙ ap (λ (x : flow-answer.Answer). count_of (outcome x) (arcs_said (form_of s))) e ∙ ap arcs_said form
+pub count_known : (s : List ℕ) {a : Result Carried Refusal} {k : Carried} → count_in a ≡ count_of (outcome a) (arcs_said (form_of s)) → a ≡ Ok k → CountIs s k.arcs
+count_known s {a} {k} h e f form =
+    sym (ap count_in e) ∙ h ∙ ap (λ (x : Result Carried Refusal). count_of (outcome x) (arcs_said (form_of s))) e ∙ ap arcs_said form
 
 -- what is answered of a network file is printed
 module _ (s : List ℕ) (place : ℕ) (table : List ℕ) (before after : Slices)
@@ -306,7 +307,7 @@ first_entries s place table {out} {out'} {answer} p = elim (dec_lt 4002 (length 
 -- ---- the files
 
 -- the stored entries, cut to what there are
-pub cut_entries : (t cells cells' : List ℕ) (count kept : ℕ) {answer : Entries} → length cells ≡ 4002 → EntriesStored t cells cells' answer → answer ≡ entries.Read count → kept ≡ min count 4002
+pub cut_entries : (t cells cells' : List ℕ) (count kept : ℕ) {answer : Result ℕ Refusal} → length cells ≡ 4002 → EntriesStored t cells cells' answer → answer ≡ Ok count → kept ≡ min count 4002
     → take kept cells' ≡ take 4002 (entries_of t)
 cut_entries t cells cells' count kept long stored e k =
     let l = take 4002 (entries_of t) in
@@ -319,23 +320,25 @@ cut_entries t cells cells' count kept long stored e k =
       | no h ↦ ap length (take_all 4002 m (omega arith)) ∙ omega arith
     ]
 
-pub entries_kept : (t cells cells' : List ℕ) (count kept : ℕ) {answer : Entries} → length cells ≡ 4002 → EntriesStored t cells cells' answer → answer ≡ entries.Read count → kept ≡ min count 4002
+pub entries_kept : (t cells cells' : List ℕ) (count kept : ℕ) {answer : Result ℕ Refusal} → length cells ≡ 4002 → EntriesStored t cells cells' answer → answer ≡ Ok count → kept ≡ min count 4002
     → kept ≤ length cells'
 entries_kept t cells cells' count kept long stored e k = omega (arith, ap length (stored.stored count e), length-sets cells 0 (take 4002 (entries_of t)))
 
-module _ (s arc t : List ℕ) {answer : Entries} {cells cells' : List ℕ} (stored : EntriesStored t cells cells' answer) {out out' : List ℕ} {r : Printed} where
-  pub table_refused : {number place : ℕ} → answer ≡ entries.Refused number place → RefusalPrinted (form_then (form_of s) (refused number place)) out out' r → TablePrinted s arc t out out' r
+module _ (s arc t : List ℕ) {answer : Result ℕ Refusal} {cells cells' : List ℕ} (stored : EntriesStored t cells cells' answer) {out out' : List ℕ} {r : Printed} where
+  pub table_refused : {why : Refusal} → answer ≡ Err why → {number : ℕ} → number ≡ number_of why.cause →
+      RefusalPrinted (form_then (form_of s) (refused number why.place)) out out' r → TablePrinted s arc t out out' r
   unfolding table_outcome
-  table_refused {number} {place} e told =
-      let k : table_outcome s arc t ≡ refused number place = ap (λ (x : Entries). table_then x (network_outcome s (place_of arc) (entries_of t))) (sym stored.answered ∙ e) in
+  table_refused {why} e {number} n told =
+      let place = why.place in
+      let k : table_outcome s arc t ≡ refused number place = ap (λ (x : Result ℕ Refusal). table_then x (network_outcome s (place_of arc) (entries_of t))) (sym stored.answered ∙ e) ∙ ap (λ (x : ℕ). refused x why.place) (sym n) in
       subst (λ (o : Outcome). OutcomePrinted s (place_of arc) (entries_of t) (form_then (form_of s) o) out out' r) (sym k)
       (record { refusal = told; flow = λ f total w h. absurd (never_carried (form_of s) number place total h) })
 
-  pub table_read : (count kept place : ℕ) → length cells ≡ 4002 → answer ≡ entries.Read count → kept ≡ min count 4002 → place ≡ place_of arc
+  pub table_read : (count kept place : ℕ) → length cells ≡ 4002 → answer ≡ Ok count → kept ≡ min count 4002 → place ≡ place_of arc
       → NetworkPrinted s place (take kept cells') out out' r → TablePrinted s arc t out out' r
   unfolding table_outcome
   table_read count kept place long e k named p =
-      let a : table_outcome s arc t ≡ network_outcome s (place_of arc) (entries_of t) = ap (λ (x : Entries). table_then x (network_outcome s (place_of arc) (entries_of t))) (sym stored.answered ∙ e) in
+      let a : table_outcome s arc t ≡ network_outcome s (place_of arc) (entries_of t) = ap (λ (x : Result ℕ Refusal). table_then x (network_outcome s (place_of arc) (entries_of t))) (sym stored.answered ∙ e) in
       let q = first_entries s (place_of arc) (entries_of t) (rw (cut_entries t cells cells' count kept long stored e k, named) at p) in
       subst (λ (o : Outcome). OutcomePrinted s (place_of arc) (entries_of t) o out out' r) (sym (ap (form_then (form_of s)) a ∙ form_first s (place_of arc) (entries_of t))) q
 
@@ -350,13 +353,19 @@ module _ (s arc t : List ℕ) {out out' : List ℕ} {r : Printed} where
 
 -- ---- the form
 
-module _ (s : List ℕ) {answer : Formed} (formed : FormedIs s answer) (number place : ℕ) {out out' : List ℕ} {r : Printed} where
-  pub not_formed : {line : ℕ} → answer ≡ formeds.Refused line → Told 29 line 0 0 (refusal_text 29 line) out out' r → RefusalPrinted (form_then (form_of s) (refused number place)) out out' r
-  not_formed {line} e told =
-      let f : form_of s ≡ broken line = subst (FormedIs s) e formed in
-      same_refusal _ (ap (λ (g : Form). form_then g (refused number place)) f) told
+pub formed_is : (s : List ℕ) (answer : Result Reading Refusal) (starts ends ceilings : List ℕ) (costs : List ℤ) (gives takes marks : List ℕ) →
+    ReadAs s answer starts ends ceilings costs gives takes marks → FormedIs s answer
+formed_is s (Err why) starts ends ceilings costs gives takes marks h = (h.0, h.2)
+formed_is s (Ok reading) starts ends ceilings costs gives takes marks h = (h.0, h.1)
 
-  pub well_formed : answer ≡ formeds.Whole → Told number place 0 0 (refusal_text number place) out out' r → RefusalPrinted (form_then (form_of s) (refused number place)) out out' r
+module _ (s : List ℕ) {answer : Result Reading Refusal} (formed : FormedIs s answer) (number place : ℕ) {out out' : List ℕ} {r : Printed} where
+  pub not_formed : {why : Refusal} → answer ≡ Err why → {n : ℕ} → n ≡ number_of why.cause → Told n why.place 0 0 (refusal_text n why.place) out out' r →
+      RefusalPrinted (form_then (form_of s) (refused number place)) out out' r
+  not_formed {why} e {n} k told =
+      let f = subst (FormedIs s) e formed in
+      same_refusal _ (ap (λ (g : Form). form_then g (refused number place)) f.0 ∙ ap (λ (x : ℕ). refused x why.place) (sym (k ∙ ap (λ (c : Cause). number_of c) f.1))) told
+
+  pub well_formed : {reading : Reading} → answer ≡ Ok reading → Told number place 0 0 (refusal_text number place) out out' r → RefusalPrinted (form_then (form_of s) (refused number place)) out out' r
   well_formed e told =
       let f = subst (FormedIs s) e formed in
       same_refusal _ (ap (λ (g : Form). form_then g (refused number place)) f.1) told

@@ -1,13 +1,11 @@
 -- What is printed of a network file, the text that names one of its arcs, and the file of that arc's table: the outcome, and the bytes. Assumes nothing.
-use Rattle.std.specs.Prelude.{◌≡◌, cond, List, map, ℕ, ◌-◌, ltb, ℤ, length}
+use Rattle.std.specs.Prelude.{◌≡◌, Option, None, Some, cond, List, map, ℕ, ◌-◌, ltb, ℤ, length, Result, Ok, Err}
+use Rattle.refusal.specs.Number.{number_of}
+use Rattle.refusal.specs.declared.Refusal.{Refusal}
 use Rattle.csv_print.specs.Text.{refusal_text}
 use Rattle.csv_answers.specs.Flow.{flow_text}
-use Rattle.numbers.specs.declared.Short.{Short}
-use Rattle.numbers.specs.declared.Short.TheVariants.{Number, Unclear}
 use Rattle.numbers.specs.Short.{short_of}
 use Rattle.csv_form.specs.declared.Kind.TheVariants.{Production}
-use Rattle.csv_case.specs.declared.case.Entries.{Entries}
-use Rattle.csv_case.specs.declared.case.Entries.TheVariants as entries
 use Rattle.plan_files.specs.declared.planned.Printed.{Printed}
 use Rattle.csv_table.specs.Files.{table_of}
 use Rattle.plan_files.specs.Printed.{Told}
@@ -18,9 +16,9 @@ use Rattle.flow_problem.specs.Network.{listed}
 use Rattle.flow_problem.specs.Answer.{CheapestFlow, arcs_of, network_of, Room, Outcome, carried, refused, outcome_of}
 
 -- the place of the arc, from 1, that a text of one to four digits names; 0, which is none, of any other text
-abbrev pub place_for : Short → ℕ
-place_for (Number place) = place
-place_for Unclear = 0
+abbrev pub place_for : Option ℕ → ℕ
+place_for (Some place) = place
+place_for None = 0
 
 unfoldable pub place_of : List ℕ → ℕ
 place_of arc = place_for (short_of arc)
@@ -33,9 +31,9 @@ unfoldable pub network_outcome : List ℕ → ℕ → List ℕ → Outcome
 network_outcome s place table = outcome_of s place table room
 
 -- refusals 20 to 22 of the table file, then the rest
-abbrev pub table_then : Entries → Outcome → Outcome
-table_then (entries.Refused number place) o = refused number place
-table_then (entries.Read count) o = o
+abbrev pub table_then : Result ℕ Refusal → Outcome → Outcome
+table_then (Err r) o = refused (number_of r.cause) r.place
+table_then (Ok count) o = o
 
 unfoldable pub table_outcome : List ℕ → List ℕ → List ℕ → Outcome
 table_outcome s arc t = table_then (entries_for (table_of Production t)) (network_outcome s (place_of arc) (entries_of t))

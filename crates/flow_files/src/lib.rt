@@ -9,33 +9,26 @@ ghost use Rattle.flow_files.specs.Printing.{place_of, form_then, RefusalPrinted,
 ghost use Rattle.flow_files.specs.inner.ArcCells.{FormedIs, ArcsCut, cut_text};
 
 use csv_answers::flow::put_flow;
-use csv_case::case::{Entries, read_entries};
+use csv_case::case::read_entries;
 use csv_case::cells::entry_cells;
-use csv_table::store::smaller;
 use dimacs::store::{Reading, read_file};
-use flow_network::{Answer, cheapest_flow};
-use numbers::{Short, read_short};
+use flow_network::cheapest_flow;
+use numbers::read_short;
 use plan_files::planned::{Printed, print_refusal};
+use refusal::Refusal;
 
 // The place of the arc that a text of one to four digits names; 0, which is none, of any other text.
 fn read_place(text: &[u8]) -> usize
     ensures { result ≡ place_of text.now }
 {
-    let output = read_short(text);
-    match output {
-        Short::Number(place) => place as usize,
-        Short::Unclear => 0,
+    match read_short(text) {
+        Some(place) => place as usize,
+        None => 0,
     }
 }
 
-// A network file is of the form, or one of its lines is not.
-#[derive(Drop)]
-pub enum Formed {
-    Whole,
-    Refused { line: usize },
-}
-
-fn check_form(network: &[u8]) -> Formed
+// Refuses a network file of which a line is not of the form.
+fn check_form(network: &[u8]) -> Result<Reading, Refusal>
     ensures { FormedIs network.now result }
 {
     let mut starts = [0u64; 64];
@@ -45,7 +38,7 @@ fn check_form(network: &[u8]) -> Formed
     let mut gives = [0u64; 32];
     let mut takes = [0u64; 32];
     let mut marks = [0u64; 32];
-    let reading = read_file(
+    read_file(
         network,
         &mut starts,
         &mut ends,
@@ -54,16 +47,7 @@ fn check_form(network: &[u8]) -> Formed
         &mut gives,
         &mut takes,
         &mut marks,
-    );
-    match reading {
-        Reading::Refused { line } => Formed::Refused { line },
-        Reading::Whole {
-            nodes: _,
-            arcs: _,
-            odd: _,
-            bad: _,
-        } => Formed::Whole,
-    }
+    )
 }
 
 // The table file is refused. Prints that, unless the network file is not of the form, which comes first.
@@ -72,8 +56,8 @@ fn print_refused(network: &[u8], number: u64, place: u64, out: &mut [u8]) -> Pri
 {
     let formed = check_form(network);
     match formed {
-        Formed::Refused { line } => print_refusal(out, 29, line as u64, 0, 0),
-        Formed::Whole => print_refusal(out, number, place, 0, 0),
+        Err(wrong) => print_refusal(out, wrong.cause.number(), wrong.place, 0, 0),
+        Ok(_) => print_refusal(out, number, place, 0, 0),
     }
 }
 
@@ -136,11 +120,11 @@ fn print_network(network: &[u8], place: usize, table: &[u64], out: &mut [u8]) ->
         &mut costs,
     );
     match answer {
-        Answer::Refused { number, place: at } => print_refusal(out, number, at, 0, 0),
-        Answer::Carried { total, arcs } => print_flow(
+        Err(r) => print_refusal(out, r.cause.number(), r.place, 0, 0),
+        Ok(k) => print_flow(
             out,
-            total,
-            arcs as usize,
+            k.total,
+            k.arcs as usize,
             place,
             table,
             &flow,
@@ -158,9 +142,9 @@ fn print_with_table(network: &[u8], arc: &[u8], table: &[u8], out: &mut [u8]) ->
     let mut entries = entry_cells();
     let answer = read_entries(table, &mut entries);
     match answer {
-        Entries::Refused { number, place } => print_refused(network, number, place as u64, out),
-        Entries::Read { count: read } => {
-            let kept = smaller(read, 4002);
+        Err(r) => print_refused(network, r.cause.number(), r.place, out),
+        Ok(read) => {
+            let kept = read.min(4002);
             let place = read_place(arc);
             print_network(network, place, &entries[..kept], out)
         }

@@ -30,10 +30,8 @@ use Rattle.flow_case.specs.inner.Build.{Filled, Put, RowsAre, want_in, lane_in, 
 use Rattle.flow_problem.specs.Answer.{any_below}
 use Rattle.flow_case.specs.inner.Slices.{net_of}
 use Rattle.flow_network.specs.inner.Ready.{Arcs, Amounts, Named, CarriedAs, CarriedIs}
+use Rattle.std.specs.Prelude.{Option, Some, None}
 use Rattle.flow_network.specs.declared.carry.Found.{Found}
-use Rattle.flow_network.specs.declared.carry.Found.TheVariants as founds
-use Rattle.flow_network.specs.declared.carry.Carried.{Carried}
-use Rattle.flow_network.specs.declared.carry.Carried.TheVariants as carrieds
 use Rattle.flow_network.specs.inner.Found.{FoundAs, FoundIs}
 use Rattle.flow_problem.proofs.NodesAndSources.{cells_length, node_below, source_below}
 use Rattle.flow_problem.proofs.FlowListing.{or_both, below_none}
@@ -261,7 +259,7 @@ module _ (gives takes haves starts ends ceilings : List ℕ) (costs : List ℤ) 
     carried_is = ap₂ (λ (a b : ℕ). a - b) (ap₂ (λ (a b : ℕ). a + b) (sym h.own_split) (sym top_is)) (sym most_is)
 
     pub flow_told : (old new : List ℕ) → length starts ≤ length old → Put 0 (flow_in after starts w v named (s + top - most)) 0 (length starts) old new
-        → Bounded t → CarriedAs g named table old new (carrieds.Flow t)
+        → Bounded t → CarriedAs g named table old new (Some t)
     unfolding flow_of
     flow_told old new q p bd = (
       flow_of g named plan,
@@ -275,7 +273,7 @@ module _ (gives takes haves starts ends ceilings : List ℕ) (costs : List ℤ) 
       bd,
     )
 
-  pub nothing_told : (x y : List ℕ) → FoundIs (case_of g named table) x y founds.Nothing → NoFlow g
+  pub nothing_told : (x y : List ℕ) → FoundIs (case_of g named table) x y None → NoFlow g
   nothing_told x y h =
       no_flow g named table so
       (no_plan_there (case_of g named table) (case_formed g named table ok so M.few (omega (arith, count, A.few)) small_stock N.small)
@@ -283,21 +281,22 @@ module _ (gives takes haves starts ends ceilings : List ℕ) (costs : List ℤ) 
       h.found.1 h.found.2 h.found.3 h.found.4)
 
 -- the planner's answer to the slices is that to the case
-pub found_split : {c d : Case} {x y : List ℕ} {r : Found} {s : ℕ} {t : ℤ} → c ≡ d → FoundIs c x y r → r ≡ founds.Split s t → Cheapest d (plan_for d s) s t × (y ≡ written (plan_for d s) x) × Bounded t
-found_split {c} {d} {x} {y} {r} {s} {t} e h q =
-    subst (λ (c : Case). FoundAs c x y (founds.Split s t)) e (subst (FoundAs c x y) q h.found)
+pub found_split : {c d : Case} {x y : List ℕ} {r : Option Found} {f : Found} → c ≡ d → FoundIs c x y r → r ≡ Some f
+    → Cheapest d (plan_for d f.split) f.split f.total × (y ≡ written (plan_for d f.split) x) × Bounded f.total
+found_split {c} {d} {x} {y} {r} {f} e h q =
+    subst (λ (c : Case). FoundAs c x y (Some f)) e (subst (FoundAs c x y) q h.found)
 
-pub found_nothing : {c d : Case} {x y : List ℕ} {r : Found} → c ≡ d → FoundIs c x y r → r ≡ founds.Nothing → FoundIs d x y founds.Nothing
-found_nothing {c} {d} {x} {y} {r} e h q = record { found = subst (λ (c : Case). FoundAs c x y founds.Nothing) e (subst (FoundAs c x y) q h.found) }
+pub found_nothing : {c d : Case} {x y : List ℕ} {r : Option Found} → c ≡ d → FoundIs c x y r → r ≡ None → FoundIs d x y None
+found_nothing {c} {d} {x} {y} {r} e h q = record { found = subst (λ (c : Case). FoundAs c x y None) e (subst (FoundAs c x y) q h.found) }
 
 -- the total as the machine hands it on
-pub flow_total : (g : Network) (named : ℕ) (table old new : List ℕ) (t : ℤ) → Bounded t → CarriedAs g named table old new (carrieds.Flow t)
-    → CarriedAs g named table old new (carrieds.Flow (to_z w64 (of_z w64 t)))
-flow_total g named table old new t b h = subst (λ (z : ℤ). CarriedAs g named table old new (carrieds.Flow z)) (sym (read_back t (bounded_fits t b))) h
+pub flow_total : (g : Network) (named : ℕ) (table old new : List ℕ) (t : ℤ) → Bounded t → CarriedAs g named table old new (Some t)
+    → CarriedAs g named table old new (Some (to_z w64 (of_z w64 t)))
+flow_total g named table old new t b h = subst (λ (z : ℤ). CarriedAs g named table old new (Some z)) (sym (read_back t (bounded_fits t b))) h
 
-pub carried_flow : {g : Network} {named : ℕ} {table x y : List ℕ} {r : Carried} {t : ℤ} → CarriedIs g named table x y r → r ≡ carrieds.Flow t
-    → CarriedAs g named table x y (carrieds.Flow (to_z w64 (of_z w64 t)))
+pub carried_flow : {g : Network} {named : ℕ} {table x y : List ℕ} {r : Option ℤ} {t : ℤ} → CarriedIs g named table x y r → r ≡ Some t
+    → CarriedAs g named table x y (Some (to_z w64 (of_z w64 t)))
 carried_flow {g} {named} {table} {x} {y} {r} {t} h q = let k = subst (CarriedAs g named table x y) q h.told in flow_total g named table x y t k.3 k
 
-pub carried_nothing : {g : Network} {named : ℕ} {table x y : List ℕ} {r : Carried} → CarriedIs g named table x y r → r ≡ carrieds.Nothing → NoFlow g × (y ≡ x)
+pub carried_nothing : {g : Network} {named : ℕ} {table x y : List ℕ} {r : Option ℤ} → CarriedIs g named table x y r → r ≡ None → NoFlow g × (y ≡ x)
 carried_nothing {g} {named} {table} {x} {y} {r} h q = subst (CarriedAs g named table x y) q h.told

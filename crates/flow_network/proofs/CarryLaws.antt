@@ -1,5 +1,5 @@
 -- The planner's answer to a network's case. Assumes nothing.
-use mathlib.Core.Path.{◌≡◌, sym, ap, ◌∙◌, subst}
+use mathlib.Core.Path.{◌≡◌, refl, sym, ap, ◌∙◌, subst}
 use mathlib.Core.Logic.{◌⊎◌, inl, inr}
 use mathlib.Core.Option.{none, some}
 use mathlib.Core.List.{List}
@@ -11,14 +11,18 @@ use lib.Signed.{mag}
 use mir.Syntax.{w64}
 use mir.Val.{to_z, of_z}
 use borrow.Author.Tests.{le-ltb}
-use Rattle.problem.specs.Case.{Case, entry, least_split, steps, lent}
+use Rattle.lent_case.specs.Lent.{case_of}
+use Rattle.lent_case.specs.declared.Case.{Case as Lent}
+use Rattle.problem.specs.Case.{Case, entry, least_split, steps}
 use Rattle.problem.specs.Outcome.{Outcome, refused, refusal_of, outcome_of, form_refusal, test7, test8, test27, test9, test11}
 use Rattle.problem.specs.Promise.{NoPlan, Bounded, Unbalanced, BalanceRule}
 use Rattle.planner.specs.Answer.{Answered, Slices, outcome}
-use Rattle.planner.specs.declared.Answer.{Answer}
-use Rattle.planner.specs.declared.Answer.TheVariants.{Planned, Refused}
+use Rattle.refusal.specs.Number.{number_of}
+use Rattle.refusal.specs.declared.Refusal.{Refusal}
+use Rattle.planner.specs.declared.Planned.{Planned}
 use Rattle.flow_network.specs.declared.carry.Found.{Found}
-use Rattle.flow_network.specs.declared.carry.Found.TheVariants as founds
+use Rattle.std.specs.Prelude.{Option, Some, None, Result, Ok, Err}
+use Rattle.std.specs.Result.{result_ok}
 use Rattle.flow_network.specs.inner.Found.{FoundAs}
 use Rattle.problem.proofs.FirstFailing.{first_none, above_none, outside_none}
 use Rattle.problem.proofs.TestsPassed.{Formed, second_decides, first_decides, refuse_if_cases}
@@ -73,30 +77,38 @@ pub bounded_fits : (t : ℤ) → Bounded t → mag t < 2 ^ 63
 bounded_fits (pos n) h = omega (arith, leb→le n 129000000000 h.high.le)
 bounded_fits (negsuc n) h = omega (arith, leb→le n 127999999999 h.low.le)
 
-module _ (m n run : ℕ) (rates : List ℤ) (supplies demands ceilings entries : List ℕ) (pc sc fc : ℕ) (pe : pc ≡ 2048) (se : sc ≡ 4001) (fe : fc ≡ 4001) (r : Answer) (before after : Slices)
-    (a : Answered (lent m n run 0 rates supplies demands ceilings entries pc sc fc) (outcome r) before after) where
-  here : (z : Found) → FoundAs (lent m n run 0 rates supplies demands ceilings entries pc sc fc) before.plan after.plan z
-      → FoundAs (lent m n run 0 rates supplies demands ceilings entries 2048 4001 4001) before.plan after.plan z
+pub ok_of : (r : Result Planned Refusal) (p : Planned) → Some p ≡ result_ok r → r ≡ Ok p
+ok_of (Ok x) p h = cc
+ok_of (Err e) p h = absurd (let q : ◌≡◌ {A = ℕ} 0 1 = cc in omega arith)
+
+pub err_of : (r : Result Planned Refusal) → None ≡ result_ok r → (e : Refusal) × (r ≡ Err e)
+err_of (Ok x) h = absurd (let q : ◌≡◌ {A = ℕ} 0 1 = cc in omega arith)
+err_of (Err e) h = (e, refl)
+
+module _ (q : Lent) (pc sc fc : ℕ) (pe : pc ≡ 2048) (se : sc ≡ 4001) (fe : fc ≡ 4001) (r : Result Planned Refusal) (before after : Slices)
+    (a : Answered (case_of q pc sc fc) (outcome r) before after) where
+  here : (z : Option Found) → FoundAs (case_of q pc sc fc) before.plan after.plan z
+      → FoundAs (case_of q 2048 4001 4001) before.plan after.plan z
   here z h =
-      subst (λ (k : ℕ). FoundAs (lent m n run 0 rates supplies demands ceilings entries k 4001 4001) before.plan after.plan z) pe
-      (subst (λ (k : ℕ). FoundAs (lent m n run 0 rates supplies demands ceilings entries pc k 4001) before.plan after.plan z) se
-      (subst (λ (k : ℕ). FoundAs (lent m n run 0 rates supplies demands ceilings entries pc sc k) before.plan after.plan z) fe h))
+      subst (λ (k : ℕ). FoundAs (case_of q k 4001 4001) before.plan after.plan z) pe
+      (subst (λ (k : ℕ). FoundAs (case_of q pc k 4001) before.plan after.plan z) se
+      (subst (λ (k : ℕ). FoundAs (case_of q pc sc k) before.plan after.plan z) fe h))
 
   -- the total as the machine hands it on
-  pub found_some : (s : ℕ) (t f : ℤ) (k : ℕ) → r ≡ Planned s t f k
-      → FoundAs (lent m n run 0 rates supplies demands ceilings entries 2048 4001 4001) before.plan after.plan (founds.Split s (to_z w64 (of_z w64 t)))
-  found_some s t f k e =
-      let w = a.written s t f k (ap outcome e) in
-      subst (λ (z : ℤ). FoundAs (lent m n run 0 rates supplies demands ceilings entries 2048 4001 4001) before.plan after.plan (founds.Split s z))
-      (sym (read_back t (bounded_fits t w.bounded)))
-      (here (founds.Split s t) (w.cheapest, w.cells, w.bounded))
+  pub found_some : (p : Planned) → r ≡ Ok p
+      → FoundAs (case_of q 2048 4001 4001) before.plan after.plan (Some (record { split = p.split; total = to_z w64 (of_z w64 p.total) }))
+  found_some p e =
+      let w = a.written p.split p.total p.freight p.stops (ap outcome e) in
+      subst (λ (z : ℤ). FoundAs (case_of q 2048 4001 4001) before.plan after.plan (Some (record { split = p.split; total = z })))
+      (sym (read_back p.total (bounded_fits p.total w.bounded)))
+      (here (Some (record { split = p.split; total = p.total })) (w.cheapest, w.cells, w.bounded))
 
-  pub found_none : (k p : ℕ) → r ≡ Refused k p → FoundAs (lent m n run 0 rates supplies demands ceilings entries 2048 4001 4001) before.plan after.plan founds.Nothing
-  found_none k p e =
-      here founds.Nothing (
-        ap (λ (s : Slices). s.plan) (a.kept k p (ap outcome e)),
-        k,
-        p,
+  pub found_none : (k : Refusal) → r ≡ Err k → FoundAs (case_of q 2048 4001 4001) before.plan after.plan None
+  found_none k e =
+      here None (
+        ap (λ (s : Slices). s.plan) (a.kept (number_of k.cause) k.place (ap outcome e)),
+        number_of k.cause,
+        k.place,
         sym a.answer ∙ ap outcome e,
-        subst (BalanceRule (lent m n run 0 rates supplies demands ceilings entries pc sc fc)) (ap outcome e) a.balance,
+        subst (BalanceRule (case_of q pc sc fc)) (ap outcome e) a.balance,
       )

@@ -11,15 +11,16 @@ use lib.IntN.{ℤ, pos, sub_ℕ}
 use lib.Signed.{lt_z}
 use lib.ListN.{length, get_or, take, drop, replicate, length-map, length-replicate, get_or-replicate, get_or-map}
 use lib.Seq.{ext_get_or, length-take-le, get_or-take}
-use borrow.Author.Tests.{lt-ltb, le-ltb, ltb-false}
+use borrow.Author.Tests.{lt-ltb, ltb-false}
 use Rattle.problem.specs.Range.{outside}
 use Rattle.dimacs.specs.Arc.{Arc, arc}
 use Rattle.dimacs.specs.Form.{ArcLine, NodeLine, File, whole, broken, form_of}
 use Rattle.dimacs.specs.Lines.{supply_in, any_of, no_node, twice, bad_arc}
 use Rattle.dimacs.specs.inner.Stored.{no_line, ArcsRead, NodesRead, FileRead, ReadAs, ReadIs}
-use Rattle.dimacs.proofs.NodeAndArcLines.{or_true}
 use Rattle.dimacs.specs.declared.store.Reading.{Reading}
-use Rattle.dimacs.specs.declared.store.Reading.TheVariants as readings
+use Rattle.std.proofs.Common.{Result, Ok, Err}
+use Rattle.refusal.specs.declared.Refusal.{Refusal}
+use Rattle.refusal.specs.declared.Cause.TheVariants as causes
 use Rattle.transport.specs.Curve.{written}
 use Rattle.flow_problem.specs.Network.{Network, amount, cells}
 use Rattle.flow_problem.specs.Answer.{CheapestFlow, arcs_of, network_of, any_below, too_short, bad_file, bad_name, out_of_limits, flows, least_total, Outcome, carried, refused, flow_outcome, limited, outcome_of}
@@ -41,15 +42,16 @@ use Rattle.problem.proofs.TestsPassed.{either_first, either_second}
 
 -- ---- what the reader said
 
-pub read_refused : {s : List ℕ} {r : Reading} {starts ends ceilings : List ℕ} {costs : List ℤ} {gives takes marks : List ℕ} {line : ℕ} → ReadIs s r starts ends ceilings costs gives takes marks
-    → r ≡ readings.Refused line → form_of s ≡ broken line
-read_refused {s} {r} {starts} {ends} {ceilings} {costs} {gives} {takes} {marks} {line} h e = (subst (λ (r : Reading). ReadAs s r starts ends ceilings costs gives takes marks) e h.reads).0
+pub read_refused : {s : List ℕ} {r : Result Reading Refusal} {starts ends ceilings : List ℕ} {costs : List ℤ} {gives takes marks : List ℕ} {why : Refusal}
+    → ReadIs s r starts ends ceilings costs gives takes marks → r ≡ Err why → (form_of s ≡ broken why.place) × (why.cause ≡ causes.Line)
+read_refused {s} {r} {starts} {ends} {ceilings} {costs} {gives} {takes} {marks} {why} h e =
+    let k = subst (λ (r : Result Reading Refusal). ReadAs s r starts ends ceilings costs gives takes marks) e h.reads in (k.0, k.2)
 
-pub read_whole : {s : List ℕ} {r : Reading} {starts ends ceilings : List ℕ} {costs : List ℤ} {gives takes marks : List ℕ} {nodes arcs : ℕ} {odd bad : Bool}
-    → ReadIs s r starts ends ceilings costs gives takes marks → r ≡ readings.Whole nodes arcs odd bad
-    → (f : File) × (form_of s ≡ whole f) × FileRead f nodes arcs odd bad starts ends ceilings costs gives takes marks
-read_whole {s} {r} {starts} {ends} {ceilings} {costs} {gives} {takes} {marks} {nodes} {arcs} {odd} {bad} h e =
-    subst (λ (r : Reading). ReadAs s r starts ends ceilings costs gives takes marks) e h.reads
+pub read_whole : {s : List ℕ} {r : Result Reading Refusal} {starts ends ceilings : List ℕ} {costs : List ℤ} {gives takes marks : List ℕ} {file : Reading}
+    → ReadIs s r starts ends ceilings costs gives takes marks → r ≡ Ok file
+    → (f : File) × (form_of s ≡ whole f) × FileRead f file.nodes file.arcs file.odd file.bad starts ends ceilings costs gives takes marks
+read_whole {s} {r} {starts} {ends} {ceilings} {costs} {gives} {takes} {marks} {file} h e =
+    subst (λ (r : Result Reading Refusal). ReadAs s r starts ends ceilings costs gives takes marks) e h.reads
 
 -- ---- cells of zeros, before the first line
 
@@ -80,21 +82,6 @@ zero_nodes = record {
   takes_long = length-replicate {A = ℕ} 32 0;
   marks_long = length-replicate {A = ℕ} 32 0;
 }
-
--- ---- counts and flags
-
-module _ (nodes arcs : ℕ) (odd bad : Bool) where
-  pub limits_1 : 32 < nodes → true ≡ (ltb 32 nodes || (ltb 64 arcs || (odd || bad)))
-  limits_1 h = sym (let q : (ltb 32 nodes || (ltb 64 arcs || (odd || bad))) ≡ true = simp (lt-ltb 32 nodes h) in q)
-
-  pub limits_2 : 64 < arcs → true ≡ (ltb 32 nodes || (ltb 64 arcs || (odd || bad)))
-  limits_2 h = sym (let q : (ltb 32 nodes || (ltb 64 arcs || (odd || bad))) ≡ true = simp (lt-ltb 64 arcs h, or_true) in q)
-
-  pub limits_3 : odd ≡ true → true ≡ (ltb 32 nodes || (ltb 64 arcs || (odd || bad)))
-  limits_3 e = sym (let q : (ltb 32 nodes || (ltb 64 arcs || (odd || bad))) ≡ true = simp (e, or_true) in q)
-
-  pub limits_4 : nodes ≤ 32 → arcs ≤ 64 → odd ≡ false → bad ≡ (ltb 32 nodes || (ltb 64 arcs || (odd || bad)))
-  limits_4 h l e = sym (let q : (ltb 32 nodes || (ltb 64 arcs || (odd || bad))) ≡ bad = simp (le-ltb 32 nodes h, le-ltb 64 arcs l, e) in q)
 
 -- ---- a refusal of the whole file
 

@@ -1,97 +1,47 @@
 -- The tests of a network in slices, and what each way out of them is answered. Assumes nothing.
 use mathlib.Core.Path.{◌≡◌, refl, sym, ap, ap₂, ◌∙◌, subst}
 use mathlib.Core.Bool.{Bool, true, false, not, ◌||◌}
-use mathlib.Core.List.{List, [], ◌∷◌, ◌++◌}
-use Prim.Native.Nat.{ℕ, zero, suc, ◌+◌, ◌-◌, ◌≤◌, ◌<◌}
+use mathlib.Core.List.{List, [], ◌∷◌}
+use Prim.Native.Nat.{ℕ, ◌+◌, ◌-◌, ◌≤◌}
 use native.Mathlib.Decide.{dec_lt}
 use native.Mathlib.Omega.{arith}
 use lib.Dec.{eqb, ltb}
 use lib.IntN.{ℤ, pos}
 use lib.Signed.{lt_z}
 use lib.ListN.{length, get_or, take, drop, get_or-map, get_or-eq_default}
-use lib.Seq.{ext_get_or, length-take-le, get_or-take}
-use borrow.Author.Tests.{lt-ltb, le-ltb, eq-eqb, ne_eqb, ltb-false, eqb-true, not-false}
+use lib.Seq.{length-take-le, get_or-take}
+use borrow.Author.Tests.{ltb-false, eqb-true, not-false}
 use Rattle.transport.specs.Sum.{sum}
 use Rattle.transport.specs.Curve.{written}
 use Rattle.dimacs.specs.Arc.{Arc, arc}
 use Rattle.dimacs.specs.Lines.{any_of}
 use Rattle.dimacs.proofs.NodeAndArcLines.{or_true}
-use Rattle.flow_problem.specs.Network.{Network, arc_count, ceiling, amount, NoFlow, cells}
-use Rattle.flow_case.specs.inner.Build.{Put, cell_of, have_in, over_at, under_at, dear_at, uneven_in, Given}
+use Rattle.flow_problem.specs.Network.{Network, arc_count, ceiling, amount, NoFlow}
+use Rattle.flow_case.specs.inner.Build.{Put, have_in, over_at, under_at, dear_at, uneven_in, Given}
 use Rattle.flow_problem.specs.inner.Sound.{uneven}
 use Rattle.flow_problem.specs.Answer.{any_below, Room, too_short, bad_name, flows, least_total, carried, refused, flow_outcome}
 use Rattle.flow_problem.specs.Promise.{Slices, room_of}
 use Rattle.flow_case.specs.inner.Slices.{net_of}
 use Rattle.flow_network.specs.inner.Ready.{Arcs, Amounts, Named, CarriedAs}
-use Rattle.flow_network.specs.declared.carry.Carried.TheVariants as carrieds
+use Rattle.std.specs.Prelude.{Some}
 use Rattle.flow_network.specs.inner.Judged.{beyond, judged_net, bad_name_in, Holding, Told, Judged}
-use Rattle.flow_problem.proofs.NodesAndSources.{cells_length, cells_at}
-use Rattle.flow_problem.proofs.FlowListing.{or_both, none_below, carried_is, none_is, or_regroup}
+use Rattle.flow_problem.proofs.FlowListing.{or_both, none_below, carried_is, none_is}
 use Rattle.flow_problem.proofs.SoundNetwork.{Proper, uneven_none, four}
-use Rattle.flow_case.proofs.RowLoops.{put_list}
+use Rattle.std.specs.List.{list_any}
+use Rattle.flow_case.proofs.CellTests.{any_cells}
 use Rattle.flow_case.proofs.NetworkSlices as slices
 use Rattle.flow_network.proofs.CarryCase.{proper_of}
 use Rattle.problem.proofs.TestsPassed.{either_first, either_second}
 
--- ---- the small tests
-
-module _ (n f s e c o : ℕ) where
-  pub short_1 : f < n → true ≡ (ltb f n || (ltb s n || (ltb e n || (ltb c n || ltb o n))))
-  short_1 h = sym (let q : (ltb f n || (ltb s n || (ltb e n || (ltb c n || ltb o n)))) ≡ true = simp (lt-ltb f n h) in q)
-
-  pub short_2 : s < n → true ≡ (ltb f n || (ltb s n || (ltb e n || (ltb c n || ltb o n))))
-  short_2 h = sym (let q : (ltb f n || (ltb s n || (ltb e n || (ltb c n || ltb o n)))) ≡ true = simp (lt-ltb s n h, or_true) in q)
-
-  pub short_3 : e < n → true ≡ (ltb f n || (ltb s n || (ltb e n || (ltb c n || ltb o n))))
-  short_3 h = sym (let q : (ltb f n || (ltb s n || (ltb e n || (ltb c n || ltb o n)))) ≡ true = simp (lt-ltb e n h, or_true) in q)
-
-  pub short_4 : c < n → true ≡ (ltb f n || (ltb s n || (ltb e n || (ltb c n || ltb o n))))
-  short_4 h = sym (let q : (ltb f n || (ltb s n || (ltb e n || (ltb c n || ltb o n)))) ≡ true = simp (lt-ltb c n h, or_true) in q)
-
-  pub short_5 : n ≤ f → n ≤ s → n ≤ e → n ≤ c → ltb o n ≡ (ltb f n || (ltb s n || (ltb e n || (ltb c n || ltb o n))))
-  short_5 h1 h2 h3 h4 = sym (let q : (ltb f n || (ltb s n || (ltb e n || (ltb c n || ltb o n)))) ≡ ltb o n = simp (le-ltb f n h1, le-ltb s n h2, le-ltb e n h3, le-ltb c n h4) in q)
-
-module _ (ceilings : List ℕ) (place : ℕ) (table : List ℕ) where
-  pub name_1 : place < 1 → true ≡ bad_name_in ceilings place table
-  name_1 h = sym (let q : bad_name_in ceilings place table ≡ true = simp (lt-ltb place 1 h) in q)
-
-  pub name_2 : length ceilings < place → true ≡ bad_name_in ceilings place table
-  name_2 h = sym (let q : bad_name_in ceilings place table ≡ true = simp (lt-ltb (length ceilings) place h, or_true) in q)
-
-  pub name_3 : (length table ≡ get_or ceilings (place - 1) 0 + 1 → ⊥) → true ≡ bad_name_in ceilings place table
-  name_3 h = sym (let q : bad_name_in ceilings place table ≡ true = simp (ne_eqb (length table) (get_or ceilings (place - 1) 0 + 1) h, or_true) in q)
-
-  pub name_4 : 1 ≤ place → place ≤ length ceilings → length table ≡ get_or ceilings (place - 1) 0 + 1 → (r : Bool) → r ≡ any_below (length table) (dear_at table) → r ≡ bad_name_in ceilings place table
-  name_4 h1 h2 h3 r e =
-      e ∙ sym (let q : bad_name_in ceilings place table ≡
-      any_below (length table) (dear_at table) = simp (le-ltb place 1 h1, le-ltb (length ceilings) place h2, eq-eqb (length table) (get_or ceilings (place - 1) 0 + 1) h3) in
-      q)
-
--- ---- a list's members, from the front and from the end
-
-below_front : (k : ℕ) (p : ℕ → Bool) → any_below (suc k) p ≡ (p 0 || any_below k (λ i. p (suc i)))
-unfolding any_below
-below_front zero p = turn (p 0)
-  where
-    turn : (a : Bool) → (false || a) ≡ (a || false)
-    turn true = refl
-    turn false = refl
-below_front (suc k) p = ap (λ (b : Bool). b || p (suc k)) (below_front k p) ∙ or_regroup (p 0) (any_below k (λ i. p (suc i))) (p (suc k))
+-- ---- a test of a list
 
 any_listed : (p : ℕ → Bool) (l : List ℕ) → any_below (length l) (λ i. p (get_or l i 0)) ≡ any_of p l
-unfolding any_of any_below
-any_listed p [] = refl
-any_listed p (x ∷ l) = below_front (length l) (λ i. p (get_or (x ∷ l) i 0)) ∙ ap (λ (b : Bool). p x || b) (any_listed p l)
-
--- a list by its own cells
-pub own_cells : {A : Type 0} (d : A) (l : List A) → cells (length l) (cell_of d l) ≡ l
-own_cells d l =
-    ext_get_or d (cells (length l) (cell_of d l)) l (cells_length (length l) (cell_of d l))
-    (λ i h. cells_at (length l) (cell_of d l) d i (omega (arith, cells_length (length l) (cell_of d l))))
-
-pub copied : {A : Type 0} (d : A) (from before after : List A) → length from ≤ length before → Put d (cell_of d from) 0 (length from) before after → after ≡ written from before
-copied {A = A} d from before after h p =
-    put_list d (cell_of d from) (length from) before after h p ∙ ap (λ (x : List A). x ++ drop (length from) before) (own_cells d from)
+unfolding any_of
+any_listed p l = sym (any_cells p l) ∙ or_list l
+  where
+    or_list : (l : List ℕ) → list_any p l ≡ any_of p l
+    or_list [] = refl
+    or_list (x ∷ l) = ap (λ (b : Bool). p x || b) (or_list l)
 
 -- ---- the network
 
@@ -235,18 +185,17 @@ module _ (gives takes haves starts ends ceilings : List ℕ) (costs : List ℤ) 
                 ∙ ap (λ (n : ℕ). sum n (λ i. get_or takes i 0)) G.takes_long;
           }
 
-      pub told_there : (after : Slices) (total : ℤ) → CarriedAs g (place - 1) table before.flow after.flow (carrieds.Flow total)
-          → Put 0 (cell_of 0 starts) 0 (length starts) before.starts after.starts → Put 0 (cell_of 0 ends) 0 (length ends) before.ends after.ends
-          → Put 0 (cell_of 0 ceilings) 0 (length ceilings) before.ceilings after.ceilings → Put (pos 0) (cell_of (pos 0) costs) 0 (length costs) before.costs after.costs
+      pub told_there : (after : Slices) (total : ℤ) → CarriedAs g (place - 1) table before.flow after.flow (Some total)
+          → after.starts ≡ written starts before.starts → after.ends ≡ written ends before.ends → after.ceilings ≡ written ceilings before.ceilings → after.costs ≡ written costs before.costs
           → Told g starts ends ceilings costs place table total before after
       told_there after total h p q r t = record {
         amounts = h.0;
         cheapest = h.1;
         flow = h.2;
-        starts = copied 0 starts before.starts after.starts starts_room p;
-        ends = copied 0 ends before.ends after.ends ends_room q;
-        ceilings = copied 0 ceilings before.ceilings after.ceilings ceilings_room r;
-        costs = copied (pos 0) costs before.costs after.costs costs_room t;
+        starts = p;
+        ends = q;
+        ceilings = r;
+        costs = t;
       }
 
 -- the cells filled hold what each node has

@@ -1,20 +1,21 @@
 -- What `cheapest_flow` answers and writes, in the words of the promise. Assumes nothing.
-use Rattle.std.specs.Prelude.{List, ℕ, ℤ, length}
-use Rattle.flow_network.specs.declared.Answer as declared-answer
-use Rattle.flow_network.specs.declared.Answer.TheVariants as answers
+use Rattle.std.specs.Prelude.{List, ℕ, ℤ, length, Result, Ok, Err}
+use Rattle.refusal.specs.Number.{number_of}
+use Rattle.refusal.specs.declared.Refusal.{Refusal}
+use Rattle.flow_network.specs.declared.Carried.{Carried}
 use Rattle.dimacs.specs.Form.{Form, whole, broken}
 use Rattle.flow_problem.specs.Answer.{Outcome, carried, refused}
 use Rattle.flow_problem.specs.Promise.{Slices}
 
 -- an answer in the paper's numbers and values
-abbrev pub outcome : declared-answer.Answer → Outcome
-outcome (answers.Carried total arcs) = carried total
-outcome (answers.Refused number place) = refused number place
+abbrev pub outcome : Result Carried Refusal → Outcome
+outcome (Ok c) = carried c.total
+outcome (Err r) = refused (number_of r.cause) r.place
 
 -- the count of arcs that is told beside a flow; a refusal tells none
-abbrev pub count_in : declared-answer.Answer → ℕ
-count_in (answers.Carried total arcs) = arcs
-count_in (answers.Refused number place) = 0
+abbrev pub count_in : Result Carried Refusal → ℕ
+count_in (Ok c) = c.arcs
+count_in (Err r) = 0
 
 abbrev pub count_of : Outcome → ℕ → ℕ
 count_of (carried total) arcs = arcs

@@ -1,81 +1,37 @@
 // The planner asked for the cheapest plan of a network's case.
-ghost use Rattle.std.specs.Prelude.{◌≡◌, ◌-◌, ◌≤◌, length};
-ghost use Rattle.problem.specs.Case.{lent};
+ghost use Rattle.std.specs.Prelude.{◌≡◌, ◌≤◌, length};
+ghost use Rattle.lent_case.specs.Lent.{case_of};
 ghost use Rattle.flow_network.specs.inner.Found.{FoundIs};
 ghost use Rattle.flow_network.specs.inner.Ready.{Arcs, Amounts, Named, CarriedIs};
 ghost use Rattle.flow_case.specs.inner.Slices.{net_of};
 
 use flow_case::build::{fill_demands, fill_table};
 use flow_case::rows::{cost_rows, fill_flow, fill_supplies, lane_rows};
-use planner::{Answer, plan};
+use lent_case::Case;
+use planner::plan;
 
-// The split and the total of the plan found, or nothing.
-#[derive(Drop)]
-pub enum Found {
-    Split { split: u64, total: i64 },
-    Nothing,
+// The split and the total of a plan.
+#[derive(Clone, Copy, Debug, PartialEq, Eq)]
+pub struct Found {
+    pub split: u64,
+    pub total: i64,
 }
 
-// Plans a case without a least run of plant 2, for the plan and its split and total alone.
-pub fn plan_case(
-    m: usize,
-    n: usize,
-    run: u64,
-    rates: &[i64],
-    supplies: &[u64],
-    demands: &[u64],
-    lanes: &[u64],
-    entries: &[u64],
-    cells: &mut [u64],
-) -> Found
+// Plans a case, for the plan and its split and total alone.
+pub fn plan_case(case: &Case<'_>, cells: &mut [u64]) -> Option<Found>
     requires { length cells.old ≡ 2048 }
-    ensures { FoundIs
-        (lent m n run 0 rates.now supplies.now demands.now lanes.now entries.now 2048 4001 4001)
-        cells.old cells.new result }
+    ensures { FoundIs (case_of case.now 2048 4001 4001) cells.old cells.new result }
 {
-    let mut splits = [0u64; 4001];
-    let mut freights = [0i64; 4001];
-    let answer = plan(
-        m,
-        n,
-        run,
-        0,
-        rates,
-        supplies,
-        demands,
-        lanes,
-        entries,
-        cells,
-        &mut splits,
-        &mut freights,
-    );
-    match answer {
-        Answer::Planned {
-            split,
-            total,
-            freight: _,
-            stops: _,
-        } => Found::Split { split, total },
-        Answer::Refused {
-            number: _,
-            place: _,
-        } => Found::Nothing,
-    }
+    let mut splits = [0; 4001];
+    let mut freights = [0; 4001];
+    let planned = plan(case, cells, &mut splits, &mut freights).ok()?;
+    Some(Found {
+        split: planned.split,
+        total: planned.total,
+    })
 }
 
-// The total of the flow given, or nothing.
-#[derive(Drop)]
-pub enum Carried {
-    Flow { total: i64 },
-    Nothing,
-}
-
-fn excess(most: u64, top: u64) -> u64
-    ensures { result ≡ most - top }
-{
-    if most < top { 0 } else { most - top }
-}
-// The cheapest flow of a network in slices, by way of the planner.
+// The cheapest flow of a network in slices, by way of the planner: its total, where there is one.
 pub fn carry(
     gives: &[u64],
     takes: &[u64],
@@ -87,7 +43,7 @@ pub fn carry(
     named: usize,
     table: &[u64],
     flow: &mut [u64],
-) -> Carried
+) -> Option<i64>
     requires arcs { Arcs (length gives.now) starts.now ends.now ceilings.now costs.now }
     requires amounts { Amounts gives.now takes.now haves.now ends.now ceilings.now }
     requires named { Named starts.now named table.now }
@@ -102,35 +58,31 @@ pub fn carry(
     let v = (starts[named] - 1) as usize;
     let top = ceilings[named];
     let most = haves[w] - takes[w];
-    let mut supplies = [0u64; 32];
+    let mut supplies = [0; 32];
     fill_supplies(haves, takes, w, v, &mut supplies);
-    let mut demands = [0u64; 64];
+    let mut demands = [0; 64];
     fill_demands(ceilings, named, &mut demands);
-    let mut lanes = [0u64; 2048];
+    let mut lanes = [0; 2048];
     lane_rows(m, w, v, starts, ends, &mut lanes);
-    let mut rates = [0i64; 2048];
+    let mut rates = [0; 2048];
     cost_rows(m, w, v, starts, costs, &mut rates);
-    let mut entries = [0u64; 4001];
+    let mut entries = [0; 4001];
     fill_table(table, top as usize, most as usize, &mut entries);
-    let mut cells = [0u64; 2048];
+    let mut cells = [0; 2048];
     let all = m * n;
     let last = most as usize + 1;
-    let found = plan_case(
+    let case = Case {
         m,
         n,
-        excess(most, top),
-        &rates[0..all],
-        &supplies[0..m],
-        &demands[0..n],
-        &lanes[0..all],
-        &entries[0..last],
-        &mut cells,
-    );
-    match found {
-        Found::Split { split, total } => {
-            fill_flow(&cells, starts, w, v, named, split + top - most, flow);
-            Carried::Flow { total }
-        }
-        Found::Nothing => Carried::Nothing,
-    }
+        run1: most.saturating_sub(top),
+        run2: 0,
+        costs: &rates[0..all],
+        supplies: &supplies[0..m],
+        demands: &demands[0..n],
+        ceilings: &lanes[0..all],
+        table: &entries[0..last],
+    };
+    let found = plan_case(&case, &mut cells)?;
+    fill_flow(&cells, starts, w, v, named, found.split + top - most, flow);
+    Some(found.total)
 }

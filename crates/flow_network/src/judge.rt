@@ -6,29 +6,21 @@ ghost use Rattle.flow_case.specs.inner.Slices.{net_of};
 ghost use Rattle.flow_network.specs.inner.Judged.{bad_name_in, Holding, Judged};
 ghost use Rattle.flow_network.specs.Answer.{outcome, count_in, count_of, slices_of};
 
-use crate::carry::{Carried, carry};
-use crate::{Answer, refused};
+use crate::Carried;
+use crate::carry::carry;
 use flow_case::checks::{dear, over, uneven};
-use flow_case::rows::{copy_costs, copy_numbers, fill_haves};
+use flow_case::rows::{copy_front, fill_haves};
+use refusal::{Cause, Refusal};
 
 // Is the place none, or the table not of the named arc?
 fn bad_name(ceilings: &[u64], place: usize, table: &[u64]) -> bool
     requires { AtMostAll 4000 ceilings.now }
     ensures { result ≡ bad_name_in ceilings.now place table.now }
 {
-    if place < 1 {
-        return true;
-    }
-    if ceilings.len() < place {
-        return true;
-    }
-    let named = place - 1;
-    let top = ceilings[named];
-    let entries = table.len() as u64;
-    if entries != top + 1 {
-        return true;
-    }
-    dear(table)
+    place < 1
+        || ceilings.len() < place
+        || table.len() as u64 != ceilings[place - 1] + 1
+        || dear(table)
 }
 
 // Is a lent slice shorter than the arcs?
@@ -42,19 +34,7 @@ fn too_short(
 ) -> bool
     ensures { result ≡ (ltb flow n || (ltb starts n || (ltb ends n || (ltb ceilings n || ltb costs n)))) }
 {
-    if flow < n {
-        return true;
-    }
-    if starts < n {
-        return true;
-    }
-    if ends < n {
-        return true;
-    }
-    if ceilings < n {
-        return true;
-    }
-    costs < n
+    flow < n || starts < n || ends < n || ceilings < n || costs < n
 }
 
 // The same once it is known what each node has.
@@ -73,7 +53,7 @@ fn judge_by(
     ends: &mut [u64],
     ceilings: &mut [u64],
     costs: &mut [i64],
-) -> Answer
+) -> Result<Carried, Refusal>
     requires arcs { Arcs (length gives.now) tails.now heads.now capacities.now prices.now }
     requires given { Given gives.now takes.now }
     requires holding { Holding gives.now heads.now capacities.now haves.now }
@@ -84,26 +64,23 @@ fn judge_by(
         (slices_of flow.new starts.new ends.new ceilings.new costs.new) ×
         (count_in result ≡ count_of (outcome result) (length tails.now)) }
 {
-    if over(haves, takes) {
-        return refused(30, 0);
-    }
-    if bad_name(capacities, place, table) {
-        return refused(30, 0);
-    }
-    if too_short(
-        tails.len(),
-        flow.len(),
-        starts.len(),
-        ends.len(),
-        ceilings.len(),
-        costs.len(),
-    ) {
-        return refused(30, 0);
+    if over(haves, takes)
+        || bad_name(capacities, place, table)
+        || too_short(
+            tails.len(),
+            flow.len(),
+            starts.len(),
+            ends.len(),
+            ceilings.len(),
+            costs.len(),
+        )
+    {
+        return Err(Cause::Limits.at(0));
     }
     if uneven(gives, takes, haves) {
-        return refused(27, 0);
+        return Err(Cause::NoPlan.at(0));
     }
-    let c = carry(
+    let Some(total) = carry(
         gives,
         takes,
         haves,
@@ -114,18 +91,17 @@ fn judge_by(
         place - 1,
         table,
         flow,
-    );
-    let Carried::Flow { total } = c else {
-        return refused(27, 0);
+    ) else {
+        return Err(Cause::NoPlan.at(0));
     };
-    copy_numbers(tails, starts);
-    copy_numbers(heads, ends);
-    copy_numbers(capacities, ceilings);
-    copy_costs(prices, costs);
-    Answer::Carried {
+    copy_front(tails, starts);
+    copy_front(heads, ends);
+    copy_front(capacities, ceilings);
+    copy_front(prices, costs);
+    Ok(Carried {
         total,
         arcs: tails.len() as u64,
-    }
+    })
 }
 
 // Refusal 30 for the amounts, the name, the table and the room; 27 where there is no flow; else the cheapest flow and the arcs, written.
@@ -143,7 +119,7 @@ pub fn judge(
     ends: &mut [u64],
     ceilings: &mut [u64],
     costs: &mut [i64],
-) -> Answer
+) -> Result<Carried, Refusal>
     requires arcs { Arcs (length gives.now) tails.now heads.now capacities.now prices.now }
     requires given { Given gives.now takes.now }
     ensures { Judged
@@ -154,7 +130,7 @@ pub fn judge(
         (count_in result ≡ count_of (outcome result) (length tails.now)) }
 {
     let m = gives.len();
-    let mut cells = [0u64; 32];
+    let mut cells = [0; 32];
     fill_haves(heads, capacities, gives, &mut cells);
     judge_by(
         gives,

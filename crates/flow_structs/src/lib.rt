@@ -9,20 +9,19 @@ ghost use Rattle.flow_arcs.specs.Lent.{arc_at, ArcsAnswered};
 
 use crate::find::find;
 use flow_arcs::Arc;
-use flow_arcs::find::{Found, answer_in, arc_at, count_in};
-use flow_network::Answer;
+use flow_arcs::find::Found;
+use flow_network::Carried;
+use refusal::Refusal;
 
 mod find;
 
 // Writes the first n arcs that were found to the front of the slice.
-fn write(arcs: &mut [Arc], found: Found, n: usize)
+fn write(arcs: &mut [Arc], found: &Found, n: usize)
     requires { (n ≤ 64) × (n ≤ length arcs.old) }
-    ensures { arcs.new ≡ written (cells n (arc_at found)) arcs.old }
+    ensures { arcs.new ≡ written (cells n (arc_at found.now)) arcs.old }
 {
-    let mut i = 0;
-    while i < n {
-        arcs[i] = arc_at(found, i);
-        i += 1;
+    for i in 0..n {
+        arcs[i] = found.arc(i);
     }
 }
 
@@ -34,11 +33,11 @@ pub fn cheapest_flow(
     table: &[u64],
     flow: &mut [u64],
     arcs: &mut [Arc],
-) -> Answer
+) -> Result<Carried, Refusal>
     ensures { ArcsAnswered bytes.now place table.now (outcome result) flow.old flow.new
         arcs.old arcs.new }
 {
     let found = find(bytes, place, table, flow, arcs.len());
-    write(arcs, found, count_in(found));
-    answer_in(found)
+    write(arcs, &found, found.count);
+    found.answer
 }

@@ -1,5 +1,5 @@
 // The look at each split of a stretch for a smaller total.
-ghost use Rattle.std.specs.Prelude.{◌≡◌, min, ◌+◌, ◌-◌, ◌%◌, ◌≤◌, ◌<◌, length, get_or};
+ghost use Rattle.std.specs.Prelude.{◌≡◌, ◌+◌, ◌-◌, ◌%◌, ◌≤◌, ◌<◌, length, get_or};
 ghost use Rattle.incumbent.specs.inner.Scan.{better, scanned, scanned_part, ScanReady, LineReady};
 ghost use Rattle.incumbent.specs.inner.LeastOfFour.{least_of_four, Lowest};
 
@@ -36,12 +36,9 @@ fn ones(
 {
     let mut held = best;
     let mut value = freight;
-    let mut done: u64 = 0;
-    while done < amount {
+    for split in y + 1..y + amount + 1 {
         value = value + gain - loss;
-        done = done + 1;
-        let at = (y + done) as usize;
-        held = better_of(held, y + done, value, table[at]);
+        held = better_of(held, split, value, table[split as usize]);
     }
     held
 }
@@ -62,16 +59,6 @@ fn part(
 {
     let value = freight + gain * start - loss * start;
     ones(table, y + start, amount, value, gain, loss, best)
-}
-
-// The smaller of two totals.
-fn smaller(a: u64, b: u64) -> u64
-    ensures { result ≡ min a b }
-{
-    if b < a {
-        return b;
-    }
-    a
 }
 
 // The total of a split of that freight.
@@ -96,7 +83,7 @@ fn four(table: &[u64], y: u64, freight: u64, gain: u64, loss: u64) -> u64
     let b = total_of(table, y + 2, v2);
     let c = total_of(table, y + 3, v3);
     let d = total_of(table, y + 4, v4);
-    smaller(smaller(a, b), smaller(c, d))
+    a.min(b).min(c.min(d))
 }
 
 // Four splits of a stretch, those after its first start drums, and the least of their totals.
@@ -124,8 +111,8 @@ fn lowest(
         total: best.total,
     };
     let mut value = freight;
-    let mut done: u64 = 0;
-    while done + 4 <= amount {
+    for block in 0..amount / 4 {
+        let done = 4 * block;
         let low = four(table, y + done, value, gain, loss);
         if low < held.total {
             held = Block {
@@ -134,7 +121,6 @@ fn lowest(
             };
         }
         value = value + 4 * gain - 4 * loss;
-        done = done + 4;
     }
     held
 }

@@ -7,6 +7,7 @@ ghost use Rattle.paths.specs.inner.Search.{Wanted};
 ghost use Rattle.lastsplit.specs.inner.LastSplit.{AllWide, ReachReady, Reached, LastReady};
 
 use augment::send::send;
+use residual::lanes::{Flow, Lanes};
 
 // A number that has the top bit only where the ceiling is not below the demand.
 fn wide_bit(ceiling: u32, demand: u32) -> u32
@@ -43,81 +44,48 @@ pub fn all_wide(m: usize, cap: &[u32; 2048], demand: &[u32; 96]) -> bool
 }
 
 // How many drums can go over from plant 2 to plant 1, limit at most.
-fn reach(
-    m: usize,
-    n: usize,
-    cost: &[u32; 2048],
-    cap: &[u32; 2048],
-    limit: u32,
-    demand: &[u32; 96],
-    x: &mut [u32; 2048],
-    serves: &mut [u32; 64],
-    pot: &mut [u32; 96],
-) -> u32
-    requires reach_ready { ReachReady (net m n cost.now cap.now x.old) pot.old x.old limit }
-    requires wanted { Wanted (net m n cost.now cap.now x.old) demand.now }
-    requires covers { Covers m n x.old serves.old }
-    ensures { Reached m n (cells cap.now) (cells x.old) limit result }
+fn reach(lanes: &Lanes<'_>, limit: u32, demand: &[u32; 96], flow: &mut Flow) -> u32
+    requires reach_ready { ReachReady (net lanes.now.m lanes.now.n lanes.now.cost.now lanes.now.cap.now flow.old.x) flow.old.pot flow.old.x limit }
+    requires wanted { Wanted (net lanes.now.m lanes.now.n lanes.now.cost.now lanes.now.cap.now flow.old.x) demand.now }
+    requires covers { Covers lanes.now.m lanes.now.n flow.old.x flow.old.serves }
+    ensures { Reached lanes.now.m lanes.now.n (cells lanes.now.cap.now) (cells flow.old.x) limit result }
 {
     let mut gone: u32 = 0;
+    // Stays: no index is counted; each send brings over as many drums as its path can bear.
     while gone < limit {
         let mut room = [0u32; 96];
         room[1] = limit - gone;
-        let sent = send(
-            m,
-            n,
-            cost,
-            cap,
-            &room,
-            demand,
-            0,
-            limit - gone,
-            x,
-            serves,
-            pot,
-        );
-        if sent.goal == 96 {
+        let Some(sent) = send(lanes, &room, demand, 0, limit - gone, flow) else {
             return gone;
-        }
+        };
         gone = gone + sent.amount;
     }
     gone
 }
 
-// The same from a plan x that is to stay. Where no ceiling is below a demand, which is what wide tells, limit drums can go over; else they go
+// The same from a plan that is to stay. Where no ceiling is below a demand, which is what wide tells, limit drums can go over; else they go
 // along any paths, since what the lanes cost does not matter.
-pub fn last(
-    wide: bool,
-    m: usize,
-    n: usize,
-    cap: &[u32; 2048],
-    limit: u32,
-    demand: &[u32; 96],
-    x: &[u32; 2048],
-    serves: &[u32; 64],
-) -> u32
-    requires all_wide { wide ≡ true → AllWide m cap.now demand.now }
-    requires last_ready { LastReady m n (cells cap.now) x.now limit }
-    requires wanted { Wanted (net m n x.now cap.now x.now) demand.now }
-    requires covers { Covers m n x.now serves.now }
-    ensures { Reached m n (cells cap.now) (cells x.now) limit result }
+pub fn last(wide: bool, lanes: &Lanes<'_>, limit: u32, demand: &[u32; 96], flow: &Flow) -> u32
+    requires all_wide { wide ≡ true → AllWide lanes.now.m lanes.now.cap.now demand.now }
+    requires last_ready { LastReady lanes.now.m lanes.now.n (cells lanes.now.cap.now) flow.now.x limit }
+    requires wanted { Wanted (net lanes.now.m lanes.now.n flow.now.x lanes.now.cap.now flow.now.x) demand.now }
+    requires covers { Covers lanes.now.m lanes.now.n flow.now.x flow.now.serves }
+    ensures { Reached lanes.now.m lanes.now.n (cells lanes.now.cap.now) (cells flow.now.x) limit result }
 {
     if wide {
         return limit;
     }
     let free = [0u32; 2048];
-    let mut far_x = *x;
-    let mut far_serves = *serves;
-    let mut pot = [800_000_000u32; 96];
-    reach(
-        m,
-        n,
-        &free,
-        cap,
-        limit,
-        demand,
-        &mut far_x,
-        &mut far_serves,
-        &mut pot,
-    )
+    let ways = Lanes {
+        m: lanes.m,
+        n: lanes.n,
+        cost: &free,
+        cap: lanes.cap,
+    };
+    let mut far = Flow {
+        x: flow.x,
+        serves: flow.serves,
+        pot: [800_000_000u32; 96],
+    };
+    reach(&ways, limit, demand, &mut far)
 }

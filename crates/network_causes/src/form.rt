@@ -2,7 +2,7 @@
 use crate::limits::say_said;
 use crate::words::{fields_of, has_long, has_zero, lines_of};
 use dimacs::form::line_end;
-use dimacs::line::{Line, read_line};
+use dimacs::line::read_line;
 use file_io::file::first;
 use file_io::message::{say, say_with};
 use file_io::place::field_start;
@@ -84,16 +84,13 @@ fn say_number_cause(err: &impl Print, kind: u8, line: &[u8]) -> io::Result<()> {
 
 // A line that begins as one does.
 fn say_kind(err: &impl Print, kind: u8, line: &[u8], before: &[u8]) -> io::Result<()> {
-    let read = read_line(line);
-    match read {
-        Line::Wrong => {
-            if starts(line, b"p max") {
-                return say(err, b"p max; networks are p min");
-            }
-            say_number_cause(err, kind, line)
-        }
-        _ => say_order(err, kind, before),
+    if read_line(line).is_some() {
+        return say_order(err, kind, before);
     }
+    if starts(line, b"p max") {
+        return say(err, b"p max; networks are p min");
+    }
+    say_number_cause(err, kind, line)
 }
 
 // A line that begins as none does.
@@ -118,13 +115,13 @@ fn say_whole(err: &impl Print, line: &[u8], before: &[u8]) -> io::Result<()> {
     if line.len() == 0 {
         return say(err, b"a blank line");
     }
-    if last_of(line) == 13 {
+    if last_of(line) == b'\r' {
         return say(err, b"a line that ends in CR LF; lines end in LF alone");
     }
-    if has(line, 9) {
+    if has(line, b'\t') {
         return say(err, b"a tab; fields are parted by spaces");
     }
-    if (line[0] == 32) | (last_of(line) == 32) {
+    if (line[0] == b' ') | (last_of(line) == b' ') {
         return say(err, b"a space at an end of the line");
     }
     match line[0] {

@@ -1,31 +1,17 @@
 // What is outside the limits of refusal 30, where the file, the arc and the table tell it: the first that is, in the order of the refusal's tests.
 // The Python package has the same causes in the same words (dimacs.py).
-ghost use Rattle.std.specs.Prelude.{◌≤◌, ◌<◌, length};
-
-use csv_case::case::{Entries, read_entries};
+use csv_case::case::read_entries;
 use csv_case::cells::entry_cells;
-use dimacs::form::line_end;
-use dimacs::line::{Line, read_line};
+use csv_print::magnitude;
+use dimacs::line::{ArcNumbers, Line, NodeNumbers, read_line};
 use file_io::message::{say, say_name, say_number, say_with};
 use file_io::place::next;
-use numbers::{Short, read_short};
+use numbers::read_short;
 use std::io;
 
-// The offset after the line that begins at an offset: after its LF, or the end.
-fn line_after(bytes: &[u8], at: usize) -> usize
-    requires { at < length bytes.now }
-    ensures { (at < result) × (result ≤ length bytes.now) }
-{
-    let end = line_end(bytes, at);
-    if end < bytes.len() { end + 1 } else { end }
-}
-
-// The line that begins at an offset.
-fn line_at(bytes: &[u8], at: usize) -> Line
-    requires { at < length bytes.now }
-{
-    let end = line_end(bytes, at);
-    read_line(&bytes[at..end])
+// Does a byte end a line? What a file's last LF leaves behind it is an empty line, and no line of the form.
+fn ends_line(byte: &u8) -> bool {
+    *byte == b'\n'
 }
 
 // The counts of nodes and of arcs that the p line says; 0 where there is none.
@@ -36,50 +22,34 @@ struct Counts {
 }
 
 fn counts_of(bytes: &[u8]) -> Counts {
-    let mut at: usize = 0;
-    while at < bytes.len() {
-        let line = line_at(bytes, at);
-        if let Line::Problem { nodes, arcs } = line {
+    for text in bytes.split(ends_line) {
+        if let Some(Line::Problem { nodes, arcs }) = read_line(text) {
             return Counts { nodes, arcs };
         }
-        at = line_after(bytes, at);
     }
     Counts { nodes: 0, arcs: 0 }
 }
 
-fn node_of(line: Line) -> u64 {
+// Is it an n line for a node?
+fn is_node(line: Option<Line>, id: u64) -> bool {
     match line {
-        Line::Node { id, .. } => id,
-        _ => 0,
+        Some(Line::Node { line }) => line.id == id,
+        _ => false,
     }
 }
 
 // How many n lines a node has.
 fn lines_for(bytes: &[u8], id: u64) -> u64 {
-    let mut at: usize = 0;
-    let mut count: u64 = 0;
-    while at < bytes.len() {
-        if node_of(line_at(bytes, at)) == id {
-            count = next(count);
-        }
-        at = line_after(bytes, at);
-    }
-    count
+    bytes
+        .split(ends_line)
+        .filter(|text| is_node(read_line(text), id))
+        .count() as u64
 }
 
 // Says how many arcs the p line says.
 pub fn say_said(err: &impl Print, bytes: &[u8]) -> io::Result<()> {
     let counts = counts_of(bytes);
     say_number(err, counts.arcs)
-}
-
-// Sums that stay at the largest number.
-fn plus(a: u64, b: u64) -> u64 {
-    if u64::MAX - a < b { u64::MAX } else { a + b }
-}
-
-fn less(a: u64, b: u64) -> u64 {
-    if a < b { 0 } else { a - b }
 }
 
 // Is it no node?
@@ -113,7 +83,9 @@ fn say_arc_node(err: &impl Print, arc: u64, id: u64, nodes: u64) -> io::Result<(
 }
 
 // The ends of an arc.
-fn say_ends(err: &impl Print, arc: u64, nodes: u64, start: u64, end: u64) -> io::Result<bool> {
+fn say_ends(err: &impl Print, arc: u64, nodes: u64, a: ArcNumbers) -> io::Result<bool> {
+    let start = a.start;
+    let end = a.end;
     if no_node(start, nodes) {
         say_arc_node(err, arc, start, nodes)?;
         return Ok(true);
@@ -131,27 +103,21 @@ fn say_ends(err: &impl Print, arc: u64, nodes: u64, start: u64, end: u64) -> io:
 }
 
 // The lower bound, the ceiling and the cost of an arc.
-fn say_amounts(
-    err: &impl Print,
-    arc: u64,
-    low: u64,
-    ceiling: u64,
-    minus: bool,
-    cost: u64,
-) -> io::Result<bool> {
-    if 0 < low {
+fn say_amounts(err: &impl Print, arc: u64, a: ArcNumbers) -> io::Result<bool> {
+    if 0 < a.low {
         say_with(err, b"arc ", arc, b", with a lower bound of ")?;
-        say_with(err, b"", low, b"; lower bounds are 0")?;
+        say_with(err, b"", a.low, b"; lower bounds are 0")?;
         return Ok(true);
     }
-    if 4000 < ceiling {
+    if 4000 < a.ceiling {
         say_with(err, b"arc ", arc, b", with a ceiling of ")?;
-        say_with(err, b"", ceiling, b"; ceilings go up to 4,000")?;
+        say_with(err, b"", a.ceiling, b"; ceilings go up to 4,000")?;
         return Ok(true);
     }
+    let cost = magnitude(a.cost);
     if 1_000_000 < cost {
         say_with(err, b"arc ", arc, b", with a cost of ")?;
-        if minus {
+        if a.cost < 0 {
             say(err, b"-")?;
         }
         say_with(err, b"", cost, b"; costs are from -1,000,000 to 1,000,000")?;
@@ -161,45 +127,42 @@ fn say_amounts(
 }
 
 // Says the cause of a line, the last of so many arcs; false where it is within the limits.
-fn say_line(err: &impl Print, bytes: &[u8], nodes: u64, arc: u64, line: Line) -> io::Result<bool> {
+fn say_line(
+    err: &impl Print,
+    bytes: &[u8],
+    nodes: u64,
+    arc: u64,
+    line: Option<Line>,
+) -> io::Result<bool> {
     match line {
-        Line::Node { id, .. } => say_node(err, bytes, nodes, id),
-        Line::Arc {
-            start,
-            end,
-            low,
-            ceiling,
-            minus,
-            cost,
-        } => {
-            if say_ends(err, arc, nodes, start, end)? {
+        Some(Line::Node { line }) => say_node(err, bytes, nodes, line.id),
+        Some(Line::Arc { line }) => {
+            if say_ends(err, arc, nodes, line)? {
                 return Ok(true);
             }
-            say_amounts(err, arc, low, ceiling, minus, cost)
+            say_amounts(err, arc, line)
         }
         _ => Ok(false),
     }
 }
 
 // The count of arcs with a line.
-fn arcs_after(arcs: u64, line: &Line) -> u64 {
+fn arcs_after(arcs: u64, line: Option<Line>) -> u64 {
     match line {
-        Line::Arc { .. } => next(arcs),
+        Some(Line::Arc { line: _ }) => next(arcs),
         _ => arcs,
     }
 }
 
 // The first line that is out of the limits.
 fn say_lines(err: &impl Print, bytes: &[u8], nodes: u64) -> io::Result<bool> {
-    let mut at: usize = 0;
     let mut arcs: u64 = 0;
-    while at < bytes.len() {
-        let line = line_at(bytes, at);
-        arcs = arcs_after(arcs, &line);
+    for text in bytes.split(ends_line) {
+        let line = read_line(text);
+        arcs = arcs_after(arcs, line);
         if say_line(err, bytes, nodes, arcs, line)? {
             return Ok(true);
         }
-        at = line_after(bytes, at);
     }
     Ok(false)
 }
@@ -211,33 +174,34 @@ struct Amount {
     takes: u64,
 }
 
-fn amount_after(a: Amount, id: u64, line: Line) -> Amount {
+fn amount_after(a: Amount, id: u64, line: Option<Line>) -> Amount {
     match line {
-        Line::Node {
-            id: node,
-            minus,
-            supply,
-        } => {
+        Some(
+            Line::Node {
+                line: NodeNumbers { id: node, supply },
+            },
+        ) => {
+            let size = magnitude(supply);
             if node != id {
                 return a;
             }
-            if minus {
+            if supply < 0 {
                 return Amount {
                     has: a.has,
-                    takes: plus(a.takes, supply),
+                    takes: a.takes.saturating_add(size),
                 };
             }
             Amount {
-                has: plus(a.has, supply),
+                has: a.has.saturating_add(size),
                 takes: a.takes,
             }
         }
-        Line::Arc { end, ceiling, .. } => {
-            if end != id {
+        Some(Line::Arc { line }) => {
+            if line.end != id {
                 return a;
             }
             Amount {
-                has: plus(a.has, ceiling),
+                has: a.has.saturating_add(line.ceiling),
                 takes: a.takes,
             }
         }
@@ -247,13 +211,11 @@ fn amount_after(a: Amount, id: u64, line: Line) -> Amount {
 
 // A node's supply and the ceilings of the arcs into it, 0 where they come to less.
 fn amount_of(bytes: &[u8], id: u64) -> u64 {
-    let mut at: usize = 0;
     let mut amount = Amount { has: 0, takes: 0 };
-    while at < bytes.len() {
-        amount = amount_after(amount, id, line_at(bytes, at));
-        at = line_after(bytes, at);
+    for text in bytes.split(ends_line) {
+        amount = amount_after(amount, id, read_line(text));
     }
-    less(amount.has, amount.takes)
+    amount.has.saturating_sub(amount.takes)
 }
 
 // The first of at most 32 nodes whose amount is above 4,000.
@@ -276,31 +238,29 @@ fn say_nodes(err: &impl Print, bytes: &[u8], nodes: u64) -> io::Result<bool> {
 }
 
 // The ceiling of an arc by its place from 1.
-fn ceiling_in(line: Line) -> u64 {
+fn ceiling_in(line: Option<Line>) -> u64 {
     match line {
-        Line::Arc { ceiling, .. } => ceiling,
+        Some(Line::Arc { line }) => line.ceiling,
         _ => 0,
     }
 }
 
 fn ceiling_of(bytes: &[u8], place: u64) -> u64 {
-    let mut at: usize = 0;
     let mut arcs: u64 = 0;
-    while at < bytes.len() {
-        let line = line_at(bytes, at);
-        arcs = arcs_after(arcs, &line);
+    for text in bytes.split(ends_line) {
+        let line = read_line(text);
+        arcs = arcs_after(arcs, line);
         if arcs == place {
             return ceiling_in(line);
         }
-        at = line_after(bytes, at);
     }
     0
 }
 
 // The first of the table's entries that is above 1,000,000,000; cells after them hold 0.
 fn say_entries(err: &impl Print, entries: &[u64]) -> io::Result<()> {
-    for i in 0..entries.len() {
-        if 1_000_000_000 < entries[i] {
+    for (i, &entry) in entries.iter().enumerate() {
+        if 1_000_000_000 < entry {
             return say_with(
                 err,
                 b"the table's entry for a flow of ",
@@ -315,8 +275,7 @@ fn say_entries(err: &impl Print, entries: &[u64]) -> io::Result<()> {
 // The table of an arc.
 fn say_table(err: &impl Print, place: u64, ceiling: u64, table: &[u8]) -> io::Result<()> {
     let mut entries = entry_cells();
-    let read = read_entries(table, &mut entries);
-    let Entries::Read { count } = read else {
+    let Ok(count) = read_entries(table, &mut entries) else {
         return Ok(());
     };
     if count as u64 != next(ceiling) {
@@ -328,11 +287,7 @@ fn say_table(err: &impl Print, place: u64, ceiling: u64, table: &[u8]) -> io::Re
 }
 
 fn place_of(arc: &[u8]) -> u64 {
-    let read = read_short(arc);
-    match read {
-        Short::Number(place) => place,
-        Short::Unclear => 0,
-    }
+    read_short(arc).unwrap_or(0)
 }
 
 // The arc that is named, then its table.

@@ -26,7 +26,7 @@ fn is_found(state: u8, byte: u8) -> bool
 fn is_leading(state: u8, byte: u8) -> bool
     ensures { result ≡ leading state byte }
 {
-    (byte == 48) & ((state == 1) | (state == 2))
+    (byte == b'0') & ((state == 1) | (state == 2))
 }
 
 // Is a byte a minus behind a space?
@@ -34,9 +34,10 @@ fn is_leading(state: u8, byte: u8) -> bool
 fn is_minus(state: u8, byte: u8) -> bool
     ensures { result ≡ signing state byte }
 {
-    (byte == 45) & (state == 1)
+    (byte == b'-') & (state == 1)
 }
 
+// Stays: the states are numbers as in the definition `zero_after` of specs/, which keeps its meaning.
 // Where a number with 0 in front is looked for: 0 elsewhere, 1 after a space, 2 after a minus behind one, 3 after a 0 that is first, 4 found.
 #[tactic(auto, unfolding(crate::specs::inner::Words::zero_after))]
 fn zero_after(state: u8, byte: u8) -> u8
@@ -45,7 +46,7 @@ fn zero_after(state: u8, byte: u8) -> u8
     if is_found(state, byte) {
         return 4;
     }
-    if byte == 32 {
+    if byte == b' ' {
         return 1;
     }
     if is_leading(state, byte) {
@@ -62,8 +63,8 @@ pub fn has_zero(line: &[u8]) -> bool
     ensures { result ≡ eqb (over zero_after 0 line.now) 4 }
 {
     let mut state: u8 = 0;
-    for i in 0..line.len() {
-        state = zero_after(state, line[i]);
+    for &byte in line {
+        state = zero_after(state, byte);
     }
     state == 4
 }
@@ -87,8 +88,8 @@ pub fn has_long(line: &[u8]) -> bool
     ensures { result ≡ ltb 10 (over long_after 0 line.now) }
 {
     let mut digits: u64 = 0;
-    for i in 0..line.len() {
-        digits = long_after(digits, line[i]);
+    for &byte in line {
+        digits = long_after(digits, byte);
     }
     10 < digits
 }
@@ -98,7 +99,7 @@ pub fn has_long(line: &[u8]) -> bool
 fn begins_field(fresh: bool, byte: u8) -> bool
     ensures { result ≡ begins_field fresh byte }
 {
-    fresh & !(byte == 32)
+    fresh & !(byte == b' ')
 }
 
 // One more field where a byte is its first.
@@ -114,7 +115,7 @@ fn field_after(c: Counted, byte: u8) -> Counted
     }
     Counted {
         count: c.count,
-        fresh: byte == 32,
+        fresh: byte == b' ',
     }
 }
 
@@ -126,8 +127,8 @@ pub fn fields_of(line: &[u8]) -> u64
         count: 0,
         fresh: true,
     };
-    for i in 0..line.len() {
-        counted = field_after(counted, line[i]);
+    for &byte in line {
+        counted = field_after(counted, byte);
     }
     counted.count
 }
@@ -148,12 +149,12 @@ fn line_after(c: Counted, kind: u8, byte: u8) -> Counted
     if begins_line(c.fresh, kind, byte) {
         return Counted {
             count: next(c.count),
-            fresh: byte == 10,
+            fresh: byte == b'\n',
         };
     }
     Counted {
         count: c.count,
-        fresh: byte == 10,
+        fresh: byte == b'\n',
     }
 }
 
@@ -165,8 +166,8 @@ pub fn lines_of(bytes: &[u8], kind: u8) -> u64
         count: 0,
         fresh: true,
     };
-    for i in 0..bytes.len() {
-        counted = line_after(counted, kind, bytes[i]);
+    for &byte in bytes {
+        counted = line_after(counted, kind, byte);
     }
     counted.count
 }

@@ -8,9 +8,8 @@ use native.Mathlib.Numerals.{add-one}
 use lib.ListN.{length, get_or, drop}
 use lib.Seq.{drop-cons, drop-length}
 use borrow.Author.Tests.{lt-ltb, le-ltb, eq-eqb, ne_eqb}
+use Rattle.std.specs.Prelude.{Option, None, Some}
 use Rattle.numbers.specs.Short.{number_from, short_of}
-use Rattle.numbers.specs.declared.Short.{Short}
-use Rattle.numbers.specs.declared.Short.TheVariants.{Number, Unclear}
 
 -- k digits are read, and they are v
 pub record Reading (text : List ℕ) (v k : ℕ) : Type 0 where
@@ -43,29 +42,29 @@ module _ {text : List ℕ} {v k : ℕ} (r : Reading text v k) (h : k < length te
   }
 
   -- a byte that is no digit
-  pub reading_low : get_or text k 0 < 48 → number_from 0 text ≡ Unclear
+  pub reading_low : get_or text k 0 < 48 → number_from 0 text ≡ None
   unfolding number_from
   reading_low a = next_byte ∙ rw (lt-ltb (get_or text k 0) 48 a) refl
 
-  pub reading_high : 48 ≤ get_or text k 0 → 57 < get_or text k 0 → number_from 0 text ≡ Unclear
+  pub reading_high : 48 ≤ get_or text k 0 → 57 < get_or text k 0 → number_from 0 text ≡ None
   unfolding number_from
   reading_high a b = next_byte ∙ rw (le-ltb (get_or text k 0) 48 a, lt-ltb 57 (get_or text k 0) b) refl
 
 -- all bytes are read
-pub reading_end : {text : List ℕ} {v k : ℕ} → Reading text v k → length text ≤ k → number_from 0 text ≡ Number v
+pub reading_end : {text : List ℕ} {v k : ℕ} → Reading text v k → length text ≤ k → number_from 0 text ≡ Some v
 unfolding number_from
 reading_end {text} {v} {k} r h = r.so_far ∙ ap (λ (j : ℕ). number_from v (drop j text)) (let e : k ≡ length text = omega (arith, r.upto) in e) ∙ ap (number_from v) (drop-length text)
 
 -- what is answered
 module _ (text : List ℕ) where
-  pub empty : length text ≡ 0 → Unclear ≡ short_of text
+  pub empty : length text ≡ 0 → None ≡ short_of text
   unfolding short_of
   empty e = rw (eq-eqb (length text) 0 e) refl
 
-  pub too_long : 4 < length text → Unclear ≡ short_of text
+  pub too_long : 4 < length text → None ≡ short_of text
   unfolding short_of
   too_long h = rw (ne_eqb (length text) 0 (λ e. omega arith), lt-ltb 4 (length text) h) refl
 
-  pub as_read : (o : Short) → (length text ≡ 0 → ⊥) → length text ≤ 4 → number_from 0 text ≡ o → o ≡ short_of text
+  pub as_read : (o : Option ℕ) → (length text ≡ 0 → ⊥) → length text ≤ 4 → number_from 0 text ≡ o → o ≡ short_of text
   unfolding short_of
   as_read o n h e = rw (ne_eqb (length text) 0 n, le-ltb 4 (length text) h) (sym e)

@@ -4,36 +4,25 @@
 ghost use Rattle.std.specs.Prelude.{◌≡◌};
 ghost use Rattle.numbers.specs.Short.{short_of};
 
-// What a text is as a number of one to four digits.
-#[derive(Drop)]
-pub enum Short {
-    // The number that its digits are; zeros may stand in front.
-    Number(u64),
-    // It is no such number.
-    Unclear,
-}
-
-// Reads a number of one to four digits.
-pub fn read_short(text: &[u8]) -> Short
+// Reads a number of one to four digits; zeros may stand in front. Nothing, where the text is no such number.
+pub fn read_short(text: &[u8]) -> Option<u64>
     ensures { result ≡ short_of text.now }
 {
-    let size = text.len();
-    if size == 0 {
-        return Short::Unclear;
+    if text.is_empty() {
+        return None;
     }
-    if 4 < size {
-        return Short::Unclear;
+    if 4 < text.len() {
+        return None;
     }
     let mut value: u64 = 0;
-    for k in 0..size {
-        let byte = text[k];
+    for &byte in text {
         if byte < 48 {
-            return Short::Unclear;
+            return None;
         }
         if 57 < byte {
-            return Short::Unclear;
+            return None;
         }
-        value = 10 * value + (byte - 48) as u64;
+        value = 10 * value + u64::from(byte - 48);
     }
-    Short::Number(value)
+    Some(value)
 }

@@ -1,22 +1,17 @@
 // The path search: the nearest node is settled, and the arcs out of it are passed over, up to a node that has room.
-ghost use Rattle.std.specs.Prelude.{◌≡◌, min, ◌+◌, ◌≤◌, ◌<◌, length};
+ghost use Rattle.std.specs.Prelude.{◌≡◌, ℕ, Some, ◌+◌, ◌≤◌, ◌<◌, length};
 ghost use Rattle.residual.specs.inner.Network.{net, get};
 ghost use Rattle.residual.specs.inner.LanesInUse.{Covers};
 ghost use Rattle.residual.specs.inner.Keys.{Bits};
 ghost use Rattle.paths.specs.inner.NearestNode.{LeastKey, Held, ClosestNode, Chosen};
-ghost use Rattle.paths.specs.inner.Search.{SearchReady, Wanted, Blank, Answered};
+ghost use Rattle.paths.specs.inner.Search.{SearchReady, Wanted, Blank, Answered, node_of};
 ghost use Rattle.paths.specs.inner.NodeTags.{Whole, Tagged, PlanTagged};
 
+use residual::lanes::{Flow, Lanes};
 use residual::relax::{SHUT, relax};
 
 // Above every label.
 pub const FAR: u32 = 2_000_000_000;
-
-pub fn smaller(a: u32, b: u32) -> u32
-    ensures { result ≡ min a b }
-{
-    if a < b { a } else { b }
-}
 
 // The least key of the nodes from lo up to hi, or SHUT.
 fn least_key(lo: usize, hi: usize, key: &[u32; 96]) -> u32
@@ -25,7 +20,7 @@ fn least_key(lo: usize, hi: usize, key: &[u32; 96]) -> u32
 {
     let mut least = SHUT;
     for v in lo..hi {
-        least = smaller(key[v], least);
+        least = key[v].min(least);
     }
     least
 }
@@ -36,6 +31,7 @@ fn holder(lo: usize, least: u32, key: &[u32; 96]) -> usize
     ensures { (result < 96) × (get key.now result ≡ least) }
 {
     let mut v = lo;
+    // Stays: a test of a key for each node; position over a slice would take the end of the slice for one more case, which never comes.
     while key[v] != least {
         v = v + 1;
     }
@@ -63,16 +59,17 @@ fn choose(m: usize, n: usize, next: usize, key: &[u32; 96]) -> usize
     requires { (m ≤ 32) × (n ≤ 64) }
     ensures { Chosen m n key.now next result }
 {
+    // Stays: a pass names a node by a number without a branch; a tag beside the number would be written at each offer.
     if next < 96 {
         return next;
     }
     nearest(m, n, key)
 }
 
-// What a search has found: the goal (96: none), and for each node its distance and the node before it.
+// What a search has found: the goal, if there is one, and for each node its distance and the node before it.
 #[derive(Drop)]
 pub struct Paths {
-    pub goal: usize,
+    pub goal: Option<usize>,
     pub dist: [u32; 96],
     pub prev: [u32; 96],
 }
@@ -80,44 +77,42 @@ pub struct Paths {
 // Settles node after node, nearest first by reduced costs, up to the first that has room, which is the goal. The key of a node that
 // has a label and is not settled comes from its reduced distance, of any other it is SHUT.
 fn explore(
-    m: usize,
-    n: usize,
-    cost: &[u32; 2048],
-    x: &[u32; 2048],
-    cap: &[u32; 2048],
-    serves: &[u32; 64],
-    pot: &[u32; 96],
+    lanes: &Lanes<'_>,
+    flow: &Flow,
     room: &[u32; 96],
     full: &[u32; 96],
     want: &[u32; 96],
     start: usize,
     blank: Paths,
 ) -> Paths
-    requires search_ready { SearchReady (net m n cost.now cap.now x.now) pot.now start }
-    requires plan_tagged { PlanTagged (net m n cost.now cap.now x.now) room.now full.now want.now }
+    requires search_ready { SearchReady (net lanes.now.m lanes.now.n lanes.now.cost.now lanes.now.cap.now flow.now.x) flow.now.pot start }
+    requires plan_tagged { PlanTagged (net lanes.now.m lanes.now.n lanes.now.cost.now lanes.now.cap.now flow.now.x) room.now full.now want.now }
     requires blank { Blank blank.dist blank.prev }
-    requires covers { Covers m n x.now serves.now }
-    ensures { Answered (net m n cost.now cap.now x.now) pot.now room.now start
-        result.dist result.prev result.goal }
+    requires covers { Covers lanes.now.m lanes.now.n flow.now.x flow.now.serves }
+    ensures answered { Answered (net lanes.now.m lanes.now.n lanes.now.cost.now lanes.now.cap.now flow.now.x) flow.now.pot room.now start
+        result.dist result.prev (node_of result.goal) }
+    ensures goal { (g : ℕ) → result.goal ≡ Some g → g < 96 }
 {
+    let m = lanes.m;
+    let n = lanes.n;
     let mut dist = blank.dist;
     let mut prev = blank.prev;
     let mut key = [SHUT; 96];
-    dist[start] = pot[start];
+    dist[start] = flow.pot[start];
     key[start] = 0;
     let mut next = start;
     for pass in 0u64..96 {
         let v = choose(m, n, next, &key);
         if v == 96 {
             return Paths {
-                goal: v,
+                goal: None,
                 dist,
                 prev,
             };
         }
         if 0 < room[v] {
             return Paths {
-                goal: v,
+                goal: Some(v),
                 dist,
                 prev,
             };
@@ -126,12 +121,11 @@ fn explore(
         key[v] = SHUT;
         let base = dist[v];
         next = relax(
-            n, v, cost, x, cap, serves, base, level, pot, full, want, &mut dist, &mut prev,
-            &mut key,
+            lanes, flow, v, base, level, full, want, &mut dist, &mut prev, &mut key,
         );
     }
     Paths {
-        goal: 96,
+        goal: None,
         dist,
         prev,
     }
@@ -192,33 +186,27 @@ fn prefer(room: &[u32; 96], x: &[u32; 2048], full: &mut [u32; 96])
 // Cheapest paths from a source to the nearest node that has room. Any of several cheapest paths will do: a plan that is slack after drums went along
 // one is as cheap as one after another.
 pub fn search(
-    m: usize,
-    n: usize,
-    cost: &[u32; 2048],
-    x: &[u32; 2048],
-    cap: &[u32; 2048],
-    serves: &[u32; 64],
-    pot: &[u32; 96],
+    lanes: &Lanes<'_>,
+    flow: &Flow,
     room: &[u32; 96],
     demand: &[u32; 96],
     start: usize,
 ) -> Paths
-    requires search_ready { SearchReady (net m n cost.now cap.now x.now) pot.now start }
-    requires wanted { Wanted (net m n cost.now cap.now x.now) demand.now }
-    requires covers { Covers m n x.now serves.now }
-    ensures { Answered (net m n cost.now cap.now x.now) pot.now room.now start
-        result.dist result.prev result.goal }
+    requires search_ready { SearchReady (net lanes.now.m lanes.now.n lanes.now.cost.now lanes.now.cap.now flow.now.x) flow.now.pot start }
+    requires wanted { Wanted (net lanes.now.m lanes.now.n lanes.now.cost.now lanes.now.cap.now flow.now.x) demand.now }
+    requires covers { Covers lanes.now.m lanes.now.n flow.now.x flow.now.serves }
+    ensures answered { Answered (net lanes.now.m lanes.now.n lanes.now.cost.now lanes.now.cap.now flow.now.x) flow.now.pot room.now start
+        result.dist result.prev (node_of result.goal) }
+    ensures goal { (g : ℕ) → result.goal ≡ Some g → g < 96 }
 {
     let blank = Paths {
-        goal: 96,
+        goal: None,
         dist: [FAR; 96],
         prev: [0u32; 96],
     };
     let mut full = [0u32; 96];
     let mut want = [0u32; 96];
     tag(room, demand, &mut full, &mut want);
-    prefer(room, x, &mut full);
-    explore(
-        m, n, cost, x, cap, serves, pot, room, &full, &want, start, blank,
-    )
+    prefer(room, &flow.x, &mut full);
+    explore(lanes, flow, room, &full, &want, start, blank)
 }

@@ -1,7 +1,7 @@
 // Reads the files, plans, and writes the answer.
 ghost use Rattle.std.specs.Prelude.{◌≡◌, length};
 
-use crate::refusal::explain;
+use crate::sentence::explain;
 use file_io::file::{file_room, first, read_file};
 use file_io::message::say;
 use plan_files::planned::plan_files;

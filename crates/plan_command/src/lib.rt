@@ -4,8 +4,8 @@
 
 mod arguments;
 pub mod file;
-pub mod refusal;
 pub mod rewriting;
+pub mod sentence;
 
 use crate::arguments::{usage, with_arguments};
 use crate::file::plan_paths;

@@ -72,23 +72,18 @@ fn put(out: &impl Print, text: &[u8]) -> io::Result<()> {
 
 // Does a name need quotes as a field of RFC 4180? It has a comma, a quote or a line end.
 fn needs_quotes(name: &[u8]) -> bool {
-    for k in 0..name.len() {
-        match name[k] {
-            10 | 13 | 34 | 44 => return true,
-            _ => (),
-        }
-    }
-    false
+    name.iter()
+        .any(|&b| matches!(b, b'\n' | b'\r' | b'"' | b','))
 }
 
 // Writes a name as a field in quotes, each quote in it twice.
 fn put_quoted(out: &impl Print, name: &[u8]) -> io::Result<()> {
     put(out, b"\"")?;
-    for k in 0..name.len() {
-        if name[k] == 34 {
+    for &byte in name {
+        if byte == b'"' {
             put(out, b"\"")?;
         }
-        put(out, &name[k..k + 1])?;
+        put(out, &[byte])?;
     }
     put(out, b"\"")
 }

@@ -6,10 +6,8 @@ use lib.ListN.{length}
 use lib.Seq.{sets}
 use Rattle.problem.specs.Case as planner-case
 use Rattle.problem.specs.Outcome.{Outcome, planned, refused, outcome_of}
-use Rattle.csv_case.specs.declared.case.CaseAnswer.{CaseAnswer}
-use Rattle.csv_case.specs.declared.case.CaseAnswer.TheVariants.{Case}
 use Rattle.plan_files.specs.declared.planned.Printed.{Printed}
-use Rattle.csv_case.specs.CaseFiles.{case_answer}
+use Rattle.csv_case.specs.CaseFiles.{CaseAnswer, counts, case_answer}
 use Rattle.plan_files.specs.Printed.{file_case, file_outcome, outcome_for, OutcomePrinted, FilesPrinted, outcome_text, files_text}
 
 -- the text of an outcome, and its length
@@ -36,7 +34,7 @@ pub record BothStand (t p : List ℕ) : Type 0 where
   pub sources : ℕ
   pub terminals : ℕ
   pub entries : ℕ
-  pub case : case_answer t p ≡ Case sources terminals entries
+  pub case : case_answer t p ≡ counts sources terminals entries
 
 stand_outcome : (t p : List ℕ) → BothStand t p → file_outcome t p ≡ outcome_of (file_case t p)
 unfolding file_outcome

@@ -12,14 +12,15 @@ use Rattle.csv_print.specs.Text.{refusal_text}
 use Rattle.problem.specs.Case.{Case}
 use Rattle.problem.specs.Outcome.{refused, outcome_of}
 use Rattle.size.specs.Size.{checked_of}
-use Rattle.size.specs.declared.limits.Checked.{Checked}
-use Rattle.size.specs.declared.limits.Checked.TheVariants as checks
+use Rattle.size.specs.declared.limits.Size.{Size}
+use Rattle.refusal.specs.declared.Cause.{Cause}
+use Rattle.refusal.specs.declared.Refusal.{Refusal}
+use Rattle.refusal.specs.Number.{number_of}
+use Rattle.std.proofs.Common.{Result, Ok, Err}
 use Rattle.validation.proofs.FormTests.{Limits, lanes, in_limits, by_size}
 use Rattle.planner.proofs.Judging.{cut_ceilings}
-use Rattle.csv_case.specs.declared.case.CaseAnswer.{CaseAnswer}
-use Rattle.csv_case.specs.declared.case.CaseAnswer.TheVariants as answers
 use Rattle.plan_files.specs.declared.planned.Printed.{Printed}
-use Rattle.csv_case.specs.CaseFiles.{costs_in, supplies_in, demands_in, entries_in, case_answer, TariffStored, CaseStored}
+use Rattle.csv_case.specs.CaseFiles.{CaseAnswer, counts, costs_in, supplies_in, demands_in, entries_in, case_answer, TariffStored, CaseStored}
 use Rattle.plan_files.specs.Printed.{filed_case, case_of, file_case, file_outcome, Told, PlanPrinted, OutcomePrinted, CasePrinted, FilesPrinted}
 use Rattle.plan_files.specs.inner.StoredCase.{cut_case, Stored}
 use Rattle.csv_case.proofs.CaseLengths.{BothStand, both_stand}
@@ -57,7 +58,7 @@ carry c c' m n out out' answer a p = record {
 
 module _ (t p : List ℕ) (costs : List ℤ) (supplies demands table : List ℕ) (costs' : List ℤ) (supplies' demands' table' : List ℕ)
     (room : Stored costs supplies demands table) (m n entries : ℕ) {answer : CaseAnswer}
-    (told : answer ≡ answers.Case m n entries) (stored : CaseStored t p costs supplies demands table costs' supplies' demands' table' answer) where
+    (told : answer ≡ counts m n entries) (stored : CaseStored t p costs supplies demands table costs' supplies' demands' table' answer) where
   module _ (b : BothStand t p m n entries) where
     -- the case of the files, with its counts
     full : Case
@@ -120,9 +121,9 @@ module _ (t p : List ℕ) (costs : List ℤ) (supplies demands table : List ℕ)
     unfolding full
     alike_cut = go (checked_of m n) refl
       where
-        go : (x : Checked) → checked_of m n ≡ x → Alike (cut_case m n entries costs' supplies' demands' table') full
-        go (checks.Fits z) e = alike_within (in_limits m n z e)
-        go (checks.Refused k) e = alike_refused _ _ (refused k 0) (by_size _ k e) (by_size _ k e)
+        go : (x : Result Size Cause) → checked_of m n ≡ x → Alike (cut_case m n entries costs' supplies' demands' table') full
+        go (Ok z) e = alike_within (in_limits m n z e)
+        go (Err k) e = alike_refused _ _ (refused (number_of k) 0) (by_size _ k e) (by_size _ k e)
 
   -- the stored case, cut to what it has, and the case of the two files
   pub cut_alike : Alike (cut_case m n entries costs' supplies' demands' table') (file_case t p)
@@ -137,17 +138,17 @@ module _ (t p : List ℕ) (costs : List ℤ) (supplies demands table : List ℕ)
       FilesPrinted t p out out' r
   unfolding file_outcome
   case_files {out} {out'} {r} q =
-      let e : case_answer t p ≡ answers.Case m n entries = sym stored.answered ∙ told in
+      let e : case_answer t p ≡ counts m n entries = sym stored.answered ∙ told in
       let b = both_stand t p m n entries e in
       rw (e, file_case_lem b) (carry _ (full b) m n out out' r (alike_cut b) q)
 
 -- a file is refused
 pub refused_files :
-    (t p : List ℕ) (costs : List ℤ) (supplies demands table : List ℕ) (costs' : List ℤ) (supplies' demands' table' : List ℕ) {number place : ℕ} {answer : CaseAnswer} →
-    answer ≡ answers.Refused number place →
-    CaseStored t p costs supplies demands table costs' supplies' demands' table' answer → {out out' : List ℕ} {r : Printed} →
-    Told number place 0 0 (refusal_text number place) out out' r → FilesPrinted t p out out' r
+    (t p : List ℕ) (costs : List ℤ) (supplies demands table : List ℕ) (costs' : List ℤ) (supplies' demands' table' : List ℕ) {why : Refusal} {answer : CaseAnswer} →
+    answer ≡ Err why →
+    CaseStored t p costs supplies demands table costs' supplies' demands' table' answer → {number : ℕ} → number ≡ number_of why.cause → {out out' : List ℕ} {r : Printed} →
+    Told number why.place 0 0 (refusal_text number why.place) out out' r → FilesPrinted t p out out' r
 unfolding file_outcome
-refused_files t p costs supplies demands table costs' supplies' demands' table' {number} {place} told stored printed =
-    let e : case_answer t p ≡ answers.Refused number place = sym stored.answered ∙ told in
-    rw e (printed_refusal (file_case t p) (refused number place) refl printed)
+refused_files t p costs supplies demands table costs' supplies' demands' table' {why} told stored k printed =
+    let e : case_answer t p ≡ Err why = sym stored.answered ∙ told in
+    rw e (printed_refusal (file_case t p) (refused (number_of why.cause) why.place) refl (rw k at printed))

@@ -1,5 +1,5 @@
 -- What is printed of two files: the case that they are, its outcome, and the bytes. Assumes nothing.
-use Rattle.std.specs.Prelude.{◌≡◌, List, ℕ, ◌*◌, ℤ, length, replicate}
+use Rattle.std.specs.Prelude.{◌≡◌, List, ℕ, ◌*◌, ℤ, length, replicate, Ok, Err}
 use Rattle.std.proofs.lemmas.List.Edits.{sets}
 use Rattle.csv_print.specs.Text.{plan_text, refusal_text}
 use Rattle.problem.specs.Case as planner-case
@@ -8,11 +8,10 @@ use Rattle.problem.specs.Outcome.{Outcome, planned, refused, outcome_of}
 use Rattle.problem.specs.Promise.{Cheapest}
 use Rattle.problem.specs.Case.{lent}
 use Rattle.csv_form.specs.declared.Kind.TheVariants.{Tariff, Production}
-use Rattle.csv_case.specs.declared.case.CaseAnswer.{CaseAnswer}
-use Rattle.csv_case.specs.declared.case.CaseAnswer.TheVariants.{Case, Refused}
+use Rattle.refusal.specs.Number.{number_of}
 use Rattle.plan_files.specs.declared.planned.Printed.{Printed}
 use Rattle.csv_form.specs.Records.{form_of}
-use Rattle.csv_case.specs.CaseFiles.{records_of, sources_in, terminals_in, costs_in, supplies_in, demands_in, entries_in, case_answer}
+use Rattle.csv_case.specs.CaseFiles.{CaseAnswer, records_of, sources_in, terminals_in, costs_in, supplies_in, demands_in, entries_in, case_answer}
 
 -- a case as files give it: the least runs are 0, and there is room for 2,048 lanes and 4,001 stops
 abbrev pub filed_case : ℕ → ℕ → List ℤ → List ℕ → List ℕ → List ℕ → List ℕ → planner-case.Case
@@ -28,20 +27,20 @@ file_case t p = case_of (records_of (form_of Tariff t)) (records_of (form_of Pro
 
 -- refusals 20 to 22 of the files, then the outcome of the case
 abbrev pub outcome_for : CaseAnswer → planner-case.Case → Outcome
-outcome_for (Refused number place) c = refused number place
-outcome_for (Case m n entries) c = outcome_of c
+outcome_for (Err r) c = refused (number_of r.cause) r.place
+outcome_for (Ok k) c = outcome_of c
 
 unfoldable pub file_outcome : List ℕ → List ℕ → Outcome
 file_outcome t p = outcome_for (case_answer t p) (file_case t p)
 
 -- m and n of the case, 0 where a file is refused
 abbrev pub sources_told : CaseAnswer → ℕ
-sources_told (Refused number place) = 0
-sources_told (Case m n entries) = m
+sources_told (Err r) = 0
+sources_told (Ok k) = k.m
 
 abbrev pub terminals_told : CaseAnswer → ℕ
-terminals_told (Refused number place) = 0
-terminals_told (Case m n entries) = n
+terminals_told (Err r) = 0
+terminals_told (Ok k) = k.n
 
 -- the text is printed as far as there is room, every later cell is as it was, and the answer has the text's length and these numbers
 pub record Told (number place sources terminals : ℕ) (text out out' : List ℕ) (answer : Printed) : Type 0 where

@@ -5,17 +5,16 @@ ghost use Rattle.csv_print.specs.inner.Writing.{Fits};
 ghost use Rattle.plan_files.specs.Printed.{filed_case, Told, CasePrinted, FilesPrinted};
 ghost use Rattle.plan_files.specs.inner.StoredCase.{cut_case, Stored};
 
-use csv_case::case::{CaseAnswer, read_case};
+use csv_case::case::read_case;
 use csv_case::cells::{
     cost_cells, entry_cells, freight_cells, lane_ceilings, lane_cells, stop_cells,
 };
 use csv_plan::put_plan;
 use csv_print::put_refusal;
-use csv_table::store::smaller;
-use planner::Answer;
+use lent_case::Case;
 
 // What was printed: the text's length; 0, or the refusal's number and place; m and n of the case, 0 where a file is refused.
-#[derive(Drop)]
+#[derive(Clone, Copy, Debug, PartialEq, Eq)]
 pub struct Printed {
     pub length: usize,
     pub number: u64,
@@ -83,31 +82,24 @@ fn print_case(
     let mut plan = lane_cells();
     let mut splits = stop_cells();
     let mut freights = freight_cells();
-    let answer = planner::plan(
+    let case = Case {
         m,
         n,
-        0,
-        0,
+        run1: 0,
+        run2: 0,
         costs,
         supplies,
         demands,
         ceilings,
         table,
-        &mut plan,
-        &mut splits,
-        &mut freights,
-    );
+    };
+    let answer = planner::plan(&case, &mut plan, &mut splits, &mut freights);
     match answer {
-        Answer::Refused { number, place } => print_refusal(out, number, place, m, n),
-        Answer::Planned {
-            split,
-            total: _,
-            freight: _,
-            stops: _,
-        } => {
-            let at = split as usize;
+        Err(r) => print_refusal(out, r.cause.number(), r.place, m, n),
+        Ok(p) => {
+            let at = p.split as usize;
             let entry = table[at];
-            print_plan(out, m, n, costs, &plan, split, entry)
+            print_plan(out, m, n, costs, &plan, p.split, entry)
         }
     }
 }
@@ -128,9 +120,9 @@ fn print_stored(
         (cut_case m n entries costs.now supplies.now demands.now table.now) out.old
         out.new result }
 {
-    let a = smaller(m, 32);
-    let b = smaller(n, 64);
-    let e = smaller(entries, 4002);
+    let a = m.min(32);
+    let b = n.min(64);
+    let e = entries.min(4002);
     let lanes = a * b;
     let ceilings = lane_ceilings();
     print_case(
@@ -162,9 +154,9 @@ pub fn plan_files(tariff: &[u8], production: &[u8], out: &mut [u8]) -> Printed
         &mut table,
     );
     match answer {
-        CaseAnswer::Refused { number, place } => print_refusal(out, number, place as u64, 0, 0),
-        CaseAnswer::Case { m, n, entries } => {
-            print_stored(m, n, entries, &costs, &supplies, &demands, &table, out)
-        }
+        Err(r) => print_refusal(out, r.cause.number(), r.place, 0, 0),
+        Ok(k) => print_stored(
+            k.m, k.n, k.entries, &costs, &supplies, &demands, &table, out,
+        ),
     }
 }

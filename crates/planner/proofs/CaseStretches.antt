@@ -2,7 +2,7 @@
 -- Assumes nothing.
 use mathlib.Core.Path.{◌≡◌, sym, ◌∙◌, subst, subst₂}
 use mathlib.Core.List.{List}
-use Prim.Native.Nat.{ℕ, ◌+◌, ◌-◌, ◌*◌, ◌≤◌, ◌<◌}
+use Prim.Native.Nat.{ℕ, ◌+◌, ◌-◌, ◌*◌, ◌≤◌}
 use native.Mathlib.Omega.{arith}
 use lib.IntN.{ℤ, pos}
 use lib.ListN.{get_or}
@@ -16,9 +16,9 @@ use Rattle.stretch.specs.inner.Stretch.{StretchReady, StretchDone}
 use Rattle.problem.specs.Integer.{Above}
 use Rattle.problem.specs.Freight.{rates_by_row}
 use Rattle.problem.specs.Range.{raised_of}
-use Rattle.problem.specs.Case.{Case, supply, demand, ceiling, all_demand, made, least_split, greatest_split}
+use Rattle.problem.specs.Case.{Case, supply, demand, ceiling, all_demand, made, least_split}
 use Rattle.problem.specs.Plans.{least_freight_at}
-use Rattle.problem.specs.Outcome.{Outcome, planned, refused}
+use Rattle.problem.specs.Outcome.{Outcome, refused}
 use Rattle.problem.proofs.TestsPassed.{Formed}
 use Rattle.problem.proofs.MachineIntegers.{raised_above}
 use Rattle.problem.proofs.RaisedLists.{map_at}

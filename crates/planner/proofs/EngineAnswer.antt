@@ -1,6 +1,6 @@
 -- From the engine's answer on the working arrays to the promise of the lent case. Assumes nothing.
 use mathlib.Core.Path.{◌≡◌, refl, sym, ap, ap₂, ◌∙◌, subst, subst₂, fun_ext}
-use mathlib.Core.Bool.{Bool, true, false, not}
+use mathlib.Core.Bool.{Bool, not}
 use mathlib.Core.Option.{none, some}
 use mathlib.Core.List.{List, ◌++◌, map, Memᴰ}
 use Prim.Native.Nat.{ℕ, zero, suc, max, min, ◌+◌, ◌-◌, ◌*◌, ◌≤◌, ◌<◌}
@@ -9,11 +9,13 @@ use native.Mathlib.Omega.{arith}
 use lib.IntN.{ℤ, sub_ℕ}
 use lib.ListN.{length, get_or, take, drop, length-take, length-drop, take-append-drop}
 use lib.Seq.{ext_get_or, get_or-take, get_or-drop}
+use Rattle.std.specs.Prelude.{Option, Some, None}
 use Rattle.transport.specs.Sum.{sum}
 use Rattle.transport.specs.Plan.{by_row, row, col, freight}
 use Rattle.transport.specs.Listing.{up_from, select, least, greatest, some as any}
 use Rattle.transport.specs.Curve.{amounts_at, least_in, has_plan, splits_in, best_from, stops_of, written, splits_of}
 use Rattle.transport.specs.Canonical.{canonical_at}
+use Rattle.split_range.specs.declared.begin.Range.{Range}
 use Rattle.split_range.specs.inner.Range.{BeginReady, Ranged, amount_in, demand_in}
 use Rattle.sweep.specs.inner.Sweep.{SweepReady, Swept}
 use Rattle.transport.proofs.Sums.{sum_ext, total_ext}
@@ -203,31 +205,32 @@ module _ {c : Case} {all : ℕ} (s : OnBalance c all) {cost cap amounts wants : 
       (ap₂ (λ (d v : ℕ). max c.run1 (d - v)) s.whole (p.sources 1 (omega (arith, (form_of s).two_sources))))
       (ap₂ (λ (v d : ℕ). min v (d - c.run2)) (p.sources 0 (omega (arith, (form_of s).two_sources))) s.whole)
 
-  module _ {x serves pot : List ℕ} {found : Bool} {lo hi : ℕ} (r : Ranged c.m c.n cost cap amounts wants c.run1 c.run2 all x serves pot found lo hi) where
+  module _ {x serves pot : List ℕ} {range : Option Range} (r : Ranged c.m c.n cost cap amounts wants c.run1 c.run2 all x serves pot range) where
     -- there is none: 27
-    pub refused_27 : found ≡ false → refusal_of c ≡ some (refused 27 0)
+    pub refused_27 : range ≡ None → refusal_of c ≡ some (refused 27 0)
     unfolding test27 has_split any
     refused_27 e =
         from27 c s.form s.t7 s.t8
         ∙ first_decides _ _ _ (met 27 _ (ap (λ (l : List ℕ). not (any l)) (sym splits_same ∙ r.none e)))
 
     -- there is one
-    has_one : found ≡ true → Memᴰ hi (splits c)
-    has_one e =
-        let g = r.begun e in
-        let w = r.within e in
+    has_one : (v : Range) → range ≡ Some v → Memᴰ v.hi (splits c)
+    has_one v e =
+        let g = r.begun v e in
+        let w = r.within v e in
+        let hi = v.hi in
         subst (λ (l : List ℕ). Memᴰ hi l) splits_same
         (member_splits c.m c.n (by_row 64 cap) all (amount_in amounts) (demand_in wants) _ _ hi (omega (arith, w)) (omega (arith, w))
         (at_has c.m c.n (by_row 64 cap) all (amount_in amounts) (demand_in wants) (form_of s).two_sources hi (all - hi) g.end.plan (omega (arith, g.within))
         g.end.at g.end.under))
 
-    pub on_splits : found ≡ true → OnSplits c lo hi all
+    pub on_splits : (v : Range) → range ≡ Some v → OnSplits c v.lo v.hi all
     unfolding least_split greatest_split
-    on_splits e = record {
+    on_splits v e = record {
       on = s;
-      t27 = split_passes c (fits_split c hi (has_one e));
-      low = r.low e ∙ ap least splits_same;
-      high = r.high e ∙ ap greatest splits_same;
+      t27 = split_passes c (fits_split c v.hi (has_one v e));
+      low = r.low v e ∙ ap least splits_same;
+      high = r.high v e ∙ ap greatest splits_same;
     }
 
 -- ---- the sweep

@@ -14,7 +14,10 @@ use Rattle.problem.specs.Outcome.{Outcome, refused, refuse_at, first_from, form_
 use Rattle.problem.specs.inner.LentTests.{entries_refusal, Within}
 use Rattle.validation.specs.Verdict.{made_of}
 use Rattle.planner.specs.Judge.{case_refusal, free_case}
-use Rattle.validation.specs.declared.tests.Made.TheVariants.{Drums, Unbalanced}
+use Rattle.std.specs.Prelude.{Ok, Err}
+use Rattle.refusal.specs.Number.{number_of}
+use Rattle.refusal.specs.declared.Cause.{Cause}
+use Rattle.refusal.specs.declared.Cause.TheVariants.{TooLittleWanted, TooMuchWanted}
 use Rattle.planner.specs.inner.Ready.{OnBalance}
 use Rattle.problem.proofs.TestsPassed.{first_decides, second_decides, first_passes, Formed, formed, Balanced, balanced}
 use Rattle.problem.proofs.TestParts.{met, unmet}
@@ -47,17 +50,17 @@ unfolding case_refusal
 case_formed c e = first_passes (form_refusal c) _ e
 
 module _ (c : Case) (e : form_refusal c ≡ none) where
-  pub case_unbalanced : (k : ℕ) → made_of c.run1 c.run2 c.supplies c.demands ≡ Unbalanced k → case_refusal c ≡ some (refused k 0)
+  pub case_unbalanced : (k : Cause) → made_of c.run1 c.run2 c.supplies c.demands ≡ Err k → case_refusal c ≡ some (refused (number_of k) 0)
   unfolding case_refusal test7 test8
   case_unbalanced k q = go (ltb (all_demand c) (depot_stock c + c.run1 + c.run2)) refl (ltb (supply c 0 + supply c 1) (made c)) refl (sym (made_by c e) ∙ q)
     where
       go : (a : Bool) → ltb (all_demand c) (depot_stock c + c.run1 + c.run2) ≡ a → (b : Bool) → ltb (supply c 0 + supply c 1) (made c) ≡ b
-          → cond a (Unbalanced 7) (cond b (Unbalanced 8) (Drums (made c))) ≡ Unbalanced k
-          → (form_refusal c or_else test7 c or_else test8 c or_else test27 c or_else test9 c) ≡ some (refused k 0)
+          → cond a (Err TooLittleWanted) (cond b (Err TooMuchWanted) (Ok (made c))) ≡ Err k
+          → (form_refusal c or_else test7 c or_else test8 c or_else test27 c or_else test9 c) ≡ some (refused (number_of k) 0)
       go true ea b eb q =
-          let z : 7 ≡ k = cc in second_decides _ _ e ∙ first_decides _ _ _ (met 7 _ ea) ∙ ap (λ (i : ℕ). some (refused i 0)) z
+          let z : TooLittleWanted ≡ k = cc in second_decides _ _ e ∙ first_decides _ _ _ (met 7 _ ea) ∙ ap (λ (i : Cause). some (refused (number_of i) 0)) z
       go false ea true eb q =
-          let z : 8 ≡ k = cc in second_decides _ _ e ∙ second_decides _ _ (unmet 7 _ ea) ∙ first_decides _ _ _ (met 8 _ eb) ∙ ap (λ (i : ℕ). some (refused i 0)) z
+          let z : TooMuchWanted ≡ k = cc in second_decides _ _ e ∙ second_decides _ _ (unmet 7 _ ea) ∙ first_decides _ _ _ (met 8 _ eb) ∙ ap (λ (i : Cause). some (refused (number_of i) 0)) z
       go false ea false eb q = let z : ◌≡◌ {A = ℕ} 0 1 = cc in absurd (omega arith)
 
 -- past the balance test 9 decides, at the splits within the supplies

@@ -12,9 +12,11 @@ use Rattle.problem.specs.Outcome.{Outcome, refused, ◌or_else◌, form_refusal,
 use Rattle.problem.specs.inner.LentTests.{entries_refusal, splits_refusal, Amounts, Within}
 use Rattle.size.specs.Size.{checked_of}
 use Rattle.size.specs.declared.limits.Size.{Size}
-use Rattle.size.specs.declared.limits.Checked.TheVariants.{Fits, Refused}
+use Rattle.std.specs.Prelude.{Result, Ok, Err}
+use Rattle.refusal.specs.Number.{number_of}
+use Rattle.refusal.specs.declared.Cause.{Cause}
+use Rattle.refusal.specs.declared.Cause.TheVariants.{Sources, Terminals, TooLittleWanted, TooMuchWanted}
 use Rattle.validation.specs.Verdict.{made_of}
-use Rattle.validation.specs.declared.tests.Made.TheVariants.{Drums, Unbalanced}
 use Rattle.planner.specs.inner.Ready.{OnBalance}
 use Rattle.problem.proofs.TestsPassed.{first_decides, first_passes, second_passes, formed}
 use Rattle.problem.proofs.TestParts.{met, unmet}
@@ -24,20 +26,16 @@ use Rattle.planner.proofs.EngineAnswer.{OnSplits, Accepts, order, inside}
 -- ---- the size
 
 -- a size that fits has the two numbers that were checked
-pub size_is : (m n : ℕ) (z : Size) → checked_of m n ≡ Fits z → (m ≡ z.sources) × (n ≡ z.terminals)
+pub size_is : (m n : ℕ) (z : Size) → checked_of m n ≡ Ok z → (m ≡ z.sources) × (n ≡ z.terminals)
 unfolding checked_of
 size_is m n z e = go (ltb m 2 || ltb 32 m) (ltb n 1 || ltb 64 n) e
   where
-    go : (a b : Bool) → cond a (Refused 1) (cond b (Refused 2) (Fits (record { sources = m; terminals = n }))) ≡ Fits z → (m ≡ z.sources) × (n ≡ z.terminals)
+    go : (a b : Bool) → cond {A = Result Size Cause} a (Err Sources) (cond b (Err Terminals) (Ok (record { sources = m; terminals = n }))) ≡ Ok z → (m ≡ z.sources) × (n ≡ z.terminals)
     go true b e = let w : ◌≡◌ {A = ℕ} 0 1 = cc in absurd (omega arith)
     go false true e = let w : ◌≡◌ {A = ℕ} 0 1 = cc in absurd (omega arith)
     go false false e =
         let w : ◌≡◌ {A = Size} (record { sources = m; terminals = n }) z = cc in
         (ap (λ (s : Size). s.sources) w, ap (λ (s : Size). s.terminals) w)
-
--- what is so of equal numbers is so of these
-pub of_size : (m n m' n' : ℕ) → (m ≡ m') × (n ≡ n') → (P : ℕ → ℕ → Type 0) → P m' n' → P m n
-of_size m n m' n' e P p = rw e.0 (rw e.1 p)
 
 -- ---- the tests before the balance
 
@@ -72,28 +70,28 @@ module _ (c : Case) (e : form_refusal c ≡ none) where
   -- the definition by the case's own words
   pub made_by :
       made_of c.run1 c.run2 c.supplies c.demands ≡
-      cond (ltb (all_demand c) (depot_stock c + c.run1 + c.run2)) (Unbalanced 7) (cond (ltb (supply c 0 + supply c 1) (made c)) (Unbalanced 8) (Drums (made c)))
+      cond (ltb (all_demand c) (depot_stock c + c.run1 + c.run2)) (Err TooLittleWanted) (cond (ltb (supply c 0 + supply c 1) (made c)) (Err TooMuchWanted) (Ok (made c)))
   unfolding made_of made
   made_by = rw (all_demand_lem, all_stock) refl
 
-  pub unbalanced : (k : ℕ) → made_of c.run1 c.run2 c.supplies c.demands ≡ Unbalanced k → refusal_of c ≡ some (refused k 0)
+  pub unbalanced : (k : Cause) → made_of c.run1 c.run2 c.supplies c.demands ≡ Err k → refusal_of c ≡ some (refused (number_of k) 0)
   unfolding test7 test8
   unbalanced k q = go (ltb (all_demand c) (depot_stock c + c.run1 + c.run2)) refl (ltb (supply c 0 + supply c 1) (made c)) refl (sym made_by ∙ q)
     where
       go : (a : Bool) → ltb (all_demand c) (depot_stock c + c.run1 + c.run2) ≡ a → (b : Bool) → ltb (supply c 0 + supply c 1) (made c) ≡ b
-          → cond a (Unbalanced 7) (cond b (Unbalanced 8) (Drums (made c))) ≡ Unbalanced k → refusal_of c ≡ some (refused k 0)
+          → cond a (Err TooLittleWanted) (cond b (Err TooMuchWanted) (Ok (made c))) ≡ Err k → refusal_of c ≡ some (refused (number_of k) 0)
       go true ea b eb q =
-          let z : 7 ≡ k = cc in from7 c e ∙ first_decides _ _ _ (met 7 _ ea) ∙ ap (λ (i : ℕ). some (refused i 0)) z
+          let z : TooLittleWanted ≡ k = cc in from7 c e ∙ first_decides _ _ _ (met 7 _ ea) ∙ ap (λ (i : Cause). some (refused (number_of i) 0)) z
       go false ea true eb q =
-          let z : 8 ≡ k = cc in from8 c e (unmet 7 _ ea) ∙ first_decides _ _ _ (met 8 _ eb) ∙ ap (λ (i : ℕ). some (refused i 0)) z
+          let z : TooMuchWanted ≡ k = cc in from8 c e (unmet 7 _ ea) ∙ first_decides _ _ _ (met 8 _ eb) ∙ ap (λ (i : Cause). some (refused (number_of i) 0)) z
       go false ea false eb q = let z : ◌≡◌ {A = ℕ} 0 1 = cc in absurd (omega arith)
 
-  pub on_balance : (all : ℕ) → made_of c.run1 c.run2 c.supplies c.demands ≡ Drums all → OnBalance c all
+  pub on_balance : (all : ℕ) → made_of c.run1 c.run2 c.supplies c.demands ≡ Ok all → OnBalance c all
   unfolding test7 test8
   on_balance all q = go (ltb (all_demand c) (depot_stock c + c.run1 + c.run2)) refl (ltb (supply c 0 + supply c 1) (made c)) refl (sym made_by ∙ q)
     where
       go : (a : Bool) → ltb (all_demand c) (depot_stock c + c.run1 + c.run2) ≡ a → (b : Bool) → ltb (supply c 0 + supply c 1) (made c) ≡ b
-          → cond a (Unbalanced 7) (cond b (Unbalanced 8) (Drums (made c))) ≡ Drums all → OnBalance c all
+          → cond a (Err TooLittleWanted) (cond b (Err TooMuchWanted) (Ok (made c))) ≡ Ok all → OnBalance c all
       go true ea b eb q = let z : ◌≡◌ {A = ℕ} 0 1 = cc in absurd (omega arith)
       go false ea true eb q = let z : ◌≡◌ {A = ℕ} 0 1 = cc in absurd (omega arith)
       go false ea false eb q = record { form = e; t7 = unmet 7 _ ea; t8 = unmet 8 _ eb; whole = let z : made c ≡ all = cc in sym z }

@@ -1,17 +1,18 @@
--- The answer's enum in the paper's numbers and values, and all that is promised of an answer. Assumes nothing.
-use Rattle.std.specs.Prelude.{◌≡◌, List, ℕ, ℤ}
+-- The answer in the paper's numbers and values, and all that is promised of an answer. Assumes nothing.
+use Rattle.std.specs.Prelude.{◌≡◌, List, ℕ, ℤ, Result, Ok, Err}
 use Rattle.transport.specs.Curve.{written}
 use Rattle.problem.specs.Case.{Case}
 use Rattle.problem.specs.Plans.{PlanAt, freight_of, least_freight_at, plan_for, stops, stop_freights}
 use Rattle.problem.specs.Outcome.{Outcome, planned, refused, outcome_of}
 use Rattle.problem.specs.Promise.{Cheapest, Bounded, BalanceRule}
-use Rattle.planner.specs.declared.Answer.{Answer}
-use Rattle.planner.specs.declared.Answer.TheVariants.{Planned, Refused}
+use Rattle.refusal.specs.Number.{number_of}
+use Rattle.refusal.specs.declared.Refusal.{Refusal}
+use Rattle.planner.specs.declared.Planned.{Planned}
 
 -- a plan is its split, total, freight and count of stops; a refusal is its number and place
-abbrev pub outcome : Answer → Outcome
-outcome (Planned split total freight stops) = planned split total freight stops
-outcome (Refused number place) = refused number place
+abbrev pub outcome : Result Planned Refusal → Outcome
+outcome (Ok p) = planned p.split p.total p.freight p.stops
+outcome (Err r) = refused (number_of r.cause) r.place
 
 -- what the three lent slices hold: the plan's, and the two of the stops
 pub record Slices : Type 0 where

@@ -1,156 +1,81 @@
 // The two-plant production and freight planner.
 #![tactic(auto)]
 
-ghost use Rattle.std.specs.Prelude.{length};
-ghost use Rattle.problem.specs.Case.{lent};
+ghost use Rattle.std.specs.Prelude.{ℕ, length};
+ghost use Rattle.lent_case.specs.Lent.{case_of};
+ghost use Rattle.planner.specs.inner.Ready.{Weighed};
 ghost use Rattle.planner.specs.Answer.{outcome, slices, Answered};
 
 use crate::solve::solve;
-use size::limits::{Checked, Size};
+use lent_case::Case;
+use refusal::Refusal;
 use split_range::trial::Trial;
-use validation::tests::{Made, Verdict, form_test, made_of};
+use validation::tests::{form_test, made_of};
 
 pub mod judge;
 mod solve;
 
-// A plan was found, or the case is refused.
-#[derive(Clone, Copy)]
-pub enum Answer {
-    Planned {
-        split: u64,
-        total: i64,
-        freight: i64,
-        stops: usize,
-    },
-    Refused {
-        number: u64,
-        place: u64,
-    },
+// What a plan's report says: its split, its total, its freight, and how many stops there are.
+#[derive(Clone, Copy, Debug, PartialEq, Eq)]
+pub struct Planned {
+    pub split: u64,
+    pub total: i64,
+    pub freight: i64,
+    pub stops: usize,
 }
 
 // The answer, whether a plan of the simplex passed the check in step 1, and how many stretches of the climb were searched for.
-#[derive(Drop)]
+#[derive(Clone, Copy, Debug, PartialEq, Eq)]
 pub struct Tried {
-    pub answer: Answer,
+    pub answer: Result<Planned, Refusal>,
     pub passed: bool,
     pub searched: u64,
 }
 
-// Plans a lent case of this size, or refuses it.
-fn plan_sized(
-    trial: Trial,
-    size: Size,
-    run1: u64,
-    run2: u64,
-    costs: &[i64],
-    supplies: &[u64],
-    demands: &[u64],
-    ceilings: &[u64],
-    table: &[u64],
-    plan: &mut [u64],
-    splits: &mut [u64],
-    freights: &mut [i64],
-) -> Tried
-    ensures { Answered
-        (lent size.sources size.terminals run1 run2 costs.now supplies.now demands.now
-        ceilings.now table.now (length plan.old) (length splits.old) (length freights.old))
-        (outcome result.answer) (slices plan.old splits.old freights.old)
-        (slices plan.new splits.new freights.new) }
+// Tests 1 to 8: d, or the refusal.
+fn balanced(case: &Case<'_>) -> Result<u64, Refusal>
+    ensures { (p s f : ℕ) → Weighed (case_of case.now p s f) result }
 {
-    if let Verdict::Refused(number, place) = form_test(
-        size.sources,
-        size.terminals,
-        run1,
-        run2,
-        costs,
-        supplies,
-        demands,
-        ceilings,
-        table,
-    ) {
-        return Tried {
-            answer: Answer::Refused { number, place },
-            passed: false,
-            searched: 0,
-        };
-    }
-    match made_of(run1, run2, supplies, demands) {
-        Made::Unbalanced(number) => Tried {
-            answer: Answer::Refused { number, place: 0 },
-            passed: false,
-            searched: 0,
-        },
-        Made::Drums(made) => solve(
-            trial, size, run1, run2, costs, supplies, demands, ceilings, table, made, plan, splits,
-            freights,
-        ),
-    }
+    form_test(case)?;
+    Ok(made_of(case.run1, case.run2, case.supplies, case.demands)?)
 }
 
-// Plans a lent case, or refuses it by a number and a place. However step 1 is tried, the answer is the same. Any count and flag will do beside the
+// Plans a lent case, or refuses it by a cause and a place. However step 1 is tried, the answer is the same. Any count and flag will do beside the
 // answer: trials alone read them.
 pub fn plan_by(
     trial: Trial,
-    m: usize,
-    n: usize,
-    run1: u64,
-    run2: u64,
-    costs: &[i64],
-    supplies: &[u64],
-    demands: &[u64],
-    ceilings: &[u64],
-    table: &[u64],
+    case: &Case<'_>,
     plan: &mut [u64],
     splits: &mut [u64],
     freights: &mut [i64],
 ) -> Tried
-    ensures { Answered
-        (lent m n run1 run2 costs.now supplies.now demands.now ceilings.now table.now
-        (length plan.old) (length splits.old) (length freights.old))
-        (outcome result.answer) (slices plan.old splits.old freights.old)
-        (slices plan.new splits.new freights.new) }
+    ensures { Answered (case_of case.now (length plan.old) (length splits.old) (length freights.old)) (outcome result.answer)
+        (slices plan.old splits.old freights.old) (slices plan.new splits.new freights.new) }
 {
-    match Size::checked(m, n) {
-        Checked::Refused(number) => Tried {
-            answer: Answer::Refused { number, place: 0 },
+    match balanced(case) {
+        Err(refusal) => Tried {
+            answer: Err(refusal),
             passed: false,
             searched: 0,
         },
-        Checked::Fits(size) => plan_sized(
-            trial, size, run1, run2, costs, supplies, demands, ceilings, table, plan, splits,
-            freights,
-        ),
+        Ok(made) => solve(trial, case, made, plan, splits, freights),
     }
 }
 
-// Plans a lent case, or refuses it by a number and a place.
+// Plans a lent case, or refuses it by a cause and a place.
 pub fn plan(
-    m: usize,
-    n: usize,
-    run1: u64,
-    run2: u64,
-    costs: &[i64],
-    supplies: &[u64],
-    demands: &[u64],
-    ceilings: &[u64],
-    table: &[u64],
+    case: &Case<'_>,
     plan: &mut [u64],
     splits: &mut [u64],
     freights: &mut [i64],
-) -> Answer
-    ensures { Answered
-        (lent m n run1 run2 costs.now supplies.now demands.now ceilings.now table.now
-        (length plan.old) (length splits.old) (length freights.old))
-        (outcome result) (slices plan.old splits.old freights.old)
-        (slices plan.new splits.new freights.new) }
+) -> Result<Planned, Refusal>
+    ensures { Answered (case_of case.now (length plan.old) (length splits.old) (length freights.old)) (outcome result)
+        (slices plan.old splits.old freights.old) (slices plan.new splits.new freights.new) }
 {
     let usual = Trial {
         simplex: true,
-        lane: 2048,
-        node: 128,
+        lane: None,
+        node: None,
     };
-    let tried = plan_by(
-        usual, m, n, run1, run2, costs, supplies, demands, ceilings, table, plan, splits, freights,
-    );
-    tried.answer
+    plan_by(usual, case, plan, splits, freights).answer
 }

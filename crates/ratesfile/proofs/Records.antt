@@ -7,6 +7,7 @@ use native.Mathlib.Nat.{mul-le-mul}
 use native.Mathlib.Omega.{arith}
 use lib.ListN.{length, get_or, take}
 use borrow.Author.Tests.{lt-ltb, le-ltb}
+use Rattle.std.specs.Prelude.{Option}
 use Rattle.csv_print.specs.Column.{column_text, column_printed}
 use Rattle.csv_print.specs.inner.Writing.{Written}
 use Rattle.csv_print.proofs.Columns.{column_short}
@@ -15,7 +16,6 @@ use Rattle.ratetable.proofs.Squares.{rate_is}
 use Rattle.ratetable.proofs.Filling.{from_length, from_at, table_takes}
 use Rattle.ratesfile.specs.File.{rates_text, text_for, file_text}
 use Rattle.numbers.specs.Short.{short_of}
-use Rattle.numbers.specs.declared.Short.{Short}
 
 -- up to an output of 4,000 a rate has at most four digits
 four_digits : (y : ℕ) → y ≤ 4000 → rate y < 10000
@@ -49,10 +49,10 @@ column_of_rates most {all} {out} {out'} {r} {k} h t w =
     rw (le-ltb 4000 most h) (record { bytes = v.bytes; ends = v.ends; short = rates_short most h })
 
 -- the file for the output that a text names
-pub file_for : (text : List ℕ) (o : Short) {out out' : List ℕ} {r : ℕ} → short_of text ≡ o → Written out out' 0 r (text_for o) 24006
+pub file_for : (text : List ℕ) (o : Option ℕ) {out out' : List ℕ} {r : ℕ} → short_of text ≡ o → Written out out' 0 r (text_for o) 24006
     → Written out out' 0 r (file_text text) 24006
 unfolding file_text
-file_for text o {out} {out'} {r} e w = subst (λ (o : Short). Written out out' 0 r (text_for o) 24006) (sym e) w
+file_for text o {out} {out'} {r} e w = subst (λ (o : Option ℕ). Written out out' 0 r (text_for o) 24006) (sym e) w
 
 pub no_file : {out : List ℕ} → Written out out 0 0 [] 24006
 no_file = record { bytes = refl; ends = refl; short = omega arith }

@@ -6,7 +6,7 @@ ghost use Rattle.csv_print.specs.inner.Writing.{Written};
 ghost use Rattle.ratesfile.specs.File.{rates_text, file_text};
 
 use csv_print::column::put_column;
-use numbers::{Short, read_short};
+use numbers::read_short;
 use ratetable::rates;
 
 // Writes the rates of the outputs 0 to `most`, each a record of its own. Gives the length of the text, at most 24,006; 0, and nothing is
@@ -27,9 +27,8 @@ fn put_rates(out: &mut [u8], most: u64) -> usize
 pub fn put_file(out: &mut [u8], text: &[u8]) -> usize
     ensures { Written out.old out.new 0 result (file_text text.now) 24006 }
 {
-    let output = read_short(text);
-    match output {
-        Short::Number(most) => put_rates(out, most),
-        Short::Unclear => 0,
+    match read_short(text) {
+        Some(most) => put_rates(out, most),
+        None => 0,
     }
 }

@@ -1,7 +1,7 @@
 -- The rate of an output, 100 times its square root rounded down; a table of all rates; what is written into a lent slice. Assumes nothing.
-use Rattle.std.specs.Prelude.{cond, List, [], ◌∷◌, ◌++◌, ℕ, zero, suc, ◌+◌, ◌*◌, ◌≤◌, ◌<◌, leb, ltb, ◌≡◌, length, get_or, drop}
-use Rattle.ratetable.specs.declared.Filled.{Filled}
-use Rattle.ratetable.specs.declared.Filled.TheVariants.{Written, TooMuch, TooShort}
+use Rattle.std.specs.Prelude.{Result, Ok, Err, cond, List, [], ◌∷◌, ◌++◌, ℕ, zero, suc, ◌+◌, ◌*◌, ◌≤◌, ◌<◌, leb, ltb, ◌≡◌, length, get_or, drop}
+use Rattle.ratetable.specs.declared.RateError.{RateError}
+use Rattle.ratetable.specs.declared.RateError.TheVariants.{TooMuch, TooShort}
 
 -- the paper's rule: r × r is at most 10,000 × y, and r is the greatest such number
 pub record IsRate (y r : ℕ) : Type 0 where
@@ -29,8 +29,8 @@ rates_from y zero = []
 rates_from y (suc k) = rate y ∷ rates_from (suc y) k
 
 -- what is answered to outputs up to most and a slice of so many cells
-unfoldable pub filled_of : ℕ → ℕ → Filled
-filled_of most cells = cond (ltb 4000 most) TooMuch (cond (ltb cells (most + 1)) TooShort Written)
+unfoldable pub filled_of : ℕ → ℕ → Result (Unit {0}) RateError
+filled_of most cells = cond (ltb 4000 most) (Err TooMuch) (cond (ltb cells (most + 1)) (Err TooShort) (Ok tt))
 
 -- the slice afterwards: the rates of 0 to most with the later cells as they were, or all cells as they were
 unfoldable pub cells_after : ℕ → List ℕ → List ℕ

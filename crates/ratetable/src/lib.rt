@@ -265,31 +265,26 @@ pub fn rates() -> [u64; 4001]
     RATES
 }
 
-// What was done with a lent slice.
-#[derive(Drop)]
-pub enum Filled {
-    // The first cells hold the rates.
-    Written,
-    // There are rates of outputs up to 4,000 only; nothing is written.
+// Why no rates are written.
+#[derive(Clone, Copy, Debug, PartialEq, Eq)]
+pub enum RateError {
+    // There are rates of outputs up to 4,000 only.
     TooMuch,
-    // The slice has fewer cells than there are rates to write; nothing is written.
+    // The slice has fewer cells than there are rates to write.
     TooShort,
 }
 
-// Writes the rates of the outputs 0 to `most` into the first cells of a slice; later cells are left as they are.
-pub fn fill(most: u64, to: &mut [u64]) -> Filled
+// Writes the rates of the outputs 0 to `most` into the first cells of a slice; later cells are left as they are. On an error nothing is written.
+pub fn fill(most: u64, to: &mut [u64]) -> Result<(), RateError>
     ensures { (result ≡ filled_of most (length to.old)) × (to.new ≡ cells_after most to.old) }
 {
     if 4_000 < most {
-        return Filled::TooMuch;
+        return Err(RateError::TooMuch);
     }
     let count = most as usize + 1;
     if to.len() < count {
-        return Filled::TooShort;
+        return Err(RateError::TooShort);
     }
-    let all = rates();
-    for y in 0..count {
-        to[y] = all[y];
-    }
-    Filled::Written
+    to[..count].copy_from_slice(&rates()[..count]);
+    Ok(())
 }

@@ -7,6 +7,7 @@ ghost use Rattle.reachability.specs.inner.Reachability.{AheadAt, Shut, LookedBac
 
 // The terminals that a source other than the start may serve; the terminals of these and the sources that are not reached yet, and the sources
 // that are and are to be looked at, a bit for each; is the goal reached?
+// Stays: `supplied` is read whether the goal is reached or not, so an enum in place of `found` would have it in both variants.
 #[derive(Clone, Copy)]
 pub struct Front {
     pub supplied: u64,
@@ -83,6 +84,7 @@ fn look_back(
     let mut sources = front.sources;
     let mut wait = front.wait;
     let mut rest = serves[j] & sources;
+    // Stays: no index is counted; the bits of a word are taken off one by one.
     while 0 < rest {
         let i = u32::trailing_zeros(rest) as usize;
         rest = rest & (rest - 1);
@@ -143,6 +145,7 @@ fn look_ahead(
 {
     let mut now = front;
     let mut rest = ways[i] & (front.terminals - (1 << goal));
+    // Stays: no index is counted; the bits of a word are taken off one by one.
     while 0 < rest {
         let j = highest(rest);
         rest = rest - (1 << j);
@@ -197,6 +200,7 @@ pub fn reach(
         wait: 1 << i,
         found: false,
     };
+    // Stays: no index is counted; the sources to be looked at are taken off a word, and others are added.
     while 0 < front.wait {
         let v = u32::trailing_zeros(front.wait) as usize;
         front.wait = front.wait & (front.wait - 1);

@@ -6,10 +6,13 @@ ghost use Rattle.residual.specs.inner.Labels.{far, Offered, Relabelled, Wins, Ro
 ghost use Rattle.residual.specs.inner.LanesInUse.{AtNode};
 ghost use Rattle.residual.specs.inner.Keys.{Rekeyed, Next, Named, RowKey, Bits, Tags};
 
+use crate::lanes::{Flow, Lanes};
+
 // Above every key.
 pub const SHUT: u32 = 4_000_000_000;
 
 // a where take says so, else b.
+// Stays: the four choices below would be four ifs, each longer than its call.
 fn pick(take: bool, a: u32, b: u32) -> u32
     ensures { result ≡ cond take a b }
 {
@@ -71,29 +74,31 @@ fn offer(
 
 // Offers each terminal that source i still has room to serve a path through that source.
 fn relax_row(
-    n: usize,
+    lanes: &Lanes<'_>,
+    flow: &Flow,
     i: usize,
-    cost: &[u32; 2048],
-    x: &[u32; 2048],
-    cap: &[u32; 2048],
     base: u32,
-    pot: &[u32; 96],
     full: &[u32; 96],
     want: &[u32; 96],
     dist: &mut [u32; 96],
     prev: &mut [u32; 96],
     key: &mut [u32; 96],
 )
-    requires row_ready { RowReady n (cells cost.now) (cells cap.now) (cells x.now) pot.now i base dist.old prev.old key.old }
+    requires row_ready { RowReady lanes.now.n (cells lanes.now.cost.now) (cells lanes.now.cap.now) (cells flow.now.x) flow.now.pot i base dist.old
+        prev.old key.old }
     requires tags { Tags full.now want.now }
     ensures by_index { (m : ℕ) → i < m → m ≤ 32 →
-        Relabelled (net m n cost.now cap.now x.now) i base dist.old prev.old
+        Relabelled (net m lanes.now.n lanes.now.cost.now lanes.now.cap.now flow.now.x) i base dist.old prev.old
         dist.new prev.new }
     ensures by_index_2 { (m : ℕ) → i < m → m ≤ 32 →
-        Rekeyed (net m n cost.now cap.now x.now) want.now i pot.now
+        Rekeyed (net m lanes.now.n lanes.now.cost.now lanes.now.cap.now flow.now.x) want.now i flow.now.pot
         dist.old dist.new key.old key.new }
 {
-    for j in 0..n {
+    let cost = lanes.cost;
+    let cap = lanes.cap;
+    let x = &flow.x;
+    let pot = &flow.pot;
+    for j in 0..lanes.n {
         let k = i * 64 + j;
         let w = 32 + j;
         let t = base + cost[k];
@@ -120,29 +125,30 @@ fn named(take: bool, d: u32, level: u32, i: usize, next: usize) -> usize
 // Offers each source that serves terminal v - 32 a path back through that terminal; serves has the sources to look at, bit by bit.
 // One of them that is as near as the terminal, or 96.
 fn relax_column(
-    v: usize,
     cost: &[u32; 2048],
-    x: &[u32; 2048],
-    serves: &[u32; 64],
+    flow: &Flow,
+    v: usize,
     base: u32,
     level: u32,
-    pot: &[u32; 96],
     full: &[u32; 96],
     dist: &mut [u32; 96],
     prev: &mut [u32; 96],
     key: &mut [u32; 96],
 ) -> usize
-    requires column_ready { ColumnReady (cells cost.now) (cells x.now) serves.now pot.now v base dist.old prev.old key.old }
+    requires column_ready { ColumnReady (cells cost.now) (cells flow.now.x) flow.now.serves flow.now.pot v base dist.old prev.old key.old }
     requires bits { Bits full.now }
-    ensures by_index { (m n : ℕ) (cap : List ℕ) → AtNode m n x.now serves.now v →
-        Relabelled (net m n cost.now cap x.now) v base dist.old prev.old dist.new prev.new }
+    ensures by_index { (m n : ℕ) (cap : List ℕ) → AtNode m n flow.now.x flow.now.serves v →
+        Relabelled (net m n cost.now cap flow.now.x) v base dist.old prev.old dist.new prev.new }
     ensures rekeyed { (N : Net) (want : List ℕ) →
-        Rekeyed N want v pot.now dist.old dist.new key.old key.new }
+        Rekeyed N want v flow.now.pot dist.old dist.new key.old key.new }
     ensures next { Next key.new level 32 result }
 {
+    let x = &flow.x;
+    let pot = &flow.pot;
     let j = v - 32;
     let mut next: usize = 96;
-    let mut rest = serves[j];
+    let mut rest = flow.serves[j];
+    // Stays: no index is counted; the bits of a word are taken off one by one.
     while 0 < rest {
         let i = u32::trailing_zeros(rest) as usize;
         rest = rest & (rest - 1);
@@ -161,34 +167,31 @@ fn relax_column(
 // Offers each node that an open arc out of v leads to a path through v. A node that is as near as v, or 96. Any of the nodes as near will do: they
 // are settled in any order. The labels are fixed, a key but for its last bit.
 pub fn relax(
-    n: usize,
+    lanes: &Lanes<'_>,
+    flow: &Flow,
     v: usize,
-    cost: &[u32; 2048],
-    x: &[u32; 2048],
-    cap: &[u32; 2048],
-    serves: &[u32; 64],
     base: u32,
     level: u32,
-    pot: &[u32; 96],
     full: &[u32; 96],
     want: &[u32; 96],
     dist: &mut [u32; 96],
     prev: &mut [u32; 96],
     key: &mut [u32; 96],
 ) -> usize
-    requires relax_ready { RelaxReady n (cells cost.now) (cells cap.now) (cells x.now) serves.now pot.now v base dist.old prev.old key.old }
+    requires relax_ready { RelaxReady lanes.now.n (cells lanes.now.cost.now) (cells lanes.now.cap.now) (cells flow.now.x) flow.now.serves flow.now.pot
+        v base dist.old prev.old key.old }
     requires tags { Tags full.now want.now }
-    ensures by_index { (m : ℕ) → AtNode m n x.now serves.now v →
-        Relabelled (net m n cost.now cap.now x.now) v base dist.old prev.old
+    ensures by_index { (m : ℕ) → AtNode m lanes.now.n flow.now.x flow.now.serves v →
+        Relabelled (net m lanes.now.n lanes.now.cost.now lanes.now.cap.now flow.now.x) v base dist.old prev.old
         dist.new prev.new }
-    ensures by_index_2 { (m : ℕ) → AtNode m n x.now serves.now v →
-        Rekeyed (net m n cost.now cap.now x.now) want.now v pot.now
+    ensures by_index_2 { (m : ℕ) → AtNode m lanes.now.n flow.now.x flow.now.serves v →
+        Rekeyed (net m lanes.now.n lanes.now.cost.now lanes.now.cap.now flow.now.x) want.now v flow.now.pot
         dist.old dist.new key.old key.new }
     ensures next { Next key.new level 32 result }
 {
     if v < 32 {
-        relax_row(n, v, cost, x, cap, base, pot, full, want, dist, prev, key);
+        relax_row(lanes, flow, v, base, full, want, dist, prev, key);
         return 96;
     }
-    relax_column(v, cost, x, serves, base, level, pot, full, dist, prev, key)
+    relax_column(lanes.cost, flow, v, base, level, full, dist, prev, key)
 }

@@ -1,4 +1,5 @@
 pub mod Roles
+pub mod Column
 pub mod Deeds
 pub mod Promise
 pub mod Secrecy

@@ -1,57 +1,20 @@
 // What a first tree is made with: the book of amounts and order, the keys of the terminals, and the potentials along a tree.
 ghost use Rattle.std.specs.Prelude.{◌≤◌};
 
+use super::potentials::Potentials;
 use super::price::SHUT;
-use spanningtree::flows::lane;
+use spanningtree::NONE;
+use spanningtree::flows::Load;
+use spanningtree::tree::Tree;
 
-// The sources that still have drums, a bit for each, and how many nodes are attached.
-#[derive(Clone, Copy)]
-pub struct Placed {
-    pub open: u32,
+// What each source still has and each terminal still wants, by node; the nodes in the order in which they were attached, and how many; and the sources that
+// still have drums, a bit for each.
+#[derive(Drop)]
+pub struct Book {
+    pub left: [u32; 128],
+    pub order: [u32; 128],
     pub count: u32,
-}
-
-pub fn smaller(a: u32, b: u32) -> u32
-    ensures { (result ≤ a) × (result ≤ b) }
-{
-    if a < b { a } else { b }
-}
-
-// The sources that are open without i.
-pub fn without(open: u32, i: u32) -> u32 {
-    open & (u32::MAX - (1u32 << i % 32))
-}
-
-// The potential of a node from that of the node above it: the lane between them is tight. A source's is p, modulo 2^25; a terminal's is kept
-// as its key, 64 (2^25 - q) and its number.
-fn follow(v: u32, cost: &[u32; 2048], parent: &[u32; 128], p: &mut [u32; 32], key: &mut [u32; 64]) {
-    let u = parent[(v % 128) as usize];
-    let c = cost[lane(v, u)] % 8_388_608;
-    if v < 32 {
-        let t = ((u % 128 + 32) % 64) as usize;
-        let q = key[t] % 2_147_483_648 / 64;
-        p[(v % 32) as usize] = (67_108_864 - q - c) % 33_554_432;
-    } else {
-        let s = p[(u % 32) as usize] % 33_554_432;
-        let j = (v % 128 + 32) % 64;
-        key[j as usize] = (67_108_864 - s - c) % 33_554_432 * 64 + j;
-    }
-}
-
-// The potentials of all nodes, from source 0 on downwards: backwards in the order in which they were attached.
-pub fn follow_all(
-    count: u32,
-    book: &[u32; 256],
-    cost: &[u32; 2048],
-    parent: &[u32; 128],
-    p: &mut [u32; 32],
-    key: &mut [u32; 64],
-) {
-    let mut k = count % 129;
-    while 0 < k {
-        k = k - 1;
-        follow(book[128 + (k % 128) as usize], cost, parent, p, key);
-    }
+    pub open: u32,
 }
 
 // Keys of the terminals: their numbers, above every open key from n on.
@@ -61,33 +24,100 @@ pub fn keys(n: usize, key: &mut [u32; 64]) {
     }
 }
 
-// The sources from 1 up to m have their amounts.
-pub fn stock(m: usize, amounts: &[u32; 32], book: &mut [u32; 256]) -> u32 {
-    let mut open: u32 = 0;
-    for i in 0..32 {
-        if 0 < i {
-            if i < m {
-                book[i] = amounts[i];
-                open = open | (1u32 << i);
-            }
+// The sources from 1 up to m have their amounts, and are open.
+fn stock(m: usize, amounts: &[u32; 32], book: &mut Book) {
+    for i in 1..32 {
+        if i < m {
+            book.left[i] = amounts[i];
+            book.open = book.open | (1u32 << i);
         }
     }
-    open
 }
 
-// Each terminal its demand, node by node.
-pub fn wants(demand: &[u32; 96], book: &mut [u32; 256]) {
+// Each terminal its demand.
+fn wants(demand: &[u32; 96], book: &mut Book) {
     for v in 32..96 {
-        book[v] = demand[v];
+        book.left[v] = demand[v];
     }
 }
 
-// Each node by itself.
-pub fn alone(sources_below: &mut [u32; 128], terminals_below: &mut [u64; 128]) {
-    for j in 0..64 {
-        if j < 32 {
-            sources_below[j] = 1u32 << j % 32;
-        }
-        terminals_below[32 + j] = 1u64 << j;
+// The potentials of all nodes, from source 0 on downwards: backwards in the order in which they were attached.
+fn follow_all(book: &Book, cost: &[u32; 2048], tree: &Tree, potentials: &mut Potentials) {
+    for k in (0..book.count % 129).rev() {
+        potentials.follow(book.order[(k % 128) as usize], cost, tree);
     }
+}
+
+impl Book {
+    // The book before a node is attached: of m sources, all but source 0.
+    pub fn new(m: usize, amounts: &[u32; 32], demand: &[u32; 96]) -> Book {
+        let mut book = Book {
+            left: [0u32; 128],
+            order: [0u32; 128],
+            count: 0,
+            open: 0,
+        };
+        wants(demand, &mut book);
+        stock(m, amounts, &mut book);
+        book
+    }
+
+    // A node is attached.
+    pub fn note(&mut self, v: u32) {
+        self.order[(self.count % 128) as usize] = v;
+        self.count = self.count % 128 + 1;
+    }
+
+    // Source i has no drums any more.
+    fn close(&mut self, i: u32) {
+        self.open = self.open & (u32::MAX - (1u32 << i % 32));
+    }
+
+    // The potentials of the tree of this book, by these prices.
+    pub fn potentials(&self, cost: &[u32; 2048], tree: &Tree, potentials: &mut Potentials) {
+        keys(0, &mut potentials.key);
+        follow_all(self, cost, tree, potentials);
+    }
+}
+
+// What is made before the first node is attached: each node is a part by itself, source 0 has the potential 2^24, and n terminals are open.
+pub fn open_tree(n: usize, tree: &mut Tree, potentials: &mut Potentials) {
+    tree.parent = [NONE; 128];
+    tree.separate();
+    potentials.source = [16_777_216u32; 32];
+    keys(n, &mut potentials.key);
+}
+
+// Source i and terminal j, a node, have as much less to send and to get as both can; the one that is used up is attached to the other by a lane of this
+// load. A terminal's key is then its number and shut.
+pub fn attach_spent<L: Load>(
+    i: u32,
+    j: u32,
+    load: L,
+    shut: u32,
+    book: &mut Book,
+    key: &mut [u32; 64],
+    tree: &mut Tree,
+    loads: &mut [L; 128],
+)
+    requires { shut ≤ 2100000000 }
+{
+    let s = (i % 32) as usize;
+    let t = (j % 128) as usize;
+    let a = book.left[s];
+    let b = book.left[t];
+    let amount = u32::min(a, b);
+    let spent = a <= b;
+    let child = if spent { i } else { j };
+    let host = if spent { j } else { i };
+    book.left[s] = a - amount;
+    book.left[t] = b - amount;
+    if spent {
+        book.close(i);
+    } else {
+        let number = (j % 128 + 32) % 64;
+        key[number as usize] = shut + number;
+    }
+    book.note(child);
+    tree.attach(child, host, load, loads);
 }

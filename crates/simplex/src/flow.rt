@@ -1,10 +1,11 @@
 // One pivot: the lane from source i to terminal j comes into the tree, and one on the way between them leaves.
-use super::potentials::raise_subtree;
+use super::potentials::Potentials;
 use spanningtree::NONE;
-use spanningtree::flows::{reverse_path, toggle_part};
-use std::num::{wrapping_add_u32, wrapping_sub_u32};
+use spanningtree::flows::Gain;
+use spanningtree::tree::Tree;
 
 // The node whose lane to the node above leaves the tree, and what that carries; top is where the ways up from i and from j meet.
+// Stays: NONE is a cell of the arrays as a node is, so that neither walk nor pivot tests for it; an Option is a second word in each turn of the walks.
 #[derive(Drop)]
 struct Leave {
     node: u32,
@@ -14,20 +15,13 @@ struct Leave {
 }
 
 // From i, a source, up to the first node that has j, of this bit, below it. The lanes above sources lose drums.
-fn from_source(
-    i: u32,
-    bit: u64,
-    parent: &[u32; 128],
-    terminals_below: &[u64; 128],
-    flow: &[u32; 128],
-) -> Leave {
+fn from_source(i: u32, bit: u64, tree: &Tree, flow: &[u32; 128]) -> Leave {
     let mut node = NONE;
     let mut amount = u32::MAX;
     let mut a = i;
-    let mut left: u32 = 48;
-    while 0 < left {
+    for _ in 0..48 {
         let v = (a % 128) as usize;
-        if terminals_below[v] & bit != 0 {
+        if tree.terminals_below[v] & bit != 0 {
             return Leave {
                 node,
                 amount,
@@ -39,9 +33,9 @@ fn from_source(
             node = a;
             amount = flow[v];
         }
-        let b = parent[v];
+        let b = tree.parent[v];
         let w = (b % 128) as usize;
-        if terminals_below[w] & bit != 0 {
+        if tree.terminals_below[w] & bit != 0 {
             return Leave {
                 node,
                 amount,
@@ -49,8 +43,7 @@ fn from_source(
                 top: b,
             };
         }
-        a = parent[w];
-        left = left - 1;
+        a = tree.parent[w];
     }
     Leave {
         node,
@@ -61,21 +54,15 @@ fn from_source(
 }
 
 // From j, a terminal, up to there, where the lanes above terminals do; also where one carries as little.
-fn from_terminal(j: u32, far: Leave, parent: &[u32; 128], flow: &[u32; 128]) -> Leave {
+fn from_terminal(j: u32, far: Leave, tree: &Tree, flow: &[u32; 128]) -> Leave {
     let top = far.top;
     let mut node = far.node;
     let mut amount = far.amount;
     let mut first = true;
     let mut a = j;
-    let mut left: u32 = 48;
-    while 0 < left {
+    for _ in 0..48 {
         if a == top {
-            return Leave {
-                node,
-                amount,
-                first,
-                top,
-            };
+            break;
         }
         let v = (a % 128) as usize;
         if flow[v] <= amount {
@@ -83,17 +70,11 @@ fn from_terminal(j: u32, far: Leave, parent: &[u32; 128], flow: &[u32; 128]) -> 
             amount = flow[v];
             first = false;
         }
-        let b = parent[v];
+        let b = tree.parent[v];
         if b == top {
-            return Leave {
-                node,
-                amount,
-                first,
-                top,
-            };
+            break;
         }
-        a = parent[(b % 128) as usize];
-        left = left - 1;
+        a = tree.parent[(b % 128) as usize];
     }
     Leave {
         node,
@@ -103,77 +84,37 @@ fn from_terminal(j: u32, far: Leave, parent: &[u32; 128], flow: &[u32; 128]) -> 
     }
 }
 
+// What the lanes above sources and those above terminals gain on the way up from the source's end, where that lane leaves.
+fn lost(amount: u32, first: bool) -> Gain<u32> {
+    let back = 0u32.wrapping_sub(amount);
+    Gain {
+        source: if first { back } else { amount },
+        terminal: if first { amount } else { back },
+    }
+}
+
 // The pivot at a lane that is d too cheap.
 pub fn pivot(
     i: u32,
     j: u32,
     d: u32,
-    parent: &mut [u32; 128],
-    sources_below: &mut [u32; 128],
-    terminals_below: &mut [u64; 128],
+    tree: &mut Tree,
     flow: &mut [u32; 128],
-    p: &mut [u32; 32],
-    key: &mut [u32; 64],
+    potentials: &mut Potentials,
 ) {
     let bit = 1u64 << (j % 128 + 32) % 64;
-    let far = from_terminal(
-        j,
-        from_source(i, bit, parent, terminals_below, flow),
-        parent,
-        flow,
-    );
-    let top = far.top;
-    let amount = far.amount;
+    let near = from_source(i, bit, tree, flow);
+    let far = from_terminal(j, near, tree, flow);
     let node = far.node;
     let first = far.first;
-    let v = (node % 128) as usize;
-    let r = sources_below[v];
-    let c = terminals_below[v];
-    let from = parent[v];
-    let back = wrapping_sub_u32(0, amount);
-    let lost = if first { back } else { amount };
-    let won = if first { amount } else { back };
-    let fall = wrapping_sub_u32(0, d);
-    let rise = if first { d } else { fall };
+    let part = tree.part(node);
+    let from = tree.above(node);
+    let gain = lost(far.amount, first);
+    let rise = if first { d } else { 0u32.wrapping_sub(d) };
     let end = if first { i } else { j };
     let host = if first { j } else { i };
-    toggle_part(
-        from,
-        top,
-        r,
-        c,
-        lost,
-        won,
-        parent,
-        sources_below,
-        terminals_below,
-        flow,
-    );
-    toggle_part(
-        host,
-        top,
-        r,
-        c,
-        won,
-        lost,
-        parent,
-        sources_below,
-        terminals_below,
-        flow,
-    );
-    reverse_path(
-        node,
-        end,
-        host,
-        amount,
-        r,
-        c,
-        lost,
-        won,
-        parent,
-        sources_below,
-        terminals_below,
-        flow,
-    );
-    raise_subtree(r, c, sources_below[0], terminals_below[0], rise, p, key);
+    tree.toggle_part(from, far.top, part, gain, flow);
+    tree.toggle_part(host, far.top, part, gain.turned(), flow);
+    tree.reverse_path(node, end, host, far.amount, part, gain, flow);
+    potentials.raise(part, tree.part(0), rise);
 }

@@ -1,8 +1,6 @@
 // The cheapest lane of a source, by keys of the terminals.
 ghost use Rattle.std.specs.Prelude.{◌<◌, ◌≤◌};
 
-use std::num::wrapping_add_u32;
-
 // Above every key of a terminal that is open.
 pub const SHUT: u32 = 2_013_265_920;
 
@@ -17,7 +15,7 @@ fn lesser(a: u32, b: u32) -> u32 {
 
 // A lane's price: 64 times its unit cost, and the key of its terminal.
 fn priced(cost: u32, key: u32) -> u32 {
-    wrapping_add_u32(cost << 6, key)
+    (cost << 6).wrapping_add(key)
 }
 
 // The lesser price of two lanes of the source whose row begins at k: to terminal j and to terminal j + 16.

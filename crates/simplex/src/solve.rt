@@ -2,10 +2,11 @@
 ghost use Rattle.std.specs.Prelude.{◌≡◌, length};
 
 use super::flow::pivot;
-use super::potentials::{source_potentials, terminal_potentials};
+use super::potentials::Potentials;
 use super::price::least;
 use super::start::start;
 use spanningtree::flows::lane;
+use spanningtree::tree::Tree;
 
 // The source that is looked at, and how many in a row had no lane that is too cheap.
 #[derive(Drop)]
@@ -26,33 +27,20 @@ fn step(
     n: usize,
     now: Pricing,
     cost: &[u32; 2048],
-    parent: &mut [u32; 128],
-    sources_below: &mut [u32; 128],
-    terminals_below: &mut [u64; 128],
+    tree: &mut Tree,
     flow: &mut [u32; 128],
-    p: &mut [u32; 32],
-    key: &mut [u32; 64],
+    potentials: &mut Potentials,
 ) -> Pricing {
     let row = now.row;
-    let l = least(row, n, cost, key);
-    let s = l / 64 + p[(row % 32) as usize] % 33_554_432;
+    let l = least(row, n, cost, &potentials.key);
+    let s = l / 64 + potentials.source[(row % 32) as usize] % 33_554_432;
     if 33_554_432 <= s {
         return Pricing {
             row: next(row, m),
             clean: now.clean % 64 + 1,
         };
     }
-    pivot(
-        row,
-        32 + l % 64,
-        33_554_432 - s,
-        parent,
-        sources_below,
-        terminals_below,
-        flow,
-        p,
-        key,
-    );
+    pivot(row, 32 + l % 64, 33_554_432 - s, tree, flow, potentials);
     Pricing { row, clean: 0 }
 }
 
@@ -61,42 +49,26 @@ fn simplex(
     m: u32,
     n: usize,
     cost: &[u32; 2048],
-    parent: &mut [u32; 128],
-    sources_below: &mut [u32; 128],
-    terminals_below: &mut [u64; 128],
+    tree: &mut Tree,
     flow: &mut [u32; 128],
-    p: &mut [u32; 32],
-    key: &mut [u32; 64],
+    potentials: &mut Potentials,
 ) {
     let mut now = Pricing { row: 0, clean: 0 };
-    let mut left: u32 = 20_000;
-    while 0 < left {
+    for _ in 0..20_000 {
         if m <= now.clean {
             return;
         }
-        now = step(
-            m,
-            n,
-            now,
-            cost,
-            parent,
-            sources_below,
-            terminals_below,
-            flow,
-            p,
-            key,
-        );
-        left = left - 1;
+        now = step(m, n, now, cost, tree, flow, potentials);
     }
 }
 
 // What the lanes of the tree carry.
-fn carried(parent: &[u32; 128], flow: &[u32; 128], x: &mut [u32; 2048])
+fn carried(tree: &Tree, flow: &[u32; 128], x: &mut [u32; 2048])
     requires { length x.old ≡ 2048 }
     ensures { length x.new ≡ 2048 }
 {
     for v in 0..96 {
-        let u = parent[v];
+        let u = tree.parent[v];
         let k = lane(v as u32, u);
         x[k] = if u < 96 { flow[v] } else { x[k] };
     }
@@ -120,44 +92,28 @@ pub fn solve(
     demand: &[u32; 96],
     x: &mut [u32; 2048],
     pot: &mut [u32; 96],
-    parent: &mut [u32; 128],
-    sources_below: &mut [u32; 128],
-    terminals_below: &mut [u64; 128],
+    tree: &mut Tree,
 )
     ensures { (length x.new ≡ 2048) × (length pot.new ≡ 96) }
 {
-    *sources_below = [0u32; 128];
-    *terminals_below = [0u64; 128];
+    tree.clear();
     let mut flow = [0u32; 128];
-    let mut p = [0u32; 32];
-    let mut key = [0u32; 64];
+    let mut potentials = Potentials {
+        source: [0u32; 32],
+        key: [0u32; 64],
+    };
     start(
         m,
         n,
         cost,
         amounts,
         demand,
-        parent,
-        sources_below,
-        terminals_below,
+        tree,
         &mut flow,
-        &mut p,
-        &mut key,
+        &mut potentials,
     );
-    simplex(
-        (m % 64) as u32,
-        n,
-        cost,
-        parent,
-        sources_below,
-        terminals_below,
-        &mut flow,
-        &mut p,
-        &mut key,
-    );
+    simplex((m % 64) as u32, n, cost, tree, &mut flow, &mut potentials);
     places(x);
-    carried(parent, &flow, x);
-    *pot = [600_000_000u32; 96];
-    source_potentials(&p, pot);
-    terminal_potentials(&key, pot);
+    carried(tree, &flow, x);
+    potentials.write(pot);
 }

@@ -2,17 +2,12 @@
 ghost use Rattle.std.specs.Prelude.{◌≡◌};
 ghost use Rattle.size.specs.Size.{checked_of};
 
-#[derive(Clone, Copy)]
+use refusal::Cause;
+
+#[derive(Clone, Copy, Debug, PartialEq, Eq)]
 pub struct Size {
     pub sources: usize,
     pub terminals: usize,
-}
-
-// A size within the limits, or the number of the refusal.
-#[derive(Drop)]
-pub enum Checked {
-    Fits(Size),
-    Refused(u64),
 }
 
 impl Size {
@@ -24,22 +19,18 @@ impl Size {
 
     pub const MAX_TERMINALS: usize = 64;
 
-    pub fn checked(m: usize, n: usize) -> Checked
+    // A size within the limits, or the cause of the refusal.
+    #[tactic(auto, unfolding(crate::specs::Size::checked_of))]
+    pub fn checked(m: usize, n: usize) -> Result<Size, Cause>
         ensures { result ≡ checked_of m n }
     {
-        if m < Self::MIN_SOURCES {
-            return Checked::Refused(1);
+        if m < Self::MIN_SOURCES || Self::MAX_SOURCES < m {
+            return Err(Cause::Sources);
         }
-        if Self::MAX_SOURCES < m {
-            return Checked::Refused(1);
+        if n < Self::MIN_TERMINALS || Self::MAX_TERMINALS < n {
+            return Err(Cause::Terminals);
         }
-        if n < Self::MIN_TERMINALS {
-            return Checked::Refused(2);
-        }
-        if Self::MAX_TERMINALS < n {
-            return Checked::Refused(2);
-        }
-        Checked::Fits(Size {
+        Ok(Size {
             sources: m,
             terminals: n,
         })

@@ -5,6 +5,7 @@ ghost use Rattle.residual.specs.inner.Cells.{cells};
 ghost use Rattle.residual.specs.inner.Network.{get};
 ghost use Rattle.slackcheck.specs.inner.Checked.{Levels, CheckReady, RowReady, RowChecked, RowsChecked, Told, Few, Got, ColumnsChecked, Checked};
 
+use residual::lanes::{Flow, Lanes};
 use std::num::wrapping_sub_u32;
 
 // The difference of two numbers modulo 2^32, where an amount is not 0; else 0.
@@ -20,23 +21,20 @@ fn where_some(amount: u32, a: u32, b: u32) -> u32
 // Does source i send this amount, on lanes within their ceilings that are slack, each with less than 2^20, so that sums fit? Where a lane with room
 // is too cheap, a lane in use too dear, or an amount above its ceiling, a difference modulo 2^32 has its top bit set. No branch, and no
 // comparison of words without signs, which plain vectors do not have: four lanes are looked at at a time.
-fn row_good(
-    n: usize,
-    i: usize,
-    amount: u32,
-    cost: &[u32; 2048],
-    cap: &[u32; 2048],
-    x: &[u32; 2048],
-    pot: &[u32; 96],
-) -> bool
-    requires { RowReady n (cells cost.now) pot.now i }
-    ensures { result ≡ true → RowChecked n (cells cost.now) (cells cap.now) (cells x.now) pot.now i amount }
+fn row_good(lanes: &Lanes<'_>, flow: &Flow, i: usize, amount: u32) -> bool
+    requires { RowReady lanes.now.n (cells lanes.now.cost.now) flow.now.pot i }
+    ensures { result ≡ true →
+        RowChecked lanes.now.n (cells lanes.now.cost.now) (cells lanes.now.cap.now) (cells flow.now.x) flow.now.pot i amount }
 {
+    let cost = lanes.cost;
+    let cap = lanes.cap;
+    let x = &flow.x;
+    let pot = &flow.pot;
     let p = pot[i];
     let mut signs: u32 = 0;
     let mut all: u32 = 0;
     let mut sent: u32 = 0;
-    for j in 0..n {
+    for j in 0..lanes.n {
         let k = i * 64 + j;
         let part = x[k];
         let reach = cost[k] + p;
@@ -66,27 +64,17 @@ fn amount_at(i: usize, split: u32, made: u32, supply: &[u32; 32]) -> u32
 }
 
 // Do all sources?
-fn rows_good(
-    m: usize,
-    n: usize,
-    split: u32,
-    made: u32,
-    supply: &[u32; 32],
-    cost: &[u32; 2048],
-    cap: &[u32; 2048],
-    x: &[u32; 2048],
-    pot: &[u32; 96],
-) -> bool
-    requires check_ready { CheckReady m n (cells cost.now) }
+fn rows_good(lanes: &Lanes<'_>, split: u32, made: u32, supply: &[u32; 32], flow: &Flow) -> bool
+    requires check_ready { CheckReady lanes.now.m lanes.now.n (cells lanes.now.cost.now) }
     requires split_le_made { split ≤ made }
-    requires levels { Levels pot.now }
+    requires levels { Levels flow.now.pot }
     ensures { result ≡ true →
-        RowsChecked n (cells cost.now) (cells cap.now) (cells x.now) pot.now
-        (amounts_at made (λ k. get supply.now k) split) m }
+        RowsChecked lanes.now.n (cells lanes.now.cost.now) (cells lanes.now.cap.now) (cells flow.now.x) flow.now.pot
+        (amounts_at made (λ k. get supply.now k) split) lanes.now.m }
 {
-    for i in 0..m {
+    for i in 0..lanes.m {
         let amount = amount_at(i, split, made, supply);
-        if !row_good(n, i, amount, cost, cap, x, pot) {
+        if !row_good(lanes, flow, i, amount) {
             return false;
         }
     }
@@ -145,29 +133,25 @@ fn levels_good(pot: &[u32; 96]) -> bool
     true
 }
 
-// Is x a plan at this split within the ceilings, and slack? Any answer no will do: a cheapest plan is then found by paths.
+// Is the plan one at this split within the ceilings, and slack? Any answer no will do: a cheapest plan is then found by paths.
 pub fn good(
-    m: usize,
-    n: usize,
+    lanes: &Lanes<'_>,
     split: u32,
     made: u32,
     supply: &[u32; 32],
     demand: &[u32; 96],
-    cost: &[u32; 2048],
-    cap: &[u32; 2048],
-    x: &[u32; 2048],
-    pot: &[u32; 96],
+    flow: &Flow,
 ) -> bool
-    requires check_ready { CheckReady m n (cells cost.now) }
+    requires check_ready { CheckReady lanes.now.m lanes.now.n (cells lanes.now.cost.now) }
     requires split_le_made { split ≤ made }
     ensures { result ≡ true →
-        Checked m n cost.now cap.now supply.now demand.now made split x.now pot.now }
+        Checked lanes.now.m lanes.now.n lanes.now.cost.now lanes.now.cap.now supply.now demand.now made split flow.now.x flow.now.pot }
 {
-    if !levels_good(pot) {
+    if !levels_good(&flow.pot) {
         return false;
     }
-    if !rows_good(m, n, split, made, supply, cost, cap, x, pot) {
+    if !rows_good(lanes, split, made, supply, flow) {
         return false;
     }
-    columns_good(m, n, demand, x)
+    columns_good(lanes.m, lanes.n, demand, &flow.x)
 }

@@ -1,5 +1,5 @@
 -- A plan that passes the check at the first split within the supplies and the least runs is what step 1 finds. Assumes nothing.
-use Rattle.std.proofs.Common.{◌≡◌, ℕ, ◌+◌, ◌-◌, ◌<◌, max, true, List, length, replicate, sym, ◌∙◌, true≢false, arith}
+use Rattle.std.proofs.Common.{◌≡◌, ℕ, ◌+◌, ◌-◌, ◌<◌, max, List, length, replicate, sym, ◌∙◌, arith, Some}
 use lib.ListN.{length-replicate, get_or-replicate}
 use Rattle.transport.specs.Plan.{Table}
 use Rattle.residual.specs.inner.Cells.{cells}
@@ -63,13 +63,8 @@ module _ {m n : ℕ} {cost cap supply demand : List ℕ} {run0 run1 d : ℕ} (r 
         cols = λ j h. omega (arith, o.columns j h, met (32 + j) (omega (arith, r.terminals)));
       }
 
-      pub checked_first : (x₀ : Table) → FirstPlan (record { m = m; n = n; c = cells cost; u = cells cap; x = x₀ }) (λ i. get supply i) demand run0 run1 d p x true y
+      pub checked_first : (x₀ : Table) → FirstPlan (record { m = m; n = n; c = cells cost; u = cells cap; x = x₀ }) (λ i. get supply i) demand run0 run1 d p x (Some y)
       checked_first x₀ = record {
         unmet = none;
-        done = record {
-          sending = λ z. sending x₀;
-          admitted = λ z. admitted;
-          least = λ z w t v s q h. omega (arith, s.low0, s.high1, s.whole);
-          none = λ z. absurd (true≢false z);
-        };
+        done = record { cases = record { sending = sending x₀; admitted = admitted; least = λ w t v s q h. omega (arith, s.low0, s.high1, s.whole) } };
       }

@@ -10,13 +10,13 @@ ghost use Rattle.split_range.specs.inner.Range.{BeginReady};
 
 use super::trial::Trial;
 use bounded::solve::solve as solve_within;
-use firstsplit::base::{First, first_plan};
+use firstsplit::base::first_plan;
+use residual::lanes::{Flow, Lanes};
 use simplex::solve::solve;
-use size::limits::Size;
 use slackcheck::check::good;
 use slackcheck::serving::all_servers;
 use spanningtree::NONE;
-use std::num::wrapping_add_u32;
+use spanningtree::tree::Tree;
 
 // The first split within the supplies and the least runs.
 fn first_split(run0: u32, supply1: u32, made: u32) -> u32
@@ -34,70 +34,64 @@ fn first_split(run0: u32, supply1: u32, made: u32) -> u32
 // The plan of the simplex at a split with its tree, for whoever checks it: of the one that knows no ceilings, where none is below a demand.
 fn simplex_at(
     wide: bool,
-    size: Size,
-    cost: &[u32; 2048],
-    cap: &[u32; 2048],
+    lanes: &Lanes<'_>,
     supply: &[u32; 32],
     demand: &[u32; 96],
     split: u32,
     made: u32,
-    x: &mut [u32; 2048],
-    pot: &mut [u32; 96],
-    parent: &mut [u32; 128],
-    sources_below: &mut [u32; 128],
-    terminals_below: &mut [u64; 128],
+    flow: &mut Flow,
+    tree: &mut Tree,
 )
     requires { split ≤ made }
-    ensures { (length x.new ≡ 2048) × (length pot.new ≡ 96) }
+    ensures { (length flow.new.x ≡ 2048) × (length flow.new.pot ≡ 96) }
 {
     let mut amounts = *supply;
     amounts[0] = split;
     amounts[1] = made - split;
     if wide {
         solve(
-            size.sources,
-            size.terminals,
-            cost,
+            lanes.m,
+            lanes.n,
+            lanes.cost,
             &amounts,
             demand,
-            x,
-            pot,
-            parent,
-            sources_below,
-            terminals_below,
+            &mut flow.x,
+            &mut flow.pot,
+            tree,
         );
     } else {
         solve_within(
-            size.sources,
-            size.terminals,
-            cost,
-            cap,
+            lanes.m,
+            lanes.n,
+            lanes.cost,
+            lanes.cap,
             &amounts,
             demand,
-            x,
-            pot,
-            parent,
-            sources_below,
-            terminals_below,
+            &mut flow.x,
+            &mut flow.pot,
+            tree,
         );
     }
 }
 
 // One drum more on a lane.
-fn spoil_plan(lane: usize, x: &mut [u32; 2048])
+fn spoil_plan(lane: Option<usize>, x: &mut [u32; 2048])
     requires { length x.old ≡ 2048 }
     ensures { length x.new ≡ 2048 }
 {
-    if 2048 <= lane {
-        return;
+    if let Some(k) = lane {
+        if k < 2048 {
+            x[k] = x[k].wrapping_add(1);
+        }
     }
-    x[lane] = wrapping_add_u32(x[lane], 1);
 }
 
 // A node that is attached to plant 1.
-fn spoil_tree(node: usize, parent: &mut [u32; 128]) {
-    if node < 128 {
-        parent[node] = 0;
+fn spoil_tree(node: Option<usize>, tree: &mut Tree) {
+    if let Some(v) = node {
+        if v < 128 {
+            tree.parent[v] = 0;
+        }
     }
 }
 
@@ -105,54 +99,29 @@ fn spoil_tree(node: usize, parent: &mut [u32; 128]) {
 fn quick_plan(
     trial: Trial,
     wide: bool,
-    size: Size,
-    cost: &[u32; 2048],
-    cap: &[u32; 2048],
+    lanes: &Lanes<'_>,
     supply: &[u32; 32],
     demand: &[u32; 96],
     run0: u32,
     made: u32,
-    x: &mut [u32; 2048],
-    serves: &mut [u32; 64],
-    pot: &mut [u32; 96],
-    parent: &mut [u32; 128],
-    sources_below: &mut [u32; 128],
-    terminals_below: &mut [u64; 128],
-) -> First
-    requires check_ready { CheckReady size.sources size.terminals (cells cost.now) }
+    flow: &mut Flow,
+    tree: &mut Tree,
+) -> Option<u32>
+    requires check_ready { CheckReady lanes.now.m lanes.now.n (cells lanes.now.cost.now) }
     requires run0_le_made { run0 ≤ made }
-    ensures { Quick size.sources size.terminals cost.now cap.now x.old
-        supply.now demand.now run0 made pot.new x.new serves.new result.found result.split }
+    ensures { Quick lanes.now.m lanes.now.n lanes.now.cost.now lanes.now.cap.now flow.old.x
+        supply.now demand.now run0 made flow.new.pot flow.new.x flow.new.serves result }
 {
     let split = first_split(run0, supply[1], made);
-    simplex_at(
-        wide,
-        size,
-        cost,
-        cap,
-        supply,
-        demand,
-        split,
-        made,
-        x,
-        pot,
-        parent,
-        sources_below,
-        terminals_below,
-    );
-    spoil_plan(trial.lane, x);
-    spoil_tree(trial.node, parent);
-    let m = size.sources;
-    let n = size.terminals;
-    if !good(m, n, split, made, supply, demand, cost, cap, x, pot) {
-        return First {
-            found: false,
-            split: 0,
-        };
+    simplex_at(wide, lanes, supply, demand, split, made, flow, tree);
+    spoil_plan(trial.lane, &mut flow.x);
+    spoil_tree(trial.node, tree);
+    if !good(lanes, split, made, supply, demand, flow) {
+        return None;
     }
-    *serves = [0u32; 64];
-    all_servers(m, n, x, serves);
-    First { found: true, split }
+    flow.serves = [0u32; 64];
+    all_servers(lanes.m, lanes.n, &flow.x, &mut flow.serves);
+    Some(split)
 }
 
 // A cheapest plan at the first split that has one: by the simplex, where that is wanted and its plan passes the check; else by cheapest paths,
@@ -160,63 +129,29 @@ fn quick_plan(
 pub fn cheapest_first(
     trial: Trial,
     wide: bool,
-    size: Size,
-    cost: &[u32; 2048],
-    cap: &[u32; 2048],
+    lanes: &Lanes<'_>,
     supply: &[u32; 32],
     demand: &[u32; 96],
     run0: u32,
     run1: u32,
     made: u32,
-    x: &mut [u32; 2048],
-    serves: &mut [u32; 64],
-    pot: &mut [u32; 96],
-    parent: &mut [u32; 128],
-    sources_below: &mut [u32; 128],
-    terminals_below: &mut [u64; 128],
-) -> First
-    requires { BeginReady size.sources size.terminals cost.now cap.now supply.now demand.now run0 run1 made }
-    ensures first_plan { FirstPlan (net size.sources size.terminals cost.now cap.now x.old)
-        (λ i. get supply.now i) demand.now run0 run1 made pot.new x.new result.found result.split }
-    ensures covers { Covers size.sources size.terminals x.new serves.new }
+    flow: &mut Flow,
+    tree: &mut Tree,
+) -> Option<u32>
+    requires { BeginReady lanes.now.m lanes.now.n lanes.now.cost.now lanes.now.cap.now supply.now demand.now run0 run1 made }
+    ensures first_plan { FirstPlan (net lanes.now.m lanes.now.n lanes.now.cost.now lanes.now.cap.now flow.old.x)
+        (λ i. get supply.now i) demand.now run0 run1 made flow.new.pot flow.new.x result }
+    ensures covers { Covers lanes.now.m lanes.now.n flow.new.x flow.new.serves }
 {
     if trial.simplex {
-        let first = quick_plan(
-            trial,
-            wide,
-            size,
-            cost,
-            cap,
-            supply,
-            demand,
-            run0,
-            made,
-            x,
-            serves,
-            pot,
-            parent,
-            sources_below,
-            terminals_below,
-        );
-        if first.found {
-            return first;
+        if let Some(split) = quick_plan(
+            trial, wide, lanes, supply, demand, run0, made, flow, tree,
+        ) {
+            return Some(split);
         }
     }
-    parent[1] = NONE;
-    *x = [0u32; 2048];
-    *serves = [0u32; 64];
-    first_plan(
-        size.sources,
-        size.terminals,
-        cost,
-        cap,
-        supply,
-        demand,
-        run0,
-        run1,
-        made,
-        x,
-        serves,
-        pot,
-    )
+    tree.parent[1] = NONE;
+    flow.x = [0u32; 2048];
+    flow.serves = [0u32; 64];
+    first_plan(lanes, supply, demand, run0, run1, made, flow)
 }

@@ -5,57 +5,59 @@ ghost use Rattle.augment.specs.inner.PathWalk.{Walkable, Walked};
 ghost use Rattle.cuts.specs.inner.Tables.{Tables};
 
 use augment::send::{carry, push, serve};
-use cuts::columns::renew;
-use spanningtree::NONE;
+use cuts::columns::{CutTables, renew};
+use residual::lanes::Lanes;
 
 // v, where it is a source whose lane to terminal w - 32 is empty or a terminal whose lane from w is full; else what was found before.
-fn blocked(v: usize, w: usize, cap: &[u32; 2048], x: &[u32; 2048], before: u32) -> u32 {
+fn blocked(
+    v: usize,
+    w: usize,
+    cap: &[u32; 2048],
+    x: &[u32; 2048],
+    before: Option<u32>,
+) -> Option<u32> {
     if v < 32 {
         if x[v * 64 + (w % 64 + 32) % 64] == 0 {
-            return v as u32;
+            return Some(v as u32);
         }
         return before;
     }
     let k = w % 32 * 64 + (v % 64 + 32) % 64;
     if cap[k] <= x[k] {
-        return (v % 128) as u32;
+        return Some((v % 128) as u32);
     }
     before
 }
 
 // Carries amount over the last count arcs of the path to goal, notes the lanes that they bring drums on, and writes each anew in the tables. The last
-// node on the way back from goal whose lane cannot bear more, NONE where there is none: a hint, of which nothing is promised.
+// node on the way back from goal whose lane cannot bear more: a hint, of which nothing is promised.
 fn shift_within(
     prev: &[u32; 96],
     count: u32,
     goal: usize,
     amount: u32,
-    cost: &[u32; 2048],
-    cap: &[u32; 2048],
+    lanes: &Lanes<'_>,
     x: &mut [u32; 2048],
     serves: &mut [u32; 64],
-    ahead: &mut [u32; 2048],
-    columns: &mut [u32; 2048],
-) -> u32
+    tables: &mut CutTables,
+) -> Option<u32>
     requires walkable { Walkable prev.now amount count goal x.old }
     requires trail { Trail 32 prev.now count goal }
     ensures walked { Walked prev.now amount count goal x.old x.new }
     ensures marks { Marks prev.now count goal serves.old serves.new }
     ensures by_index { (m n : ℕ) →
-        Tables false m n cost.now cap.now x.old ahead.old columns.old →
-        Tables false m n cost.now cap.now x.new ahead.new columns.new }
+        Tables false m n lanes.now.cost.now lanes.now.cap.now x.old tables.old.ahead tables.old.columns →
+        Tables false m n lanes.now.cost.now lanes.now.cap.now x.new tables.new.ahead tables.new.columns }
 {
     let mut v = goal;
-    let mut left = count;
-    let mut last: u32 = NONE;
-    while 0 < left {
+    let mut last = None;
+    for left in (0..count).rev() {
         let w = prev[v] as usize;
         carry(v, w, amount, x);
         serve(v, w, serves);
-        renew(v, w, cost, cap, x, ahead, columns);
-        last = blocked(v, w, cap, x, last);
+        renew(v, w, lanes, x, tables);
+        last = blocked(v, w, lanes.cap, x, last);
         v = w;
-        left = left - 1;
     }
     last
 }
@@ -68,25 +70,21 @@ pub fn shift(
     count: u32,
     goal: usize,
     amount: u32,
-    cost: &[u32; 2048],
-    cap: &[u32; 2048],
+    lanes: &Lanes<'_>,
     x: &mut [u32; 2048],
     serves: &mut [u32; 64],
-    ahead: &mut [u32; 2048],
-    columns: &mut [u32; 2048],
-) -> u32
+    tables: &mut CutTables,
+) -> Option<u32>
     requires walkable { Walkable prev.now amount count goal x.old }
     requires trail { Trail 32 prev.now count goal }
     ensures walked { Walked prev.now amount count goal x.old x.new }
     ensures marks { Marks prev.now count goal serves.old serves.new }
     ensures by_index { (m n : ℕ) →
-        Tables wide m n cost.now cap.now x.old ahead.old columns.old →
-        Tables wide m n cost.now cap.now x.new ahead.new columns.new }
+        Tables wide m n lanes.now.cost.now lanes.now.cap.now x.old tables.old.ahead tables.old.columns →
+        Tables wide m n lanes.now.cost.now lanes.now.cap.now x.new tables.new.ahead tables.new.columns }
 {
     if wide {
         return push(prev, count, goal, amount, x, serves);
     }
-    shift_within(
-        prev, count, goal, amount, cost, cap, x, serves, ahead, columns,
-    )
+    shift_within(prev, count, goal, amount, lanes, x, serves, tables)
 }

@@ -11,78 +11,66 @@ use super::shift::shift;
 use super::undo::undo;
 use augment::send::{lower, measure};
 use cuts::advance::{Task, advance};
+use cuts::columns::CutTables;
 use incumbent::Incumbent;
 use incumbent::scan::scan;
 use paths::search::{Paths, search};
+use residual::lanes::{Flow, Lanes};
 use spanningtree::NONE;
+use spanningtree::tree::Tree;
 
-// A path from plant 1 to plant 2: how many arcs it has, and δ, how many drums can go along it. Of the other fields nothing is promised: 1 where it was
-// searched for, else 0; the node on it whose lane can bear no more, NONE where there is none; whether the last cut left the potentials as they were.
+// A path from plant 1 to plant 2: how many arcs it has, and δ, how many drums can go along it. Of the other fields nothing is promised: whether it was
+// searched for; the node on it whose lane can bear no more; whether the last cut left the potentials as they were.
 #[derive(Clone, Copy)]
 pub struct Path {
     pub count: u32,
     pub delta: u32,
-    pub searched: u64,
-    pub blocked: u32,
+    pub searched: bool,
+    pub blocked: Option<u32>,
     pub flat: bool,
 }
 
 // Cheapest paths in the residual network, up to one from plant 1 to plant 2, as a search finds them; the tree has none any more.
-fn reach(
-    m: usize,
-    n: usize,
-    cost: &[u32; 2048],
-    cap: &[u32; 2048],
-    limit: u32,
-    demand: &[u32; 96],
-    x: &[u32; 2048],
-    serves: &[u32; 64],
-    pot: &[u32; 96],
-    parent: &mut [u32; 128],
-) -> Paths
-    requires shift_ready { ShiftReady (net m n cost.now cap.now x.now) pot.now x.now limit }
-    requires wanted { Wanted (net m n cost.now cap.now x.now) demand.now }
-    requires covers { Covers m n x.now serves.now }
-    ensures { Reached (net m n cost.now cap.now x.now) pot.now limit result.dist result.prev }
+fn reach(lanes: &Lanes<'_>, limit: u32, demand: &[u32; 96], flow: &Flow, tree: &mut Tree) -> Paths
+    requires shift_ready { ShiftReady (net lanes.now.m lanes.now.n lanes.now.cost.now lanes.now.cap.now flow.now.x) flow.now.pot flow.now.x limit }
+    requires wanted { Wanted (net lanes.now.m lanes.now.n lanes.now.cost.now lanes.now.cap.now flow.now.x) demand.now }
+    requires covers { Covers lanes.now.m lanes.now.n flow.now.x flow.now.serves }
+    ensures { Reached (net lanes.now.m lanes.now.n lanes.now.cost.now lanes.now.cap.now flow.now.x) flow.now.pot limit result.dist result.prev }
 {
-    parent[1] = NONE;
+    tree.parent[1] = NONE;
     let mut room = [0u32; 96];
     room[1] = limit;
-    search(m, n, cost, x, cap, serves, pot, &room, demand, 0)
+    search(lanes, flow, &room, demand, 0)
 }
 
 // The path that the search finds, with the nodes before its nodes in prev, and δ. Its distances lower the potentials, so that it has no reduced cost.
 fn search_path(
-    m: usize,
-    n: usize,
-    cost: &[u32; 2048],
-    cap: &[u32; 2048],
+    lanes: &Lanes<'_>,
     limit: u32,
     demand: &[u32; 96],
-    x: &[u32; 2048],
-    serves: &[u32; 64],
-    pot: &mut [u32; 96],
-    parent: &mut [u32; 128],
+    flow: &mut Flow,
+    tree: &mut Tree,
     prev: &mut [u32; 96],
 ) -> Path
-    requires shift_ready { ShiftReady (net m n cost.now cap.now x.now) pot.old x.now limit }
-    requires wanted { Wanted (net m n cost.now cap.now x.now) demand.now }
-    requires covers { Covers m n x.now serves.now }
-    ensures { PathTaken (net m n cost.now cap.now x.now) pot.new x.now limit
+    requires shift_ready { ShiftReady (net lanes.now.m lanes.now.n lanes.now.cost.now lanes.now.cap.now flow.old.x) flow.old.pot flow.old.x limit }
+    requires wanted { Wanted (net lanes.now.m lanes.now.n lanes.now.cost.now lanes.now.cap.now flow.old.x) demand.now }
+    requires covers { Covers lanes.now.m lanes.now.n flow.old.x flow.old.serves }
+    ensures path_taken { PathTaken (net lanes.now.m lanes.now.n lanes.now.cost.now lanes.now.cap.now flow.old.x) flow.new.pot flow.old.x limit
         prev.new result.count result.delta }
+    ensures same { (flow.new.x ≡ flow.old.x) × (flow.new.serves ≡ flow.old.serves) }
 {
-    let found = reach(m, n, cost, cap, limit, demand, x, serves, pot, parent);
+    let found = reach(lanes, limit, demand, flow, tree);
     let dist = found.dist;
     let nodes = found.prev;
     *prev = nodes;
-    let way = measure(prev, 0, 1, limit, x, cap);
-    let gap = dist[1] - pot[1];
-    lower(gap, &dist, pot);
+    let way = measure(prev, 0, 1, limit, &flow.x, lanes.cap);
+    let gap = dist[1] - flow.pot[1];
+    lower(gap, &dist, &mut flow.pot);
     Path {
         count: way.count,
         delta: way.amount,
-        searched: 1,
-        blocked: NONE,
+        searched: true,
+        blocked: None,
         flat: false,
     }
 }
@@ -91,109 +79,73 @@ fn search_path(
 // where cuts bring it over open and tight arcs: distances on it are those of the potentials. Else one is searched for.
 fn find_path(
     task: Task,
-    cost: &[u32; 2048],
-    cap: &[u32; 2048],
+    lanes: &Lanes<'_>,
     demand: &[u32; 96],
-    ahead: &[u32; 2048],
-    columns: &[u32; 2048],
-    x: &[u32; 2048],
-    serves: &mut [u32; 64],
-    pot: &mut [u32; 96],
-    parent: &mut [u32; 128],
-    sources_below: &mut [u32; 128],
-    terminals_below: &mut [u64; 128],
+    tables: &CutTables,
+    flow: &mut Flow,
+    tree: &mut Tree,
     prev: &mut [u32; 96],
 ) -> Path
-    requires shift_ready { ShiftReady (net task.size.sources task.size.terminals cost.now cap.now x.now) pot.old x.now task.limit }
-    requires wanted { Wanted (net task.size.sources task.size.terminals cost.now cap.now x.now) demand.now }
-    requires covers { Covers task.size.sources task.size.terminals x.now serves.old }
-    requires tables { Tables task.wide task.size.sources task.size.terminals cost.now cap.now x.now ahead.now columns.now }
+    requires shift_ready { ShiftReady (net lanes.now.m lanes.now.n lanes.now.cost.now lanes.now.cap.now flow.old.x) flow.old.pot flow.old.x task.limit }
+    requires wanted { Wanted (net lanes.now.m lanes.now.n lanes.now.cost.now lanes.now.cap.now flow.old.x) demand.now }
+    requires covers { Covers lanes.now.m lanes.now.n flow.old.x flow.old.serves }
+    requires tables { Tables task.wide lanes.now.m lanes.now.n lanes.now.cost.now lanes.now.cap.now flow.old.x tables.now.ahead tables.now.columns }
     requires prev_len { length prev.old ≡ 96 }
-    ensures path_taken { PathTaken (net task.size.sources task.size.terminals cost.now cap.now x.now)
-        pot.new x.now task.limit prev.new result.count result.delta }
-    ensures covers_2 { Covers task.size.sources task.size.terminals x.now serves.new }
+    ensures path_taken { PathTaken (net lanes.now.m lanes.now.n lanes.now.cost.now lanes.now.cap.now flow.old.x)
+        flow.new.pot flow.old.x task.limit prev.new result.count result.delta }
+    ensures covers_2 { Covers lanes.now.m lanes.now.n flow.old.x flow.new.serves }
+    ensures same { flow.new.x ≡ flow.old.x }
 {
-    let course = advance(
-        task,
-        cost,
-        cap,
-        ahead,
-        columns,
-        x,
-        serves,
-        pot,
-        parent,
-        sources_below,
-        terminals_below,
-        prev,
-    );
-    if course.count == 0 {
-        let size = task.size;
-        let m = size.sources;
-        let n = size.terminals;
-        return search_path(
-            m, n, cost, cap, task.limit, demand, x, serves, pot, parent, prev,
-        );
-    }
+    let Some(course) = advance(task, lanes, tables, flow, tree, prev) else {
+        return search_path(lanes, task.limit, demand, flow, tree, prev);
+    };
     Path {
         count: course.count,
         delta: course.amount,
-        searched: 0,
-        blocked: NONE,
+        searched: false,
+        blocked: None,
         flat: course.flat,
     }
 }
 
 // The drums of a stretch from a plan x go along a path, whose nodes prev gets. Lanes in use and the tables of the cuts follow the plan. Nothing
-// is asked of the tree in parent, sources_below and terminals_below, nor of the hint. Any cheapest path will do: the plan after it is slack.
+// is asked of the tree nor of the hint. Any cheapest path will do: the plan after it is slack.
 pub fn send_drums(
     task: Task,
-    cost: &[u32; 2048],
-    cap: &[u32; 2048],
+    lanes: &Lanes<'_>,
     demand: &[u32; 96],
-    x: &mut [u32; 2048],
-    serves: &mut [u32; 64],
-    pot: &mut [u32; 96],
-    parent: &mut [u32; 128],
-    sources_below: &mut [u32; 128],
-    terminals_below: &mut [u64; 128],
-    ahead: &mut [u32; 2048],
-    columns: &mut [u32; 2048],
+    flow: &mut Flow,
+    tree: &mut Tree,
+    tables: &mut CutTables,
     prev: &mut [u32; 96],
 ) -> Path
-    requires shift_ready { ShiftReady (net task.size.sources task.size.terminals cost.now cap.now x.old) pot.old x.old task.limit }
-    requires wanted { Wanted (net task.size.sources task.size.terminals cost.now cap.now x.old) demand.now }
-    requires covers { Covers task.size.sources task.size.terminals x.old serves.old }
-    requires tables { Tables task.wide task.size.sources task.size.terminals cost.now cap.now x.old ahead.old columns.old }
+    requires shift_ready { ShiftReady (net lanes.now.m lanes.now.n lanes.now.cost.now lanes.now.cap.now flow.old.x) flow.old.pot flow.old.x task.limit }
+    requires wanted { Wanted (net lanes.now.m lanes.now.n lanes.now.cost.now lanes.now.cap.now flow.old.x) demand.now }
+    requires covers { Covers lanes.now.m lanes.now.n flow.old.x flow.old.serves }
+    requires tables { Tables task.wide lanes.now.m lanes.now.n lanes.now.cost.now lanes.now.cap.now flow.old.x tables.old.ahead tables.old.columns }
     requires prev_len { length prev.old ≡ 96 }
-    ensures sent { Sent (net task.size.sources task.size.terminals cost.now cap.now x.old)
-        x.old task.limit pot.new x.new prev.new result.count result.delta }
-    ensures covers_2 { Covers task.size.sources task.size.terminals x.new serves.new }
-    ensures tables_2 { Tables task.wide task.size.sources task.size.terminals cost.now cap.now x.new
-        ahead.new columns.new }
+    ensures sent { Sent (net lanes.now.m lanes.now.n lanes.now.cost.now lanes.now.cap.now flow.old.x)
+        flow.old.x task.limit flow.new.pot flow.new.x prev.new result.count result.delta }
+    ensures covers_2 { Covers lanes.now.m lanes.now.n flow.new.x flow.new.serves }
+    ensures tables_2 { Tables task.wide lanes.now.m lanes.now.n lanes.now.cost.now lanes.now.cap.now flow.new.x
+        tables.new.ahead tables.new.columns }
 {
     // 1° A cheapest path from plant 1 to plant 2 in the residual network, and δ: the smallest ceiling on it, or what is left to u if that is less. The
     // potentials change until it has no reduced cost.
-    let mut path = find_path(
-        task,
-        cost,
-        cap,
-        demand,
-        ahead,
-        columns,
-        x,
-        serves,
-        pot,
-        parent,
-        sources_below,
-        terminals_below,
-        prev,
-    );
+    let mut path = find_path(task, lanes, demand, tables, flow, tree, prev);
     // 2° The amounts after moving δ along the path.
     let count = path.count;
     let delta = path.delta;
     path.blocked = shift(
-        task.wide, prev, count, 1, delta, cost, cap, x, serves, ahead, columns,
+        task.wide,
+        prev,
+        count,
+        1,
+        delta,
+        lanes,
+        &mut flow.x,
+        &mut flow.serves,
+        tables,
     );
     path
 }
@@ -259,19 +211,18 @@ pub fn revise(
     prev: &[u32; 96],
     table: &[u64],
     at: Position,
-    x: &[u32; 2048],
-    pot: &[u32; 96],
+    flow: &Flow,
     kept: &mut [u32; 2048],
     prices: &mut [u32; 96],
 ) -> Moved
-    requires { ReviseReady pot.now x.now table.now prev.now path.count path.delta at.split at.freight at.best }
+    requires { ReviseReady flow.now.pot flow.now.x table.now prev.now path.count path.delta at.split at.freight at.best }
     ensures { (N : Net) (x₀ p₀ : List ℕ) (limit : ℕ) →
         StretchReady N p₀ x₀ table.now at.split at.freight limit at.best →
-        Sent N x₀ limit pot.now x.now prev.now path.count path.delta →
+        Sent N x₀ limit flow.now.pot flow.now.x prev.now path.count path.delta →
         StretchDone N table.now at.split at.freight limit at.best (held_at at.best.split at.split x₀ kept.old)
-        (held_at at.best.split at.split pot.now prices.old) pot.now x.now
-        (held_at result.best.split result.split x.now kept.new)
-        (held_at result.best.split result.split pot.now prices.new) result.delta result.split result.freight result.gain result.loss
+        (held_at at.best.split at.split flow.now.pot prices.old) flow.now.pot flow.now.x
+        (held_at result.best.split result.split flow.now.x kept.new)
+        (held_at result.best.split result.split flow.now.pot prices.new) result.delta result.split result.freight result.gain result.loss
         result.best }
 {
     // 2° The next split y + δ and f there: f + δ · (cost of the path). The cost of the path is what the potentials say: gain less loss.
@@ -279,8 +230,8 @@ pub fn revise(
     let freight = at.freight;
     let count = path.count;
     let drums = path.delta as u64;
-    let gain = pot[1] as u64;
-    let loss = pot[0] as u64;
+    let gain = flow.pot[1] as u64;
+    let loss = flow.pot[0] as u64;
     let next = y + drums;
     let value = freight + gain * drums - loss * drums;
     // 3° The incumbent, revised where a total on the way is smaller: every split of the stretch is looked at. Its plan is that of the next split
@@ -288,10 +239,10 @@ pub fn revise(
     let best = at.best;
     let held = scan(table, y, drums, freight, gain, loss, best);
     let split = held.split;
-    keep(prev, count, split, y, next, x, kept);
+    keep(prev, count, split, y, next, &flow.x, kept);
     // 4° The end, where the split is u, is the test of the loop around this. The residual network for the next stretch is that of x, under the potentials at
     // hand; the plan that is kept needs them too.
-    hold(split, y, next, pot, prices);
+    hold(split, y, next, &flow.pot, prices);
     Moved {
         delta: drums,
         split: next,

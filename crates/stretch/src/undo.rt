@@ -9,11 +9,9 @@ pub fn undo(prev: &[u32; 96], count: u32, goal: usize, amount: u32, x: &mut [u32
     ensures { Undone prev.now amount count goal x.old x.new }
 {
     let mut v = goal;
-    let mut left = count;
-    while 0 < left {
+    for left in (0..count).rev() {
         let w = prev[v] as usize;
         carry(w, v, amount, x);
         v = w;
-        left = left - 1;
     }
 }

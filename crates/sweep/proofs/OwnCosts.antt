@@ -3,7 +3,7 @@
 use Rattle.std.proofs.Common.{◌≡◌, ℕ, zero, suc, ◌+◌, ◌-◌, ◌*◌, ◌<◌, ◌≤◌, min, List, [], ◌∷◌, ℤ, pos, ◌+ℤ◌, ◌-ℤ◌, ◌*ℤ◌, neg_ℤ, nat_abs, ◌≤ℤ◌, sym, refl, ap, ◌∙◌, ap₂, subst₂, arith}
 use lib.IntN.{sub_ℕ, +ℤ_assoc, +ℤ_comm}
 use Rattle.transport.specs.Sum.{sum}
-use Rattle.transport.specs.Plan.{Table, row, col, total, freight}
+use Rattle.transport.specs.Plan.{Table, col, total, freight}
 use Rattle.transport.proofs.Sums.{sum_ext, sum_swap}
 use Rattle.transport.proofs.Differences.{sub_same, sub_pos, sub_add, sub_negate, pos_sub, diff_sub}
 use Rattle.problem.specs.Integer.{Above}
@@ -13,7 +13,7 @@ use Rattle.problem.proofs.RaisedFreight.{Raised, freight_above}
 use Rattle.residual.specs.inner.Network.{Net}
 use Rattle.stretch.specs.inner.ResidualPath.{Arc, from, to, Open, ceiling, PathIn, narrowest}
 use Rattle.stretch.specs.inner.ResidualPath.Arc.{lane, return}
-use Rattle.sweep.specs.inner.Stretches.{curve_of, CheapestAt, network, cost_along, Stretch, Chain, StretchesTo, Stretches}
+use Rattle.sweep.specs.inner.Stretches.{curve_of, CheapestAt, network, cost_along, Stretch, Chain, Stretches}
 
 -- ---- paths and ceilings of equal networks
 

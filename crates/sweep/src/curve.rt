@@ -15,11 +15,10 @@ ghost use Rattle.sweep.specs.inner.Climb.{both_in, ClimbReady};
 use super::freight::{freight_of, lowered};
 use canonical::canon::canonize;
 use cuts::advance::{Hint, Task};
-use cuts::columns::tables;
+use cuts::columns::{CutTables, tables};
 use incumbent::Incumbent;
-use size::limits::Size;
-use spanningtree::NONE;
-use std::num::wrapping_add_u64;
+use residual::lanes::{Flow, Lanes};
+use spanningtree::tree::Tree;
 use stretch::stretch::{Position, revise, send_drums};
 
 // Writes a stop and its freight, lowered, behind the count stops that stand in the slices; how many stand there then.
@@ -78,27 +77,19 @@ pub struct Curve {
 }
 
 // Keeps the plan of the last split with its potentials, where it is the incumbent's.
-fn keep_last(
-    split: u64,
-    y: u64,
-    x: &[u32; 2048],
-    pot: &[u32; 96],
-    kept: &mut [u32; 2048],
-    prices: &mut [u32; 96],
-)
-    ensures kept_after { kept.new ≡ held_at split y x.now kept.old }
-    ensures prices_after { prices.new ≡ held_at split y pot.now prices.old }
+fn keep_last(split: u64, y: u64, flow: &Flow, kept: &mut [u32; 2048], prices: &mut [u32; 96])
+    ensures kept_after { kept.new ≡ held_at split y flow.now.x kept.old }
+    ensures prices_after { prices.new ≡ held_at split y flow.now.pot prices.old }
 {
     if split == y {
-        *kept = *x;
-        *prices = *pot;
+        *kept = flow.x;
+        *prices = flow.pot;
     }
 }
 
-// What the climb goes by: the case's size, whether ceilings are wide, the first split, the last, f at the first, what was added to each freight.
+// What the climb goes by: whether ceilings are wide, the first split, the last, f at the first, what was added to each freight.
 #[derive(Drop)]
 struct Course {
-    size: Size,
     wide: bool,
     lo: u64,
     hi: u64,
@@ -106,44 +97,38 @@ struct Course {
     added: u64,
 }
 
-// Step 3 of report 4.1: from a cheapest plan x at lo, with its potentials and its freight, stretch by stretch up to hi, on the tree as far as it goes.
+// Step 3 of report 4.1: from a cheapest plan at lo, with its potentials and its freight, stretch by stretch up to hi, on the tree as far as it goes.
 fn climb(
     course: Course,
-    cost: &[u32; 2048],
-    cap: &[u32; 2048],
+    lanes: &Lanes<'_>,
     demand: &[u32; 96],
     table: &[u64],
     splits: &mut [u64],
     freights: &mut [i64],
-    x: &mut [u32; 2048],
-    serves: &mut [u32; 64],
-    pot: &mut [u32; 96],
+    flow: &mut Flow,
     kept: &mut [u32; 2048],
-    parent: &mut [u32; 128],
-    sources_below: &mut [u32; 128],
-    terminals_below: &mut [u64; 128],
+    tree: &mut Tree,
 ) -> Curve
-    requires climb_ready { ClimbReady course.size.sources course.size.terminals cost.now cap.now x.old pot.old course.lo
+    requires climb_ready { ClimbReady lanes.now.m lanes.now.n lanes.now.cost.now lanes.now.cap.now flow.old.x flow.old.pot course.lo
         course.hi course.freight table.now course.added splits.old freights.old }
-    requires wanted { Wanted (net course.size.sources course.size.terminals cost.now cap.now x.old) demand.now }
-    requires covers { Covers course.size.sources course.size.terminals x.old serves.old }
-    ensures { Swept course.size.sources course.size.terminals (cells cost.now) (cells cap.now)
-        (both_in course.size.terminals x.old) (row course.size.terminals (cells x.old))
-        (col course.size.sources (cells x.old)) course.lo course.hi table.now course.added
-        splits.old freights.old x.old splits.new freights.new x.new
+    requires wanted { Wanted (net lanes.now.m lanes.now.n lanes.now.cost.now lanes.now.cap.now flow.old.x) demand.now }
+    requires covers { Covers lanes.now.m lanes.now.n flow.old.x flow.old.serves }
+    ensures { Swept lanes.now.m lanes.now.n (cells lanes.now.cost.now) (cells lanes.now.cap.now)
+        (both_in lanes.now.n flow.old.x) (row lanes.now.n (cells flow.old.x))
+        (col lanes.now.m (cells flow.old.x)) course.lo course.hi table.now course.added
+        splits.old freights.old flow.old.x splits.new freights.new flow.new.x
         kept.new result.split result.total result.freight result.stops }
 {
-    let size = course.size;
     let wide = course.wide;
-    let m = size.sources;
-    let n = size.terminals;
     let lo = course.lo;
     let hi = course.hi;
     let freight = course.freight;
     let added = course.added;
-    let mut ahead = [0u32; 2048];
-    let mut columns = [0u32; 2048];
-    tables(wide, m, n, cost, cap, x, &mut ahead, &mut columns);
+    let mut costs = CutTables {
+        ahead: [0u32; 2048],
+        columns: [0u32; 2048],
+    };
+    tables(wide, lanes, &flow.x, &mut costs);
     // The end of step 1: the incumbent is the plan at lo. Its plan is kept when the climb leaves it.
     let at = lo as usize;
     let mut best = Incumbent {
@@ -151,7 +136,7 @@ fn climb(
         total: freight + table[at],
         freight,
     };
-    let mut prices = *pot;
+    let mut prices = flow.pot;
     let mut prev = [0u32; 96];
     let mut y = lo;
     let mut value = freight;
@@ -160,39 +145,25 @@ fn climb(
     let mut fall: u64 = 0;
     let mut searched: u64 = 0;
     let mut hint = Hint {
-        node: NONE,
+        node: None,
         flat: false,
     };
     // Step 3, which ends where the split is hi.
+    // Stays: nothing is counted; y goes on by the drums of a stretch.
     while y < hi {
         let left = (hi - y) as u32;
         let task = Task {
-            size,
             limit: left,
             wide,
             hint,
         };
-        let path = send_drums(
-            task,
-            cost,
-            cap,
-            demand,
-            x,
-            serves,
-            pot,
-            parent,
-            sources_below,
-            terminals_below,
-            &mut ahead,
-            &mut columns,
-            &mut prev,
-        );
+        let path = send_drums(task, lanes, demand, flow, tree, &mut costs, &mut prev);
         let position = Position {
             split: y,
             freight: value,
             best,
         };
-        let moved = revise(path, &prev, table, position, x, pot, kept, &mut prices);
+        let moved = revise(path, &prev, table, position, flow, kept, &mut prices);
         let stop = turn(y, lo, moved.gain, moved.loss, rise, fall);
         count = mark(stop, count, y, value, added, splits, freights);
         rise = moved.gain;
@@ -200,15 +171,15 @@ fn climb(
         value = moved.freight;
         y = moved.split;
         best = moved.best;
-        searched = wrapping_add_u64(searched, path.searched);
+        searched = searched.wrapping_add(u64::from(path.searched));
         hint = Hint {
             node: path.blocked,
             flat: path.flat,
         };
     }
     count = note(count, y, value, added, splits, freights);
-    keep_last(best.split, y, x, pot, kept, &mut prices);
-    canonize(m, n, cost, cap, &prices, kept);
+    keep_last(best.split, y, flow, kept, &mut prices);
+    canonize(lanes, &prices, kept);
     Curve {
         split: best.split,
         total: best.total,
@@ -218,14 +189,12 @@ fn climb(
     }
 }
 
-// The sweep from split lo to split hi of a prepared case, of which x holds a cheapest plan at lo: the stops and their freights, less what was
-// added, go into the slices, the plan for everybody at the best split into kept. Nothing is asked of the tree in parent, sources_below and
-// terminals_below, nor of wide. Any contents will do in the working arrays from x on but kept afterwards: nothing reads them.
+// The sweep from split lo to split hi of a prepared case, of which flow holds a cheapest plan at lo: the stops and their freights, less what was
+// added, go into the slices, the plan for everybody at the best split into kept. Nothing is asked of the tree, nor
+// of wide. Any contents will do in flow and tree afterwards: nothing reads them.
 pub fn sweep(
-    size: Size,
     wide: bool,
-    cost: &[u32; 2048],
-    cap: &[u32; 2048],
+    lanes: &Lanes<'_>,
     demand: &[u32; 96],
     lo: u64,
     hi: u64,
@@ -233,28 +202,21 @@ pub fn sweep(
     added: u64,
     splits: &mut [u64],
     freights: &mut [i64],
-    x: &mut [u32; 2048],
-    serves: &mut [u32; 64],
-    pot: &mut [u32; 96],
+    flow: &mut Flow,
     kept: &mut [u32; 2048],
-    parent: &mut [u32; 128],
-    sources_below: &mut [u32; 128],
-    terminals_below: &mut [u64; 128],
+    tree: &mut Tree,
 ) -> Curve
-    requires sweep_start { SweepStart size.sources size.terminals cost.now cap.now demand.now lo hi x.old serves.old pot.old }
-    requires sweep_ready { SweepReady size.sources size.terminals demand.now lo hi table.now added splits.old freights.old }
+    requires sweep_start { SweepStart lanes.now.m lanes.now.n lanes.now.cost.now lanes.now.cap.now demand.now lo hi flow.old.x flow.old.serves flow.old.pot }
+    requires sweep_ready { SweepReady lanes.now.m lanes.now.n demand.now lo hi table.now added splits.old freights.old }
     ensures { (made : ℕ) (a : ℕ → ℕ) →
-        Begun size.sources size.terminals cost.now cap.now a (demand_in demand.now) made lo hi
-        x.old serves.old pot.old →
-        Swept size.sources size.terminals (by_row 64 cost.now) (by_row 64 cap.now) made a
-        (demand_in demand.now) lo hi table.now added splits.old freights.old x.old
-        splits.new freights.new x.new kept.new result.split result.total result.freight result.stops }
+        Begun lanes.now.m lanes.now.n lanes.now.cost.now lanes.now.cap.now a (demand_in demand.now) made lo hi
+        flow.old.x flow.old.serves flow.old.pot →
+        Swept lanes.now.m lanes.now.n (by_row 64 lanes.now.cost.now) (by_row 64 lanes.now.cap.now) made a
+        (demand_in demand.now) lo hi table.now added splits.old freights.old flow.old.x
+        splits.new freights.new flow.new.x kept.new result.split result.total result.freight result.stops }
 {
-    let m = size.sources;
-    let n = size.terminals;
-    let freight = freight_of(m, n, cost, x);
+    let freight = freight_of(lanes, &flow.x);
     let course = Course {
-        size,
         wide,
         lo,
         hi,
@@ -262,19 +224,6 @@ pub fn sweep(
         added,
     };
     climb(
-        course,
-        cost,
-        cap,
-        demand,
-        table,
-        splits,
-        freights,
-        x,
-        serves,
-        pot,
-        kept,
-        parent,
-        sources_below,
-        terminals_below,
+        course, lanes, demand, table, splits, freights, flow, kept, tree,
     )
 }

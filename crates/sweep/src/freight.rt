@@ -6,6 +6,8 @@ ghost use Rattle.transport.specs.Plan.{freight};
 ghost use Rattle.residual.specs.inner.Cells.{cells};
 ghost use Rattle.sweep.specs.inner.FreightSum.{FreightReady};
 
+use residual::lanes::Lanes;
+
 // The freight of what source i sends.
 fn row_freight(n: usize, i: usize, cost: &[u32; 2048], x: &[u32; 2048]) -> u64
     requires { FreightReady (i + 1) n (cells cost.now) (cells x.now) }
@@ -20,13 +22,13 @@ fn row_freight(n: usize, i: usize, cost: &[u32; 2048], x: &[u32; 2048]) -> u64
 }
 
 // The freight of a plan.
-pub fn freight_of(m: usize, n: usize, cost: &[u32; 2048], x: &[u32; 2048]) -> u64
-    requires { FreightReady m n (cells cost.now) (cells x.now) }
-    ensures { result ≡ freight m n (cells cost.now) (cells x.now) }
+pub fn freight_of(lanes: &Lanes<'_>, x: &[u32; 2048]) -> u64
+    requires { FreightReady lanes.now.m lanes.now.n (cells lanes.now.cost.now) (cells x.now) }
+    ensures { result ≡ freight lanes.now.m lanes.now.n (cells lanes.now.cost.now) (cells x.now) }
 {
     let mut total: u64 = 0;
-    for i in 0..m {
-        total = total + row_freight(n, i, cost, x);
+    for i in 0..lanes.m {
+        total = total + row_freight(lanes.n, i, lanes.cost, x);
     }
     total
 }

@@ -1,114 +1,49 @@
 // The planner on a small case: the freight at each split, and the refusals of the low table.
-use crate::number::level;
-use planner::Answer;
-use test_draws::first_cells;
+use crate::brute::Levels;
+use lent_case::Case;
+use planner::Planned;
+use refusal::Refusal;
+use test_draws::number::raised;
+use test_draws::slices::first;
+use test_plans::{Planning, plan};
 
-// A refusal's number and place; 0 and 0 of none.
-#[derive(Drop)]
-pub struct Told {
-    pub number: u64,
-    pub place: u64,
+// A freight or a total above -10^12.
+pub fn level(v: i64) -> u64 {
+    raised(v, 1_000_000_000_000)
 }
 
-// What the planner says of the case with this table.
-pub fn refusal(
-    run1: u64,
-    run2: u64,
-    costs: &[i64],
-    supplies: &[u64],
-    demands: &[u64],
-    ceilings: &[u64],
-    table: &[u64],
-) -> Told {
-    let mut plan = [0u64; 6];
-    let mut splits = [0u64; 8];
-    let mut freights = [0i64; 8];
-    let answer = planner::plan(
-        3,
-        2,
-        run1,
-        run2,
-        costs,
-        supplies,
-        demands,
-        ceilings,
-        table,
-        &mut plan,
-        &mut splits,
-        &mut freights,
-    );
-    match answer {
-        Answer::Refused { number, place } => Told { number, place },
-        Answer::Planned {
-            split: _,
-            total: _,
-            freight: _,
-            stops: _,
-        } => Told {
-            number: 0,
-            place: 0,
-        },
-    }
+// What the planner answers.
+pub fn answer(c: &Case) -> Result<Planned, Refusal> {
+    let planning: Planning<6, 8> = plan(c);
+    planning.answer
 }
 
-// The level of the least freight where plant 1 makes y, by a table that is 0 there and as dear as can be elsewhere; 0 where y is no split.
-fn level_at(
-    run1: u64,
-    run2: u64,
-    costs: &[i64],
-    supplies: &[u64],
-    demands: &[u64],
-    ceilings: &[u64],
-    entries: usize,
-    y: usize,
-) -> u64 {
-    let mut plan = [0u64; 6];
-    let mut splits = [0u64; 8];
-    let mut freights = [0i64; 8];
+// The level of the least freight where plant 1 makes y, by a table that is 0 there and as dear as can be elsewhere; none where y is no split.
+fn level_at(c: &Case, y: usize) -> Option<u64> {
     let mut table = [1_000_000_000u64; 8];
     table[y % 8] = 0;
-    let answer = planner::plan(
-        3,
-        2,
-        run1,
-        run2,
-        costs,
-        supplies,
-        demands,
-        ceilings,
-        first_cells(&table, entries),
-        &mut plan,
-        &mut splits,
-        &mut freights,
-    );
-    match answer {
-        Answer::Refused {
-            number: _,
-            place: _,
-        } => 0,
-        Answer::Planned {
-            split,
-            total: _,
-            freight,
-            stops: _,
-        } => { if split == y as u64 { level(freight) } else { 0 } }
+    let found = answer(&Case {
+        m: c.m,
+        n: c.n,
+        run1: c.run1,
+        run2: c.run2,
+        costs: c.costs,
+        supplies: c.supplies,
+        demands: c.demands,
+        ceilings: c.ceilings,
+        table: first(&table, c.table.len()),
+    });
+    match found {
+        Ok(plan) if plan.split == y as u64 => Some(level(plan.freight)),
+        _ => None,
     }
 }
 
 // The level of each output.
-pub fn levels(
-    run1: u64,
-    run2: u64,
-    costs: &[i64],
-    supplies: &[u64],
-    demands: &[u64],
-    ceilings: &[u64],
-    entries: usize,
-    to: &mut [u64],
-) {
-    let mut y: usize = 0;
-    while y < to.len() {
-        to[y] = level_at(run1, run2, costs, supplies, demands, ceilings, entries, y);
-        y += 1;
+pub fn levels(c: &Case) -> Levels {
+    let mut levels = [None; 8];
+    for (y, level) in levels.iter_mut().enumerate() {
+        *level = level_at(c, y);
     }
+    levels
 }

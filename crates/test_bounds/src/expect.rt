@@ -1,72 +1,42 @@
 // What is to be answered.
-use test_draws::{at, plus};
+use crate::brute::Levels;
+use test_draws::slices::at;
 
-// One more than the first split at which the high entry is below the low one or above 1,000,000,000; 0 where there is none.
-pub fn bad_entry(levels: &[u64], low: &[u64], high: &[u64]) -> u64 {
-    let mut y: usize = 0;
-    while y < levels.len() {
-        if 0 < levels[y] {
-            if at(high, y) < at(low, y) {
-                return y as u64 + 1;
-            }
-            if 1_000_000_000 < at(high, y) {
-                return y as u64 + 1;
-            }
+// The first split at which the high entry is below the low one or above 1,000,000,000.
+pub fn bad_entry(levels: &Levels, low: &[u64], high: &[u64]) -> Option<u64> {
+    for (y, level) in levels.iter().enumerate() {
+        let entry = at(high, y);
+        if level.is_some() && (entry < at(low, y) || 1_000_000_000 < entry) {
+            return Some(y as u64);
         }
-        y += 1;
     }
-    0
+    None
 }
 
-// The first split.
-pub fn first_split(levels: &[u64]) -> u64 {
-    let mut y: usize = 0;
-    while y < levels.len() {
-        if 0 < levels[y] {
-            return y as u64;
-        }
-        y += 1;
-    }
-    0
+// The first split, or 0.
+pub fn first_split(levels: &Levels) -> u64 {
+    levels.iter().position(|level| level.is_some()).unwrap_or(0) as u64
 }
 
-// How many cells do not hold this number?
-pub fn others(s: &[u64], v: u64) -> u64 {
-    let mut found: u64 = 0;
-    let mut k: usize = 0;
-    while k < s.len() {
-        if s[k] != v {
-            found = plus(found, 1);
-        }
-        k += 1;
-    }
-    found
+// How many splits there are.
+pub fn splits(levels: &Levels) -> usize {
+    levels.iter().filter(|level| level.is_some()).count()
 }
 
 // The mark of split k, counted from the first; 7 where there are no more.
-fn mark_of(levels: &[u64], marks: &[u64], k: u64) -> u64 {
-    let mut before: u64 = 0;
-    let mut y: usize = 0;
-    while y < levels.len() {
-        if 0 < levels[y] {
-            if before == k {
-                return at(marks, y);
-            }
-            before = plus(before, 1);
-        }
-        y += 1;
-    }
-    7
+fn mark_of(levels: &Levels, marks: &[bool; 8], k: usize) -> u64 {
+    levels
+        .iter()
+        .zip(marks)
+        .filter(|(level, _)| level.is_some())
+        .nth(k)
+        .map_or(7, |(_, mark)| u64::from(*mark))
 }
 
 // Are the answers the marks of the splits, with 7 in the cells after them?
-pub fn alike(levels: &[u64], marks: &[u64], answers: &[u64]) -> bool {
-    let mut k: usize = 0;
-    while k < answers.len() {
-        if answers[k] != mark_of(levels, marks, k as u64) {
-            return false;
-        }
-        k += 1;
-    }
-    true
+pub fn alike(levels: &Levels, marks: &[bool; 8], answers: &[u64]) -> bool {
+    answers
+        .iter()
+        .enumerate()
+        .all(|(k, answer)| *answer == mark_of(levels, marks, k))
 }

@@ -6,18 +6,21 @@ mod brute;
 mod case;
 mod draw;
 mod expect;
-mod number;
 mod trial;
 
 use crate::draw::{draw_above, draw_costs};
-use crate::trial::{Seen, hold_first};
+use crate::trial::{Seen, hold};
+use lent_case::Case;
+use refusal::Cause;
 use std::io;
-use test_draws::{after, at, below, draw, one_if, plus};
+use test_draws::slices::first;
+use test_draws::tally::say;
+use test_draws::{after, below, draw};
 
 const CASES: u64 = 3_000;
 
 // What was found over all cases.
-#[derive(Drop)]
+#[derive(Clone, Copy, PartialEq, Eq, Debug, Drop)]
 struct Tally {
     cases: u64,
     known: u64,
@@ -30,27 +33,63 @@ struct Tally {
     differences: u64,
 }
 
-// What is varied: the low entries' base, by how much all high entries are lower, the last high entry left out, few cells for the answers,
-// and the least runs.
-#[derive(Drop)]
-struct Kind {
-    base: u64,
-    lower: u64,
-    one_less: bool,
-    few: bool,
-    run1: u64,
-    run2: u64,
+impl Tally {
+    fn new() -> Tally {
+        Tally {
+            cases: 0,
+            known: 0,
+            refused: 0,
+            wrong_high: 0,
+            short: 0,
+            splits: 0,
+            possible: 0,
+            tables: 0,
+            differences: 0,
+        }
+    }
+
+    // The tally and one case more.
+    fn with(self, s: Seen) -> Tally {
+        let cause = s.said.err().map(|refusal| refusal.cause);
+        Tally {
+            cases: self.cases.saturating_add(1),
+            known: self.known.saturating_add(u64::from(cause.is_none())),
+            refused: self.refused.saturating_add(u64::from(cause.is_some())),
+            wrong_high: self
+                .wrong_high
+                .saturating_add(u64::from(cause == Some(Cause::HighEntry))),
+            short: self
+                .short
+                .saturating_add(u64::from(cause == Some(Cause::Room))),
+            splits: self.splits.saturating_add(s.splits),
+            possible: self.possible.saturating_add(s.possible),
+            tables: self.tables.saturating_add(s.tables),
+            differences: self.differences.saturating_add(u64::from(!s.agrees)),
+        }
+    }
+}
+
+// What is varied: high low entries, all high entries one lower, the last high entry left out, few cells for the answers, a least run, or nothing.
+#[derive(Clone, Copy, PartialEq, Eq, Debug, Drop)]
+enum Kind {
+    HighBase,
+    Lower,
+    OneLess,
+    Few,
+    Run1,
+    Run2,
+    Plain,
 }
 
 fn kind_of(x: u64) -> Kind {
-    let k = below(x, 12);
-    Kind {
-        base: if k == 0 { 999_999_996 } else { 0 },
-        lower: if k == 1 { 1 } else { 0 },
-        one_less: k == 2,
-        few: k == 3,
-        run1: if k == 4 { 1 } else { 0 },
-        run2: if k == 5 { 1 } else { 0 },
+    match below(x, 12) {
+        0 => Kind::HighBase,
+        1 => Kind::Lower,
+        2 => Kind::OneLess,
+        3 => Kind::Few,
+        4 => Kind::Run1,
+        5 => Kind::Run2,
+        _ => Kind::Plain,
     }
 }
 
@@ -63,87 +102,46 @@ fn run_case(seed: u64) -> Seen {
     let mut ceilings = [0u64; 6];
     let mut low = [0u64; 8];
     let mut high = [0u64; 8];
+    let base = if kind == Kind::HighBase {
+        999_999_996
+    } else {
+        0
+    };
     let a = draw_costs(seed, &mut costs);
     let b = draw(a, 1, 6, &mut supplies);
     let c = draw(b, 1, 6, &mut demands);
     let d = draw(c, 1, 7, &mut ceilings);
-    let e = draw(d, kind.base, 8, &mut low);
-    draw_above(e, kind.lower, &low, &mut high);
-    let most = (at(&supplies, 0) % 7) as usize;
-    let less = kind.one_less;
-    let few = kind.few;
-    let long = if less { most } else { most + 1 };
-    if few {
-        let mut two = [7u64; 2];
-        return hold_first(
-            kind.run1,
-            kind.run2,
-            &costs,
-            &supplies,
-            &demands,
-            &ceilings,
-            &low,
-            &high,
-            most + 1,
-            long,
-            &mut two,
-        );
-    }
+    let e = draw(d, base, 8, &mut low);
+    draw_above(e, u64::from(kind == Kind::Lower), &low, &mut high);
+    let most = (supplies[0] % 7) as usize;
+    let long = most + usize::from(kind != Kind::OneLess);
     let mut answers = [7u64; 8];
-    hold_first(
-        kind.run1,
-        kind.run2,
-        &costs,
-        &supplies,
-        &demands,
-        &ceilings,
-        &low,
-        &high,
-        most + 1,
-        long,
-        &mut answers,
+    let cells = if kind == Kind::Few { 2 } else { 8 };
+    hold(
+        &Case {
+            m: 3,
+            n: 2,
+            run1: u64::from(kind == Kind::Run1),
+            run2: u64::from(kind == Kind::Run2),
+            costs: &costs,
+            supplies: &supplies,
+            demands: &demands,
+            ceilings: &ceilings,
+            table: first(&low, most + 1),
+        },
+        first(&high, long),
+        &mut answers[..cells],
     )
 }
 
-fn counted(t: Tally, s: Seen) -> Tally {
-    let number = s.number;
-    Tally {
-        cases: plus(t.cases, 1),
-        known: plus(t.known, one_if(number == 0)),
-        refused: plus(t.refused, one_if(number != 0)),
-        wrong_high: plus(t.wrong_high, one_if(number == 28)),
-        short: plus(t.short, one_if(number == 11)),
-        splits: plus(t.splits, s.splits),
-        possible: plus(t.possible, s.possible),
-        tables: plus(t.tables, s.tables),
-        differences: plus(t.differences, one_if(!s.agrees)),
-    }
-}
-
 fn run_cases() -> Tally {
-    let mut t = Tally {
-        cases: 0,
-        known: 0,
-        refused: 0,
-        wrong_high: 0,
-        short: 0,
-        splits: 0,
-        possible: 0,
-        tables: 0,
-        differences: 0,
-    };
+    let mut t = Tally::new();
     let mut x: u64 = 20_260_209;
-    let mut k: u64 = 0;
-    while k < CASES {
+    for _ in 0..CASES {
         x = after(x);
-        t = counted(t, run_case(x));
-        k += 1;
+        t = t.with(run_case(x));
     }
     t
-}
-
-fn say(rt: &impl Print, name: &str, number: u64) -> io::Result<()> {
-    println!(rt; "{name}{number}")
 }
 
 fn main(rt: HostRuntime) -> io::Result<()> {

@@ -1,26 +1,25 @@
 // One case: what `possible_splits` answers, held to every table between the bounds.
-use crate::brute::{Reached, try_tables};
-use crate::case::{Told, levels, refusal};
-use crate::expect::{alike, bad_entry, first_split, others};
-use crate::number::level;
-use bounds_problem::Answer;
+use crate::brute::{Levels, try_tables};
+use crate::case::{answer, level, levels};
+use crate::expect::{alike, bad_entry, first_split, splits};
+use bounds_problem::Known;
 use bounds_splits::possible_splits;
-use test_draws::first_cells;
+use lent_case::Case;
+use refusal::{Cause, Refusal};
 
-// The number of the refusal, 0 of none; whether the answer is the one wanted; how many splits there are, how many can be the cheapest, and
-// how many tables were tried.
-#[derive(Drop)]
+// What is answered; whether it is what is wanted; how many splits there are, how many can be the cheapest, and how many tables were tried.
+#[derive(Clone, Copy, PartialEq, Eq, Debug)]
 pub struct Seen {
-    pub number: u64,
+    pub said: Result<(), Refusal>,
     pub agrees: bool,
     pub splits: u64,
     pub possible: u64,
     pub tables: u64,
 }
 
-fn as_refused(number: u64, agrees: bool) -> Seen {
+fn without_tables(said: Result<(), Refusal>, agrees: bool) -> Seen {
     Seen {
-        number,
+        said,
         agrees,
         splits: 0,
         possible: 0,
@@ -28,161 +27,49 @@ fn as_refused(number: u64, agrees: bool) -> Seen {
     }
 }
 
-// The refusal that is wanted, by what the planner says of the low table: then 28, then 11.
-fn wanted(told: Told, levels: &[u64], low: &[u64], high: &[u64], cells: usize) -> Told {
-    if told.number != 0 {
-        return told;
+// The refusal that is wanted, if one is: the planner's of the low table, then of the high table, then of few cells.
+fn wanted(c: &Case, levels: &Levels, high: &[u64], cells: usize) -> Result<(), Refusal> {
+    answer(c)?;
+    if high.len() != c.table.len() {
+        return Err(Cause::HighEntry.at(0));
     }
-    if high.len() != low.len() {
-        return Told {
-            number: 28,
-            place: 0,
-        };
+    if let Some(y) = bad_entry(levels, c.table, high) {
+        return Err(Cause::HighEntry.at(y));
     }
-    let bad = bad_entry(levels, low, high);
-    if 0 < bad {
-        return Told {
-            number: 28,
-            place: bad - 1,
-        };
+    if cells < splits(levels) {
+        return Err(Cause::Room.at(0));
     }
-    if (cells as u64) < others(levels, 0) {
-        return Told {
-            number: 11,
-            place: 0,
-        };
-    }
-    Told {
-        number: 0,
-        place: 0,
-    }
+    Ok(())
 }
 
 // The answer of a case that is not refused.
-fn hold_known(
-    levels: &[u64],
-    low: &[u64],
-    high: &[u64],
-    answers: &[u64],
-    first: u64,
-    count: u64,
-    smallest: u64,
-    largest: u64,
-) -> Seen {
-    let mut marks = [0u64; 8];
-    let reached = try_tables(levels, low, high, &mut marks);
-    let tables = reached.tables;
-    let agrees = same(reached, smallest, largest)
-        && first == first_split(levels)
-        && count == others(levels, 0)
-        && alike(levels, &marks, answers);
+fn hold_known(levels: &Levels, low: &[u64], high: &[u64], answers: &[u64], known: Known) -> Seen {
+    let reached = try_tables(levels, low, high);
     Seen {
-        number: 0,
-        agrees,
-        splits: count,
-        possible: others(&marks, 0),
-        tables,
+        said: Ok(()),
+        agrees: known.first == first_split(levels)
+            && known.count == splits(levels)
+            && level(known.smallest) == reached.smallest
+            && level(known.largest) == reached.largest
+            && alike(levels, &reached.marks, answers),
+        splits: known.count as u64,
+        possible: reached.marks.iter().filter(|mark| **mark).count() as u64,
+        tables: reached.tables,
     }
 }
 
-fn same(reached: Reached, smallest: u64, largest: u64) -> bool {
-    if reached.smallest != smallest {
-        return false;
-    }
-    reached.largest == largest
-}
-
-// Holds an answer to what is wanted: a refusal to its number and place, with no answer written; splits to all tables.
-fn hold_answer(
-    answer: Answer,
-    want: Told,
-    levels: &[u64],
-    low: &[u64],
-    high: &[u64],
-    answers: &[u64],
-) -> Seen {
-    match answer {
-        Answer::Refused { number, place } => {
-            let kept = others(answers, 7) == 0;
-            as_refused(number, want.number == number && want.place == place && kept)
-        }
-        Answer::Known {
-            first,
-            count,
-            smallest,
-            largest,
-        } => {
-            if want.number != 0 {
-                return as_refused(0, false);
-            }
-            hold_known(
-                levels,
-                low,
-                high,
-                answers,
-                first,
-                count as u64,
-                level(smallest),
-                level(largest),
-            )
+// Asks for the splits that can be the cheapest where the case's table is the low one, and holds the answer: a refusal to the one wanted, with no answer
+// written; splits to all tables. Each cell of the answers holds 7 before.
+pub fn hold(c: &Case, high: &[u64], answers: &mut [u64]) -> Seen {
+    let levels = levels(c);
+    let want = wanted(c, &levels, high, answers.len());
+    let found = possible_splits(c, high, answers);
+    match found {
+        Ok(known) if want.is_ok() => hold_known(&levels, c.table, high, answers, known),
+        Ok(_) => without_tables(Ok(()), false),
+        Err(refusal) => {
+            let kept = answers.iter().all(|cell| *cell == 7);
+            without_tables(Err(refusal), want == Err(refusal) && kept)
         }
     }
-}
-
-// Asks for the splits that can be the cheapest, and holds the answer to all tables. Each cell of the answers holds 7 before.
-fn hold(
-    run1: u64,
-    run2: u64,
-    costs: &[i64],
-    supplies: &[u64],
-    demands: &[u64],
-    ceilings: &[u64],
-    low: &[u64],
-    high: &[u64],
-    answers: &mut [u64],
-) -> Seen {
-    let mut drawn = [0u64; 8];
-    levels(
-        run1,
-        run2,
-        costs,
-        supplies,
-        demands,
-        ceilings,
-        low.len(),
-        &mut drawn,
-    );
-    let told = refusal(run1, run2, costs, supplies, demands, ceilings, low);
-    let want = wanted(told, &drawn, low, high, answers.len());
-    let answer = possible_splits(
-        3, 2, run1, run2, costs, supplies, demands, ceilings, low, high, answers,
-    );
-    hold_answer(answer, want, &drawn, low, high, answers)
-}
-
-// Holds the case with the first entries of the two tables.
-pub fn hold_first(
-    run1: u64,
-    run2: u64,
-    costs: &[i64],
-    supplies: &[u64],
-    demands: &[u64],
-    ceilings: &[u64],
-    low: &[u64],
-    high: &[u64],
-    entries: usize,
-    long: usize,
-    answers: &mut [u64],
-) -> Seen {
-    hold(
-        run1,
-        run2,
-        costs,
-        supplies,
-        demands,
-        ceilings,
-        first_cells(low, entries),
-        first_cells(high, long),
-        answers,
-    )
 }

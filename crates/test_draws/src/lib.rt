@@ -1,59 +1,38 @@
-// For programs of random trials: numbers that stay within 64 bits, the generator, and repeatable draws.
+// For programs of trials: the generator, repeatable draws, parts of slices, and counts of what was met.
 #![tactic(auto)]
 
-// a + b, at most the largest number.
-pub fn plus(a: u64, b: u64) -> u64 {
-    if b <= u64::MAX - a { a + b } else { u64::MAX }
-}
+ghost use Rattle.std.specs.Prelude.{◌<◌};
 
-// a - b, or 0 where b is more.
-pub fn minus(a: u64, b: u64) -> u64 {
-    if b <= a { a - b } else { 0 }
-}
-
-pub fn smaller(a: u64, b: u64) -> u64 {
-    if a < b { a } else { b }
-}
-
-pub fn larger(a: u64, b: u64) -> u64 {
-    if a < b { b } else { a }
-}
-
-pub fn one_if(b: bool) -> u64 {
-    if b { 1 } else { 0 }
-}
-
-// The cell k, or 0 past the end.
-pub fn at(s: &[u64], k: usize) -> u64 {
-    if k < s.len() { s[k] } else { 0 }
-}
-
-// The first n cells; all where there are no more.
-pub fn first_cells(s: &[u64], n: usize) -> &[u64] {
-    if s.len() < n {
-        return s;
-    }
-    &s[0..n]
-}
+pub mod number;
+pub mod rows;
+pub mod slices;
+pub mod tally;
 
 // The number after x of the generator x · 48,271 modulo 2^31 - 1.
 pub fn after(x: u64) -> u64 {
     x % 2_147_483_647 * 48_271 % 2_147_483_647
 }
 
-// A number below the bound, of the generator's number.
-pub fn below(x: u64, bound: u64) -> u64 {
+// A number below the bound, of the generator's number; 0 where the bound is 0.
+pub fn below(x: u64, bound: u64) -> u64
+    ensures { 0 < bound → result < bound }
+{
     if 0 < bound { x / 8 % bound } else { 0 }
+}
+
+// Writes into each cell what `value` makes of its place and the generator's next number, and gives the generator's number after them.
+pub fn draw_each<T: Copy, F: FnMut(usize, u64) -> T>(seed: u64, to: &mut [T], mut value: F) -> u64
+    requires { F.IsAlwaysCallable value }
+{
+    let mut x = seed;
+    for (k, cell) in to.iter_mut().enumerate() {
+        x = after(x);
+        *cell = value(k, x);
+    }
+    x
 }
 
 // Draws numbers from low on, below low + bound, and gives the generator's number after them.
 pub fn draw(seed: u64, low: u64, bound: u64, to: &mut [u64]) -> u64 {
-    let mut x = seed;
-    let mut k: usize = 0;
-    while k < to.len() {
-        x = after(x);
-        to[k] = plus(low, below(x, bound));
-        k += 1;
-    }
-    x
+    draw_each(seed, to, |_, x| low.saturating_add(below(x, bound)))
 }

@@ -2,19 +2,23 @@
 // check must refuse, and with a node of its tree attached elsewhere, so that the climb falls back on the search. Every answer must be the same.
 #![tactic(auto)]
 
+ghost use Rattle.std.specs.Prelude.{◌≤◌};
+
 mod draw;
-mod number;
 mod trial;
 
-use crate::draw::{deal, draw_costs, sum};
-use crate::trial::{Seen, hold_first};
+use crate::draw::{costs_of, deal, draw_costs, sum};
+use crate::trial::{Seen, hold};
+use lent_case::Case;
 use std::io;
-use test_draws::{after, below, draw, minus, one_if, plus};
+use test_draws::slices::first;
+use test_draws::tally::say;
+use test_draws::{after, below, draw};
 
 const CASES: u64 = 2_000;
 
 // What was found over all cases.
-#[derive(Drop)]
+#[derive(Clone, Copy, PartialEq, Eq, Debug, Drop)]
 struct Tally {
     cases: u64,
     planned: u64,
@@ -26,28 +30,48 @@ struct Tally {
     recovered: u64,
 }
 
-// The size of a case: sources, terminals, lanes.
-#[derive(Drop)]
-struct Size {
-    m: usize,
-    n: usize,
-    lanes: usize,
+impl Tally {
+    fn new() -> Tally {
+        Tally {
+            cases: 0,
+            planned: 0,
+            passed: 0,
+            refused: 0,
+            climbed: 0,
+            differences: 0,
+            searched: 0,
+            recovered: 0,
+        }
+    }
+
+    // The tally and one case more.
+    fn with(self, s: Seen) -> Tally {
+        Tally {
+            cases: self.cases.saturating_add(1),
+            planned: self.planned.saturating_add(u64::from(s.planned)),
+            passed: self.passed.saturating_add(u64::from(s.passed)),
+            refused: self.refused.saturating_add(u64::from(s.refused)),
+            climbed: self.climbed.saturating_add(u64::from(s.climbed)),
+            differences: self.differences.saturating_add(u64::from(!s.agrees)),
+            searched: self.searched.saturating_add(s.searched),
+            recovered: self.recovered.saturating_add(s.recovered),
+        }
+    }
 }
 
-fn sized(m: usize, n: usize, lanes: usize) -> Size {
-    Size { m, n, lanes }
-}
-
-fn size_of(k: u64) -> Size {
+// How many sources and terminals a case has.
+fn size_of(k: u64) -> (usize, usize)
+    ensures { (result.0 ≤ 32) × (result.1 ≤ 64) }
+{
     match k {
-        0 => sized(2, 1, 2),
-        1 => sized(2, 5, 10),
-        2 => sized(3, 4, 12),
-        3 => sized(4, 7, 28),
-        4 => sized(6, 6, 36),
-        5 => sized(8, 16, 128),
-        6 => sized(17, 33, 561),
-        _ => sized(32, 64, 2_048),
+        0 => (2, 1),
+        1 => (2, 5),
+        2 => (3, 4),
+        3 => (4, 7),
+        4 => (6, 6),
+        5 => (8, 16),
+        6 => (17, 33),
+        _ => (32, 64),
     }
 }
 
@@ -55,126 +79,80 @@ fn size_of(k: u64) -> Size {
 fn made_of(k: u64, most: u64) -> u64 {
     match k {
         0 => most / 2,
-        1 => minus(most, most / 4),
+        1 => most - most / 4,
         _ => most,
     }
 }
 
 // A lane of the case, as the engine counts lanes.
-fn lane_of(x: u64, m: u64, n: u64) -> usize {
-    (below(x, m) % 32 * 64 + below(after(x), n) % 64) as usize
+fn lane_of(x: u64, c: &Case) -> usize {
+    (below(x, c.m as u64) % 32 * 64 + below(after(x), c.n as u64) % 64) as usize
 }
 
 // A node of the case: a source, or a terminal.
-fn node_of(x: u64, m: u64, n: u64) -> usize {
+fn node_of(x: u64, c: &Case) -> usize {
     if below(x, 2) == 0 {
-        return (below(after(x), m) % 32) as usize;
+        return (below(after(x), c.m as u64) % 32) as usize;
     }
-    (32 + below(after(x), n) % 64) as usize
+    (32 + below(after(x), c.n as u64) % 64) as usize
 }
 
-// Draws ceilings, 4,000 or one in four times narrow ones, and holds the case.
-fn hold_narrow(
+// Draws supplies, of which the plants have 100 more, and demands that use what the depots have and some of what the plants can make.
+fn draw_amounts(
     seed: u64,
-    size: Size,
-    run: u64,
-    costs: &[i64; 2048],
-    supplies: &[u64; 32],
-    demands: &[u64; 64],
-    table: &[u64; 4001],
-    entries: usize,
-) -> Seen {
-    let mut ceilings = [4_000u64; 2048];
-    if below(seed, 4) == 0 {
-        draw(seed, 60, 300, &mut ceilings);
-    }
-    hold_first(
-        lane_of(seed, size.m as u64, size.n as u64),
-        node_of(after(seed), size.m as u64, size.n as u64),
-        size.m,
-        size.n,
-        size.lanes,
-        run,
-        costs,
-        supplies,
-        demands,
-        &ceilings,
-        table,
-        entries,
-    )
+    m: usize,
+    n: usize,
+    supplies: &mut [u64; 32],
+    demands: &mut [u64; 64],
+) -> u64 {
+    let b = draw(seed, 0, 200, supplies);
+    supplies[0] = supplies[0].saturating_add(100);
+    supplies[1] = supplies[1].saturating_add(100);
+    let plants = supplies[0].saturating_add(supplies[1]);
+    let stock = sum(first(supplies, m)).saturating_sub(plants);
+    let drums = stock.saturating_add(made_of(below(b, 3), plants));
+    deal(b, n as u64, drums, demands)
 }
 
-// Draws a case from the generator's number, and holds it.
+// Draws a case from the generator's number, its ceilings 4,000 or one in four times narrow ones, and holds it.
 fn run_case(seed: u64) -> Seen {
     let e = after(seed);
-    let size = size_of(below(e, 8));
+    let (m, n) = size_of(below(e, 8));
     let mut costs = [0i64; 2048];
     let mut supplies = [0u64; 32];
     let mut demands = [0u64; 64];
+    let mut ceilings = [4_000u64; 2048];
     let mut table = [0u64; 4001];
-    let a = draw_costs(e, below(after(e), 5), &mut costs);
-    let b = draw(a, 0, 200, &mut supplies);
-    let first = plus(supplies[0], 100);
-    let second = plus(supplies[1], 100);
-    supplies[0] = 0;
-    supplies[1] = 0;
-    let drums = plus(
-        sum(&supplies, size.m),
-        made_of(below(b, 3), plus(first, second)),
-    );
-    supplies[0] = first;
-    supplies[1] = second;
-    let c = deal(b, size.n as u64, drums, &mut demands);
+    let a = draw_costs(e, costs_of(below(after(e), 5)), &mut costs);
+    let c = draw_amounts(a, m, n, &mut supplies, &mut demands);
     let d = draw(c, 0, 1_000, &mut table);
-    let run = below(after(d), 60);
-    hold_narrow(
-        d,
-        size,
-        run,
-        &costs,
-        &supplies,
-        &demands,
-        &table,
-        (first % 4_000 + 1) as usize,
-    )
-}
-
-fn counted(t: Tally, s: Seen) -> Tally {
-    Tally {
-        cases: plus(t.cases, 1),
-        planned: plus(t.planned, one_if(s.planned)),
-        passed: plus(t.passed, one_if(s.passed)),
-        refused: plus(t.refused, one_if(s.refused)),
-        climbed: plus(t.climbed, one_if(s.climbed)),
-        differences: plus(t.differences, one_if(!s.agrees)),
-        searched: plus(t.searched, s.searched),
-        recovered: plus(t.recovered, s.recovered),
+    if below(d, 4) == 0 {
+        draw(d, 60, 300, &mut ceilings);
     }
+    let run = below(after(d), 60);
+    let entries = (supplies[0] % 4_000 + 1) as usize;
+    let case = Case {
+        m,
+        n,
+        run1: run,
+        run2: run,
+        costs: first(&costs, m * n),
+        supplies: first(&supplies, m),
+        demands: first(&demands, n),
+        ceilings: first(&ceilings, m * n),
+        table: first(&table, entries),
+    };
+    hold(lane_of(d, &case), node_of(after(d), &case), &case)
 }
 
 fn run_cases() -> Tally {
-    let mut t = Tally {
-        cases: 0,
-        planned: 0,
-        passed: 0,
-        refused: 0,
-        climbed: 0,
-        differences: 0,
-        searched: 0,
-        recovered: 0,
-    };
+    let mut t = Tally::new();
     let mut x: u64 = 20_260_306;
-    let mut k: u64 = 0;
-    while k < CASES {
+    for _ in 0..CASES {
         x = after(x);
-        t = counted(t, run_case(x));
-        k += 1;
+        t = t.with(run_case(x));
     }
     t
-}
-
-fn say(rt: &impl Print, name: &str, number: u64) -> io::Result<()> {
-    println!(rt; "{name}{number}")
 }
 
 fn main(rt: HostRuntime) -> io::Result<()> {

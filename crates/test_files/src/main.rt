@@ -5,40 +5,25 @@
 mod report;
 mod trial;
 
-use crate::report::report;
+use crate::report::{Found, report};
 use crate::trial::trial;
 use std::io;
+use test_draws::tally::Tally;
 use test_rows::input::read_full;
-use test_rows::parts::{after, byte, first};
+use test_rows::parts::run_rows;
 
-// The row between two offsets, if it is one: an empty line and a line that begins with # are none.
-fn run_line(rt: &impl Print, tally: &mut [u64; 32], line: &[u8]) -> io::Result<()> {
-    let b = byte(line, 0);
-    if b == 0 {
-        return Ok(());
-    }
-    if b == b'#' {
-        return Ok(());
-    }
-    trial(rt, tally, line)
-}
-
-// Runs each line of the table.
-fn run_table(rt: &impl Print, tally: &mut [u64; 32], table: &[u8]) -> io::Result<()> {
-    let mut start: usize = 0;
-    for k in 0..table.len() {
-        if table[k] == b'\n' {
-            run_line(rt, tally, after(first(table, k), start))?;
-            start = k + 1;
-        }
-    }
-    Ok(())
+fn run_table(rt: &impl Print, table: &[u8]) -> io::Result<()> {
+    let mut found = Found {
+        answers: Tally::new(),
+        cases: 0,
+        differences: 0,
+    };
+    run_rows(table, |row| trial(rt, &mut found, row))?;
+    report(rt, &found)
 }
 
 fn main(rt: HostRuntime) -> io::Result<()> {
     let mut table = [0u8; 65536];
     let size = read_full(&mut rt.reader(), &mut table);
-    let mut tally = [0u64; 32];
-    run_table(&rt, &mut tally, &table[..size])?;
-    report(&rt, &tally)
+    run_table(&rt, &table[..size])
 }

@@ -1,31 +1,28 @@
-// The counts of the tally, a line each.
-use crate::trial::{CASES, DIFFERENCES};
+// The counts of what was met, a line each.
 use std::io;
-use test_rows::tally::cell;
+use test_draws::tally::{Tally, say};
 
-fn say(rt: &impl Print, name: &str, n: u64) -> io::Result<()> {
-    println!(rt; "{name}{n}")
+// What was met: the answers by number, 0 for a plan, how many cases were run, and how many were answered otherwise.
+#[derive(Clone, Copy, PartialEq, Eq, Debug, Drop)]
+pub struct Found {
+    pub answers: Tally<24>,
+    pub cases: u64,
+    pub differences: u64,
 }
 
-// The count of a refusal that was given.
-fn say_refused(rt: &impl Print, number: u64, n: u64) -> io::Result<()> {
-    if n == 0 {
-        return Ok(());
-    }
-    print!(rt; "refused {number}")?;
-    say(rt, ": ", n)
-}
-
-fn say_all_refused(rt: &impl Print, tally: &[u64; 32]) -> io::Result<()> {
-    for k in 1..CASES {
-        say_refused(rt, k as u64, cell(tally, k))?;
+fn say_all_refused(rt: &impl Print, answers: &Tally<24>) -> io::Result<()> {
+    for number in 1..24 {
+        let n = answers.of(number);
+        if n != 0 {
+            println!(rt; "refused {number}: {n}")?;
+        }
     }
     Ok(())
 }
 
-pub fn report(rt: &impl Print, tally: &[u64; 32]) -> io::Result<()> {
-    say(rt, "planned: ", cell(tally, 0))?;
-    say_all_refused(rt, tally)?;
-    say(rt, "cases: ", cell(tally, CASES))?;
-    say(rt, "differences: ", cell(tally, DIFFERENCES))
+pub fn report(rt: &impl Print, found: &Found) -> io::Result<()> {
+    say(rt, "planned: ", found.answers.of(0))?;
+    say_all_refused(rt, &found.answers)?;
+    say(rt, "cases: ", found.cases)?;
+    say(rt, "differences: ", found.differences)
 }

@@ -1,141 +1,88 @@
 // All flows of a small network.
-use crate::number::times;
-use test_draws::{at, minus, plus};
+use test_draws::rows::next_row;
+use test_draws::slices::at;
 
-// How many flows there are; the least total, raised by 1,000, and the least amount on the named arc at that total.
-#[derive(Drop)]
-pub struct Best {
-    pub flows: u64,
+// A network, its parts as long as it has arcs and nodes: unit costs are raised by 4 and supplies by 20, so that none is below 0. The named arc is
+// charged by the table.
+// Stays: parallel slices, as `cheapest_flow` lends them to callers from C.
+#[derive(Clone, Copy, PartialEq, Eq, Debug, Drop)]
+pub struct Network<'a> {
+    pub starts: &'a [u64],
+    pub ends: &'a [u64],
+    pub ceilings: &'a [u64],
+    pub costs: &'a [u64],
+    pub supplies: &'a [u64],
+    pub named: usize,
+    pub table: &'a [u64],
+}
+
+// The least total, raised by 1,000, and the least amount on the named arc at that total.
+#[derive(Clone, Copy, PartialEq, Eq, PartialOrd, Ord, Debug, Drop)]
+pub struct Least {
     pub level: u64,
     pub carried: u64,
+}
+
+// How many flows there are, and the best of them.
+#[derive(Clone, Copy, PartialEq, Eq, Debug, Drop)]
+pub struct Best {
+    pub flows: u64,
+    pub least: Option<Least>,
 }
 
 // The amounts on the arcs at a node, by their starts or by their ends.
 pub fn at_node(nodes: &[u64], id: u64, amounts: &[u64]) -> u64 {
     let mut sum: u64 = 0;
-    let mut k: usize = 0;
-    while k < nodes.len() {
-        if nodes[k] == id {
-            sum = plus(sum, at(amounts, k));
+    for (node, amount) in nodes.iter().zip(amounts) {
+        if *node == id {
+            sum = sum.saturating_add(*amount);
         }
-        k += 1;
     }
     sum
 }
 
 // Is at each node what leaves minus what enters the supply, which is raised by 20?
-pub fn kept(starts: &[u64], ends: &[u64], supplies: &[u64], amounts: &[u64]) -> bool {
-    let mut i: usize = 0;
-    while i < supplies.len() {
-        let id = plus(i as u64, 1);
-        let out = plus(at_node(starts, id, amounts), 20);
-        if out != plus(at_node(ends, id, amounts), supplies[i]) {
-            return false;
-        }
-        i += 1;
-    }
-    true
+pub fn kept(net: &Network, amounts: &[u64]) -> bool {
+    net.supplies.iter().enumerate().all(|(i, supply)| {
+        let id = (i as u64).saturating_add(1);
+        let out = at_node(net.starts, id, amounts).saturating_add(20);
+        out == at_node(net.ends, id, amounts).saturating_add(*supply)
+    })
 }
 
-// Cost times amount over all arcs but the named one; costs are raised by 4.
-fn freight(costs: &[u64], named: usize, amounts: &[u64], less: u64) -> u64 {
-    let mut sum: u64 = 0;
-    let mut k: usize = 0;
-    while k < costs.len() {
-        if k != named {
-            sum = plus(sum, times(less_or(less, costs[k]), at(amounts, k)));
-        }
-        k += 1;
-    }
-    sum
-}
-
-// The cost, or the number that each is raised by.
-fn less_or(less: u64, cost: u64) -> u64 {
-    if 0 < less { less } else { cost }
-}
-
-// The total, raised by 1,000.
-pub fn level_of(costs: &[u64], named: usize, table: &[u64], amounts: &[u64]) -> u64 {
-    let paid = at(table, at(amounts, named) as usize);
-    let all = plus(plus(1_000, paid), freight(costs, named, amounts, 0));
-    minus(all, freight(costs, named, amounts, 4))
-}
-
-// Goes on to the next amounts within the ceilings. Are there any?
-fn next_amounts(ceilings: &[u64], amounts: &mut [u64]) -> bool {
-    let mut k: usize = 0;
-    while k < amounts.len() {
-        let now = amounts[k];
-        if now < at(ceilings, k) {
-            amounts[k] = plus(now, 1);
-            return true;
-        }
-        amounts[k] = 0;
-        k += 1;
-    }
-    false
-}
-
-// One flow more.
-fn better(best: Best, level: u64, carried: u64) -> Best {
-    let flows = plus(best.flows, 1);
-    if best.flows == 0 {
-        return Best {
-            flows,
-            level,
-            carried,
-        };
-    }
-    if level < best.level {
-        return Best {
-            flows,
-            level,
-            carried,
-        };
-    }
-    if level == best.level {
-        if carried < best.carried {
-            return Best {
-                flows,
-                level,
-                carried,
-            };
+// The total, raised by 1,000: what the named arc is charged, and for each drum on another its cost less 4.
+pub fn level_of(net: &Network, amounts: &[u64]) -> u64 {
+    let mut paid = at(net.table, at(amounts, net.named) as usize).saturating_add(1_000);
+    let mut raised: u64 = 0;
+    for (k, cost) in net.costs.iter().enumerate() {
+        if k != net.named {
+            paid = paid.saturating_add(cost.saturating_mul(at(amounts, k)));
+            raised = raised.saturating_add(at(amounts, k).saturating_mul(4));
         }
     }
-    Best {
-        flows,
-        level: best.level,
-        carried: best.carried,
-    }
+    paid.saturating_sub(raised)
 }
 
 // Tries all amounts, 243 at most.
-pub fn try_amounts(
-    starts: &[u64],
-    ends: &[u64],
-    ceilings: &[u64],
-    costs: &[u64],
-    supplies: &[u64],
-    named: usize,
-    table: &[u64],
-) -> Best {
+pub fn try_amounts(net: &Network) -> Best {
     let mut amounts = [0u64; 5];
-    let mut best = Best {
-        flows: 0,
-        level: 0,
-        carried: 0,
-    };
-    let mut turns: u64 = 0;
-    while turns < 243 {
-        if kept(starts, ends, supplies, &amounts) {
-            let level = level_of(costs, named, table, &amounts);
-            best = better(best, level, at(&amounts, named));
+    let mut flows: u64 = 0;
+    let mut least = None;
+    for _ in 0..243 {
+        if kept(net, &amounts) {
+            flows = flows.saturating_add(1);
+            let found = Least {
+                level: level_of(net, &amounts),
+                carried: at(&amounts, net.named),
+            };
+            least = match least {
+                Some(best) => Some(found.min(best)),
+                None => Some(found),
+            };
         }
-        if !next_amounts(ceilings, &mut amounts) {
-            return best;
+        if !next_row(&mut amounts, |k| at(net.ceilings, k)) {
+            break;
         }
-        turns += 1;
     }
-    best
+    Best { flows, least }
 }

@@ -1,5 +1,6 @@
 // A network as a DIMACS file, as far as there is room.
-use test_draws::{at, minus, plus};
+use crate::brute::Network;
+use test_draws::slices::at;
 
 // Writes a byte, and gives the next offset.
 fn put(out: &mut [u8], next: usize, b: u8) -> usize {
@@ -15,13 +16,13 @@ fn put_tens(out: &mut [u8], next: usize, n: u64) -> usize {
     if n < 10 {
         return next;
     }
-    put(out, next, 48 + (n / 10 % 10) as u8)
+    put(out, next, b'0' + (n / 10 % 10) as u8)
 }
 
 // Writes a number below 100 and the byte after it.
 fn put_number(out: &mut [u8], next: usize, n: u64, b: u8) -> usize {
     let last = put_tens(out, next, n);
-    let end = put(out, last, 48 + (n % 10) as u8);
+    let end = put(out, last, b'0' + (n % 10) as u8);
     put(out, end, b)
 }
 
@@ -29,15 +30,15 @@ fn put_number(out: &mut [u8], next: usize, n: u64, b: u8) -> usize {
 fn put_raised(out: &mut [u8], next: usize, n: u64, raised: u64) -> usize {
     if n < raised {
         let digits = put(out, next, b'-');
-        return put_number(out, digits, minus(raised, n), 10);
+        return put_number(out, digits, raised - n, b'\n');
     }
-    put_number(out, next, minus(n, raised), 10)
+    put_number(out, next, n - raised, b'\n')
 }
 
 // Writes a letter and a space.
 fn put_letter(out: &mut [u8], next: usize, b: u8) -> usize {
     let space = put(out, next, b);
-    put(out, space, 32)
+    put(out, space, b' ')
 }
 
 // Writes the p line.
@@ -46,8 +47,8 @@ fn put_problem(out: &mut [u8], nodes: u64, arcs: u64) -> usize {
     let i = put(out, m, b'm');
     let n = put(out, i, b'i');
     let first = put_letter(out, n, b'n');
-    let second = put_number(out, first, nodes, 32);
-    put_number(out, second, arcs, 10)
+    let second = put_number(out, first, nodes, b' ');
+    put_number(out, second, arcs, b'\n')
 }
 
 // Writes the n line of a node; none where the supply is 0.
@@ -56,16 +57,14 @@ fn put_node(out: &mut [u8], next: usize, id: u64, supply: u64) -> usize {
         return next;
     }
     let first = put_letter(out, next, b'n');
-    let second = put_number(out, first, id, 32);
+    let second = put_number(out, first, id, b' ');
     put_raised(out, second, supply, 20)
 }
 
 fn put_nodes(out: &mut [u8], start: usize, supplies: &[u64]) -> usize {
     let mut next = start;
-    let mut i: usize = 0;
-    while i < supplies.len() {
-        next = put_node(out, next, plus(i as u64, 1), supplies[i]);
-        i += 1;
+    for (i, supply) in supplies.iter().enumerate() {
+        next = put_node(out, next, (i as u64).saturating_add(1), *supply);
     }
     next
 }
@@ -73,47 +72,32 @@ fn put_nodes(out: &mut [u8], start: usize, supplies: &[u64]) -> usize {
 // Writes an a line.
 fn put_arc(out: &mut [u8], next: usize, start: u64, end: u64, ceiling: u64, cost: u64) -> usize {
     let first = put_letter(out, next, b'a');
-    let second = put_number(out, first, start, 32);
-    let third = put_number(out, second, end, 32);
-    let fourth = put_number(out, third, 0, 32);
-    let fifth = put_number(out, fourth, ceiling, 32);
+    let second = put_number(out, first, start, b' ');
+    let third = put_number(out, second, end, b' ');
+    let fourth = put_number(out, third, 0, b' ');
+    let fifth = put_number(out, fourth, ceiling, b' ');
     put_raised(out, fifth, cost, 4)
 }
 
-fn put_arcs(
-    out: &mut [u8],
-    from: usize,
-    starts: &[u64],
-    ends: &[u64],
-    ceilings: &[u64],
-    costs: &[u64],
-) -> usize {
+fn put_arcs(out: &mut [u8], from: usize, net: &Network) -> usize {
     let mut next = from;
-    let mut k: usize = 0;
-    while k < starts.len() {
+    for (k, start) in net.starts.iter().enumerate() {
+        let ceiling = at(net.ceilings, k);
         next = put_arc(
             out,
             next,
-            starts[k],
-            at(ends, k),
-            at(ceilings, k),
-            at(costs, k),
+            *start,
+            at(net.ends, k),
+            ceiling,
+            at(net.costs, k),
         );
-        k += 1;
     }
     next
 }
 
 // Writes the file, and gives its length.
-pub fn write_network(
-    out: &mut [u8],
-    starts: &[u64],
-    ends: &[u64],
-    ceilings: &[u64],
-    costs: &[u64],
-    supplies: &[u64],
-) -> usize {
-    let nodes = put_problem(out, supplies.len() as u64, starts.len() as u64);
-    let arcs = put_nodes(out, nodes, supplies);
-    put_arcs(out, arcs, starts, ends, ceilings, costs)
+pub fn write_network(out: &mut [u8], net: &Network) -> usize {
+    let nodes = put_problem(out, net.supplies.len() as u64, net.starts.len() as u64);
+    let arcs = put_nodes(out, nodes, net.supplies);
+    put_arcs(out, arcs, net)
 }

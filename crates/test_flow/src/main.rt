@@ -6,18 +6,21 @@ mod brute;
 mod draw;
 mod file;
 mod lent;
-mod number;
 mod trial;
 
+use crate::brute::Network;
 use crate::draw::{disturb, draw_amounts, draw_ends, fill_supplies};
 use crate::trial::{Seen, hold};
+use refusal::Cause;
 use std::io;
-use test_draws::{after, at, below, draw, first_cells, one_if, plus};
+use test_draws::slices::{at, first};
+use test_draws::tally::say;
+use test_draws::{after, below, draw};
 
 const NETWORKS: u64 = 4_000;
 
 // What was found over all networks.
-#[derive(Drop)]
+#[derive(Clone, Copy, PartialEq, Eq, Debug, Drop)]
 struct Tally {
     networks: u64,
     carried: u64,
@@ -26,90 +29,74 @@ struct Tally {
     differences: u64,
 }
 
-// Holds the first arcs and nodes of what was drawn, with the named arc's table.
-fn run_first(
-    seed: u64,
-    nodes: u64,
-    arcs: u64,
-    starts: &[u64],
-    ends: &[u64],
-    ceilings: &[u64],
-    supplies: &[u64],
-) -> Seen {
-    let n = arcs as usize;
-    let mut costs = [0u64; 5];
-    let mut table = [0u64; 3];
-    let a = draw(seed, 0, 10, &mut costs);
-    let b = draw(a, 0, 7, &mut table);
-    let named = below(b, arcs) as usize;
-    let entries = plus(at(ceilings, named), 1) as usize;
-    hold(
-        first_cells(starts, n),
-        first_cells(ends, n),
-        first_cells(ceilings, n),
-        first_cells(&costs, n),
-        first_cells(supplies, nodes as usize),
-        named,
-        first_cells(&table, entries),
-    )
+impl Tally {
+    fn new() -> Tally {
+        Tally {
+            networks: 0,
+            carried: 0,
+            none: 0,
+            flows: 0,
+            differences: 0,
+        }
+    }
+
+    // The tally and one network more.
+    fn with(self, s: Seen) -> Tally {
+        let cause = s.said.err().map(|refusal| refusal.cause);
+        Tally {
+            networks: self.networks.saturating_add(1),
+            carried: self.carried.saturating_add(u64::from(cause.is_none())),
+            none: self
+                .none
+                .saturating_add(u64::from(cause == Some(Cause::NoPlan))),
+            flows: self.flows.saturating_add(s.flows),
+            differences: self.differences.saturating_add(u64::from(!s.agrees)),
+        }
+    }
 }
 
-// Draws a network from the generator's number, and holds it.
+// Draws a network from the generator's number, and holds its first arcs and nodes with the named arc's table.
 fn run_network(seed: u64) -> Seen {
-    let nodes = plus(2, below(seed, 3));
+    let nodes = below(seed, 3).saturating_add(2);
     let a = after(seed);
-    let arcs = plus(1, below(a, 5));
+    let arcs = below(a, 5).saturating_add(1);
     let n = arcs as usize;
     let mut starts = [0u64; 5];
     let mut ends = [0u64; 5];
     let mut ceilings = [0u64; 5];
     let mut amounts = [0u64; 5];
     let mut supplies = [0u64; 4];
+    let mut costs = [0u64; 5];
+    let mut table = [0u64; 3];
     let b = draw(a, 1, nodes, &mut starts);
     let c = draw_ends(b, nodes, &starts, &mut ends);
     let d = draw(c, 0, 3, &mut ceilings);
     let e = draw_amounts(d, &ceilings, &mut amounts);
-    fill_supplies(
-        first_cells(&starts, n),
-        first_cells(&ends, n),
-        &amounts,
-        &mut supplies,
-    );
+    fill_supplies(first(&starts, n), first(&ends, n), &amounts, &mut supplies);
     disturb(e, &mut supplies);
-    run_first(after(e), nodes, arcs, &starts, &ends, &ceilings, &supplies)
-}
-
-fn counted(t: Tally, s: Seen) -> Tally {
-    let number = s.number;
-    Tally {
-        networks: plus(t.networks, 1),
-        carried: plus(t.carried, one_if(number == 0)),
-        none: plus(t.none, one_if(number == 27)),
-        flows: plus(t.flows, s.flows),
-        differences: plus(t.differences, one_if(!s.agrees)),
-    }
+    let f = draw(after(e), 0, 10, &mut costs);
+    let g = draw(f, 0, 7, &mut table);
+    let named = below(g, arcs) as usize;
+    let entries = at(&ceilings, named).saturating_add(1) as usize;
+    hold(&Network {
+        starts: first(&starts, n),
+        ends: first(&ends, n),
+        ceilings: first(&ceilings, n),
+        costs: first(&costs, n),
+        supplies: first(&supplies, nodes as usize),
+        named,
+        table: first(&table, entries),
+    })
 }
 
 fn run_networks() -> Tally {
-    let mut t = Tally {
-        networks: 0,
-        carried: 0,
-        none: 0,
-        flows: 0,
-        differences: 0,
-    };
+    let mut t = Tally::new();
     let mut x: u64 = 20_260_211;
-    let mut k: u64 = 0;
-    while k < NETWORKS {
+    for _ in 0..NETWORKS {
         x = after(x);
-        t = counted(t, run_network(x));
-        k += 1;
+        t = t.with(run_network(x));
     }
     t
-}
-
-fn say(rt: &impl Print, name: &str, number: u64) -> io::Result<()> {
-    println!(rt; "{name}{number}")
 }
 
 fn main(rt: HostRuntime) -> io::Result<()> {

@@ -4,62 +4,37 @@
 
 mod trial;
 
-use crate::trial::{CASES, DIFFERENCES, trial};
+use crate::trial::{Found, trial};
 use std::io;
+use test_draws::tally::{Tally, say};
 use test_rows::input::read_full;
-use test_rows::parts::{after, byte, first};
-use test_rows::tally::cell;
+use test_rows::parts::run_rows;
 
-// The row of a line, if it is one: an empty line and a line that begins with # are none.
-fn run_line(rt: &impl Print, tally: &mut [u64; 32], line: &[u8]) -> io::Result<()> {
-    let b = byte(line, 0);
-    if b == 0 {
-        return Ok(());
+// The refusals that are told.
+const TOLD: [usize; 6] = [20, 21, 22, 27, 29, 30];
+
+fn report(rt: &impl Print, found: &Found) -> io::Result<()> {
+    say(rt, "flows: ", found.answers.of(0))?;
+    for number in TOLD {
+        let n = found.answers.of(number);
+        println!(rt; "refused {number}: {n}")?;
     }
-    if b == b'#' {
-        return Ok(());
-    }
-    trial(rt, tally, line)
+    say(rt, "files: ", found.files)?;
+    say(rt, "differences: ", found.differences)
 }
 
-// Runs each line of the table.
-fn run_table(rt: &impl Print, tally: &mut [u64; 32], table: &[u8]) -> io::Result<()> {
-    let mut start: usize = 0;
-    for k in 0..table.len() {
-        if table[k] == b'\n' {
-            run_line(rt, tally, after(first(table, k), start))?;
-            start = k + 1;
-        }
-    }
-    Ok(())
-}
-
-fn say(rt: &impl Print, name: &str, n: u64) -> io::Result<()> {
-    println!(rt; "{name}{n}")
-}
-
-// The count of a refusal that was given.
-fn say_refused(rt: &impl Print, tally: &[u64; 32], number: u64) -> io::Result<()> {
-    print!(rt; "refused {number}")?;
-    say(rt, ": ", cell(tally, number as usize))
-}
-
-fn report(rt: &impl Print, tally: &[u64; 32]) -> io::Result<()> {
-    say(rt, "flows: ", cell(tally, 0))?;
-    say_refused(rt, tally, 20)?;
-    say_refused(rt, tally, 21)?;
-    say_refused(rt, tally, 22)?;
-    say_refused(rt, tally, 27)?;
-    say_refused(rt, tally, 29)?;
-    say_refused(rt, tally, 30)?;
-    say(rt, "files: ", cell(tally, CASES))?;
-    say(rt, "differences: ", cell(tally, DIFFERENCES))
+fn run_table(rt: &impl Print, table: &[u8]) -> io::Result<()> {
+    let mut found = Found {
+        answers: Tally::new(),
+        files: 0,
+        differences: 0,
+    };
+    run_rows(table, |row| trial(rt, &mut found, row))?;
+    report(rt, &found)
 }
 
 fn main(rt: HostRuntime) -> io::Result<()> {
     let mut table = [0u8; 65536];
     let size = read_full(&mut rt.reader(), &mut table);
-    let mut tally = [0u64; 32];
-    run_table(&rt, &mut tally, &table[..size])?;
-    report(&rt, &tally)
+    run_table(&rt, &table[..size])
 }

@@ -2,26 +2,26 @@
 use flow_files::flow_files;
 use std::io;
 use std::io::Write;
-use test_rows::parts::{after, field, first};
-use test_rows::tally::count;
-use test_rows::text::add;
+use test_draws::slices::{first, from};
+use test_draws::tally::Tally;
+use test_rows::parts::field;
+use test_rows::text::File;
 
-// The tally: the answers by number, then these.
-pub const CASES: usize = 25;
-
-pub const DIFFERENCES: usize = 26;
+// What was met: the answers by number, 0 for a flow, how many files were run, and how many were answered otherwise.
+#[derive(Clone, Copy, PartialEq, Eq, Debug, Drop)]
+pub struct Found {
+    pub answers: Tally<32>,
+    pub files: u64,
+    pub differences: u64,
+}
 
 // Whether a text begins with three parts.
 fn begins(text: &[u8], head: &[u8], part: &[u8], tail: &[u8]) -> bool {
-    let rest = after(text, head.len());
-    if first(text, head.len()) != head {
-        return false;
-    }
-    if first(rest, part.len()) != part {
-        return false;
-    }
-    let last = after(rest, part.len());
-    first(last, tail.len()) == tail
+    let rest = from(text, head.len());
+    let last = from(rest, part.len());
+    first(text, head.len()) == head
+        && first(rest, part.len()) == part
+        && first(last, tail.len()) == tail
 }
 
 // Whether a text is a flow of the total, or the refusal, that is expected.
@@ -30,7 +30,7 @@ fn reads(text: &[u8], answer: &[u8]) -> bool {
         return begins(
             text,
             b"total\r\n",
-            after(answer, 5),
+            from(answer, 5),
             b"\r\nstart,end,flow,cost\r\n",
         );
     }
@@ -46,41 +46,20 @@ fn say_difference(rt: &impl Print, row: &[u8], text: &[u8]) -> io::Result<()> {
     out.write_all(text)
 }
 
-// Holds the printed text to the row's answer.
-fn hold(rt: &impl Print, tally: &mut [u64; 32], row: &[u8], text: &[u8]) -> io::Result<()> {
-    count(tally, CASES);
-    if reads(text, field(row, 0)) {
+// Runs a row, the answer, the arc's place, the table file and the network file: counts the answer, and holds the printed text to the row's.
+pub fn trial(rt: &impl Print, found: &mut Found, row: &[u8]) -> io::Result<()> {
+    let mut network = File::new();
+    let mut table = File::new();
+    let mut text = [0u8; 4096];
+    network.add(field(row, 3));
+    table.add(field(row, 2));
+    let printed = flow_files(network.bytes(), field(row, 1), table.bytes(), &mut text);
+    let told = first(&text, printed.length);
+    found.files = found.files.saturating_add(1);
+    found.answers.count(printed.number as usize);
+    if reads(told, field(row, 0)) {
         return Ok(());
     }
-    count(tally, DIFFERENCES);
-    say_difference(rt, row, text)
-}
-
-// Asks for the flow of two files and a text.
-fn ask(
-    rt: &impl Print,
-    tally: &mut [u64; 32],
-    row: &[u8],
-    network: &[u8],
-    table: &[u8],
-) -> io::Result<()> {
-    let mut text = [0u8; 4096];
-    let printed = flow_files(network, field(row, 1), table, &mut text);
-    let length = printed.length;
-    count(tally, printed.number as usize);
-    hold(rt, tally, row, first(&text, length))
-}
-
-// Room for the longest file that is read, and one byte more.
-fn room() -> [u8; 65537] {
-    [0; 65537]
-}
-
-// Runs a row: the answer, the arc's place, the table file and the network file.
-pub fn trial(rt: &impl Print, tally: &mut [u64; 32], row: &[u8]) -> io::Result<()> {
-    let mut network = room();
-    let mut table = room();
-    let n = add(&mut network, 0, field(row, 3));
-    let t = add(&mut table, 0, field(row, 2));
-    ask(rt, tally, row, first(&network, n), first(&table, t))
+    found.differences = found.differences.saturating_add(1);
+    say_difference(rt, row, told)
 }

@@ -1,8 +1,9 @@
 // A plain working case of at most 4 sources and 3 terminals: whole copies. Cells that the case does not have hold 7, as the slices do that it is shown in.
-use crate::draws::{Request, drawn, small_cost};
-use test_compare::below;
+use crate::draws::drawn;
+use test_compare::draws::{Call, small_cost};
+use test_draws::below;
 
-#[derive(Clone, Copy)]
+#[derive(Clone, Copy, PartialEq, Eq, Debug, Drop)]
 pub struct Copy {
     pub m: usize,
     pub n: usize,
@@ -15,205 +16,172 @@ pub struct Copy {
     pub table: [u64; 16],
 }
 
-// k times n, for small numbers.
-pub fn times(k: usize, n: usize) -> usize {
-    if 3 < n {
-        return 0;
-    }
-    if k == 0 {
-        return 0;
-    }
-    if k == 1 {
-        return n;
-    }
-    if k == 2 {
-        return n + n;
-    }
-    if k == 3 {
-        return n + n + n;
-    }
-    n + n + n + n
-}
-
-// A cell of a case, or 7 past its last.
-fn cell(k: usize, count: usize, x: u64) -> u64 {
-    if k < count { x } else { 7 }
-}
-
-fn cost(seed: u64, k: usize, lanes: usize) -> i64 {
-    if k < lanes {
-        small_cost(drawn(seed, 20 + k as u64 % 13))
-    } else {
-        7
+impl Copy {
+    pub fn lanes(&self) -> usize {
+        self.m.saturating_mul(self.n)
     }
 }
 
-fn ceiling(seed: u64, k: usize, lanes: usize) -> u64 {
-    let x = below(drawn(seed, 40 + k as u64 % 13), 8);
-    if k < lanes {
-        if x < 4 {
-            return x;
+fn costs_of(seed: u64, lanes: usize) -> [i64; 13] {
+    let mut costs = [7i64; 13];
+    for (k, cost) in costs.iter_mut().enumerate() {
+        if k < lanes {
+            *cost = small_cost(drawn(seed, 20 + k as u64 % 13));
         }
-        return 4_000;
     }
-    7
+    costs
 }
 
-fn costs_of(seed: u64, n: usize) -> [i64; 13] {
-    [
-        cost(seed, 0, n),
-        cost(seed, 1, n),
-        cost(seed, 2, n),
-        cost(seed, 3, n),
-        cost(seed, 4, n),
-        cost(seed, 5, n),
-        cost(seed, 6, n),
-        cost(seed, 7, n),
-        cost(seed, 8, n),
-        cost(seed, 9, n),
-        cost(seed, 10, n),
-        cost(seed, 11, n),
-        7,
-    ]
+// A ceiling of 0 to 3, or of 4,000.
+fn ceiling(x: u64) -> u64 {
+    match below(x, 8) {
+        k if k < 4 => k,
+        _ => 4_000,
+    }
 }
 
-fn ceilings_of(seed: u64, n: usize) -> [u64; 13] {
-    [
-        ceiling(seed, 0, n),
-        ceiling(seed, 1, n),
-        ceiling(seed, 2, n),
-        ceiling(seed, 3, n),
-        ceiling(seed, 4, n),
-        ceiling(seed, 5, n),
-        ceiling(seed, 6, n),
-        ceiling(seed, 7, n),
-        ceiling(seed, 8, n),
-        ceiling(seed, 9, n),
-        ceiling(seed, 10, n),
-        ceiling(seed, 11, n),
-        7,
-    ]
+fn ceilings_of(seed: u64, lanes: usize) -> [u64; 13] {
+    let mut ceilings = [7u64; 13];
+    for (k, cell) in ceilings.iter_mut().enumerate() {
+        if k < lanes {
+            *cell = ceiling(drawn(seed, 40 + k as u64 % 13));
+        }
+    }
+    ceilings
 }
 
 // Five for the terminals together.
 fn demands_of(n: usize) -> [u64; 4] {
-    if n == 1 {
-        return [5, 7, 7, 7];
+    match n {
+        1 => [5, 7, 7, 7],
+        2 => [3, 2, 7, 7],
+        _ => [2, 2, 1, 7],
     }
-    if n == 2 {
-        return [3, 2, 7, 7];
+}
+
+// Three for each plant, and one for each depot.
+fn supplies_of(m: usize) -> [u64; 5] {
+    match m {
+        2 => [3, 3, 7, 7, 7],
+        3 => [3, 3, 1, 7, 7],
+        _ => [3, 3, 1, 1, 7],
     }
-    [2, 2, 1, 7]
 }
 
 pub fn first_case(seed: u64) -> Copy {
     let m = 2 + below(drawn(seed, 10), 3) as usize % 3;
     let n = 1 + below(drawn(seed, 11), 3) as usize % 3;
-    let lanes = times(m, n);
-    let run1 = below(drawn(seed, 12), 2);
-    let run2 = below(drawn(seed, 13), 2);
-    let supplies = [3, 3, cell(2, m, 1), cell(3, m, 1), 7];
-    let demands = demands_of(n);
-    let costs = costs_of(seed, lanes);
-    let ceilings = ceilings_of(seed, lanes);
+    let lanes = m * n;
     let x = below(drawn(seed, 14), 300);
-    let table = [x, 20, 24, 20, 0, 0, 0, 0, 0, 0, 0, 0, 0, 0, 0, 0];
     Copy {
         m,
         n,
-        run1,
-        run2,
-        supplies,
-        demands,
-        costs,
-        ceilings,
-        table,
+        run1: below(drawn(seed, 12), 2),
+        run2: below(drawn(seed, 13), 2),
+        supplies: supplies_of(m),
+        demands: demands_of(n),
+        costs: costs_of(seed, lanes),
+        ceilings: ceilings_of(seed, lanes),
+        table: [x, 20, 24, 20, 0, 0, 0, 0, 0, 0, 0, 0, 0, 0, 0, 0],
     }
-}
-
-// An entry, or another number past a_1.
-pub fn kept(first: u64, y: u64, entry: u64, other: u64) -> u64 {
-    if first < y { other } else { entry }
 }
 
 // A table with another number past entry a_1.
-pub fn cut(t: [u64; 16], a: u64, z: u64) -> [u64; 16] {
-    [
-        t[0],
-        kept(a, 1, t[1], z),
-        kept(a, 2, t[2], z),
-        kept(a, 3, t[3], z),
-        kept(a, 4, t[4], z),
-        kept(a, 5, t[5], z),
-        kept(a, 6, t[6], z),
-        kept(a, 7, t[7], z),
-        kept(a, 8, t[8], z),
-        kept(a, 9, t[9], z),
-        kept(a, 10, t[10], z),
-        kept(a, 11, t[11], z),
-        kept(a, 12, t[12], z),
-        kept(a, 13, t[13], z),
-        kept(a, 14, t[14], z),
-        kept(a, 15, t[15], z),
-    ]
-}
-
-fn with_supply(c: Copy, at: usize, amount: u64) -> Copy {
-    let mut after = c;
-    if at < 5 {
-        after.supplies[at] = amount;
-    }
-    if at == 0 {
-        let old = c.table;
-        let table = cut(old, amount, 0);
-        after.table = table;
+pub fn cut(table: [u64; 16], a_1: u64, other: u64) -> [u64; 16] {
+    let mut after = table;
+    for (y, entry) in after.iter_mut().enumerate() {
+        if a_1 < y as u64 {
+            *entry = other;
+        }
     }
     after
 }
 
-fn with_cost(c: Copy, i: usize, j: usize, value: i64) -> Copy {
+fn with_supply(c: Copy, source: usize, amount: u64) -> Copy {
     let mut after = c;
-    let row = times(i, c.n);
-    if row < 13 {
-        if j < 13 {
-            let at = row + j;
-            if at < 13 {
-                after.costs[at] = value;
-            }
+    if 0 < source && source <= 5 {
+        after.supplies[source - 1] = amount;
+    }
+    if source == 1 {
+        after.table = cut(c.table, amount, 0);
+    }
+    after
+}
+
+fn with_cost(c: Copy, source: usize, terminal: usize, cost: i64) -> Copy {
+    let mut after = c;
+    if 0 < source && 0 < terminal {
+        let lane = c.n.saturating_mul(source - 1).saturating_add(terminal - 1);
+        if lane < 13 {
+            after.costs[lane] = cost;
         }
     }
     after
 }
 
 // The case after an edit that is not refused.
-pub fn edited(c: Copy, r: Request) -> Copy {
+fn edited(c: Copy, call: Call) -> Copy {
     let mut after = c;
-    let a = r.a;
-    let b = r.b;
-    let amount = r.amount;
-    if r.kind == 3 {
-        if a < 16 {
-            after.table[a] = amount;
+    match call {
+        Call::Demand { terminal, amount } => {
+            if 0 < terminal && terminal <= 4 {
+                after.demands[terminal - 1] = amount;
+            }
         }
-        return after;
-    }
-    if a == 0 {
-        return after;
-    }
-    let at = a - 1;
-    if r.kind == 1 {
-        return with_supply(c, at, amount);
-    }
-    if r.kind == 0 {
-        if at < 4 {
-            after.demands[at] = amount;
+        Call::Supply { source, amount } => after = with_supply(c, source, amount),
+        Call::Cost {
+            source,
+            terminal,
+            cost,
+        } => after = with_cost(c, source, terminal, cost),
+        Call::Entry { split, entry } => {
+            if split < 16 {
+                after.table[split] = entry;
+            }
         }
-        return after;
-    }
-    if r.kind == 2 {
-        if 0 < b {
-            return with_cost(c, at, b - 1, r.cost);
-        }
+        Call::SetMark(_) | Call::GoBack(_) => {}
     }
     after
+}
+
+// A working case: the case, and what each mark holds that is set.
+#[derive(Clone, Copy, PartialEq, Eq, Debug, Drop)]
+pub struct Model {
+    pub case: Copy,
+    pub marks: [Option<Copy>; 8],
+}
+
+impl Model {
+    pub fn new(case: Copy) -> Model {
+        Model {
+            case,
+            marks: [None; 8],
+        }
+    }
+
+    // What mark k holds, if it is set.
+    pub fn held(&self, k: usize) -> Option<Copy> {
+        if 0 < k && k <= 8 {
+            self.marks[k - 1]
+        } else {
+            None
+        }
+    }
+
+    // Does a call that is not refused.
+    pub fn call(&mut self, call: Call) {
+        match call {
+            Call::SetMark(k) => {
+                if 0 < k && k <= 8 {
+                    self.marks[k - 1] = Some(self.case);
+                }
+            }
+            Call::GoBack(k) => {
+                if let Some(case) = self.held(k) {
+                    self.case = case;
+                }
+            }
+            _ => self.case = edited(self.case, call),
+        }
+    }
 }

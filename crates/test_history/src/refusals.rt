@@ -1,149 +1,86 @@
 // The refusals of a call, as the papers have them.
 use crate::draws::Request;
-use crate::model::{Copy, times};
-use validation::tests::Verdict;
+use crate::model::{Copy, Model};
+use refusal::{Cause, Refusal};
+use test_compare::draws::Call;
 
-// Is k none of 1 to n?
-fn absent(k: usize, n: usize) -> bool {
-    if k < 1 {
-        return true;
-    }
-    n < k
+fn refuse_if(fails: bool, cause: Cause, place: u64) -> Result<(), Refusal> {
+    if fails { Err(cause.at(place)) } else { Ok(()) }
 }
 
-// The sum of two small numbers, as a place.
-fn place(x: usize, y: usize) -> u64 {
-    if 1_000 < x {
-        return 0;
-    }
-    if 1_000 < y {
-        return 0;
-    }
-    (x + y) as u64
+// Whether k is one of 1 to n.
+fn named(k: usize, n: usize) -> Result<(), Refusal> {
+    refuse_if(k < 1 || n < k, Cause::NoSuch, 0)
+}
+
+// The place after so many others.
+fn place(before: usize, k: usize) -> u64 {
+    before.saturating_add(k) as u64
 }
 
 // A planner may do all; plant edits entries; depot edits demand and supply, except a_1; a reader edits nothing.
 fn may(r: Request) -> bool {
-    if r.role == 1 {
-        return true;
+    match r.role {
+        1 => true,
+        2 => matches!(r.call, Call::Entry { .. }),
+        3 => match r.call {
+            Call::Demand { .. } => true,
+            Call::Supply { source, .. } => source != 1,
+            _ => false,
+        },
+        _ => false,
     }
-    if r.role == 2 {
-        return r.kind == 3;
-    }
-    if r.role == 3 {
-        if r.kind == 1 {
-            return r.a != 1;
-        }
-        return r.kind == 0;
-    }
-    false
 }
 
-fn run_of(c: Copy, i: usize) -> u64 {
-    if i == 1 {
-        return c.run1;
+fn run_of(c: Copy, source: usize) -> u64 {
+    match source {
+        1 => c.run1,
+        2 => c.run2,
+        _ => 0,
     }
-    if i == 2 {
-        return c.run2;
-    }
-    0
 }
 
-fn demand_refusal(c: Copy, r: Request) -> Verdict {
-    if absent(r.a, c.n) {
-        return Verdict::Refused(24, 0);
-    }
-    if 4_000 < r.amount {
-        return Verdict::Refused(4, place(c.m, r.a));
-    }
-    Verdict::Passed
+fn demand_refusal(c: Copy, terminal: usize, amount: u64) -> Result<(), Refusal> {
+    named(terminal, c.n)?;
+    refuse_if(4_000 < amount, Cause::Amount, place(c.m, terminal))
 }
 
-fn supply_refusal(c: Copy, r: Request) -> Verdict {
-    if absent(r.a, c.m) {
-        return Verdict::Refused(24, 0);
-    }
-    if 4_000 < r.amount {
-        return Verdict::Refused(4, place(0, r.a));
-    }
-    if r.amount < run_of(c, r.a) {
-        return Verdict::Refused(23, place(0, r.a));
-    }
-    Verdict::Passed
+fn supply_refusal(c: Copy, source: usize, amount: u64) -> Result<(), Refusal> {
+    named(source, c.m)?;
+    refuse_if(4_000 < amount, Cause::Amount, place(0, source))?;
+    refuse_if(
+        amount < run_of(c, source),
+        Cause::LeastRun,
+        place(0, source),
+    )
 }
 
-// The place of the lane from source a to terminal b.
-fn lane(c: Copy, r: Request) -> u64 {
-    let a = r.a;
-    if 0 < a {
-        return place(times(a - 1, c.n), r.b);
-    }
-    0
-}
-
-fn cost_refusal(c: Copy, r: Request) -> Verdict {
-    if absent(r.a, c.m) {
-        return Verdict::Refused(24, 0);
-    }
-    if absent(r.b, c.n) {
-        return Verdict::Refused(24, 0);
-    }
-    if r.cost < -1_000_000 {
-        return Verdict::Refused(5, lane(c, r));
-    }
-    if 1_000_000 < r.cost {
-        return Verdict::Refused(5, lane(c, r));
-    }
-    Verdict::Passed
-}
-
-fn entry_refusal(c: Copy, r: Request) -> Verdict {
-    if c.supplies[0] < r.a as u64 {
-        return Verdict::Refused(24, 0);
-    }
-    Verdict::Passed
+fn cost_refusal(c: Copy, source: usize, terminal: usize, cost: i64) -> Result<(), Refusal> {
+    named(source, c.m)?;
+    named(terminal, c.n)?;
+    let lane = place(c.n.saturating_mul(source.saturating_sub(1)), terminal);
+    refuse_if(cost < -1_000_000 || 1_000_000 < cost, Cause::UnitCost, lane)
 }
 
 // Of going back to mark k, and of planning it.
-pub fn mark_refusal(k: usize, set: [u64; 9]) -> Verdict {
-    if k < 1 {
-        return Verdict::Refused(24, 0);
-    }
-    if 8 < k {
-        return Verdict::Refused(24, 0);
-    }
-    let at = k - 1;
-    if set[at] == 0 {
-        return Verdict::Refused(25, place(0, k));
-    }
-    Verdict::Passed
+pub fn mark_refusal(model: &Model, k: usize) -> Result<(), Refusal> {
+    named(k, 8)?;
+    refuse_if(model.held(k).is_none(), Cause::Unset, place(0, k))
 }
 
-fn case_refusal(c: Copy, set: [u64; 9], r: Request) -> Verdict {
-    if r.kind == 0 {
-        return demand_refusal(c, r);
+pub fn refusal(model: &Model, r: Request) -> Result<(), Refusal> {
+    refuse_if(!may(r), Cause::Role, 0)?;
+    let c = model.case;
+    match r.call {
+        Call::Demand { terminal, amount } => demand_refusal(c, terminal, amount),
+        Call::Supply { source, amount } => supply_refusal(c, source, amount),
+        Call::Cost {
+            source,
+            terminal,
+            cost,
+        } => cost_refusal(c, source, terminal, cost),
+        Call::Entry { split, .. } => refuse_if(c.supplies[0] < split as u64, Cause::NoSuch, 0),
+        Call::SetMark(k) => named(k, 8),
+        Call::GoBack(k) => mark_refusal(model, k),
     }
-    if r.kind == 1 {
-        return supply_refusal(c, r);
-    }
-    if r.kind == 2 {
-        return cost_refusal(c, r);
-    }
-    if r.kind == 3 {
-        return entry_refusal(c, r);
-    }
-    if r.kind == 4 {
-        if absent(r.a, 8) {
-            return Verdict::Refused(24, 0);
-        }
-        return Verdict::Passed;
-    }
-    mark_refusal(r.a, set)
-}
-
-pub fn refusal(c: Copy, set: [u64; 9], r: Request) -> Verdict {
-    if may(r) {
-        return case_refusal(c, set, r);
-    }
-    Verdict::Refused(31, 0)
 }

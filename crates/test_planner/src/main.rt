@@ -30,12 +30,10 @@ fn new_bench() -> [u64; 26900]
 // Runs the random cases, from a fixed seed.
 fn run_random(b: &mut [u64]) {
     let mut seed: u64 = 20_260_101;
-    let mut k: u64 = 0;
-    while k < RANDOM_CASES {
-        seed = next_case(b, seed);
+    for _ in 0..RANDOM_CASES {
+        next_case(&mut seed, b);
         let o = run_small(b);
-        close(b, o.failed);
-        k += 1;
+        close(b, o.checked);
     }
 }
 

@@ -18,18 +18,9 @@ fn signed(cell: u64) -> i64 {
     lowered(cell)
 }
 
-// Writes the number k; past the end nothing is written.
-fn put_signed(s: &mut [i64], k: usize, v: i64) {
-    if k < s.len() {
-        s[k] = v;
-    }
-}
-
-// Writes the signed numbers of cells.
+// Writes the signed numbers of cells, as far as there is room.
 pub fn spell(cells: &[u64], numbers: &mut [i64]) {
-    let mut k: usize = 0;
-    while k < cells.len() {
-        put_signed(numbers, k, signed(cells[k]));
-        k += 1;
+    for (number, cell) in numbers.iter_mut().zip(cells) {
+        *number = signed(*cell);
     }
 }

@@ -1,148 +1,159 @@
 // Runs the planner on the case of the bench, and checks all that it gave.
-ghost use Rattle.std.specs.Prelude.{◌≡◌, ◌≤◌, length};
+ghost use Rattle.std.specs.Prelude.{◌≤◌};
 
 use crate::money::spell;
-use planner::Answer;
+use lent_case::Case;
+use test_draws::slices::{first, from};
 use test_referee::bench::{CEILINGS, COSTS, DEMANDS, SUPPLIES, Sizes, TABLE};
-use test_referee::cells::{others, part};
-use test_referee::compare::{Told, check_amounts, check_lanes, check_told, failed, stops_of};
-use test_referee::money::{BLANK, cell_of, written};
-use test_referee::paper::Span;
+use test_referee::cells::part;
+use test_referee::compare::{
+    Check, Checked, Planned, Told, check_amounts, check_lanes, check_told, hold, stops_of,
+};
+use test_referee::money::{BLANK, cell_of};
+use test_referee::paper::{Refusal, Span};
 
 // What every cell that the planner may write holds before.
 const MARK: u64 = 7_000_000_000_000;
 
-// The planner's answer, and the number of the first check that fails, or 0.
-#[derive(Drop)]
+// The cells of a slice that there is room for.
+const ROOM: usize = 4_100;
+
+// The planner's answer, and the first check that fails.
+#[derive(Clone, Copy, PartialEq, Eq, Debug, Drop)]
 pub struct Outcome {
-    pub failed: u64,
+    pub checked: Checked,
     pub got: Told,
 }
 
-// Slices with room for any case.
-fn marked() -> [u64; 4100]
-    ensures { 4100 ≡ length result }
-{
-    [MARK; 4100]
+// What the planner may write, with room for any case.
+#[derive(Clone, Copy, PartialEq, Eq, Debug, Drop)]
+struct Room {
+    plan: [u64; ROOM],
+    splits: [u64; ROOM],
+    freights: [i64; ROOM],
 }
 
-fn blank() -> [i64; 4100]
-    ensures { 4100 ≡ length result }
-{
-    [BLANK; 4100]
+// The answer, and what the planner wrote.
+#[derive(Clone, Copy, PartialEq, Eq, Debug, Drop)]
+struct Lent {
+    got: Told,
+    room: Room,
+}
+
+fn marked() -> [u64; ROOM] {
+    [MARK; ROOM]
+}
+
+fn blank() -> [i64; ROOM] {
+    [BLANK; ROOM]
 }
 
 // The answer in cells.
-fn told(answer: Answer) -> Told {
+fn told(answer: Result<planner::Planned, refusal::Refusal>) -> Told {
     match answer {
-        Answer::Planned {
-            split,
-            total,
-            freight,
-            stops,
-        } => Told {
-            number: 0,
-            place: 0,
-            split,
-            total: cell_of(total),
-            freight: cell_of(freight),
-            stops: stops as u64,
+        Ok(plan) => Ok(Planned {
+            split: plan.split,
+            total: cell_of(plan.total),
+            freight: cell_of(plan.freight),
+            stops: plan.stops as u64,
             ties: 0,
-        },
-        Answer::Refused { number, place } => Told {
-            number,
-            place,
-            split: 0,
-            total: 0,
-            freight: 0,
-            stops: 0,
-            ties: 0,
-        },
+        }),
+        Err(refusal) => Err(Refusal {
+            number: refusal.cause.number(),
+            place: refusal.place,
+        }),
     }
 }
 
-// A length with room in the slices.
-fn fitted(cells: u64) -> u64
+// As many cells as a case names, or as there is room for.
+fn fitted(cells: u64) -> usize
     ensures { result ≤ 4100 }
 {
-    if cells < 4_100 { cells } else { 4_100 }
+    ROOM.min(cells as usize)
 }
 
 // Lends the planner slices of the lengths that the case names.
-fn lend(
-    z: Sizes,
-    b: &[u64],
-    costs: &[i64],
-    plan: &mut [u64],
-    splits: &mut [u64],
-    freights: &mut [i64],
-) -> Told
-    requires { (4100 ≤ length costs.now) × ((4100 ≤ length plan.old) × ((4100 ≤ length splits.old) × (4100 ≤ length freights.old))) }
-{
-    let c = fitted(z.costs) as usize;
-    let p = fitted(z.plan) as usize;
-    let s = fitted(z.splits) as usize;
-    let f = fitted(z.freights) as usize;
-    told(planner::plan(
-        z.m as usize,
-        z.n as usize,
-        z.run1,
-        z.run2,
-        &costs[0..c],
-        part(b, SUPPLIES, z.supplies),
-        part(b, DEMANDS, z.demands),
-        part(b, CEILINGS, z.ceilings),
-        part(b, TABLE, z.table),
-        &mut plan[0..p],
-        &mut splits[0..s],
-        &mut freights[0..f],
-    ))
+fn lend(z: Sizes, b: &[u64], costs: &[i64]) -> Lent {
+    let mut plan = marked();
+    let mut splits = marked();
+    let mut freights = blank();
+    let case = Case {
+        m: z.m as usize,
+        n: z.n as usize,
+        run1: z.run1,
+        run2: z.run2,
+        costs: first(costs, z.costs as usize),
+        supplies: part(b, SUPPLIES, z.supplies),
+        demands: part(b, DEMANDS, z.demands),
+        ceilings: part(b, CEILINGS, z.ceilings),
+        table: part(b, TABLE, z.table),
+    };
+    let answer = planner::plan(
+        &case,
+        &mut plan[..fitted(z.plan)],
+        &mut splits[..fitted(z.splits)],
+        &mut freights[..fitted(z.freights)],
+    );
+    Lent {
+        got: told(answer),
+        room: Room {
+            plan,
+            splits,
+            freights,
+        },
+    }
 }
 
-// Whether a cell after the result is changed.
-fn touched(lanes: u64, stops: u64, plan: &[u64], splits: &[u64], freights: &[i64]) -> bool {
-    if others(plan, lanes, MARK) != 0 {
-        return true;
-    }
-    if others(splits, stops, MARK) != 0 {
-        return true;
-    }
-    written(freights, stops) != 0
+// Whether the cells after the lanes and after the stops are as they were.
+fn kept(room: &Room, lanes: u64, stops: u64) -> bool {
+    let plan = from(&room.plan, lanes as usize);
+    let splits = from(&room.splits, stops as usize);
+    let freights = from(&room.freights, stops as usize);
+    plan.iter().all(|x| *x == MARK)
+        && splits.iter().all(|x| *x == MARK)
+        && freights.iter().all(|x| *x == BLANK)
 }
 
-// The checks of all that the planner wrote.
-fn check_cells(
+// The checks of a plan, and of all that the planner wrote.
+fn check_plan(
     z: Sizes,
     s: Span,
-    want: Told,
+    want: Planned,
     stops: u64,
     listed: bool,
     b: &[u64],
-    plan: &[u64],
-    splits: &[u64],
-    freights: &[i64],
-) -> u64 {
-    if want.number != 0 {
-        return failed(0, touched(0, 0, plan, splits, freights), 6);
+    room: &Room,
+) -> Checked {
+    check_amounts(z, s, want, b, &room.plan)?;
+    let found = stops_of(s, b, &room.splits, &room.freights);
+    hold(found == Some(stops), Check::Stops)?;
+    hold(kept(room, z.costs, stops), Check::Rest)?;
+    check_lanes(z, want.split, listed, b, &room.plan)
+}
+
+fn check_all(
+    z: Sizes,
+    s: Span,
+    want: Told,
+    got: Told,
+    listed: bool,
+    b: &[u64],
+    room: &Room,
+) -> Checked {
+    check_told(want, got)?;
+    match (want, got) {
+        (Ok(plan), Ok(given)) => check_plan(z, s, plan, given.stops, listed, b, room),
+        _ => hold(kept(room, 0, 0), Check::Unchanged),
     }
-    let f = check_amounts(z, s, want, b, plan);
-    let f = failed(f, stops_of(s, b, splits, freights) != stops, 10);
-    let f = failed(f, touched(z.costs, stops, plan, splits, freights), 11);
-    failed(f, check_lanes(z, want.split, listed, b, plan) != 0, 15)
 }
 
 // Runs the planner, and holds its answer to the one expected. The lanes are compared where the plans are listed.
 pub fn check(z: Sizes, s: Span, want: Told, listed: bool, b: &[u64]) -> Outcome {
     let mut costs = blank();
-    let mut plan = marked();
-    let mut splits = marked();
-    let mut freights = blank();
     spell(part(b, COSTS, z.costs), &mut costs);
-    let got = lend(z, b, &costs, &mut plan, &mut splits, &mut freights);
-    let wrong = check_told(want, got);
-    if wrong != 0 {
-        return Outcome { failed: wrong, got };
+    let lent = lend(z, b, &costs);
+    Outcome {
+        checked: check_all(z, s, want, lent.got, listed, b, &lent.room),
+        got: lent.got,
     }
-    let f = check_cells(z, s, want, got.stops, listed, b, &plan, &splits, &freights);
-    Outcome { failed: f, got }
 }

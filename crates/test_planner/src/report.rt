@@ -2,7 +2,7 @@
 use std::io;
 use std::io::Write;
 use test_referee::bench::TALLY;
-use test_referee::cells::{at, plus};
+use test_referee::cells::cell;
 
 // How many lines there are, how wide a name is, and the cell of the tally that each line shows.
 const LINES: usize = 29;
@@ -22,7 +22,7 @@ fn say(rt: &impl Print, names: &[u8], b: &[u64], k: usize) -> io::Result<()> {
         if end <= names.len() {
             let mut out = io::writer(rt);
             out.write_all(&names[start..end])?;
-            writeln!(out, "{}", at(b, plus(TALLY, SHOWN[k])))?;
+            writeln!(out, "{}", cell(b, TALLY, SHOWN[k]))?;
         }
     }
     Ok(())

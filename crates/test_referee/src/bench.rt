@@ -1,4 +1,5 @@
 // All that a trial works on lies in one slice, the bench: the case, the plans listed, the tally.
+// Stays: a line of the table of fixed cases, and a way to spoil a case, names any cell of any part by one number.
 use crate::cells::at;
 
 // The sizes of the case, the lengths of the lent slices, the least runs of the plants.
@@ -67,7 +68,7 @@ pub const ROOM: u64 = 4_100;
 pub const ZERO: u64 = 500_000_000_000;
 
 // The sizes of a case, the lengths of its slices and its least runs.
-#[derive(Clone, Copy)]
+#[derive(Clone, Copy, PartialEq, Eq, Debug, Drop)]
 pub struct Sizes {
     pub m: u64,
     pub n: u64,

@@ -1,11 +1,25 @@
 // Random cases that are accepted, of 2 to 8 sources and 1 to 8 terminals, the same at each run.
 ghost use Rattle.std.specs.Prelude.{◌<◌, ◌^◌};
 
-// A number below 2^31 - 1 for a seed, a place and a part, by two steps of the generator x · 48,271 modulo 2^31 - 1.
-pub fn drawn(seed: u64, k: u64, part: u64) -> u64 {
-    let x = (seed % 2_147_483_647 + k % 1_000 * 7_919 + part % 10 * 104_729) * 48_271
-        % 2_147_483_647;
-    x * 48_271 % 2_147_483_647
+use std::array;
+use test_draws::after;
+
+// A case in the first cells of arrays.
+#[derive(Clone, Copy, PartialEq, Eq, Debug, Drop)]
+pub struct Case {
+    pub m: usize,
+    pub n: usize,
+    pub lanes: usize,
+    pub entries: usize,
+    pub costs: [i64; 64],
+    pub supplies: [u64; 8],
+    pub demands: [u64; 8],
+    pub table: [u64; 41],
+}
+
+// A number below 2^31 - 1 for a seed, a place and a part, by two steps of the generator.
+fn drawn(seed: u64, k: u64, part: u64) -> u64 {
+    after(after(seed % 2_147_483_647 + k % 1_000 * 7_919 + part % 10 * 104_729))
 }
 
 // A power of ten, at most 10^10.
@@ -48,14 +62,6 @@ fn cost(seed: u64, k: u64) -> i64 {
     below_zero(size)
 }
 
-pub fn costs_of(seed: u64) -> [i64; 64] {
-    let mut costs = [0i64; 64];
-    for k in 0..64 {
-        costs[k] = cost(seed, k as u64);
-    }
-    costs
-}
-
 // Plant 1 makes at most 40 drums, plant 2 at least 200; each depot has 0 or 1.
 fn supply(seed: u64, i: u64) -> u64 {
     let x = drawn(seed, i, 5);
@@ -74,21 +80,19 @@ fn entry(seed: u64, y: u64, n: u64) -> u64 {
     of_digits(seed, y, 10)
 }
 
-// The supplies in the first 8 cells, the demands, from 10 to 19 drums, in the next 8, then the table.
-fn number(seed: u64, k: u64, n: u64) -> u64 {
-    if k < 8 {
-        return supply(seed, k);
+// The case of a seed; each terminal wants 10 to 19 drums.
+pub fn case_of(seed: u64) -> Case {
+    let m = 2 + (drawn(seed, 1, 7) % 7) as usize;
+    let n = 1 + (drawn(seed, 2, 7) % 8) as usize;
+    let supplies = array::from_fn(|i| supply(seed, i as u64));
+    Case {
+        m,
+        n,
+        lanes: m * n,
+        entries: (supplies[0] % 41) as usize + 1,
+        costs: array::from_fn(|k| cost(seed, k as u64)),
+        supplies,
+        demands: array::from_fn(|j| 10 + drawn(seed, (j as u64).saturating_add(8), 6) % 10),
+        table: array::from_fn(|y| entry(seed, y as u64, n as u64)),
     }
-    if k < 16 {
-        return 10 + drawn(seed, k, 6) % 10;
-    }
-    entry(seed, k - 16, n)
-}
-
-pub fn numbers_of(seed: u64, n: u64) -> [u64; 57] {
-    let mut numbers = [0u64; 57];
-    for k in 0..57 {
-        numbers[k] = number(seed, k as u64, n);
-    }
-    numbers
 }

@@ -1,66 +1,30 @@
-// Parts of a text, as far as it goes.
-// The first n bytes; all where there are no more.
-pub fn first(s: &[u8], n: usize) -> &[u8] {
-    if s.len() < n {
-        return s;
-    }
-    &s[0..n]
-}
+// Rows of a table, and parts of a text, as far as it goes.
+ghost use Rattle.std.specs.Prelude.{◌≤◌, length};
 
-// The bytes from n on; none where there are no more.
-pub fn after(s: &[u8], n: usize) -> &[u8] {
-    if s.len() < n {
-        return &s[0..0];
-    }
-    &s[n..]
-}
+use std::io;
+use test_draws::slices::{at_or, first, from};
 
 // The byte at an offset, or 0 past the end.
 pub fn byte(s: &[u8], k: usize) -> u8 {
-    if k < s.len() { s[k] } else { 0 }
+    at_or(s, k, 0)
 }
 
 // How many bytes stand before the first byte b; all where there is none.
-pub fn before(s: &[u8], b: u8) -> usize {
-    let mut k: usize = 0;
-    while k < s.len() {
-        if s[k] == b {
-            return k;
-        }
-        k += 1;
-    }
-    k
+pub fn before(s: &[u8], b: u8) -> usize
+    ensures { result ≤ length s.now }
+{
+    s.iter().position(|x| *x == b).unwrap_or(s.len())
 }
 
-// The offset behind the k-th bar of a row; the row's length where there are not so many.
-fn behind(row: &[u8], k: u64) -> usize {
-    let mut bars = k;
-    let mut i: usize = 0;
-    while i < row.len() {
-        if bars == 0 {
-            return i;
-        }
-        if row[i] == b'|' {
-            bars -= 1;
-        }
-        i += 1;
-    }
-    i
+// The field k of a row, from 0: what stands behind its k-th bar, up to the next; empty where there are not so many.
+pub fn field(row: &[u8], k: usize) -> &[u8] {
+    row.split(|b| *b == b'|').nth(k).unwrap_or(&row[..0])
 }
 
-// The field k of a row, from 0: what stands behind its k-th bar, up to the next.
-pub fn field(row: &[u8], k: u64) -> &[u8] {
-    let rest = after(row, behind(row, k));
-    first(rest, before(rest, b'|'))
-}
-
-// A number with a digit behind it; the number where the byte is no digit or there is no room.
-fn with_digit(n: u64, b: u8) -> u64 {
-    if b < b'0' {
-        return n;
-    }
-    if n < 1_000_000_000 {
-        n * 10 + ((b - b'0') as u64)
+// A number with a digit behind it; the number where there is no room.
+fn with_digit(n: u64, digit: u8) -> u64 {
+    if n < 1_000_000_000_000_000 {
+        n * 10 + u64::from(digit.saturating_sub(b'0'))
     } else {
         n
     }
@@ -68,18 +32,29 @@ fn with_digit(n: u64, b: u8) -> u64 {
 
 // The number that the digits in front of a text make, 0 where there are none.
 pub fn number(s: &[u8]) -> u64 {
-    let mut n: u64 = 0;
-    let mut k: usize = 0;
-    while k < s.len() {
-        let b = s[k];
-        if b > b'9' {
-            return n;
+    s.iter()
+        .take_while(|b| b.is_ascii_digit())
+        .fold(0, |n, b| with_digit(n, *b))
+}
+
+// Is a line a row? An empty line and a line that begins with # are none.
+fn is_row(line: &[u8]) -> bool {
+    !matches!(byte(line, 0), 0 | b'#')
+}
+
+// Runs each row of a table, whose lines end.
+pub fn run_rows<F: FnMut(&[u8]) -> io::Result<()>>(table: &[u8], mut run: F) -> io::Result<()>
+    requires { F.IsAlwaysCallable run }
+{
+    let mut start: usize = 0;
+    for (k, b) in table.iter().enumerate() {
+        if *b == b'\n' {
+            let line = from(first(table, k), start);
+            if is_row(line) {
+                run(line)?;
+            }
+            start = k + 1;
         }
-        if b < b'0' {
-            return n;
-        }
-        n = with_digit(n, b);
-        k += 1;
     }
-    n
+    Ok(())
 }

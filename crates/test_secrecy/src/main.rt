@@ -5,9 +5,14 @@
 ghost use Rattle.std.specs.Prelude.{◌≡◌, length};
 
 use crate::calls::{call_both, plan_both};
+use lent_case::Case;
+use refusal::Refusal;
 use std::io;
-use test_compare::{below, count, line, next, passed};
-use validation::tests::Verdict;
+use test_calls::make;
+use test_compare::Met;
+use test_compare::draws::Call;
+use test_draws::tally::{Tally, say};
+use test_draws::{after, below};
 
 mod calls;
 
@@ -24,98 +29,104 @@ fn new_store() -> [u64; 36333]
 }
 
 // Enters case A with least runs of 1, and other entries.
-fn enter(seed: u64, store: &mut [u64]) -> Verdict {
+fn enter(seed: u64, store: &mut [u64]) -> Result<(), Refusal> {
     let costs = [2i64, 6, 5, 3, 1, 4];
     let supplies = [3u64, 3, 1];
     let demands = [3u64, 2];
-    let x = next(seed);
-    let table = [seed, below(seed, 300), below(x, 300), below(next(x), 300)];
-    roles::enter(
-        3, 2, 1, 1, &costs, &supplies, &demands, &CEILINGS, &table, store,
-    )
+    let x = after(seed);
+    let table = [seed, below(seed, 300), below(x, 300), below(after(x), 300)];
+    let case = Case {
+        m: 3,
+        n: 2,
+        run1: 1,
+        run2: 1,
+        costs: &costs,
+        supplies: &supplies,
+        demands: &demands,
+        ceilings: &CEILINGS,
+        table: &table,
+    };
+    roles::enter(&case, store)
 }
 
-// The planner sets a mark, then alters an entry: 0 where both are done.
-fn marked(k: usize, y: usize, entry: u64, store: &mut [u64]) -> u64 {
-    if passed(roles::set_mark(1, k, store)) != 0 {
-        return 100;
-    }
-    passed(roles::edit_entry(1, y, entry, store))
+// The planner sets a mark, then alters an entry.
+fn mark(k: usize, split: usize, entry: u64, store: &mut [u64]) -> Result<(), Refusal> {
+    make(1, Call::SetMark(k), store)?;
+    make(1, Call::Entry { split, entry }, store)
 }
 
-// A store made ready: 0 where all is done.
-fn prepared(seed: u64, store: &mut [u64]) -> u64 {
-    if passed(enter(seed, store)) != 0 {
-        return 100;
-    }
-    if marked(2, 1, below(next(seed), 300), store) != 0 {
-        return 100;
-    }
-    marked(4, 2, below(next(next(seed)), 300), store)
+// Makes a store ready.
+fn prepare(seed: u64, store: &mut [u64]) -> Result<(), Refusal> {
+    enter(seed, store)?;
+    mark(2, 1, below(after(seed), 300), store)?;
+    mark(4, 2, below(after(after(seed)), 300), store)
 }
 
 // Depot or reader, the depot more often.
 fn role(seed: u64) -> usize {
-    if below(next(next(seed)), 4) == 0 {
+    if below(after(after(seed)), 4) == 0 {
         4
     } else {
         3
     }
 }
 
-// Makes both stores ready.
-fn prepare_both(seed: u64, a: &mut [u64], b: &mut [u64], ready: &mut [u64; 128]) {
-    let x = prepared(seed, a);
-    let y = prepared(next(seed), b);
-    count(ready, x);
-    count(ready, y);
-}
-
 // The seed for the next call.
-fn after(seed: u64) -> u64 {
-    next(next(next(next(next(next(seed))))))
+fn next(seed: u64) -> u64 {
+    after(after(after(after(after(after(seed))))))
 }
 
-// One history from a seed; the seed after it.
-fn run_history(from: u64, a: &mut [u64], b: &mut [u64], heard: &mut [u64; 128]) -> u64 {
+// What was met over all histories: stores made ready, what planners hear, and what depot and reader hear.
+#[derive(Clone, Copy, PartialEq, Eq, Debug, Drop)]
+struct Tallies {
+    ready: Tally<128>,
+    planner: Tally<128>,
+    heard: Tally<128>,
+}
+
+// Runs one history from a seed, and gives the seed after it.
+fn run_history(from: u64, a: &mut [u64], b: &mut [u64], heard: &mut Tally<128>) -> u64 {
     let mut seed = from;
-    let mut k: u64 = 0;
-    while k < CALLS {
-        let told = call_both(role(seed), seed, a, b);
-        count(heard, told);
-        seed = after(seed);
-        k += 1;
+    for _ in 0..CALLS {
+        let met = call_both(role(seed), seed, a, b);
+        heard.count(met.place());
+        seed = next(seed);
     }
     seed
 }
 
-fn report(
-    rt: &impl Print,
-    ready: &[u64; 128],
-    planner: &[u64; 128],
-    heard: &[u64; 128],
-) -> io::Result<()> {
-    line(rt, b"stores made ready:          ", ready[0])?;
-    line(rt, b"a planner tells them apart: ", planner[100])?;
-    line(rt, b"depot and reader, done:     ", heard[0])?;
-    line(rt, b"refused 4:                  ", heard[4])?;
-    line(rt, b"refused 23:                 ", heard[23])?;
-    line(rt, b"refused 24:                 ", heard[24])?;
-    line(rt, b"refused 31:                 ", heard[31])?;
-    line(rt, b"heard differently:          ", heard[100])
+fn report(rt: &impl Print, t: &Tallies) -> io::Result<()> {
+    say(rt, "stores made ready:          ", t.ready.of(0))?;
+    say(rt, "a planner tells them apart: ", t.planner.of(100))?;
+    say(rt, "depot and reader, done:     ", t.heard.of(0))?;
+    say(rt, "refused 4:                  ", t.heard.of(4))?;
+    say(rt, "refused 23:                 ", t.heard.of(23))?;
+    say(rt, "refused 24:                 ", t.heard.of(24))?;
+    say(rt, "refused 31:                 ", t.heard.of(31))?;
+    say(rt, "heard differently:          ", t.heard.of(100))
 }
 
 fn run_all(rt: &impl Print, a: &mut [u64], b: &mut [u64]) -> io::Result<()> {
-    let mut ready = [0u64; 128];
-    let mut planner = [0u64; 128];
-    let mut heard = [0u64; 128];
+    let mut ready = Tally::<128>::new();
+    let mut planner = Tally::<128>::new();
+    let mut heard = Tally::<128>::new();
     let mut seed: u64 = 20_260_212;
     for _ in 0..HISTORIES {
-        prepare_both(seed, a, b, &mut ready);
-        count(&mut planner, plan_both(1, a, b));
-        seed = run_history(next(seed), a, b, &mut heard);
+        let first = prepare(seed, a);
+        let second = prepare(after(seed), b);
+        ready.count(Met::by(true, first).place());
+        ready.count(Met::by(true, second).place());
+        planner.count(plan_both(1, a, b).place());
+        seed = run_history(after(seed), a, b, &mut heard);
     }
-    report(rt, &ready, &planner, &heard)
+    report(
+        rt,
+        &Tallies {
+            ready,
+            planner,
+            heard,
+        },
+    )
 }
 
 fn main(rt: HostRuntime) -> io::Result<()> {

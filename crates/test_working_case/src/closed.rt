@@ -1,201 +1,146 @@
 // Stores that hold no working case: every call is refused by 11 and changes nothing. Stores with garbage behind their head: planning is planning what is
 // shown of them.
-use planner::Answer;
-use test_compare::{agreed, answers_agreed, next, passed, same_slices};
-use validation::tests::Verdict;
+use lent_case::Case;
+use refusal::Cause;
+use test_calls::{
+    Limits, Shown, Tariff, make, marks_set, plan_case, plan_mark, see_limits, see_table, see_tariff,
+};
+use test_compare::draws::Call;
+use test_draws::after;
+use test_draws::slices::first;
+use test_plans::{Planning, plan};
 
-// 0 for refusal 11, else 100.
-fn eleven(x: Verdict) -> u64 {
-    if agreed(x, Verdict::Refused(11, 0)) == 11 {
-        return 0;
-    }
-    100
+fn plans_refused(store: &[u64]) -> bool {
+    let eleven = Cause::Room.at(0);
+    let x: Planning<13, 16> = plan_case(1, store);
+    let y: Planning<13, 16> = plan_mark(1, 1, store);
+    x.answer == Err(eleven) && y.answer == Err(eleven)
 }
 
-fn plans_refused(store: &[u64]) -> u64 {
-    let mut p = [7u64; 13];
-    let mut s = [7u64; 16];
-    let mut f = [7i64; 16];
-    let none = Answer::Refused {
-        number: 11,
-        place: 0,
-    };
-    let x = roles::plan_case(1, store, &mut p, &mut s, &mut f);
-    let y = roles::plan_mark(1, 1, store, &mut p, &mut s, &mut f);
-    if answers_agreed(x, none) != 11 {
-        return 100;
-    }
-    if answers_agreed(y, none) != 11 {
-        return 100;
-    }
-    0
+fn sights_refused(store: &[u64]) -> bool {
+    let tariff: Tariff<13, 16, 16> = see_tariff(1, store);
+    let table: Shown<16> = see_table(1, store);
+    let limits: Limits<16, 16> = see_limits(1, store);
+    let marks: Shown<16> = marks_set(1, store);
+    let eleven = Err(Cause::Room.at(0));
+    tariff.said == eleven && table.said == eleven && limits.said == eleven && marks.said == eleven
 }
 
-fn sights_refused(store: &[u64]) -> u64 {
-    let mut c = [7i64; 13];
-    let mut s = [7u64; 16];
-    let mut d = [7u64; 16];
-    if eleven(roles::see_tariff(1, store, &mut c, &mut s, &mut d)) != 0 {
-        return 100;
-    }
-    if eleven(roles::see_table(1, store, &mut s)) != 0 {
-        return 100;
-    }
-    if eleven(roles::see_limits(1, store, &mut s, &mut d)) != 0 {
-        return 100;
-    }
-    eleven(roles::marks_set(1, store, &mut s))
-}
+// Every kind of edit, a mark and a return.
+const CALLS: [Call; 6] = [
+    Call::Demand {
+        terminal: 1,
+        amount: 1,
+    },
+    Call::Supply {
+        source: 1,
+        amount: 5,
+    },
+    Call::Cost {
+        source: 1,
+        terminal: 1,
+        cost: 1,
+    },
+    Call::Entry { split: 0, entry: 1 },
+    Call::SetMark(1),
+    Call::GoBack(1),
+];
 
-fn edits_refused(store: &mut [u64]) -> u64 {
-    if eleven(roles::edit_demand(1, 1, 1, store)) != 0 {
-        return 100;
+fn calls_refused(store: &mut [u64]) -> bool {
+    for call in CALLS {
+        if make(1, call, store) != Err(Cause::Room.at(0)) {
+            return false;
+        }
     }
-    if eleven(roles::edit_supply(1, 1, 5, store)) != 0 {
-        return 100;
-    }
-    if eleven(roles::edit_cost(1, 1, 1, 1, store)) != 0 {
-        return 100;
-    }
-    eleven(roles::edit_entry(1, 0, 1, store))
-}
-
-fn marks_refused(store: &mut [u64]) -> u64 {
-    if eleven(roles::set_mark(1, 1, store)) != 0 {
-        return 100;
-    }
-    eleven(roles::go_back(1, 1, store))
+    true
 }
 
 // Every call on a store that holds no working case.
-pub fn all_refused(store: &mut [u64]) -> u64 {
-    if edits_refused(store) != 0 {
-        return 100;
-    }
-    if marks_refused(store) != 0 {
-        return 100;
-    }
-    if sights_refused(store) != 0 {
-        return 100;
-    }
-    plans_refused(store)
+pub fn all_refused(store: &mut [u64]) -> bool {
+    calls_refused(store) && sights_refused(store) && plans_refused(store)
 }
 
-// Puts a number into a cell; the number that was in it.
+// Puts a number into a cell, and gives the number that was in it.
 fn exchange(at: usize, x: u64, store: &mut [u64]) -> u64 {
-    if at < store.len() {
-        let own = store[at];
-        store[at] = x;
-        return own;
+    match store.get_mut(at) {
+        Some(cell) => {
+            let own = *cell;
+            *cell = x;
+            own
+        }
+        None => 0,
     }
-    0
 }
 
 // Every call, with another number in one cell, which then gets its own back.
-fn spoilt(at: usize, x: u64, store: &mut [u64]) -> u64 {
+fn spoilt(at: usize, x: u64, store: &mut [u64]) -> bool {
     let own = exchange(at, x, store);
     let told = all_refused(store);
-    let other = exchange(at, own, store);
+    exchange(at, own, store);
     told
 }
 
-// The signature, the version before it, and sizes outside the limits.
-pub fn spoilt_heads(store: &mut [u64]) -> u64 {
-    if spoilt(10, 7, store) != 0 {
-        return 100;
-    }
-    if spoilt(10, 6_431_496_879_019_655_169, store) != 0 {
-        return 100;
-    }
-    if spoilt(0, 1, store) != 0 {
-        return 100;
-    }
-    if spoilt(0, 33, store) != 0 {
-        return 100;
-    }
-    if spoilt(1, 0, store) != 0 {
-        return 100;
-    }
-    spoilt(1, 65, store)
-}
+// The signature, the version before it, and sizes outside the limits: cells and numbers.
+const HEADS: [(usize, u64); 6] = [
+    (10, 7),
+    (10, 6_431_496_879_019_655_169),
+    (0, 1),
+    (0, 33),
+    (1, 0),
+    (1, 65),
+];
 
-// Puts a number into a cell, unless it is that of the signature.
-fn soil(at: usize, x: u64, store: &mut [u64]) {
-    if at != 10 {
-        if at < store.len() {
-            store[at] = x;
+pub fn spoilt_heads(store: &mut [u64]) -> bool {
+    for (at, x) in HEADS {
+        if !spoilt(at, x, store) {
+            return false;
         }
     }
+    true
 }
 
 // Fills all cells but size and signature with numbers, small and large.
 pub fn litter(from: u64, store: &mut [u64]) -> u64 {
     let mut seed = from;
-    let mut k: usize = 2;
-    while k < store.len() {
-        seed = next(seed);
-        soil(k, seed % 4_003, store);
-        k += 1;
+    for (k, cell) in store.iter_mut().enumerate() {
+        if 2 <= k {
+            seed = after(seed);
+            if k != 10 {
+                *cell = seed % 4_003;
+            }
+        }
     }
     seed
 }
 
-// How many entries a table has, by its a_1.
-fn entries(first: u64) -> usize {
-    if first < 4_000 {
-        first as usize + 1
-    } else {
-        4_001
+// Plans a store of 2 sources and 1 terminal, and plans what is shown of it: are both the same?
+pub fn plan_shown(store: &[u64]) -> bool {
+    let tariff: Tariff<2, 2, 1> = see_tariff(1, store);
+    let limits: Limits<2, 2> = see_limits(1, store);
+    let table: Shown<4001> = see_table(1, store);
+    if tariff.said.is_err() || limits.said.is_err() || table.said.is_err() {
+        return false;
     }
-}
-
-// Plans a store of 2 sources and 1 terminal, and plans what is shown of it: 0 where both are the same, else 100.
-pub fn plan_shown(store: &[u64]) -> u64 {
-    let mut c = [7i64; 2];
-    let mut s = [7u64; 2];
-    let mut d = [7u64; 1];
-    let mut u = [7u64; 2];
-    let mut l = [7u64; 2];
-    let mut t = [7u64; 4001];
-    if passed(roles::see_tariff(1, store, &mut c, &mut s, &mut d)) != 0 {
-        return 100;
-    }
-    if passed(roles::see_limits(1, store, &mut u, &mut l)) != 0 {
-        return 100;
-    }
-    if passed(roles::see_table(1, store, &mut t)) != 0 {
-        return 100;
-    }
-    let first = s[0];
-    let end = entries(first);
-    if 4_001 < end {
-        return 100;
-    }
-    plan_same(store, &c, &s, &d, u[0], u[1], &l, &t[0..end])
+    plan_same(store, &tariff, &limits, &table)
 }
 
 fn plan_same(
     store: &[u64],
-    c: &[i64],
-    s: &[u64],
-    d: &[u64],
-    run1: u64,
-    run2: u64,
-    l: &[u64],
-    t: &[u64],
-) -> u64 {
-    let mut p = [7u64; 2];
-    let mut q = [7u64; 2];
-    let mut a = [7u64; 4001];
-    let mut b = [7u64; 4001];
-    let mut f = [7i64; 4001];
-    let mut g = [7i64; 4001];
-    let x = roles::plan_case(1, store, &mut p, &mut a, &mut f);
-    let y = planner::plan(2, 1, run1, run2, c, s, d, l, t, &mut q, &mut b, &mut g);
-    if same_slices(&p, &q, &a, &b, &f, &g) {
-        if answers_agreed(x, y) != 100 {
-            return 0;
-        }
-    }
-    100
+    tariff: &Tariff<2, 2, 1>,
+    limits: &Limits<2, 2>,
+    table: &Shown<4001>,
+) -> bool {
+    let entries = (tariff.supplies[0] as usize).saturating_add(1);
+    let shown: Planning<2, 4001> = plan(&Case {
+        m: 2,
+        n: 1,
+        run1: limits.runs[0],
+        run2: limits.runs[1],
+        costs: &tariff.costs,
+        supplies: &tariff.supplies,
+        demands: &tariff.demands,
+        ceilings: &limits.ceilings,
+        table: first(&table.cells, entries),
+    });
+    shown == plan_case(1, store)
 }

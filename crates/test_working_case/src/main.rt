@@ -7,12 +7,17 @@ ghost use Rattle.std.specs.Prelude.{◌≡◌, length};
 use crate::closed::{all_refused, litter, plan_shown, spoilt_heads};
 use crate::plans::{plan_both, plan_mark_both};
 use crate::seen::seen;
+use lent_case::Case;
+use refusal::Refusal;
 use std::io;
-use test_compare::{agreed, below, count, line, next, passed};
-use test_history::draws::{Request, drawn, next_request};
-use test_history::model::{Copy, edited, first_case, times};
+use test_calls::make;
+use test_compare::Met;
+use test_draws::slices::first;
+use test_draws::tally::{Tally, say};
+use test_draws::{after, below};
+use test_history::draws::{drawn, next_request};
+use test_history::model::{Copy, Model, first_case};
 use test_history::refusals::refusal;
-use validation::tests::Verdict;
 
 mod closed;
 mod plans;
@@ -29,224 +34,131 @@ fn new_store() -> [u64; 36459]
     [7; 36459]
 }
 
-// A verdict that no call gives.
-fn unfit() -> Verdict {
-    Verdict::Refused(100, 0)
-}
-
-// Enters the front parts of slices that are long enough.
-fn enter_parts(
-    m: usize,
-    n: usize,
-    run1: u64,
-    run2: u64,
-    costs: &[i64],
-    supplies: &[u64],
-    demands: &[u64],
-    ceilings: &[u64],
-    table: &[u64],
-    store: &mut [u64],
-) -> Verdict {
-    let lanes = times(m, n);
-    if costs.len() < lanes {
-        return unfit();
-    }
-    if supplies.len() < m {
-        return unfit();
-    }
-    if demands.len() < n {
-        return unfit();
-    }
-    if ceilings.len() < lanes {
-        return unfit();
-    }
-    roles::enter(
-        m,
-        n,
-        run1,
-        run2,
-        &costs[0..lanes],
-        &supplies[0..m],
-        &demands[0..n],
-        &ceilings[0..lanes],
-        table,
-        store,
-    )
-}
-
 // Enters a first case, which has four entries.
-fn enter(c: Copy, store: &mut [u64]) -> Verdict {
-    let costs = c.costs;
-    let supplies = c.supplies;
-    let demands = c.demands;
-    let ceilings = c.ceilings;
-    let table = [c.table[0], c.table[1], c.table[2], c.table[3]];
-    enter_parts(
-        c.m, c.n, c.run1, c.run2, &costs, &supplies, &demands, &ceilings, &table, store,
-    )
+fn enter(c: &Copy, store: &mut [u64]) -> Result<(), Refusal> {
+    let lanes = c.lanes();
+    let case = Case {
+        m: c.m,
+        n: c.n,
+        run1: c.run1,
+        run2: c.run2,
+        costs: first(&c.costs, lanes),
+        supplies: first(&c.supplies, c.m),
+        demands: first(&c.demands, c.n),
+        ceilings: first(&c.ceilings, lanes),
+        table: first(&c.table, 4),
+    };
+    roles::enter(&case, store)
 }
 
-// Makes the call that is asked for.
-fn call(r: Request, store: &mut [u64]) -> Verdict {
-    let role = r.role;
-    if r.kind == 0 {
-        return roles::edit_demand(role, r.a, r.amount, store);
-    }
-    if r.kind == 1 {
-        return roles::edit_supply(role, r.a, r.amount, store);
-    }
-    if r.kind == 2 {
-        return roles::edit_cost(role, r.a, r.b, r.cost, store);
-    }
-    if r.kind == 3 {
-        return roles::edit_entry(role, r.a, r.amount, store);
-    }
-    if r.kind == 4 {
-        return roles::set_mark(role, r.a, store);
-    }
-    roles::go_back(role, r.a, store)
+// What was met over all histories: calls, plans, marks planned, and what is shown.
+#[derive(Clone, Copy, PartialEq, Eq, Debug, Drop)]
+struct Tallies {
+    calls: Tally<128>,
+    plans: Tally<128>,
+    marked: Tally<128>,
+    shown: Tally<128>,
 }
 
-// What mark k holds, or the case where there is no such mark.
-fn held(c: Copy, marks: [Copy; 8], k: usize) -> Copy {
-    if 0 < k {
-        if k < 9 {
-            return marks[k - 1];
-        }
-    }
-    c
-}
-
-fn next_case(c: Copy, marks: [Copy; 8], r: Request) -> Copy {
-    if r.kind == 5 {
-        return held(c, marks, r.a);
-    }
-    edited(c, r)
-}
-
-// The mark that is set, from 0, or 8 for none.
-fn mark_of(r: Request) -> usize {
-    let k = r.a;
-    if r.kind == 4 {
-        if 0 < k {
-            if k < 9 {
-                return k - 1;
-            }
-        }
-    }
-    8
-}
-
-// One history from a seed; the seed after it.
-fn run_history(
-    from: u64,
-    store: &mut [u64],
-    calls: &mut [u64; 128],
-    plans: &mut [u64; 128],
-    marked: &mut [u64; 128],
-    shown: &mut [u64; 128],
-) -> u64 {
+// Runs one history from a seed, and gives the seed after it.
+fn run_history(from: u64, store: &mut [u64], t: &mut Tallies) -> u64 {
     let mut seed = from;
-    let mut case = first_case(seed);
-    let mut marks = [case; 8];
-    let mut set = [0u64, 0, 0, 0, 0, 0, 0, 0, 7];
-    count(calls, passed(enter(case, store)));
-    let mut k: u64 = 0;
-    while k < CALLS {
-        seed = next(seed);
+    let mut model = Model::new(first_case(seed));
+    t.calls
+        .count(Met::by(true, enter(&model.case, store)).place());
+    for _ in 0..CALLS {
+        seed = after(seed);
         let r = next_request(seed);
-        let told = agreed(call(r, store), refusal(case, set, r));
-        count(calls, told);
-        if told == 0 {
-            let at = mark_of(r);
-            if at < 8 {
-                marks[at] = case;
-                set[at] = 1;
-            }
-            let after = next_case(case, marks, r);
-            case = after;
+        let want = refusal(&model, r);
+        let told = make(r.role, r.call, store);
+        let met = Met::by(told == want, told);
+        t.calls.count(met.place());
+        if met == Met::Done {
+            model.call(r.call);
         }
-        count(plans, plan_both(store, case));
+        t.plans.count(plan_both(store, &model.case).place());
         let mark = below(drawn(seed, 9), 10) as usize;
-        count(
-            marked,
-            plan_mark_both(store, mark, set, held(case, marks, mark)),
-        );
-        count(shown, seen(store, case, set, r.role));
-        k += 1;
+        t.marked.count(plan_mark_both(store, &model, mark).place());
+        t.shown.count(Met::of(seen(store, &model, r.role)).place());
     }
-    count(shown, spoilt_heads(store));
+    t.shown.count(Met::of(spoilt_heads(store)).place());
     seed
 }
 
-fn report(
-    rt: &impl Print,
-    calls: &[u64; 128],
-    plans: &[u64; 128],
-    marked: &[u64; 128],
-    shown: &[u64; 128],
-) -> io::Result<()> {
-    line(rt, b"done:                   ", calls[0])?;
-    line(rt, b"refused 4:              ", calls[4])?;
-    line(rt, b"refused 5:              ", calls[5])?;
-    line(rt, b"refused 23:             ", calls[23])?;
-    line(rt, b"refused 24:             ", calls[24])?;
-    line(rt, b"refused 25:             ", calls[25])?;
-    line(rt, b"refused 31:             ", calls[31])?;
-    line(rt, b"planned:                ", plans[0])?;
-    line(rt, b"plan refused 7:         ", plans[7])?;
-    line(rt, b"plan refused 8:         ", plans[8])?;
-    line(rt, b"plan refused 9:         ", plans[9])?;
-    line(rt, b"plan refused 27:        ", plans[27])?;
-    line(rt, b"marks planned:          ", marked[0])?;
-    line(rt, b"mark refused 24:        ", marked[24])?;
-    line(rt, b"mark refused 25:        ", marked[25])?;
-    line(rt, b"shown as it should be:  ", shown[0])?;
-    line(rt, b"calls that differ:      ", calls[100])?;
-    line(rt, b"plans that differ:      ", plans[100])?;
-    line(rt, b"marks that differ:      ", marked[100])?;
-    line(rt, b"shown otherwise:        ", shown[100])
+fn report(rt: &impl Print, t: &Tallies) -> io::Result<()> {
+    say(rt, "done:                   ", t.calls.of(0))?;
+    say(rt, "refused 4:              ", t.calls.of(4))?;
+    say(rt, "refused 5:              ", t.calls.of(5))?;
+    say(rt, "refused 23:             ", t.calls.of(23))?;
+    say(rt, "refused 24:             ", t.calls.of(24))?;
+    say(rt, "refused 25:             ", t.calls.of(25))?;
+    say(rt, "refused 31:             ", t.calls.of(31))?;
+    say(rt, "planned:                ", t.plans.of(0))?;
+    say(rt, "plan refused 7:         ", t.plans.of(7))?;
+    say(rt, "plan refused 8:         ", t.plans.of(8))?;
+    say(rt, "plan refused 9:         ", t.plans.of(9))?;
+    say(rt, "plan refused 27:        ", t.plans.of(27))?;
+    say(rt, "marks planned:          ", t.marked.of(0))?;
+    say(rt, "mark refused 24:        ", t.marked.of(24))?;
+    say(rt, "mark refused 25:        ", t.marked.of(25))?;
+    say(rt, "shown as it should be:  ", t.shown.of(0))?;
+    say(rt, "calls that differ:      ", t.calls.of(100))?;
+    say(rt, "plans that differ:      ", t.plans.of(100))?;
+    say(rt, "marks that differ:      ", t.marked.of(100))?;
+    say(rt, "shown otherwise:        ", t.shown.of(100))
 }
 
 fn run_all(rt: &impl Print, store: &mut [u64]) -> io::Result<()> {
-    let mut calls = [0u64; 128];
-    let mut plans = [0u64; 128];
-    let mut marked = [0u64; 128];
-    let mut shown = [0u64; 128];
+    let mut t = Tallies {
+        calls: Tally::new(),
+        plans: Tally::new(),
+        marked: Tally::new(),
+        shown: Tally::new(),
+    };
     let mut seed: u64 = 20_260_204;
     for _ in 0..HISTORIES {
-        seed = run_history(seed, store, &mut calls, &mut plans, &mut marked, &mut shown);
+        seed = run_history(seed, store, &mut t);
     }
-    report(rt, &calls, &plans, &marked, &shown)
+    report(rt, &t)
 }
 
 // Stores with garbage behind their head.
-fn run_litter(store: &mut [u64], tally: &mut [u64; 128]) {
+fn run_litter(store: &mut [u64], tally: &mut Tally<128>) {
     let mut seed: u64 = 7;
-    let mut k: u64 = 0;
-    while k < 100 {
+    for _ in 0..100 {
         seed = litter(seed, store);
-        count(tally, plan_shown(store));
-        k += 1;
+        tally.count(Met::of(plan_shown(store)).place());
     }
 }
 
 // A case of 2 sources and 1 terminal, then garbage behind its head.
 fn run_garbage(rt: &impl Print, store: &mut [u64]) -> io::Result<()> {
-    let mut tally = [0u64; 128];
+    let mut tally = Tally::<128>::new();
     let costs = [1i64, 2];
     let ones = [1u64, 1];
     let one = [1u64];
-    let entered = passed(roles::enter(2, 1, 0, 0, &costs, &ones, &one, &ones, &ones, store));
-    count(&mut tally, entered);
+    let case = Case {
+        m: 2,
+        n: 1,
+        run1: 0,
+        run2: 0,
+        costs: &costs,
+        supplies: &ones,
+        demands: &one,
+        ceilings: &ones,
+        table: &ones,
+    };
+    let entered = roles::enter(&case, store);
+    tally.count(Met::by(true, entered).place());
     run_litter(store, &mut tally);
-    line(rt, b"garbage as it is shown: ", tally[0])?;
-    line(rt, b"garbage otherwise:      ", tally[100])
+    say(rt, "garbage as it is shown: ", tally.of(0))?;
+    say(rt, "garbage otherwise:      ", tally.of(100))
 }
 
 fn main(rt: HostRuntime) -> io::Result<()> {
     let mut store = new_store();
-    line(&rt, b"a store of sevens:      ", all_refused(&mut store))?;
+    let sevens = Met::of(all_refused(&mut store));
+    say(&rt, "a store of sevens:      ", sevens.place() as u64)?;
     run_all(&rt, &mut store)?;
     run_garbage(&rt, &mut store)
 }

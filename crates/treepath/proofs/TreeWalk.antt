@@ -14,16 +14,6 @@ use Rattle.treepath.specs.inner.Follow.{FollowReady, either, carries, Tied, Bear
 
 -- ---- one arc
 
--- what is asked, of some of the sources and terminals
-pub fewer : {m n k l : ℕ} {cost p : List ℕ} → k ≤ m → l ≤ n → FollowReady m n cost p → FollowReady k l cost p
-fewer a b r = record {
-  sources = omega (arith, r.sources);
-  terminals = omega (arith, r.terminals);
-  costs = λ i j h q. r.costs i j (omega arith) (omega arith);
-  high = r.high;
-  long = r.long;
-}
-
 pub either_yes : {P : Type 0} (d : Dec P) (a b : ℕ) → P → either d a b ≡ a
 unfolding either
 either_yes (yes h) a b p = refl

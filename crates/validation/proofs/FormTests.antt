@@ -2,6 +2,7 @@
 use mathlib.Core.Path.{◌≡◌, refl, sym, ap, ◌∙◌}
 use mathlib.Core.Bool.{Bool, true, false, not, ◌||◌, cond}
 use mathlib.Core.Option.{Option, none, some}
+use mathlib.Core.Logic.{◌⊎◌, inl, inr}
 use Prim.Native.Nat.{ℕ, ◌+◌, ◌-◌, ◌*◌, ◌≤◌}
 use native.Mathlib.Nat.{mul-le-mul}
 use native.Mathlib.Omega.{arith}
@@ -12,7 +13,10 @@ use Rattle.problem.specs.Case.{Case, supply}
 use Rattle.problem.specs.Outcome.{Outcome, refused, first_from, ◌or_else◌, form_refusal, test1, test2, test3, test4, test23, test5, test26, test6}
 use Rattle.size.specs.Size.{checked_of}
 use Rattle.size.specs.declared.limits.Size.{Size}
-use Rattle.size.specs.declared.limits.Checked.TheVariants.{Fits, Refused}
+use Rattle.std.specs.Prelude.{Result, Ok, Err}
+use Rattle.refusal.specs.Number.{number_of}
+use Rattle.refusal.specs.declared.Cause.{Cause}
+use Rattle.refusal.specs.declared.Cause.TheVariants.{Sources, Terminals}
 use Rattle.problem.specs.inner.LentTests.{first_outside, amounts_refusal, runs_refusal, ceilings_refusal}
 use Rattle.problem.specs.Range.{outside}
 use lib.IntN.{pos}
@@ -62,12 +66,12 @@ module _ (c : Case) where
   fourth a b = rw (← a, ← b) refl
 
 module _ (m n : ℕ) where
-  pub in_limits : (z : Size) → checked_of m n ≡ Fits z → Limits m n
+  pub in_limits : (z : Size) → checked_of m n ≡ Ok z → Limits m n
   unfolding checked_of
   in_limits z e = go (ltb m 2 || ltb 32 m) refl (ltb n 1 || ltb 64 n) refl e
     where
       go : (a : Bool) → (ltb m 2 || ltb 32 m) ≡ a → (b : Bool) → (ltb n 1 || ltb 64 n) ≡ b
-          → cond a (Refused 1) (cond b (Refused 2) (Fits (record { sources = m; terminals = n }))) ≡ Fits z → Limits m n
+          → cond a (Err Sources) (cond b (Err Terminals) (Ok (record { sources = m; terminals = n }))) ≡ Ok z → Limits m n
       go true ea b eb e = let z : ◌≡◌ {A = ℕ} 0 1 = cc in absurd (omega arith)
       go false ea true eb e = let z : ◌≡◌ {A = ℕ} 0 1 = cc in absurd (omega arith)
       go false ea false eb e =
@@ -81,15 +85,15 @@ module _ (m n : ℕ) where
 -- ---- the steps of the function
 
 module _ (c : Case) where
-  pub by_size : (k : ℕ) → checked_of c.m c.n ≡ Refused k → form_refusal c ≡ some (refused k 0)
+  pub by_size : (k : Cause) → checked_of c.m c.n ≡ Err k → form_refusal c ≡ some (refused (number_of k) 0)
   unfolding form_refusal checked_of test1 test2
   by_size k e = go (ltb c.m 2 || ltb 32 c.m) refl (ltb c.n 1 || ltb 64 c.n) refl e
     where
       go : (a : Bool) → (ltb c.m 2 || ltb 32 c.m) ≡ a → (b : Bool) → (ltb c.n 1 || ltb 64 c.n) ≡ b
-          → cond a (Refused 1) (cond b (Refused 2) (Fits (record { sources = c.m; terminals = c.n }))) ≡ Refused k
-          → (test1 c or_else test2 c or_else test3 c or_else test4 c or_else test23 c or_else test5 c or_else test26 c or_else test6 c) ≡ some (refused k 0)
-      go true ea b eb e = let z : 1 ≡ k = cc in first_decides _ _ _ (met 1 _ ea ∙ ap (λ (i : ℕ). some (refused i 0)) z)
-      go false ea true eb e = let z : 2 ≡ k = cc in second_decides _ _ (unmet 1 _ ea) ∙ first_decides _ _ _ (met 2 _ eb ∙ ap (λ (i : ℕ). some (refused i 0)) z)
+          → cond {A = Result Size Cause} a (Err Sources) (cond b (Err Terminals) (Ok (record { sources = c.m; terminals = c.n }))) ≡ Err k
+          → (test1 c or_else test2 c or_else test3 c or_else test4 c or_else test23 c or_else test5 c or_else test26 c or_else test6 c) ≡ some (refused (number_of k) 0)
+      go true ea b eb e = let z : Sources ≡ k = cc in first_decides _ _ _ (met 1 _ ea ∙ ap (λ (i : Cause). some (refused (number_of i) 0)) z)
+      go false ea true eb e = let z : Terminals ≡ k = cc in second_decides _ _ (unmet 1 _ ea) ∙ first_decides _ _ _ (met 2 _ eb ∙ ap (λ (i : Cause). some (refused (number_of i) 0)) z)
       go false ea false eb e = let z : ◌≡◌ {A = ℕ} 0 1 = cc in absurd (omega arith)
 
   module _ (h : Limits c.m c.n) where
@@ -101,14 +105,22 @@ module _ (c : Case) where
     unfolding test3
     third_true e = past_2 (some (refused 3 0)) (first_decides _ _ _ (met 3 _ e))
 
-    pub by_costs : (length c.costs ≡ c.m * c.n → ⊥) → form_refusal c ≡ some (refused 3 0)
+    by_costs : (length c.costs ≡ c.m * c.n → ⊥) → form_refusal c ≡ some (refused 3 0)
     by_costs e = third_true (simp (ne_eqb (length c.costs) (c.m * c.n) e))
 
-    pub by_supplies : (length c.supplies ≡ c.m → ⊥) → form_refusal c ≡ some (refused 3 0)
+    by_supplies : (length c.supplies ≡ c.m → ⊥) → form_refusal c ≡ some (refused 3 0)
     by_supplies e = third_true (simp (ne_eqb (length c.supplies) c.m e, or_true))
 
-    pub by_demands : (length c.demands ≡ c.n → ⊥) → form_refusal c ≡ some (refused 3 0)
+    by_demands : (length c.demands ≡ c.n → ⊥) → form_refusal c ≡ some (refused 3 0)
     by_demands e = third_true (simp (ne_eqb (length c.demands) c.n e, or_true))
+
+    -- one of the three lengths is not the case's
+    pub by_lengths : (length c.costs ≡ c.m * c.n → ⊥)
+        ⊎ ((length c.costs ≡ c.m * c.n × (length c.supplies ≡ c.m → ⊥)) ⊎ (length c.costs ≡ c.m * c.n × length c.supplies ≡ c.m × (length c.demands ≡ c.n → ⊥)))
+        → form_refusal c ≡ some (refused 3 0)
+    by_lengths (inl e) = by_costs e
+    by_lengths (inr (inl e)) = by_supplies e.1
+    by_lengths (inr (inr e)) = by_demands e.2
 
     module _ (lc : length c.costs ≡ c.m * c.n) (ls : length c.supplies ≡ c.m) (ld : length c.demands ≡ c.n) where
       past_3 : (r : Option Outcome) → (test4 c or_else test23 c or_else test5 c or_else test26 c or_else test6 c) ≡ r → form_refusal c ≡ r

@@ -28,10 +28,8 @@ pub fn raise_cells(source: &[i64], at: usize, store: &mut [u64])
     requires { (at + length source.now ≤ length store.old) × AllInside source.now }
     ensures { store.new ≡ paste store.old at (map raised_of source.now) (length (map raised_of source.now)) }
 {
-    let mut k: usize = 0;
-    while k < source.len() {
-        store[at + k] = raised(source[k]);
-        k += 1;
+    for (k, cost) in source.iter().enumerate() {
+        store[at + k] = raised(*cost);
     }
 }
 
@@ -40,10 +38,8 @@ pub fn lower_cells(source: &[u64], to: &mut [i64])
     requires { length source.now ≤ length to.old }
     ensures { to.new ≡ written (map cost_in source.now) to.old }
 {
-    let mut k: usize = 0;
-    while k < source.len() {
-        to[k] = cost_in(source[k]);
-        k += 1;
+    for (k, cell) in source.iter().enumerate() {
+        to[k] = cost_in(*cell);
     }
 }
 

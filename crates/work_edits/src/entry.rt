@@ -4,52 +4,53 @@ ghost use Rattle.std.proofs.Math.Seq.{paste};
 ghost use Rattle.transport.specs.Curve.{written};
 ghost use Rattle.work_store.specs.Store.{cells_of};
 ghost use Rattle.work_store.specs.inner.OpenStore.{Sized};
-ghost use Rattle.work_store.specs.State.{draft};
+ghost use Rattle.work_store.specs.State.{draft_of};
 
 use crate::costs::raise_cells;
-use work_store::layout::{SIGNATURE, SUPPLIES, ceilings_at, costs_at, demands_at, table_at};
+use lent_case::Case;
+use work_store::layout::{Layout, SIGNATURE, SUPPLIES};
 
 // Copies a slice into the store from cell `at` on.
 pub fn put_cells(source: &[u64], at: usize, store: &mut [u64])
     requires { at + length source.now ≤ length store.old }
     ensures { store.new ≡ paste store.old at source.now (length source.now) }
 {
-    let mut i: usize = 0;
-    while i < source.len() {
-        store[at + i] = source[i];
-        i += 1;
-    }
+    let end = at + source.len();
+    store[at..end].copy_from_slice(source);
 }
 
 // Writes a case from the first cell on, with no mark set.
-pub fn put_case(
-    m: usize,
-    n: usize,
-    run1: u64,
-    run2: u64,
-    costs: &[i64],
-    supplies: &[u64],
-    demands: &[u64],
-    ceilings: &[u64],
-    table: &[u64],
-    store: &mut [u64],
-)
-    requires { Sized (draft m n run1 run2 costs.now supplies.now demands.now ceilings.now table.now) store.old }
-    ensures { store.new ≡
-        written (cells_of (draft m n run1 run2 costs.now supplies.now demands.now ceilings.now table.now))
-        store.old }
+pub fn put_case(case: &Case<'_>, store: &mut [u64])
+    requires { Sized (draft_of case.now) store.old }
+    ensures { store.new ≡ written (cells_of (draft_of case.now)) store.old }
 {
+    let layout = Layout {
+        m: case.m,
+        n: case.n,
+    };
     let head = [
-        m as u64, n as u64, 0, 0, 0, 0, 0, 0, 0, 0, SIGNATURE, run1, run2,
+        case.m as u64,
+        case.n as u64,
+        0,
+        0,
+        0,
+        0,
+        0,
+        0,
+        0,
+        0,
+        SIGNATURE,
+        case.run1,
+        case.run2,
     ];
-    let a = demands_at(m);
-    let b = costs_at(m, n);
-    let c = ceilings_at(m, n);
-    let d = table_at(m, n);
+    let a = layout.demands_at();
+    let b = layout.costs_at();
+    let c = layout.ceilings_at();
+    let d = layout.table_at();
     put_cells(&head, 0, store);
-    put_cells(supplies, SUPPLIES, store);
-    put_cells(demands, a, store);
-    raise_cells(costs, b, store);
-    put_cells(ceilings, c, store);
-    put_cells(table, d, store);
+    put_cells(case.supplies, SUPPLIES, store);
+    put_cells(case.demands, a, store);
+    raise_cells(case.costs, b, store);
+    put_cells(case.ceilings, c, store);
+    put_cells(case.table, d, store);
 }

@@ -10,13 +10,14 @@ use lib.ListN.{length, get_or, take, drop}
 use Rattle.problem.specs.Case.{Case, lent}
 use Rattle.problem.specs.Outcome.{Outcome, refused}
 use Rattle.planner.specs.Answer.{Slices, Answered}
-use Rattle.work_store.specs.declared.opened.Opened.TheVariants.{Held, Closed}
+use Rattle.std.specs.Prelude.{Ok, Err}
+use Rattle.refusal.specs.declared.Cause.TheVariants.{Room}
 use Rattle.work_store.specs.State.{Draft, State, lent_with}
 use Rattle.work_store.specs.Calls.{go_back, unset, held, refusal_in, acted, unless, step}
 use Rattle.work_store.specs.Store.{cells_for, supplies_at, demands_at, costs_at, ceilings_at, table_at, in_case, width, slot, draft_in, cost_in, entries_in, state_at, sources, terminals, held_in}
 use Rattle.work_store.specs.Promise.{answer_to, steps}
 use Rattle.work_plans.specs.Planning.{outcome_in, outcome_unless, PlannedFrom, PlannedUnless, MarkPlanned}
-use Rattle.work_store.specs.inner.OpenStore.{opened_of, Open, Front}
+use Rattle.work_store.specs.inner.OpenStore.{laid, opened_of, Open, Front}
 use Rattle.work_store.proofs.ListParts.{part_length}
 use Rattle.work_store.proofs.OpenStore.{is_shut, is_found, found_size}
 use Rattle.work_store.proofs.CaseCells.{front_cells, front_room}
@@ -69,7 +70,7 @@ some_eq : (s t : State) (o : Option State) → o ≡ some s → o ≡ some t →
 some_eq s t o a b = cc
 
 module _ (p q f : ℕ) (cells : List ℕ) where
-  pub plan_closed : (s : Slices) → opened_of cells ≡ Closed → PlannedFrom (held_in cells) p q f (refused 11 0) s s
+  pub plan_closed : (s : Slices) → opened_of cells ≡ Err Room → PlannedFrom (held_in cells) p q f (refused 11 0) s s
   plan_closed s c =
       let h = held_none cells (is_shut cells c) in
       record {
@@ -78,7 +79,7 @@ module _ (p q f : ℕ) (cells : List ℕ) where
         kept = λ _ _ _. refl;
       }
 
-  pub plan_work : (m n : ℕ) (r : Outcome) (before after : Slices) → opened_of cells ≡ Held m n → Answered (lent_with (draft_in m n (slot m n 0 cells)) p q f) r before after
+  pub plan_work : (m n : ℕ) (r : Outcome) (before after : Slices) → opened_of cells ≡ Ok (laid m n) → Answered (lent_with (draft_in m n (slot m n 0 cells)) p q f) r before after
       → PlannedFrom (held_in cells) p q f r before after
   unfolding state_at
   plan_work m n r before after c a =
@@ -129,12 +130,12 @@ module _ (m n k : ℕ) (cells : List ℕ) (p q f : ℕ) where
       (subst (λ (d : Draft). Answered (lent_with d p q f) r before after)
       (ap (λ (x : List ℕ). draft_in m n (slot m n 0 x)) (el ∙ ap (λ (x : ℕ). drop (k * x) cells) ew) ∙ back_case e u) a)
 
-  pub mark_closed : (s : Slices) → opened_of cells ≡ Closed → MarkPlanned k (held_in cells) p q f (refused 11 0) s s
+  pub mark_closed : (s : Slices) → opened_of cells ≡ Err Room → MarkPlanned k (held_in cells) p q f (refused 11 0) s s
   mark_closed s c =
       refused_before (answer_to (go_back k) (held_in cells)) (steps (go_back k) (held_in cells)) p q f 11 0 s
       (ap (answer_to (go_back k)) (held_none cells (is_shut cells c)))
 
-  pub mark_work : (r : Outcome) (before after : Slices) → opened_of cells ≡ Held m n → MarkPlanned k (some (state_at m n cells)) p q f r before after
+  pub mark_work : (r : Outcome) (before after : Slices) → opened_of cells ≡ Ok (laid m n) → MarkPlanned k (some (state_at m n cells)) p q f r before after
       → MarkPlanned k (held_in cells) p q f r before after
   mark_work r before after c a = subst (λ (o : Option State). MarkPlanned k o p q f r before after) (held_is cells m n c) a
 

@@ -9,12 +9,13 @@ use lib.IntN.{ℤ}
 use lib.ListN.{set}
 use Rattle.problem.specs.Outcome.{Outcome, refused, refuse_if}
 use Rattle.problem.proofs.TestsPassed.{first_passes, second_passes, refuse_if_none}
-use Rattle.work_store.specs.declared.opened.Opened.TheVariants.{Held, Closed}
+use Rattle.std.specs.Prelude.{Ok, Err}
+use Rattle.refusal.specs.declared.Cause.TheVariants.{Room}
 use Rattle.work_store.specs.State.{State}
 use Rattle.work_store.specs.Calls.{Call, edit_cost, set_mark, go_back, refuse_when, absent, unset, refusal_in, acted, unless, step}
 use Rattle.work_store.specs.Store.{state_at, mark_in, sources, terminals, signed_at, opens, held_in, copied, writes}
 use Rattle.work_store.specs.Promise.{answer_to, steps, cells_unless, Performed}
-use Rattle.work_store.specs.inner.OpenStore.{opened_of, Acted}
+use Rattle.work_store.specs.inner.OpenStore.{laid, opened_of, Acted}
 use Rattle.work_store.proofs.StateAfterWrites.{inside, is_open, held_eq, mark_state, mark_head, mark_length, back_state}
 use Rattle.work_store.proofs.Slots.{copied_length, copied_head}
 use Rattle.work_store.proofs.OpenStore.{is_shut, is_found, found_size}
@@ -67,7 +68,7 @@ unfolding held_in
 held_some cells e = rw (e, held_in) refl
 
 module _ (call : Call) where
-  pub by_closed : (before : List ℕ) → opened_of before ≡ Closed → Performed call before before (some (refused 11 0))
+  pub by_closed : (before : List ℕ) → opened_of before ≡ Err Room → Performed call before before (some (refused 11 0))
   by_closed before c =
       let h = held_none before (is_shut before c) in
       record { answer = sym (ap (answer_to call) h); cells = refl; state = h ∙ sym (ap (steps call) h) }
@@ -83,7 +84,7 @@ module _ (call : Call) where
   unfolding step
   stepped s r q = ap (λ (t : Option Outcome). unless t (acted call s) s) (sym q)
 
-  pub by_work : Faithful call → (before after : List ℕ) (m n : ℕ) (r : Option Outcome) → opened_of before ≡ Held m n
+  pub by_work : Faithful call → (before after : List ℕ) (m n : ℕ) (r : Option Outcome) → opened_of before ≡ Ok (laid m n)
       → Acted m n call before after r → Performed call before after r
   by_work f before after m n r c a =
       let s = found_size before m n c in

@@ -12,12 +12,13 @@ use borrow.Author.Tests.{lt-ltb, le-ltb}
 use Rattle.transport.specs.Curve.{written}
 use Rattle.transport.specs.Listing.{up_from}
 use Rattle.problem.specs.Outcome.{Outcome, refused, refuse_if}
-use Rattle.work_store.specs.declared.opened.Opened.TheVariants.{Held, Closed}
+use Rattle.std.specs.Prelude.{Ok, Err}
+use Rattle.refusal.specs.declared.Cause.TheVariants.{Room}
 use Rattle.work_store.specs.State.{Draft, State}
 use Rattle.work_store.specs.Calls.{absent}
 use Rattle.work_store.specs.Store.{flag_at, ceilings_at, table_at, in_case, mark_in, draft_in, slot, state_at, held_in}
 use Rattle.work_store.specs.Seeing.{limits_refusal, marks_refusal, limits_answer, marks_answer, runs_in, ceilings_in, flag_of, flags_of, flags_in, shown_unless, LimitsShown, MarksShown}
-use Rattle.work_store.specs.inner.OpenStore.{Open, opened_of}
+use Rattle.work_store.specs.inner.OpenStore.{laid, Open, opened_of}
 use Rattle.work_store.proofs.ListParts.{part_length, part_at}
 use Rattle.work_store.proofs.RangeCopies.{filled_front}
 use Rattle.work_store.proofs.CallRefusals.{or_true}
@@ -119,17 +120,17 @@ long_marks a h = sym (ap (refuse_if 11) (le-ltb a 8 h))
 -- ---- the promises
 
 module _ (cells : List ℕ) where
-  pub limits_closed : (u c : List ℕ) → opened_of cells ≡ Closed → LimitsShown (held_in cells) u c u c (some (refused 11 0))
+  pub limits_closed : (u c : List ℕ) → opened_of cells ≡ Err Room → LimitsShown (held_in cells) u c u c (some (refused 11 0))
   limits_closed u c e = record {
     answer = sym (ap (limits_answer (length u) (length c)) (held_none cells (is_shut cells e)));
     runs = refl;
     ceilings = refl;
   }
 
-  pub marks_closed : (f : List ℕ) → opened_of cells ≡ Closed → MarksShown (held_in cells) f f (some (refused 11 0))
+  pub marks_closed : (f : List ℕ) → opened_of cells ≡ Err Room → MarksShown (held_in cells) f f (some (refused 11 0))
   marks_closed f e = record { answer = sym (ap (marks_answer (length f)) (held_none cells (is_shut cells e))); flags = refl }
 
-  module _ (m n : ℕ) (e : opened_of cells ≡ Held m n) where
+  module _ (m n : ℕ) (e : opened_of cells ≡ Ok (laid m n)) where
     pub limits_work : (u c u' c' : List ℕ) (r : Option Outcome) → r ≡ limits_refusal (length u) (length c) (state_at m n cells).case
         → u' ≡ shown_unless r ((state_at m n cells).case.run1 ∷ (state_at m n cells).case.run2 ∷ []) u
         → c' ≡ shown_unless r (state_at m n cells).case.ceilings c → LimitsShown (held_in cells) u c u' c' r

@@ -12,11 +12,12 @@ use lib.Seq.{paste}
 use borrow.Author.Tests.{lt-ltb, le-ltb}
 use Rattle.transport.specs.Curve.{written}
 use Rattle.problem.specs.Outcome.{Outcome, refused, refuse_if}
-use Rattle.work_store.specs.declared.opened.Opened.TheVariants.{Held, Closed}
+use Rattle.std.specs.Prelude.{Ok, Err}
+use Rattle.refusal.specs.declared.Cause.TheVariants.{Room}
 use Rattle.work_store.specs.State.{Draft, State}
 use Rattle.work_store.specs.Store.{supplies_at, demands_at, costs_at, ceilings_at, table_at, in_case, cost_in, entries_in, state_at, held_in}
 use Rattle.work_store.specs.Seeing.{tariff_refusal, table_refusal, tariff_answer, table_answer, costs_in, supplies_in, demands_in, table_in, shown_unless, TariffShown, TableShown}
-use Rattle.work_store.specs.inner.OpenStore.{Open, opened_of}
+use Rattle.work_store.specs.inner.OpenStore.{laid, Open, opened_of}
 use Rattle.work_store.proofs.ListParts.{part_length}
 use Rattle.work_store.proofs.RangeCopies.{filled_front}
 use Rattle.work_store.proofs.CallRefusals.{or_true}
@@ -110,7 +111,7 @@ module _ (m n : ℕ) (cells : List ℕ) (op : Open m n cells) where
 -- ---- the promises
 
 module _ (cells : List ℕ) where
-  pub tariff_closed : (c : List ℤ) (s d : List ℕ) → opened_of cells ≡ Closed → TariffShown (held_in cells) c s d c s d (some (refused 11 0))
+  pub tariff_closed : (c : List ℤ) (s d : List ℕ) → opened_of cells ≡ Err Room → TariffShown (held_in cells) c s d c s d (some (refused 11 0))
   tariff_closed c s d e = record {
     answer = sym (ap (tariff_answer (length c) (length s) (length d)) (held_none cells (is_shut cells e)));
     costs = refl;
@@ -118,10 +119,10 @@ module _ (cells : List ℕ) where
     demands = refl;
   }
 
-  pub table_closed : (t : List ℕ) → opened_of cells ≡ Closed → TableShown (held_in cells) t t (some (refused 11 0))
+  pub table_closed : (t : List ℕ) → opened_of cells ≡ Err Room → TableShown (held_in cells) t t (some (refused 11 0))
   table_closed t e = record { answer = sym (ap (table_answer (length t)) (held_none cells (is_shut cells e))); table = refl }
 
-  module _ (m n : ℕ) (e : opened_of cells ≡ Held m n) where
+  module _ (m n : ℕ) (e : opened_of cells ≡ Ok (laid m n)) where
     pub held_is : some (state_at m n cells) ≡ held_in cells
     held_is =
         let z = found_size cells m n e in

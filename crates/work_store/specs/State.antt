@@ -2,6 +2,7 @@
 use Rattle.std.proofs.Math.Option.{Option, none}
 use Rattle.std.specs.Prelude.{List, ℕ, ℤ}
 use Rattle.problem.specs.Case.{Case}
+use Rattle.lent_case.specs.declared.Case.{Case as Lent}
 
 -- a whole case, without the slices that a plan is written to
 pub record Draft : Type 0 where
@@ -29,6 +30,10 @@ draft m n run1 run2 costs supplies demands ceilings table = record {
   ceilings = ceilings;
   table = table;
 }
+
+-- the draft that a lent case is
+abbrev pub draft_of : Lent → Draft
+draft_of c = draft c.m c.n c.run1 c.run2 c.costs.now c.supplies.now c.demands.now c.ceilings.now c.table.now
 
 -- the working case, and what each mark holds; marks are numbered 1 to 8
 pub record State : Type 0 where

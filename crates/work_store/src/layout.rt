@@ -1,15 +1,7 @@
 // Where the parts of a store begin.
 ghost use Rattle.std.specs.Prelude.{◌≡◌, ◌≤◌};
 ghost use Rattle.work_store.specs.Store.{cells_for, demands_at, costs_at, ceilings_at, table_at, in_case, width, start};
-
-// How many cells a store must have.
-pub fn cells_for(m: usize, n: usize) -> usize
-    requires { (m ≤ 32) × (n ≤ 64) }
-    ensures { result ≡ cells_for m n }
-{
-    let lanes = m * n;
-    9 * (lanes + m + n + 4_020) + 9 * lanes
-}
+ghost use Rattle.work_store.specs.inner.Layout.{Within};
 
 // The flag of mark k is at FLAGS + k.
 pub const FLAGS: usize = 1;
@@ -26,44 +18,63 @@ pub const RUN2: usize = 12;
 
 pub const SUPPLIES: usize = 13;
 
-pub fn demands_at(m: usize) -> usize
-    requires { m ≤ 32 }
-    ensures { result ≡ in_case (demands_at m) }
-{
-    SUPPLIES + m
+// The size of a working case, by which the parts of its store begin.
+#[derive(Clone, Copy, Debug, PartialEq, Eq)]
+pub struct Layout {
+    pub m: usize,
+    pub n: usize,
 }
 
-pub fn costs_at(m: usize, n: usize) -> usize
-    requires { (m ≤ 32) × (n ≤ 64) }
-    ensures { result ≡ in_case (costs_at m n) }
-{
-    SUPPLIES + m + n
-}
+impl Layout {
+    // How many cells a store must have.
+    pub fn cells_for(self) -> usize
+        requires { Within self }
+        ensures { result ≡ cells_for self.m self.n }
+    {
+        let lanes = self.m * self.n;
+        9 * (lanes + self.m + self.n + 4_020) + 9 * lanes
+    }
 
-pub fn ceilings_at(m: usize, n: usize) -> usize
-    requires { (m ≤ 32) × (n ≤ 64) }
-    ensures { result ≡ in_case (ceilings_at m n) }
-{
-    SUPPLIES + m + n + m * n
-}
+    pub fn demands_at(self) -> usize
+        requires { self.m ≤ 32 }
+        ensures { result ≡ in_case (demands_at self.m) }
+    {
+        SUPPLIES + self.m
+    }
 
-pub fn table_at(m: usize, n: usize) -> usize
-    requires { (m ≤ 32) × (n ≤ 64) }
-    ensures { result ≡ in_case (table_at m n) }
-{
-    SUPPLIES + m + n + m * n + m * n
-}
+    pub fn costs_at(self) -> usize
+        requires { Within self }
+        ensures { result ≡ in_case (costs_at self.m self.n) }
+    {
+        SUPPLIES + self.m + self.n
+    }
 
-pub fn slot_width(m: usize, n: usize) -> usize
-    requires { (m ≤ 32) × (n ≤ 64) }
-    ensures { result ≡ width m n }
-{
-    2 + m + n + m * n + m * n + 4_001
-}
+    pub fn ceilings_at(self) -> usize
+        requires { Within self }
+        ensures { result ≡ in_case (ceilings_at self.m self.n) }
+    {
+        SUPPLIES + self.m + self.n + self.m * self.n
+    }
 
-pub fn slot_start(m: usize, n: usize, k: usize) -> usize
-    requires { (m ≤ 32) × (n ≤ 64) × (k ≤ 8) }
-    ensures { result ≡ start m n k }
-{
-    RUN1 + k * slot_width(m, n)
+    pub fn table_at(self) -> usize
+        requires { Within self }
+        ensures { result ≡ in_case (table_at self.m self.n) }
+    {
+        SUPPLIES + self.m + self.n + self.m * self.n + self.m * self.n
+    }
+
+    pub fn slot_width(self) -> usize
+        requires { Within self }
+        ensures { result ≡ width self.m self.n }
+    {
+        2 + self.m + self.n + self.m * self.n + self.m * self.n + 4_001
+    }
+
+    pub fn slot_start(self, k: usize) -> usize
+        requires small { Within self }
+        requires slot { k ≤ 8 }
+        ensures { result ≡ start self.m self.n k }
+    {
+        RUN1 + k * self.slot_width()
+    }
 }

@@ -6,63 +6,51 @@ ghost use Rattle.work_store.specs.Calls.{set_mark, go_back};
 ghost use Rattle.work_store.specs.inner.OpenStore.{Open, Acted, Apart, Slots};
 ghost use Rattle.work_store.specs.Store.{copied};
 
-use crate::layout::{FLAGS, slot_start, slot_width};
-use validation::tests::Verdict;
+use crate::layout::{FLAGS, Layout};
+use refusal::{Cause, Refusal};
 
 // Copies a range of cells to another, apart from it.
 fn copy_cells(from: usize, to: usize, count: usize, store: &mut [u64])
     requires { Apart from to count store.old }
     ensures { store.new ≡ paste store.old to (drop from store.old) count }
 {
-    let mut i: usize = 0;
-    while i < count {
-        let x = store[from + i];
-        store[to + i] = x;
-        i += 1;
-    }
+    store.copy_within(from..from + count, to);
 }
 
 // Copies one slot to another.
-fn copy_slot(m: usize, n: usize, from: usize, to: usize, store: &mut [u64])
-    requires fact { Open m n store.old }
+fn copy_slot(layout: Layout, from: usize, to: usize, store: &mut [u64])
+    requires fact { Open layout.m layout.n store.old }
     requires slots { Slots from to }
-    ensures { store.new ≡ copied m n from to store.old }
+    ensures { store.new ≡ copied layout.m layout.n from to store.old }
 {
-    let a = slot_start(m, n, from);
-    let b = slot_start(m, n, to);
-    let width = slot_width(m, n);
+    let a = layout.slot_start(from);
+    let b = layout.slot_start(to);
+    let width = layout.slot_width();
     copy_cells(a, b, width, store);
 }
 
-pub fn put_mark(m: usize, n: usize, k: usize, store: &mut [u64]) -> Verdict
-    requires { Open m n store.old }
-    ensures { Acted m n (set_mark k) store.old store.new (verdict result) }
+pub fn put_mark(layout: Layout, k: usize, store: &mut [u64]) -> Result<(), Refusal>
+    requires { Open layout.m layout.n store.old }
+    ensures { Acted layout.m layout.n (set_mark k) store.old store.new (verdict result) }
 {
-    if k < 1 {
-        return Verdict::Refused(24, 0);
+    if k < 1 || 8 < k {
+        return Err(Cause::NoSuch.at(0));
     }
-    if 8 < k {
-        return Verdict::Refused(24, 0);
-    }
-    copy_slot(m, n, 0, k, store);
+    copy_slot(layout, 0, k, store);
     store[FLAGS + k] = 1;
-    Verdict::Passed
+    Ok(())
 }
 
-pub fn put_back(m: usize, n: usize, k: usize, store: &mut [u64]) -> Verdict
-    requires { Open m n store.old }
-    ensures { Acted m n (go_back k) store.old store.new (verdict result) }
+pub fn put_back(layout: Layout, k: usize, store: &mut [u64]) -> Result<(), Refusal>
+    requires { Open layout.m layout.n store.old }
+    ensures { Acted layout.m layout.n (go_back k) store.old store.new (verdict result) }
 {
-    if k < 1 {
-        return Verdict::Refused(24, 0);
+    if k < 1 || k > 8 {
+        return Err(Cause::NoSuch.at(0));
     }
-    if k > 8 {
-        return Verdict::Refused(24, 0);
+    if store[FLAGS + k] == 0 {
+        return Err(Cause::Unset.at(k as u64));
     }
-    let set = store[FLAGS + k];
-    if set == 0 {
-        return Verdict::Refused(25, k as u64);
-    }
-    copy_slot(m, n, k, 0, store);
-    Verdict::Passed
+    copy_slot(layout, k, 0, store);
+    Ok(())
 }

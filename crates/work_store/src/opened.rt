@@ -2,41 +2,26 @@
 ghost use Rattle.std.specs.Prelude.{◌≡◌};
 ghost use Rattle.work_store.specs.inner.OpenStore.{opened_of};
 
-use crate::layout::{SIGNATURE, SIGNED, cells_for};
+use crate::layout::{Layout, SIGNATURE, SIGNED};
+use refusal::Cause;
 
-#[derive(Drop)]
-pub enum Opened {
-    Held { m: usize, n: usize },
-    Closed,
-}
-
-pub fn open_store(store: &[u64]) -> Opened
+pub fn open_store(store: &[u64]) -> Result<Layout, Cause>
     ensures { result ≡ opened_of store.now }
 {
-    if store.len() < 11 {
-        return Opened::Closed;
-    }
-    if store[SIGNED] != SIGNATURE {
-        return Opened::Closed;
+    if store.len() < 11 || store[SIGNED] != SIGNATURE {
+        return Err(Cause::Room);
     }
     let a = store[0];
     let b = store[1];
-    if a < 2 {
-        return Opened::Closed;
+    if a < 2 || 32 < a || b < 1 || 64 < b {
+        return Err(Cause::Room);
     }
-    if 32 < a {
-        return Opened::Closed;
+    let layout = Layout {
+        m: a as usize,
+        n: b as usize,
+    };
+    if store.len() < layout.cells_for() {
+        return Err(Cause::Room);
     }
-    if b < 1 {
-        return Opened::Closed;
-    }
-    if 64 < b {
-        return Opened::Closed;
-    }
-    let m = a as usize;
-    let n = b as usize;
-    if store.len() < cells_for(m, n) {
-        return Opened::Closed;
-    }
-    Opened::Held { m, n }
+    Ok(layout)
 }

@@ -8,13 +8,12 @@ use native.Mathlib.Omega.{arith}
 use lib.IntN.{ℤ}
 use lib.ListN.{length, drop}
 use lib.Seq.{sets, sets-eq}
+use Rattle.std.proofs.Common.{Ok, Err}
 use Rattle.problem.specs.Outcome.{Outcome, planned, refused}
 use Rattle.problem.specs.Case.{Case}
 use Rattle.planner.specs.Judge.{case_refusal}
 use Rattle.problem.proofs.RefusalNumbers.{planned_passes}
-use Rattle.csv_case.specs.declared.case.CaseAnswer.{CaseAnswer}
-use Rattle.csv_case.specs.declared.case.CaseAnswer.TheVariants as read-answers
-use Rattle.csv_case.specs.CaseFiles.{case_answer}
+use Rattle.csv_case.specs.CaseFiles.{CaseAnswer, case_answer}
 use Rattle.plan_files.specs.Printed.{file_case, outcome_for, file_outcome}
 use Rattle.case_texts.specs.Texts.{tariff_text, production_text}
 use Rattle.write_case.specs.declared.Texts.{Texts}
@@ -70,8 +69,8 @@ module _ (t p tariff production tariff' production' : List ℕ) (answer : Texts)
     where
       go : {split : ℕ} {total freight : ℤ} {stops : ℕ} (a : CaseAnswer) → case_answer t p ≡ a → outcome_for a (file_case t p) ≡ planned split total freight stops →
           InOneForm (file_case t p) tariff production tariff' production' answer
-      go (read-answers.Refused number place) k e = absurd (let z : ◌≡◌ {A = ℕ} 0 1 = cc in omega arith)
-      go {split} {total} {freight} {stops} (read-answers.Case m n entries) k e =
+      go (Err why) k e = absurd (let z : ◌≡◌ {A = ℕ} 0 1 = cc in omega arith)
+      go {split} {total} {freight} {stops} (Ok shape) k e =
           let passes = accepted_passes (file_case t p) (planned_passes (file_case t p) split total freight stops e) in
           let none' : o ≡ none = ap (λ (x : CaseAnswer). file_refusal x (write_refusal (file_case t p) (length tariff) (length production))) k ∙
           read_written t p (length tariff) (length production) long long' passes in

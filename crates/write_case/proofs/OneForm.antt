@@ -8,6 +8,7 @@ use borrow.Author.Tests.{le-ltb, ltb-false}
 use lib.Dec.{ltb}
 use lib.ListN.{length, get_or, take, drop}
 use lib.Seq.{sets, sets-eq, take_at, drop_at}
+use Rattle.std.proofs.Common.{Ok, Err}
 use Rattle.problem.specs.Case.{Case}
 use Rattle.problem.specs.Outcome.{Outcome, ◌or_else◌, form_refusal, refusal_of, outcome_of, test7, test8, test27, test9, test11}
 use Rattle.planner.specs.Judge.{case_refusal}
@@ -18,9 +19,7 @@ use Rattle.problem.proofs.Promise.{refused_outcome}
 use Rattle.csv_form.specs.declared.Kind.TheVariants.{Production}
 use Rattle.csv_form.specs.Records.{Form, whole, broken, form_of}
 use Rattle.csv_table.specs.Files.{in_order}
-use Rattle.csv_case.specs.declared.case.CaseAnswer.{CaseAnswer}
-use Rattle.csv_case.specs.declared.case.CaseAnswer.TheVariants as read-answers
-use Rattle.csv_case.specs.CaseFiles.{entries_in, case_answer, records_of}
+use Rattle.csv_case.specs.CaseFiles.{CaseAnswer, entries_in, case_answer, records_of}
 use Rattle.plan_files.specs.Printed.{case_of, file_case, outcome_for, file_outcome}
 use Rattle.write_case.specs.declared.Texts.TheVariants as answers
 use Rattle.case_texts.specs.Texts.{tariff_text, production_text}
@@ -98,8 +97,8 @@ module _ (t p : List ℕ) (k l : ℕ) (long : 65536 ≤ k) (long' : 65536 ≤ l)
           refused_outcome (file_case t p) r (case_refuses (file_case t p) r (e ∙ ap some z))
 
       go : (a : CaseAnswer) → file_refusal a (write_refusal (file_case t p) k l) ≡ some r → outcome_for a (file_case t p) ≡ r
-      go (read-answers.Refused number place) h = cc
-      go (read-answers.Case m n entries) h = by (case_refusal (file_case t p)) refl h
+      go (Err why) h = cc
+      go (Ok shape) h = by (case_refusal (file_case t p)) refl h
 
 -- two pairs of files that are one case come out as the same bytes
 pub one_form :

@@ -9,9 +9,8 @@ use lib.ListN.{length, get_or, take, replicate, length-append}
 use lib.Seq.{take_at, get_or_at}
 use Rattle.csv_form.specs.declared.Kind.{Kind}
 use Rattle.csv_form.specs.declared.Kind.TheVariants.{Tariff}
-use Rattle.csv_table.specs.declared.table.Table.TheVariants.{Whole}
 use Rattle.csv_form.specs.Records.{whole, form_of}
-use Rattle.csv_table.specs.Files.{wanted, odd_from, judge, table_of, in_order}
+use Rattle.csv_table.specs.Files.{shaped, wanted, odd_from, judge, table_of, in_order}
 use Rattle.csv_case.specs.CaseFiles.{sources_in, terminals_in, source_records, costs_in, supplies_in, demands_in, entries_in}
 use Rattle.plan_files.specs.Printed.{filed_case, case_of}
 use Rattle.csv_case.proofs.TariffCase.{Even}
@@ -40,7 +39,7 @@ none_odd w i (r ∷ rs) e = rw (eq-eqb (length r) w e.0) (none_odd w (suc i) rs 
 -- a text of the form with equal field counts is not refused
 pub table_whole :
     (kind : Kind) (text : List ℕ) (rs : List (List ℤ)) (w : ℕ) → length text ≤ 65536 → form_of kind text ≡ whole rs → wanted kind rs ≡ w → Even w rs →
-    table_of kind text ≡ Whole (length rs) w
+    table_of kind text ≡ shaped (length rs) w
 unfolding table_of judge
 table_whole kind text rs w short f e even = rw (le-ltb 65536 (length text) short, f, e, none_odd w 1 rs even) refl
 

@@ -8,17 +8,18 @@ use native.Mathlib.Nat.{min-eq_left}
 use native.Mathlib.Omega.{arith}
 use lib.IntN.{ℤ}
 use lib.ListN.{length, take}
+use Rattle.std.proofs.Common.{Result, Ok, Err}
+use Rattle.refusal.specs.declared.Cause.{Cause}
+use Rattle.refusal.specs.declared.Refusal.{Refusal}
+use Rattle.refusal.specs.Number.{number_of}
+use Rattle.size.specs.declared.limits.Size.{Size}
 use Rattle.problem.specs.Case.{Case}
 use Rattle.problem.specs.Outcome.{Outcome, refused, form_refusal}
 use Rattle.size.specs.Size.{checked_of}
-use Rattle.size.specs.declared.limits.Checked.{Checked}
-use Rattle.size.specs.declared.limits.Checked.TheVariants as checks
 use Rattle.planner.specs.Judge.{free_case}
 use Rattle.validation.proofs.FormTests.{Limits, in_limits, by_size}
 use Rattle.planner.proofs.Judging.{case_form}
-use Rattle.csv_case.specs.declared.case.CaseAnswer.{CaseAnswer}
-use Rattle.csv_case.specs.declared.case.CaseAnswer.TheVariants as answers
-use Rattle.csv_case.specs.CaseFiles.{case_answer, CaseStored}
+use Rattle.csv_case.specs.CaseFiles.{CaseAnswer, counts, case_answer, CaseStored}
 use Rattle.plan_files.specs.Printed.{file_case}
 use Rattle.plan_files.specs.inner.StoredCase.{cut_case, Stored}
 use Rattle.plan_files.proofs.FileRefusals.{Alike}
@@ -58,10 +59,11 @@ cut_written m n entries a b e costs supplies demands table ea eb ee w = rw (sym 
 module _ (t p : List ℕ) (costs : List ℤ) (supplies demands table : List ℕ) (costs' : List ℤ) (supplies' demands' table' : List ℕ) {answer : CaseAnswer}
     (stored : CaseStored t p costs supplies demands table costs' supplies' demands' table' answer) where
   -- a file is refused
-  pub refused_rewritten : {number place : ℕ} {tariff production : List ℕ} → answer ≡ answers.Refused number place → FilesRewritten t p tariff production tariff production (texts.Refused number place)
-  refused_rewritten {number} {place} e =
-      let a : case_answer t p ≡ answers.Refused number place = sym stored.answered ∙ e in
-      rw a (record {
+  pub refused_rewritten : {why : Refusal} {tariff production : List ℕ} → answer ≡ Err why → {number : ℕ} → number ≡ number_of why.cause →
+      FilesRewritten t p tariff production tariff production (texts.Refused number why.place)
+  refused_rewritten {why} e k =
+      let a : case_answer t p ≡ Err why = sym stored.answered ∙ e in
+      rw (a, k) (record {
         refusal_told = refl;
         lengths_told = λ a b k. absurd (let z : ◌≡◌ {A = ℕ} 0 1 = cc in omega arith);
         tariff_cells = refl;
@@ -69,7 +71,7 @@ module _ (t p : List ℕ) (costs : List ℤ) (supplies demands table : List ℕ)
       })
 
   -- a case is read
-  module _ (room : Stored costs supplies demands table) (m n entries : ℕ) (told : answer ≡ answers.Case m n entries) where
+  module _ (room : Stored costs supplies demands table) (m n entries : ℕ) (told : answer ≡ counts m n entries) where
     abbrev kept : Case
     kept = free_case m n (take (min m 32 * min n 64) costs') (take (min m 32) supplies') (take (min n 64) demands') (take (min entries 4002) table') 2048 4001 4001
 
@@ -94,14 +96,14 @@ module _ (t p : List ℕ) (costs : List ℤ) (supplies demands table : List ℕ)
               | inr q ↦ carry _ (file_case t p) tariff production tariff' production' r q.0 q.1 q.2 w'
             ]
 
-        go : (x : Checked) → checked_of m n ≡ x → CaseWritten (file_case t p) tariff production tariff' production' r
-        go (checks.Fits z) e = by (in_limits m n z e)
-        go (checks.Refused k) e =
-            carry kept (file_case t p) tariff production tariff' production' r (refused k 0) (by_size kept k e)
+        go : (x : Result Size Cause) → checked_of m n ≡ x → CaseWritten (file_case t p) tariff production tariff' production' r
+        go (Ok z) e = by (in_limits m n z e)
+        go (Err k) e =
+            carry kept (file_case t p) tariff production tariff' production' r (refused (number_of k) 0) (by_size kept k e)
             (sym (form_alike _ _ alike) ∙ by_size (cut_case m n entries costs' supplies' demands' table') k e) w
 
     pub case_rewritten :
         {tariff production tariff' production' : List ℕ} {r : Texts} → CaseWritten kept tariff production tariff' production' r → FilesRewritten t p tariff production tariff' production' r
     case_rewritten {tariff} {production} {tariff'} {production'} {r} w =
-        let a : case_answer t p ≡ answers.Case m n entries = sym stored.answered ∙ told in
+        let a : case_answer t p ≡ counts m n entries = sym stored.answered ∙ told in
         rw a (to_file tariff production tariff' production' r w)

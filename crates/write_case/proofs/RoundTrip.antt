@@ -14,11 +14,9 @@ use Rattle.problem.proofs.TestsPassed.{first_passes, second_passes, some≢none,
 use Rattle.planner.proofs.Judging.{case_formed}
 use Rattle.plan_files.proofs.Printing.{small_cost}
 use Rattle.csv_form.specs.declared.Kind.TheVariants.{Tariff, Production}
-use Rattle.csv_table.specs.declared.table.Table.TheVariants.{Whole}
-use Rattle.csv_case.specs.declared.case.CaseAnswer.TheVariants as answers
 use Rattle.csv_form.specs.Records.{whole, form_of}
-use Rattle.csv_table.specs.Files.{wanted, table_of}
-use Rattle.csv_case.specs.CaseFiles.{case_answer}
+use Rattle.csv_table.specs.Files.{shaped, wanted, table_of}
+use Rattle.csv_case.specs.CaseFiles.{counts, case_answer}
 use Rattle.plan_files.specs.Printed.{filed_case, file_case}
 use Rattle.case_texts.specs.Texts.{tariff_text, production_text, tariff_records, production_records}
 use Rattle.write_case.specs.Writing.{test32, entries_refusal}
@@ -75,13 +73,13 @@ module _ (c : Case) (e : entries_refusal c ≡ none) where
       production_most c.table (omega (arith, f.table_long, f.small_supply 0 (omega (arith, f.two_sources)))) held
 
   -- the two texts are accepted, with m, n and the count of entries
-  pub both_stand : case_answer (tariff_text c) (production_text c) ≡ answers.Case c.m c.n (length c.table)
+  pub both_stand : case_answer (tariff_text c) (production_text c) ≡ counts c.m c.n (length c.table)
   unfolding case_answer wanted
   both_stand =
-      let t : table_of Tariff (tariff_text c) ≡ Whole (length (tariff_records c.m c.n c.costs c.supplies c.demands)) (c.n + 1)
+      let t : table_of Tariff (tariff_text c) ≡ shaped (length (tariff_records c.m c.n c.costs c.supplies c.demands)) (c.n + 1)
       = table_whole Tariff (tariff_text c) _ (c.n + 1) tariff_short tariff_reads (tariff_wanted c.m c.n c.costs c.supplies c.demands)
       (tariff_even c.m c.n c.costs c.supplies c.demands) in
-      let p : table_of Production (production_text c) ≡ Whole (length (production_records c.table)) 1
+      let p : table_of Production (production_text c) ≡ shaped (length (production_records c.table)) 1
       = table_whole Production (production_text c) _ 1 production_short production_reads refl (production_even c.table) in
       let a : c.m + 1 - 1 ≡ c.m = omega arith in
       let b : c.n + 1 - 1 ≡ c.n = omega arith in

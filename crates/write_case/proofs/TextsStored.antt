@@ -9,9 +9,7 @@ use native.Mathlib.Omega.{arith}
 use lib.Seq.{sets, take_all}
 use Rattle.problem.specs.Case.{Case}
 use Rattle.problem.specs.Outcome.{outcome_of}
-use Rattle.csv_case.specs.declared.case.CaseAnswer.{CaseAnswer}
-use Rattle.csv_case.specs.declared.case.CaseAnswer.TheVariants as answers
-use Rattle.csv_case.specs.CaseFiles.{CaseStored}
+use Rattle.csv_case.specs.CaseFiles.{CaseAnswer, counts as case_counts, CaseStored}
 use Rattle.plan_files.specs.Printed.{file_outcome}
 use Rattle.case_texts.specs.Texts.{tariff_text, production_text, tariff_records, production_records}
 use Rattle.write_case.specs.Writing.{entries_refusal}
@@ -20,7 +18,7 @@ use Rattle.write_case.proofs.RoundTrip.{case_alone, form_passes, table_room, tar
 
 -- the counts, and each list from the first cell on
 pub record StoredAgain (c : Case) (costs : List ℤ) (supplies demands table : List ℕ) (costs' : List ℤ) (supplies' demands' table' : List ℕ) (answer : CaseAnswer) : Type 0 where
-  pub counts : answer ≡ answers.Case c.m c.n (length c.table)
+  pub counts : answer ≡ case_counts c.m c.n (length c.table)
   pub costs_back : costs' ≡ sets costs 0 c.costs
   pub supplies_back : supplies' ≡ sets supplies 0 c.supplies
   pub demands_back : demands' ≡ sets demands 0 c.demands
@@ -33,7 +31,7 @@ module _ (c : Case) (e : entries_refusal c ≡ none) where
       StoredAgain c costs supplies demands table costs' supplies' demands' table' answer
   stored_again costs supplies demands table costs' supplies' demands' table' answer s =
       let f = form_passes c e in
-      let a : answer ≡ answers.Case c.m c.n (length c.table) = s.answered ∙ both_stand c e in
+      let a : answer ≡ case_counts c.m c.n (length c.table) = s.answered ∙ both_stand c e in
       let k = s.tariff_stored (tariff_records c.m c.n c.costs c.supplies c.demands) c.m c.n (length c.table) (tariff_reads c e) a f.few_sources f.few_terminals in
       record {
         counts = a;

@@ -1,13 +1,12 @@
 -- Refusals 32 and 33, and what the writer of a case answers and writes. Assumes nothing.
-use Rattle.std.specs.Prelude.{◌≡◌, ◌||◌, List, ℕ, ltb, length}
+use Rattle.std.specs.Prelude.{◌≡◌, ◌||◌, List, ℕ, ltb, length, Ok, Err}
 use Rattle.std.proofs.Math.Option.{Option, none, some}
 use Rattle.std.proofs.lemmas.List.Edits.{sets}
 use Rattle.problem.specs.Case.{Case, entry}
 use Rattle.problem.specs.Outcome.{Outcome, refused, refuse_if, refuse_at, first_from, ◌or_else◌}
+use Rattle.refusal.specs.Number.{number_of}
 use Rattle.planner.specs.Judge.{case_refusal}
-use Rattle.csv_case.specs.declared.case.CaseAnswer.{CaseAnswer}
-use Rattle.csv_case.specs.declared.case.CaseAnswer.TheVariants as answers
-use Rattle.csv_case.specs.CaseFiles.{case_answer}
+use Rattle.csv_case.specs.CaseFiles.{CaseAnswer, case_answer}
 use Rattle.plan_files.specs.Printed.{file_case}
 use Rattle.write_case.specs.declared.Texts.{Texts}
 use Rattle.write_case.specs.declared.Texts.TheVariants.{Written, Refused}
@@ -52,8 +51,8 @@ CaseWritten c tariff production tariff' production' answer =
 
 -- refusals 20 to 22 of two files, then those of their case
 abbrev pub file_refusal : CaseAnswer → Option Outcome → Option Outcome
-file_refusal (answers.Refused number place) o = some (refused number place)
-file_refusal (answers.Case m n entries) o = o
+file_refusal (Err r) o = some (refused (number_of r.cause) r.place)
+file_refusal (Ok k) o = o
 
 -- what is answered and written of two files: their case, in the one form that depends on the case alone
 abbrev pub FilesRewritten : List ℕ → List ℕ → List ℕ → List ℕ → List ℕ → List ℕ → Texts → Type 0

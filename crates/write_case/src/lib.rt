@@ -6,7 +6,8 @@ ghost use Rattle.planner.specs.Judge.{judged, free_case};
 ghost use Rattle.write_case.specs.Writing.{entries_refusal, CaseWritten};
 
 use case_texts::{put_production, put_tariff};
-use planner::judge::{Judged, judge};
+use planner::judge::judge;
+use refusal::{Cause, Refusal};
 
 pub mod rewrite;
 
@@ -25,22 +26,17 @@ fn test_case(
     supplies: &[u64],
     demands: &[u64],
     table: &[u64],
-) -> Judged
+) -> Result<(), Refusal>
     ensures { (p s f : ℕ) →
         judged result ≡ entries_refusal (free_case m n costs.now supplies.now demands.now table.now p s f) }
 {
-    if let Judged::Refused { number, place } = judge(m, n, costs, supplies, demands, table) {
-        return Judged::Refused { number, place };
-    }
+    judge(m, n, costs, supplies, demands, table)?;
     for y in 0..table.len() {
         if 9_999_999_999 < table[y] {
-            return Judged::Refused {
-                number: 32,
-                place: y as u64,
-            };
+            return Err(Cause::WideEntry.at(y as u64));
         }
     }
-    Judged::Passed
+    Ok(())
 }
 
 // Writes the two files of a case with least runs 0 and the ceiling 4,000 on every lane, or refuses it and writes nothing.
@@ -58,8 +54,11 @@ pub fn write_case(
         CaseWritten (free_case m n costs.now supplies.now demands.now table.now p s f)
         tariff.old production.old tariff.new production.new result }
 {
-    if let Judged::Refused { number, place } = test_case(m, n, costs, supplies, demands, table) {
-        return Texts::Refused { number, place };
+    if let Err(r) = test_case(m, n, costs, supplies, demands, table) {
+        return Texts::Refused {
+            number: r.cause.number(),
+            place: r.place,
+        };
     }
     let mut scrap = [0u8; 1];
     let t = put_tariff(&mut scrap, m, n, costs, supplies, demands);

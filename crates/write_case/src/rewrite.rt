@@ -5,8 +5,7 @@ ghost use Rattle.plan_files.specs.inner.StoredCase.{Stored};
 ghost use Rattle.write_case.specs.Writing.{CaseWritten, FilesRewritten};
 
 use crate::{Texts, write_case};
-use csv_case::case::{CaseAnswer, read_case};
-use csv_table::store::smaller;
+use csv_case::case::read_case;
 
 // Cells for the unit costs of 32 sources and 64 terminals.
 fn cost_cells() -> [i64; 2048] {
@@ -36,9 +35,9 @@ fn write_stored(
         (take (min n 64) demands.now) (take (min entries 4002) table.now) 2048 4001 4001)
         tariff.old production.old tariff.new production.new result }
 {
-    let a = smaller(m, 32);
-    let b = smaller(n, 64);
-    let e = smaller(entries, 4002);
+    let a = m.min(32);
+    let b = n.min(64);
+    let e = entries.min(4002);
     let lanes = a * b;
     write_case(
         m,
@@ -75,14 +74,14 @@ pub fn rewrite_files(
         &mut table,
     );
     match answer {
-        CaseAnswer::Refused { number, place } => Texts::Refused {
-            number,
-            place: place as u64,
+        Err(r) => Texts::Refused {
+            number: r.cause.number(),
+            place: r.place,
         },
-        CaseAnswer::Case { m, n, entries } => write_stored(
-            m,
-            n,
-            entries,
+        Ok(k) => write_stored(
+            k.m,
+            k.n,
+            k.entries,
             &costs,
             &supplies,
             &demands,

@@ -3,6 +3,7 @@ ghost use Rattle.bounds_problem.specs.Answers.{lowCase};
 ghost use Rattle.export_reports.specs.Bounds.{BoundsExported};
 
 use export_reports::bounds::tell_bounds;
+use lent_case::Case;
 
 // Tells which splits of a lent case can be the cheapest with entries between the low and the high table: 0 where the answers are given, else
 // the number of the refusal. The report's first cells get the first split and the count of splits, or the refusal's place, those of the worth
@@ -34,8 +35,17 @@ pub extern "C" fn yadvorkhul_bounds(
     if worth.len() < 2 {
         return 34;
     }
-    let answer = bounds_splits::possible_splits(
-        m, n, run1, run2, costs, supplies, demands, ceilings, low, high, answers,
-    );
+    let case = Case {
+        m,
+        n,
+        run1,
+        run2,
+        costs,
+        supplies,
+        demands,
+        ceilings,
+        table: low,
+    };
+    let answer = bounds_splits::possible_splits(&case, high, answers);
     tell_bounds(answer, report, worth)
 }

@@ -1,4 +1,5 @@
 // The planner for callers outside Rattle: numbers and slices only.
+// Stays: numbers for refusals, and slices with their lengths, are the C interface.
 #![tactic(auto)]
 
 mod rates;
@@ -10,6 +11,7 @@ ghost use Rattle.planner.specs.Answer.{slices};
 ghost use Rattle.export_reports.specs.Report.{Exported};
 
 use export_reports::tell;
+use lent_case::Case;
 
 pub mod about;
 pub mod bounds;
@@ -50,8 +52,17 @@ pub extern "C" fn yadvorkhul_plan(
     if worth.len() < 2 {
         return 34;
     }
-    let answer = planner::plan(
-        m, n, run1, run2, costs, supplies, demands, ceilings, table, plan, splits, freights,
-    );
+    let case = Case {
+        m,
+        n,
+        run1,
+        run2,
+        costs,
+        supplies,
+        demands,
+        ceilings,
+        table,
+    };
+    let answer = planner::plan(&case, plan, splits, freights);
     tell(answer, report, worth)
 }

@@ -3,7 +3,7 @@ ghost use Rattle.std.specs.Prelude.{◌≡◌, length};
 ghost use Rattle.ratetable.specs.Rate.{filled_of, cells_after};
 ghost use Rattle.yadvorkhul.specs.Rated.{rate_number};
 
-use ratetable::Filled;
+use ratetable::RateError;
 
 // Writes the rates of the outputs 0 to `most` into the first cells of a slice, and answers 0. Nothing is written where `most` is above
 // 4,000, and the answer is 4, or where the slice is too short, and it is 11: the planner's numbers for a supply and a slice.
@@ -11,10 +11,9 @@ use ratetable::Filled;
 pub extern "C" fn yadvorkhul_rates(most: u64, to: &mut [u64]) -> u64
     ensures { (result ≡ rate_number (filled_of most (length to.old))) × (to.new ≡ cells_after most to.old) }
 {
-    let filled = ratetable::fill(most, to);
-    match filled {
-        Filled::Written => 0,
-        Filled::TooMuch => 4,
-        Filled::TooShort => 11,
+    match ratetable::fill(most, to) {
+        Ok(()) => 0,
+        Err(RateError::TooMuch) => 4,
+        Err(RateError::TooShort) => 11,
     }
 }

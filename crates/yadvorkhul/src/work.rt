@@ -8,6 +8,7 @@ ghost use Rattle.work_store.specs.Calls.{edit_demand, edit_supply, edit_cost, ed
 ghost use Rattle.yadvorkhul.specs.Work.{EnterExported, WorkExported};
 
 use crate::told::tell_verdict;
+use lent_case::Case;
 
 // How many cells a store for m sources and n terminals must have; 0 where no case has that size.
 #[unsafe(no_mangle)]
@@ -39,9 +40,18 @@ pub extern "C" fn yadvorkhul_enter(
     if report.len() < 2 {
         return 34;
     }
-    let told = roles::enter(
-        m, n, run1, run2, costs, supplies, demands, ceilings, table, store,
-    );
+    let case = Case {
+        m,
+        n,
+        run1,
+        run2,
+        costs,
+        supplies,
+        demands,
+        ceilings,
+        table,
+    };
+    let told = roles::enter(&case, store);
     tell_verdict(told, report)
 }
 

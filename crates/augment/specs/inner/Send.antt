@@ -1,11 +1,12 @@
 -- A whole send: drums go along a cheapest path to a node with room, and the potentials follow. Assumes nothing.
-use Rattle.std.specs.Prelude.{◌≡◌, List, ℕ, ◌+◌, ◌≤◌, ◌<◌, length}
+use Rattle.std.specs.Prelude.{◌≡◌, Option, None, Some, List, ℕ, ◌+◌, ◌≤◌, ◌<◌, length}
 use Rattle.transport.specs.Plan.{Under}
 use Rattle.transport.specs.inner.Slackness.{Slack}
 use Rattle.transport.specs.inner.PathFlow.{Step, Flow}
 use Rattle.residual.specs.inner.Cells.{cells}
 use Rattle.residual.specs.inner.Network.{Net, get}
 use Rattle.paths.specs.inner.Search.{Sound, Stuck}
+use Rattle.augment.specs.declared.send.Sent.{Sent}
 
 pub record SendReady (N : Net) (p room : List ℕ) (s limit : ℕ) (x : List ℕ) : Type 0 where
   pub sound : Sound N p
@@ -41,7 +42,7 @@ pub record NoPath (N : Net) (p room : List ℕ) (s : ℕ) (x x' p' : List ℕ) :
   pub same_x : x' ≡ x
   pub same_p : p' ≡ p
 
-pub record SendDone (N : Net) (p room : List ℕ) (s limit : ℕ) (x x' p' : List ℕ) (g d : ℕ) : Type 0 where
-  pub bound : g ≤ 96
-  pub found : g < 96 → Delivered N p room s limit x' p' g d
-  pub none : g ≡ 96 → NoPath N p room s x x' p'
+-- what a send answers: where the drums went and how many, or that nothing went
+abbrev pub SendDone : Net → List ℕ → List ℕ → ℕ → ℕ → List ℕ → List ℕ → List ℕ → Option Sent → Type 0
+SendDone N p room s limit x x' p' (Some sent) = (sent.goal < 96) × Delivered N p room s limit x' p' sent.goal sent.amount
+SendDone N p room s limit x x' p' None = NoPath N p room s x x' p'

@@ -11,10 +11,10 @@ use Rattle.bounds_files.proofs.bounds_files.Goals as goal
 stored : (c : After-entry_cells-lows) → Stored c.cost_cells-costs.result (replicate 32 0) (replicate 64 0) c.entry_cells-lows.result
 stored c = record { lanes = search (rules, c.cost_cells-costs.type_inv); sources = refl; terminals = refl; entries = search (rules, c.entry_cells-lows.type_inv) }
 
-pub returns-in-Refused : goal.returns-in-Refused
-returns-in-Refused c =
-    refused_files _ _ _ _ _ _ _ _ _ _ _ c.read_case-answer.ensures c.in-Refused.is c.print_refusal.ensures
+pub returns-in-Err : goal.returns-in-Err
+returns-in-Err c =
+    refused_files _ _ _ _ _ _ _ _ _ _ _ c.read_case-answer.ensures c.in-Err.is c.number.ensures c.print_refusal.ensures
 
-pub returns-in-Case : goal.returns-in-Case
-returns-in-Case c =
-    case_files _ _ _ _ _ _ _ _ _ _ _ c.read_case-answer.ensures (stored (goal.at.returns-in-Case c).After-entry_cells-lows) _ _ _ c.in-Case.is c.print_with_high.ensures
+pub returns-in-Ok : goal.returns-in-Ok
+returns-in-Ok c =
+    case_files _ _ _ _ _ _ _ _ _ _ _ c.read_case-answer.ensures (stored (goal.at.returns-in-Ok c).After-entry_cells-lows) _ _ _ c.in-Ok.is c.print_with_high.ensures

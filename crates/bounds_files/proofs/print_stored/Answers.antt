@@ -5,48 +5,48 @@ use native.Mathlib.Omega.{arith}
 use lib.Seq.{length-take-le}
 use Rattle.plan_files.proofs.StoredCase.{few_lanes, ceilings_long}
 use Rattle.bounds_files.proofs.BoundsPrinting.{cut_printed}
-use Rattle.bounds_files.proofs.print_stored.Goals.{After-smaller-f}
+use Rattle.bounds_files.proofs.print_stored.Goals.{After-min-f}
 use Rattle.bounds_files.proofs.print_stored.Goals as goal
 
 -- the lanes that are kept
-product : (c : After-smaller-f) →
-    c.smaller-a.result * c.smaller-b.result ≡ min c.args.m 32 * min c.args.n 64
-product c = ap₂ (λ (x y : ℕ). x * y) c.smaller-a.ensures c.smaller-b.ensures
+product : (c : After-min-f) →
+    c.min-a.result * c.min-b.result ≡ min c.args.m 32 * min c.args.n 64
+product c = ap₂ (λ (x y : ℕ). x * y) c.min-a.ensures c.min-b.ensures
 
 pub overflow_mul-lanes : goal.overflow_mul-lanes
 overflow_mul-lanes c =
-    record { fits = omega (arith, few_lanes c.args.m c.args.n, product (goal.at.overflow_mul-lanes c).After-smaller-f) }
+    record { fits = omega (arith, few_lanes c.args.m c.args.n, product (goal.at.overflow_mul-lanes c).After-min-f) }
 
 pub slice_bounds-print_case-end : goal.slice_bounds-print_case-end
 slice_bounds-print_case-end c =
-    sym (length-take-le _ _ (omega (arith, few_lanes c.args.m c.args.n, product (goal.at.slice_bounds-print_case-end c).After-smaller-f, c.requires.0.lanes)))
+    sym (length-take-le _ _ (omega (arith, few_lanes c.args.m c.args.n, product (goal.at.slice_bounds-print_case-end c).After-min-f, c.requires.0.lanes)))
 
 pub slice_bounds-print_case-end-2 : goal.slice_bounds-print_case-end-2
 slice_bounds-print_case-end-2 c =
-    sym (length-take-le _ _ (omega (arith, c.smaller-a.ensures, c.requires.0.sources)))
+    sym (length-take-le _ _ (omega (arith, c.min-a.ensures, c.requires.0.sources)))
 
 pub slice_bounds-print_case-end-3 : goal.slice_bounds-print_case-end-3
 slice_bounds-print_case-end-3 c =
-    sym (length-take-le _ _ (omega (arith, c.smaller-b.ensures, c.requires.0.terminals)))
+    sym (length-take-le _ _ (omega (arith, c.min-b.ensures, c.requires.0.terminals)))
 
 pub slice_bounds-ceilings-end : goal.slice_bounds-ceilings-end
 slice_bounds-ceilings-end c =
-    omega (arith, few_lanes c.args.m c.args.n, product (goal.at.slice_bounds-ceilings-end c).After-smaller-f)
+    omega (arith, few_lanes c.args.m c.args.n, product (goal.at.slice_bounds-ceilings-end c).After-min-f)
 
 pub slice_bounds-print_case-end-4 : goal.slice_bounds-print_case-end-4
 slice_bounds-print_case-end-4 c =
-    sym (length-take-le _ _ (omega (arith, few_lanes c.args.m c.args.n, product (goal.at.slice_bounds-print_case-end-4 c).After-smaller-f, ceilings_long _ c.lane_ceilings-ceilings.ensures)))
+    sym (length-take-le _ _ (omega (arith, few_lanes c.args.m c.args.n, product (goal.at.slice_bounds-print_case-end-4 c).After-min-f, ceilings_long _ c.lane_ceilings-ceilings.ensures)))
 
 pub slice_bounds-print_case-end-5 : goal.slice_bounds-print_case-end-5
 slice_bounds-print_case-end-5 c =
-    sym (length-take-le _ _ (omega (arith, c.smaller-e.ensures, c.requires.0.entries)))
+    sym (length-take-le _ _ (omega (arith, c.min-e.ensures, c.requires.0.entries)))
 
 pub slice_bounds-print_case-end-6 : goal.slice_bounds-print_case-end-6
 slice_bounds-print_case-end-6 c =
-    sym (length-take-le _ _ (omega (arith, c.smaller-f.ensures, c.requires.1)))
+    sym (length-take-le _ _ (omega (arith, c.min-f.ensures, c.requires.1)))
 
 pub returns : goal.returns
 returns c =
-    cut_printed _ _ _ _ _ _ _ _ _ _ _ _ _ _ _ _ _ c.smaller-a.ensures c.smaller-b.ensures c.smaller-e.ensures
-    c.smaller-f.ensures c.lane_ceilings-ceilings.ensures
+    cut_printed _ _ _ _ _ _ _ _ _ _ _ _ _ _ _ _ _ c.min-a.ensures c.min-b.ensures c.min-e.ensures
+    c.min-f.ensures c.lane_ceilings-ceilings.ensures
     c.print_case.ensures

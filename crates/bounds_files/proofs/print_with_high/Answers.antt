@@ -10,10 +10,10 @@ use Rattle.bounds_files.proofs.print_with_high.Goals as goal
 room : (c : After-entry_cells-highs) → length c.entry_cells-highs.result ≡ 4002
 room c = search (rules, c.entry_cells-highs.type_inv)
 
-pub returns-in-Refused : goal.returns-in-Refused
-returns-in-Refused c =
-    high_refused _ _ _ _ _ _ _ _ _ _ c.read_case-answer.ensures c.in-Refused.is _ c.print_refusal.ensures
+pub returns-in-Err : goal.returns-in-Err
+returns-in-Err c =
+    high_refused _ _ _ _ _ _ _ _ _ _ c.read_case-answer.ensures c.in-Err.is c.number.ensures _ c.print_refusal.ensures
 
-pub returns-in-Case : goal.returns-in-Case
-returns-in-Case c =
-    high_stored _ _ _ _ _ _ _ _ _ _ c.read_case-answer.ensures (room (goal.at.returns-in-Case c).After-entry_cells-highs) _ _ _ c.in-Case.is _ c.print_stored.ensures
+pub returns-in-Ok : goal.returns-in-Ok
+returns-in-Ok c =
+    high_stored _ _ _ _ _ _ _ _ _ _ c.read_case-answer.ensures (room (goal.at.returns-in-Ok c).After-entry_cells-highs) _ _ _ c.in-Ok.is _ c.print_stored.ensures

@@ -1,11 +1,10 @@
 -- Freights as naturals, and the curve drawn from its stops. Assumes nothing.
-use Rattle.std.specs.Prelude.{◌≡◌, cond, ◌||◌, List, map, ℕ, zero, suc, min, ◌+◌, ◌-◌, ◌*◌, ◌/◌, ◌≤◌, ◌<◌, leb, ltb, ℤ, pos, nat_abs, ◌+ℤ◌, length, get_or}
-use Rattle.std.proofs.Math.Option.{Option, none, some}
+use Rattle.std.specs.Prelude.{◌≡◌, cond, ◌||◌, List, map, ℕ, zero, suc, min, ◌+◌, ◌-◌, ◌*◌, ◌/◌, ◌≤◌, ◌<◌, leb, ltb, ℤ, pos, nat_abs, ◌+ℤ◌, length, get_or, Option, Some, None}
+use Rattle.std.proofs.Math.Option.{none, some}
+use Rattle.std.proofs.Math.Option as math
 use Rattle.transport.specs.Listing.{up_from}
 use Rattle.problem.specs.Integer.{Above}
 use Rattle.problem.specs.Outcome.{first_from}
-use Rattle.bounds_problem.specs.declared.curve.Found.{Found}
-use Rattle.bounds_problem.specs.declared.curve.Found.TheVariants.{At, Nowhere}
 
 -- how far a freight stands above -128,000,000,000
 unfoldable pub height : ℤ → ℕ
@@ -86,10 +85,10 @@ unfoldable pub least_sum : List ℕ → List ℕ → ℕ
 least_sum curve table = least_up_to (λ k. get_or curve k 0 + get_or table k 0) (length table - 1)
 
 -- the index found, if any
-abbrev pub found : Found → Option ℕ
-found (At k) = some k
-found Nowhere = none
+abbrev pub found : Option ℕ → math.Option ℕ
+found (Some k) = some k
+found None = none
 
 -- the first index at which the high entry is below the low one or above 1,000,000,000
-unfoldable pub first_bad : List ℕ → List ℕ → Option ℕ
+unfoldable pub first_bad : List ℕ → List ℕ → math.Option ℕ
 first_bad low high = first_from (λ k. ltb (get_or high k 0) (get_or low k 0) || ltb 1000000000 (get_or high k 0)) 0 (length low)

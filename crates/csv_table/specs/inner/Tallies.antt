@@ -2,13 +2,9 @@
 use Rattle.std.specs.Prelude.{◌≡◌, Bool, false, ◌||◌, List, [], ℕ, ◌+◌, ◌≤◌, ◌<◌, ◌^◌, eqb, ℤ, length}
 use Rattle.std.proofs.lemmas.List.Edits.{sets}
 use Rattle.csv_form.specs.declared.Kind.{Kind}
-use Rattle.csv_form.specs.declared.field.Field.{Field}
-use Rattle.csv_form.specs.declared.field.Field.TheVariants as answers
-use Rattle.csv_table.specs.declared.table.Table.{Table}
-use Rattle.csv_table.specs.declared.table.Table.TheVariants.{Whole, Refused}
 use Rattle.csv_table.specs.declared.table.Tally.{Tally}
 use Rattle.csv_form.specs.Records.{whole, form_of}
-use Rattle.csv_table.specs.Files.{pick, wanted, table_of, in_order, fields_stored}
+use Rattle.csv_table.specs.Files.{Table, shaped, pick, wanted, table_of, in_order, fields_stored}
 
 abbrev pub start_tally : Kind → Tally
 start_tally kind = record { records = 0; fields = 0; width = wanted kind []; odd = 0; values = 0; rebate = false }
@@ -42,18 +38,14 @@ pub record Countable (t : Tally) : Type 0 where
   pub fields : t.fields + 1 < 2 ^ 64
   pub values : t.values + 1 < 2 ^ 64
 
-abbrev pub handed_on : Field → Table
-handed_on (answers.Value value m next) = Refused 21 next
-handed_on (answers.Refused place) = Refused 21 place
-
 -- a file is gone through: the answer, and the fields in file order in the cells, where the file has the form
 pub record Scanned (kind : Kind) (s : List ℕ) (cells cells' : List ℤ) (answer : Table) : Type 0 where
   pub answered : answer ≡ table_of kind s
-  pub some : (records fields : ℕ) → answer ≡ Whole records fields → (0 < records) × (0 < fields)
+  pub some : (records fields : ℕ) → answer ≡ shaped records fields → (0 < records) × (0 < fields)
   pub stored : (rs : List (List ℤ)) → length s ≤ 65536 → form_of kind s ≡ whole rs → cells' ≡ sets cells 0 (in_order rs)
 
 -- a file is read: the answer, and each cell; `some` follows from the answer
 pub record TableRead (kind : Kind) (s : List ℕ) (cells cells' : List ℤ) (answer : Table) : Type 0 where
   pub answered : answer ≡ table_of kind s
-  pub some : (records fields : ℕ) → answer ≡ Whole records fields → (0 < records) × (0 < fields)
+  pub some : (records fields : ℕ) → answer ≡ shaped records fields → (0 < records) × (0 < fields)
   pub stored : cells' ≡ fields_stored (table_of kind s) (form_of kind s) cells

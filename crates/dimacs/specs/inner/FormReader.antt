@@ -1,10 +1,9 @@
 -- What the reader of a file's form answers: contracts. Assumes nothing.
-use Rattle.std.specs.Prelude.{◌≡◌, Bool, true, cond, List, [], ◌∷◌, ℕ, ◌+◌, ◌-◌, ◌≤◌, ◌<◌, ltb, length, take, drop}
-use Rattle.dimacs.specs.declared.form.Form as form-answer
-use Rattle.dimacs.specs.declared.form.Form.TheVariants as forms
+use Rattle.std.specs.Prelude.{◌≡◌, Bool, true, cond, List, [], ◌∷◌, ℕ, ◌+◌, ◌-◌, ◌≤◌, ◌<◌, ltb, length, take, drop, Option, Some, None, Result, Ok, Err}
+use Rattle.dimacs.specs.declared.form.Counts.{Counts}
+use Rattle.refusal.specs.declared.Cause.TheVariants as causes
+use Rattle.refusal.specs.declared.Refusal.{Refusal}
 use Rattle.dimacs.specs.declared.form.Tally.{Tally}
-use Rattle.dimacs.specs.declared.form.Next as next-answer
-use Rattle.dimacs.specs.declared.form.Next.TheVariants as nexts
 use Rattle.dimacs.specs.declared.line.Line as line-answer
 use Rattle.dimacs.specs.declared.line.Line.TheVariants as lines
 use Rattle.dimacs.specs.Form.{pieces}
@@ -20,21 +19,27 @@ pub record LineEnd (s : List ℕ) (at e : ℕ) : Type 0 where
 abbrev pub tally_of : Bool → ℕ → ℕ → ℕ → Tally
 tally_of o n a k = record { opened = o; nodes = n; said = a; arcs = k }
 
-abbrev pub on_problem : Tally → ℕ → ℕ → next-answer.Next
-on_problem t n a = cond t.opened nexts.Wrong (nexts.On (tally_of true n a 0))
+abbrev pub on_problem : Tally → ℕ → ℕ → Option Tally
+on_problem t n a = cond t.opened None (Some (tally_of true n a 0))
 
-abbrev pub on_node : Tally → next-answer.Next
-on_node t = cond t.opened (cond (ltb 0 t.arcs) nexts.Wrong (nexts.On t)) nexts.Wrong
+abbrev pub on_node : Tally → Option Tally
+on_node t = cond t.opened (cond (ltb 0 t.arcs) None (Some t)) None
 
-abbrev pub on_arc : Tally → next-answer.Next
-on_arc t = cond t.opened (cond (ltb t.arcs t.said) (nexts.On (tally_of true t.nodes t.said (t.arcs + 1))) nexts.Wrong) nexts.Wrong
+abbrev pub on_arc : Tally → Option Tally
+on_arc t = cond t.opened (cond (ltb t.arcs t.said) (Some (tally_of true t.nodes t.said (t.arcs + 1))) None) None
 
-abbrev pub next_of : Tally → line-answer.Line → next-answer.Next
-next_of t lines.Comment = nexts.On t
-next_of t (lines.Problem n a) = on_problem t n a
-next_of t (lines.Node i m v) = on_node t
-next_of t (lines.Arc s e low cap m c) = on_arc t
-next_of t lines.Wrong = nexts.Wrong
+abbrev pub next_of : Tally → Option line-answer.Line → Option Tally
+next_of t (Some lines.Comment) = Some t
+next_of t (Some (lines.Problem n a)) = on_problem t n a
+next_of t (Some (lines.Node v)) = on_node t
+next_of t (Some (lines.Arc v)) = on_arc t
+next_of t None = None
 
-abbrev pub end_of : Tally → ℕ → form-answer.Form
-end_of t line = cond t.opened (cond (ltb t.arcs t.said) (forms.Refused line) (forms.Whole t.nodes t.said)) (forms.Refused line)
+abbrev pub wrong_line : {T : Type 0} → ℕ → Result T Refusal
+wrong_line line = Err (record { cause = causes.Line; place = line })
+
+abbrev pub counted : ℕ → ℕ → Result Counts Refusal
+counted n a = Ok (record { nodes = n; arcs = a })
+
+abbrev pub end_of : Tally → ℕ → Result Counts Refusal
+end_of t line = cond t.opened (cond (ltb t.arcs t.said) (wrong_line line) (counted t.nodes t.said)) (wrong_line line)

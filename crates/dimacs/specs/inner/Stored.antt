@@ -1,40 +1,40 @@
 -- What the cells hold of the lines read so far: contracts of the reader's inner functions. Assumes nothing.
-use Rattle.std.specs.Prelude.{◌≡◌, ◌⊎◌, Bool, ◌||◌, List, [], ◌∷◌, ℕ, suc, min, ◌≤◌, ◌<◌, ◌^◌, eqb, ltb, ℤ, pos, length, get_or}
+use Rattle.std.specs.Prelude.{◌≡◌, ◌⊎◌, Bool, ◌||◌, List, [], ◌∷◌, ℕ, suc, min, ◌≤◌, ◌<◌, ◌^◌, eqb, ltb, ℤ, pos, length, get_or, Option as Maybe, Some, None, Result, Ok, Err}
 use Rattle.std.proofs.Math.Option.{none, some}
 use Rattle.std.proofs.Math.IntN.{sub_ℕ}
 use Rattle.dimacs.specs.declared.line.Line as line-answer
 use Rattle.dimacs.specs.declared.line.Line.TheVariants as lines
-use Rattle.dimacs.specs.declared.form.Form as form-answer
-use Rattle.dimacs.specs.declared.form.Form.TheVariants as forms
+use Rattle.dimacs.specs.declared.line.NodeNumbers as node-answer
+use Rattle.dimacs.specs.declared.line.ArcNumbers as arc-answer
 use Rattle.dimacs.specs.declared.store.Reading as reading-answer
-use Rattle.dimacs.specs.declared.store.Reading.TheVariants as readings
+use Rattle.refusal.specs.declared.Cause.TheVariants as causes
+use Rattle.refusal.specs.declared.Refusal.{Refusal}
 use Rattle.dimacs.specs.Arc.{Arc, arc}
 use Rattle.dimacs.specs.Bytes.{◌>>=◌}
 use Rattle.dimacs.specs.Form.{pieces, ArcLine, NodeLine, line_of, File, Stage, opening, reading, step, whole, broken, form_of}
 use Rattle.dimacs.specs.Lines.{supply_in, any_of, no_node, twice, bad_arc}
-use Rattle.csv_form.specs.Records.{signed as with_sign}
 
 -- an n line and an a line by their numbers, as lists of one
-abbrev pub node_made : ℕ → Bool → ℕ → List NodeLine
-node_made i m v = record { id = i; supply = with_sign m v } ∷ []
+abbrev pub node_made : node-answer.NodeNumbers → List NodeLine
+node_made v = record { id = v.id; supply = v.supply } ∷ []
 
-abbrev pub arc_made : ℕ → ℕ → ℕ → ℕ → Bool → ℕ → List ArcLine
-arc_made s e low most m c = record { low = low; arc = arc s e most (with_sign m c) } ∷ []
+abbrev pub arc_made : arc-answer.ArcNumbers → List ArcLine
+arc_made v = record { low = v.low; arc = arc v.start v.end v.ceiling v.cost } ∷ []
 
 -- the n line, and the a line, that a line is
-abbrev pub node_in : line-answer.Line → List NodeLine
-node_in lines.Comment = []
-node_in (lines.Problem n a) = []
-node_in (lines.Node i m v) = node_made i m v
-node_in (lines.Arc s e low most m c) = []
-node_in lines.Wrong = []
+abbrev pub node_in : Maybe line-answer.Line → List NodeLine
+node_in (Some lines.Comment) = []
+node_in (Some (lines.Problem n a)) = []
+node_in (Some (lines.Node v)) = node_made v
+node_in (Some (lines.Arc v)) = []
+node_in None = []
 
-abbrev pub arc_in : line-answer.Line → List ArcLine
-arc_in lines.Comment = []
-arc_in (lines.Problem n a) = []
-arc_in (lines.Node i m v) = []
-arc_in (lines.Arc s e low most m c) = arc_made s e low most m c
-arc_in lines.Wrong = []
+abbrev pub arc_in : Maybe line-answer.Line → List ArcLine
+arc_in (Some lines.Comment) = []
+arc_in (Some (lines.Problem n a)) = []
+arc_in (Some (lines.Node v)) = []
+arc_in (Some (lines.Arc v)) = arc_made v
+arc_in None = []
 
 -- arc j of the a lines
 abbrev pub no_line : ArcLine
@@ -80,10 +80,12 @@ pub record NodesRead (nodes : ℕ) (supplies : List NodeLine) (odd : Bool) (give
   pub takes_long : length takes ≡ 32
   pub marks_long : length marks ≡ 32
 
--- the counts with the two flags, or the line
-abbrev pub flagged : form-answer.Form → Bool → Bool → reading-answer.Reading
-flagged (forms.Whole nodes arcs) odd bad = readings.Whole nodes arcs odd bad
-flagged (forms.Refused line) odd bad = readings.Refused line
+-- a supply is what is given minus what is taken, one of which is 0
+pub record Parts (supply : ℤ) (give take : ℕ) : Type 0 where
+  pub is : sub_ℕ give take ≡ supply
+  pub way : (give ≡ 0) ⊎ (take ≡ 0)
+  pub give_small : give < 10 ^ 10
+  pub take_small : take < 10 ^ 10
 
 -- what is read of a file that is whole
 pub record FileRead (f : File) (nodes arcs : ℕ) (odd bad : Bool) (starts ends ceilings : List ℕ) (costs : List ℤ) (gives takes marks : List ℕ) : Type 0 where
@@ -122,11 +124,11 @@ pub record LinesKept (st : Stage) (starts ends ceilings : List ℕ) (costs : Lis
   pub node_lines : NodesRead (nodes_in st) (supplies_in st) odd gives takes marks
 
 -- the answer is the file's: 29's line, with the cells that hold the lines before it; or its counts, with the cells that hold the lines
-abbrev pub ReadAs : List ℕ → reading-answer.Reading → List ℕ → List ℕ → List ℕ → List ℤ → List ℕ → List ℕ → List ℕ → Type 0
-ReadAs s (readings.Refused line) starts ends ceilings costs gives takes marks =
-    (form_of s ≡ broken line) × LinesKept (stage_of s) starts ends ceilings costs gives takes marks
-ReadAs s (readings.Whole nodes arcs odd bad) starts ends ceilings costs gives takes marks =
-    (f : File) × (form_of s ≡ whole f) × FileRead f nodes arcs odd bad starts ends ceilings costs gives takes marks
+abbrev pub ReadAs : List ℕ → Result reading-answer.Reading Refusal → List ℕ → List ℕ → List ℕ → List ℤ → List ℕ → List ℕ → List ℕ → Type 0
+ReadAs s (Err r) starts ends ceilings costs gives takes marks =
+    (form_of s ≡ broken r.place) × LinesKept (stage_of s) starts ends ceilings costs gives takes marks × (r.cause ≡ causes.Line)
+ReadAs s (Ok r) starts ends ceilings costs gives takes marks =
+    (f : File) × (form_of s ≡ whole f) × FileRead f r.nodes r.arcs r.odd r.bad starts ends ceilings costs gives takes marks
 
-pub record ReadIs (s : List ℕ) (r : reading-answer.Reading) (starts ends ceilings : List ℕ) (costs : List ℤ) (gives takes marks : List ℕ) : Type 0 where
+pub record ReadIs (s : List ℕ) (r : Result reading-answer.Reading Refusal) (starts ends ceilings : List ℕ) (costs : List ℤ) (gives takes marks : List ℕ) : Type 0 where
   pub reads : ReadAs s r starts ends ceilings costs gives takes marks

@@ -1,5 +1,6 @@
 -- Step 1, source by source: the depots send their stock, then the plants, up to a cheapest plan at the first split. Assumes nothing.
-use Rattle.std.specs.Prelude.{◌≡◌, Bool, true, false, List, ℕ, ◌+◌, ◌-◌, ◌≤◌, ◌<◌, length}
+use Rattle.std.specs.Prelude.{◌≡◌, Option, Bool, true, false, List, ℕ, ◌+◌, ◌-◌, ◌≤◌, ◌<◌, length}
+use Rattle.std.specs.Option.{MatchOption}
 use Rattle.transport.specs.Plan.{Table, row, col, Under}
 use Rattle.transport.specs.inner.AtSplit.{Same, At}
 use Rattle.residual.specs.inner.Cells.{cells}
@@ -51,14 +52,21 @@ pub record PlantsReady (a : ℕ → ℕ) (run0 run1 d : ℕ) : Type 0 where
   pub low : run0 + run1 ≤ d
   pub high : d ≤ a 0 + a 1
 
--- all have sent, and no plan within the ceilings has a smaller split; or there is none at all
-pub record FirstDone (N : Net) (a : ℕ → ℕ) (room : List ℕ) (run0 run1 d : ℕ) (p' room' x' : List ℕ) (found : Bool) (split : ℕ) : Type 0 where
-  pub sending : found ≡ true → Sending N a room split (d - split) p' room' x'
-  pub admitted : found ≡ true → Admitted a run0 run1 d split (d - split)
-  pub least : found ≡ true → (w : Table) (y z : ℕ) → Admitted a run0 run1 d y z → At N.m N.n a (λ j. get room (32 + j)) y z w → Under N.m N.n w N.u → split ≤ y
-  pub none : found ≡ false → (w : Table) (y z : ℕ) → Admitted a run0 run1 d y z → At N.m N.n a (λ j. get room (32 + j)) y z w → Under N.m N.n w N.u → ⊥
+-- all have sent, and no plan within the ceilings has a smaller split
+pub record FirstSent (N : Net) (a : ℕ → ℕ) (room : List ℕ) (run0 run1 d : ℕ) (p' room' x' : List ℕ) (split : ℕ) : Type 0 where
+  pub sending : Sending N a room split (d - split) p' room' x'
+  pub admitted : Admitted a run0 run1 d split (d - split)
+  pub least : (w : Table) (y z : ℕ) → Admitted a run0 run1 d y z → At N.m N.n a (λ j. get room (32 + j)) y z w → Under N.m N.n w N.u → split ≤ y
+
+-- no plan within the ceilings
+abbrev pub NonePlanned : Net → (ℕ → ℕ) → List ℕ → ℕ → ℕ → ℕ → Type 0
+NonePlanned N a room run0 run1 d = (w : Table) (y z : ℕ) → Admitted a run0 run1 d y z → At N.m N.n a (λ j. get room (32 + j)) y z w → Under N.m N.n w N.u → ⊥
+
+-- what is answered: the first split, at which all have sent; or that there is no plan
+pub record FirstDone (N : Net) (a : ℕ → ℕ) (room : List ℕ) (run0 run1 d : ℕ) (p' room' x' : List ℕ) (split : Option ℕ) : Type 0 where
+  pub cases : MatchOption split (NonePlanned N a room run0 run1 d) (λ y. FirstSent N a room run0 run1 d p' room' x' y)
 
 -- the same, whatever demands are unmet
-pub record FirstPlan (N : Net) (a : ℕ → ℕ) (room : List ℕ) (run0 run1 d : ℕ) (p' x' : List ℕ) (found : Bool) (split : ℕ) : Type 0 where
+pub record FirstPlan (N : Net) (a : ℕ → ℕ) (room : List ℕ) (run0 run1 d : ℕ) (p' x' : List ℕ) (split : Option ℕ) : Type 0 where
   pub unmet : List ℕ
-  pub done : FirstDone N a room run0 run1 d p' unmet x' found split
+  pub done : FirstDone N a room run0 run1 d p' unmet x' split

@@ -65,10 +65,6 @@ flow_in plan starts w v named carried j =
 abbrev pub AtMostAll : ℕ → List ℕ → Type 0
 AtMostAll limit l = (k : ℕ) → k < length l → get_or l k 0 ≤ limit
 
--- the cells of a list
-abbrev pub cell_of : {A : Type 0} → A → List A → ℕ → A
-cell_of d l j = get_or l j d
-
 -- an amount above 4,000, one below 0, an entry above 1,000,000,000
 abbrev pub over_at : List ℕ → List ℕ → ℕ → Bool
 over_at haves takes i = ltb (get_or takes i 0 + 4000) (get_or haves i 0)

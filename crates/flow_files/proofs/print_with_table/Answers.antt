@@ -13,13 +13,13 @@ room c = search (rules, c.entry_cells-entries.type_inv)
 
 pub slice_bounds-print_network-end : goal.slice_bounds-print_network-end
 slice_bounds-print_network-end c =
-    sym (length-take-le _ _ (entries_kept _ _ _ _ _ (room (goal.at.slice_bounds-print_network-end c).After-entry_cells-entries) c.read_entries-answer.ensures c.in-Read.is c.smaller-kept.ensures))
+    sym (length-take-le _ _ (entries_kept _ _ _ _ _ (room (goal.at.slice_bounds-print_network-end c).After-entry_cells-entries) c.read_entries-answer.ensures c.in-Ok.is c.min-kept.ensures))
 
-pub returns-in-Refused : goal.returns-in-Refused
-returns-in-Refused c =
-    table_refused _ _ _ c.read_entries-answer.ensures c.in-Refused.is c.print_refused.ensures
+pub returns-in-Err : goal.returns-in-Err
+returns-in-Err c =
+    table_refused _ _ _ c.read_entries-answer.ensures c.in-Err.is c.number.ensures c.print_refused.ensures
 
-pub returns-in-Read : goal.returns-in-Read
-returns-in-Read c =
-    table_read _ _ _ c.read_entries-answer.ensures _ _ _ (room (goal.at.returns-in-Read c).After-entry_cells-entries) c.in-Read.is
-    c.smaller-kept.ensures c.read_place-place.ensures c.print_network.ensures
+pub returns-in-Ok : goal.returns-in-Ok
+returns-in-Ok c =
+    table_read _ _ _ c.read_entries-answer.ensures _ _ _ (room (goal.at.returns-in-Ok c).After-entry_cells-entries) c.in-Ok.is
+    c.min-kept.ensures c.read_place-place.ensures c.print_network.ensures

@@ -3,10 +3,10 @@ use mathlib.Core.Path.{sym, ap, ◌∙◌}
 use Rattle.flow_files.specs.Printing.{place_for, place_of}
 use Rattle.flow_files.proofs.read_place.Goals as goal
 
-pub returns-in-Number : goal.returns-in-Number
+pub returns-in-Some : goal.returns-in-Some
 unfolding place_of
-returns-in-Number c = sym (ap place_for (sym c.read_short-output.ensures ∙ c.in-Number.is))
+returns-in-Some c = sym (ap place_for (sym c.read_short.ensures ∙ c.in-Some.is))
 
-pub returns-in-Unclear : goal.returns-in-Unclear
+pub returns-in-None : goal.returns-in-None
 unfolding place_of
-returns-in-Unclear c = sym (ap place_for (sym c.read_short-output.ensures ∙ c.in-Unclear.is))
+returns-in-None c = sym (ap place_for (sym c.read_short.ensures ∙ c.in-None.is))

@@ -1,15 +1,16 @@
 -- The cells cut to a file's arcs: contracts of private functions. Assumes nothing.
-use Rattle.std.specs.Prelude.{◌≡◌, List, ℕ, ◌-◌, ◌≤◌, ◌<◌, ℤ, length, get_or, take}
+use Rattle.std.specs.Prelude.{◌≡◌, List, ℕ, ◌-◌, ◌≤◌, ◌<◌, ℤ, length, get_or, take, Result, Ok, Err}
 use Rattle.csv_answers.specs.Flow.{flow_text}
 use Rattle.csv_answers.specs.inner.FlowFits.{FlowFits}
 use Rattle.dimacs.specs.Form.{File, whole, broken, form_of}
-use Rattle.flow_files.specs.declared.Formed as formed-answer
-use Rattle.flow_files.specs.declared.Formed.TheVariants as formeds
+use Rattle.dimacs.specs.declared.store.Reading.{Reading}
+use Rattle.refusal.specs.declared.Cause.TheVariants as causes
+use Rattle.refusal.specs.declared.Refusal.{Refusal}
 
 -- the line of 29, or there is none
-abbrev pub FormedIs : List ℕ → formed-answer.Formed → Type 0
-FormedIs s (formeds.Refused line) = form_of s ≡ broken line
-FormedIs s formeds.Whole = (f : File) × (form_of s ≡ whole f)
+abbrev pub FormedIs : List ℕ → Result Reading Refusal → Type 0
+FormedIs s (Err r) = (form_of s ≡ broken r.place) × (r.cause ≡ causes.Line)
+FormedIs s (Ok reading) = (f : File) × (form_of s ≡ whole f)
 
 -- the entry at the named arc's flow
 abbrev pub charge_in : ℕ → List ℕ → List ℕ → ℕ

@@ -1,5 +1,5 @@
 -- A network in slices that passed refusal 30 and the two checks, with an arc named and its table; and what is made of it: contracts. Assumes nothing.
-use Rattle.std.specs.Prelude.{◌≡◌, false, ◌≢◌, List, ℕ, ◌+◌, ◌≤◌, ◌<◌, ℤ, pos, length, get_or}
+use Rattle.std.specs.Prelude.{◌≡◌, false, ◌≢◌, List, ℕ, ◌+◌, ◌≤◌, ◌<◌, ℤ, pos, length, get_or, Option, Some, None}
 use Rattle.transport.specs.Sum.{sum}
 use Rattle.transport.specs.Curve.{written}
 use Rattle.problem.specs.Range.{outside}
@@ -7,8 +7,6 @@ use Rattle.problem.specs.Promise.{Bounded}
 use Rattle.flow_problem.specs.Network.{Network, NoFlow}
 use Rattle.flow_problem.specs.Answer.{CheapestFlow}
 use Rattle.flow_case.specs.inner.Build.{have_in}
-use Rattle.flow_network.specs.declared.carry.Carried as carried-answer
-use Rattle.flow_network.specs.declared.carry.Carried.TheVariants as carrieds
 
 -- the arcs: each leads from one node to another, with a ceiling and a cost in range
 pub record Arcs (nodes : ℕ) (starts ends ceilings : List ℕ) (costs : List ℤ) : Type 0 where
@@ -40,9 +38,9 @@ pub record Named (starts : List ℕ) (named : ℕ) (table : List ℕ) : Type 0 w
   pub small : (y : ℕ) → get_or table y 0 ≤ 1000000000
 
 -- a flow was given, or there is none
-abbrev pub CarriedAs : Network → ℕ → List ℕ → List ℕ → List ℕ → carried-answer.Carried → Type 0
-CarriedAs g named table before after (carrieds.Flow total) = (x : List ℕ) × CheapestFlow g named table x total × (after ≡ written x before) × Bounded total
-CarriedAs g named table before after carrieds.Nothing = NoFlow g × (after ≡ before)
+abbrev pub CarriedAs : Network → ℕ → List ℕ → List ℕ → List ℕ → Option ℤ → Type 0
+CarriedAs g named table before after (Some total) = (x : List ℕ) × CheapestFlow g named table x total × (after ≡ written x before) × Bounded total
+CarriedAs g named table before after None = NoFlow g × (after ≡ before)
 
-pub record CarriedIs (g : Network) (named : ℕ) (table before after : List ℕ) (r : carried-answer.Carried) : Type 0 where
+pub record CarriedIs (g : Network) (named : ℕ) (table before after : List ℕ) (r : Option ℤ) : Type 0 where
   pub told : CarriedAs g named table before after r

@@ -5,10 +5,8 @@ use Rattle.flow_structs.proofs.WrittenFront.{front_none, front_next}
 use Rattle.flow_structs.proofs.write.Goals as goal
 
 pub loop-i-init : goal.loop-i-init
-loop-i-init c = (omega arith, sym (front_none (arc_at c.args.found) c.args.arcs.now))
+loop-i-init c = sym (front_none (arc_at c.args.found.now) c.args.arcs.now)
 
 pub loop-i-preserved : goal.loop-i-preserved
-loop-i-preserved c = (
-  omega (arith, c.loop-i-test.true),
-  rw (c.loop-i.invariant.1, c.arc_at.ensures, add-one) (front_next (arc_at c.args.found) c.loop-i.i c.args.arcs.now (omega (arith, c.loop-i-test.true, c.requires.1))),
-)
+loop-i-preserved c =
+    rw (c.loop-i.invariant, c.arc.ensures, add-one) (front_next (arc_at c.args.found.now) c.loop-i.i c.args.arcs.now (omega (arith, c.loop-i-test.true, c.requires.1)))

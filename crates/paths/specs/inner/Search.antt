@@ -1,5 +1,5 @@
 -- What a path search keeps and what it finds. Assumes nothing.
-use Rattle.std.specs.Prelude.{◌≡◌, List, ℕ, min, ◌+◌, ◌*◌, ◌≤◌, ◌<◌, length}
+use Rattle.std.specs.Prelude.{◌≡◌, Option, None, Some, List, ℕ, min, ◌+◌, ◌*◌, ◌≤◌, ◌<◌, length}
 use Rattle.transport.specs.Sum.{sum}
 use Rattle.transport.specs.Plan.{col}
 use Rattle.transport.specs.inner.Slackness.{Slack}
@@ -105,6 +105,11 @@ pub record Labelled (N : Net) (p room : List ℕ) (s limit : ℕ) (T P : List �
   pub hops : List ℕ
   pub widths : List ℕ
   pub searched : Searched N p room s limit (book T P hops widths) r
+
+-- the goal's number, 96 where there is none
+abbrev pub node_of : Option ℕ → ℕ
+node_of (Some g) = g
+node_of None = 96
 
 -- the same for any number of drums at s
 abbrev pub Answered : Net → List ℕ → List ℕ → ℕ → List ℕ → List ℕ → ℕ → Type 0

@@ -1,14 +1,19 @@
 -- `roles::marks_set` meets its contract. Assumes nothing.
 use mathlib.Core.Path.{refl}
+use mathlib.Core.Bool.{true, false}
+use Rattle.std.proofs.lemmas.Result.{err_from_is_err_and}
 use Rattle.roletable.specs.Deeds.{plan, column, first}
 use Rattle.roletable.proofs.RolePromise.{let-in, kept_out, marks_call, marks_barred}
 use Rattle.roles.proofs.marks_set.Goals as goal
 
-pub returns-then-allows_plan : goal.returns-then-allows_plan
-unfolding column first
-returns-then-allows_plan c =
-    marks_call _ _ _ _ _ (let-in _ plan _ c.allows_plan.ensures refl c.if-allows_plan.true) c.marks_set.ensures
-
 pub returns : goal.returns
 unfolding column first
-returns c = marks_barred _ _ _ (kept_out _ plan _ c.allows_plan.ensures c.if-allows_plan.false)
+returns c =
+    marks_call _ _ _ _ _ (let-in _ plan true c.in_ok-ask_plan.ensures refl refl) c.marks_set.ensures
+
+pub returns-in_err-ask_plan : goal.returns-in_err-ask_plan
+unfolding column first
+returns-in_err-ask_plan c =
+    let r = err_from_is_err_and c.from_residual.result c.from_residual.ensures.1 in
+    let e = c.in_err-ask_plan.ensures in
+    rw (r.1, r.2, e.0) (marks_barred _ _ _ (kept_out _ plan false e.1 refl))

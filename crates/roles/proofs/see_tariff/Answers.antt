@@ -1,14 +1,19 @@
 -- `roles::see_tariff` meets its contract. Assumes nothing.
 use mathlib.Core.Path.{refl}
+use mathlib.Core.Bool.{true, false}
+use Rattle.std.proofs.lemmas.Result.{err_from_is_err_and}
 use Rattle.roletable.specs.Deeds.{see_tariff, column, first}
 use Rattle.roletable.proofs.RolePromise.{let-in, kept_out, tariff_call, tariff_barred}
 use Rattle.roles.proofs.see_tariff.Goals as goal
 
-pub returns-then-may : goal.returns-then-may
-unfolding column first
-returns-then-may c =
-    tariff_call _ _ _ _ _ _ _ _ _ (let-in _ see_tariff _ c.may.ensures refl c.if-may.true) c.see_tariff.ensures
-
 pub returns : goal.returns
 unfolding column first
-returns c = tariff_barred _ _ _ _ _ (kept_out _ see_tariff _ c.may.ensures c.if-may.false)
+returns c =
+    tariff_call _ _ _ _ _ _ _ _ _ (let-in _ see_tariff true c.in_ok-ask.ensures refl refl) c.see_tariff.ensures
+
+pub returns-in_err-ask : goal.returns-in_err-ask
+unfolding column first
+returns-in_err-ask c =
+    let r = err_from_is_err_and c.from_residual.result c.from_residual.ensures.1 in
+    let e = c.in_err-ask.ensures in
+    rw (r.1, r.2, e.0) (tariff_barred _ _ _ _ _ (kept_out _ see_tariff false e.1 refl))

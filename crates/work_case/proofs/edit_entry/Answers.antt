@@ -1,17 +1,22 @@
 -- `work_case::edit_entry` meets its contract. Assumes nothing.
-use mathlib.Core.Path.{sym, ◌∙◌}
+use mathlib.Core.Path.{sym}
 use Rattle.work_store.proofs.OpenStore.{opened}
 use Rattle.work_store.proofs.CallPromise.{by_closed, by_work}
 use Rattle.work_store.proofs.EditLaws.{entry_faithful}
+use Rattle.std.proofs.lemmas.Result.{err_from_is_err_and}
+use Rattle.work_store.proofs.OpenStore.{only_room}
 use Rattle.work_case.proofs.edit_entry.Goals as goal
 
 pub put_entry-requires : goal.put_entry-requires
-put_entry-requires c = opened _ _ _ (sym c.open_store.ensures ∙ c.in-Held.is)
+put_entry-requires c = opened _ _ _ (sym c.in_ok-layout.ensures)
 
-pub returns-in-Closed : goal.returns-in-Closed
-returns-in-Closed c = by_closed _ _ (sym c.open_store.ensures ∙ c.in-Closed.is)
+pub returns-in_err-layout : goal.returns-in_err-layout
+returns-in_err-layout c =
+    let r = err_from_is_err_and c.from_residual.result c.from_residual.ensures.1 in
+    let e = only_room c.args.store.now _ (sym c.in_err-layout.ensures) in
+    rw (r.1, r.2, e.0) (by_closed _ _ e.1)
 
-pub returns-in-Held : goal.returns-in-Held
-returns-in-Held c =
-    by_work _ (entry_faithful _ _) _ _ _ _ _ (sym c.open_store.ensures ∙ c.in-Held.is)
+pub returns : goal.returns
+returns c =
+    by_work _ (entry_faithful _ _) _ _ _ _ _ (sym c.in_ok-layout.ensures)
     c.put_entry.ensures

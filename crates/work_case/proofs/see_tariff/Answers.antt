@@ -1,16 +1,21 @@
 -- `work_case::see_tariff` meets its contract. Assumes nothing.
-use mathlib.Core.Path.{sym, ◌∙◌}
+use mathlib.Core.Path.{sym}
 use Rattle.work_store.proofs.OpenStore.{opened}
 use Rattle.work_store.proofs.SeeLaws.{tariff_closed, tariff_work}
+use Rattle.std.proofs.lemmas.Result.{err_from_is_err_and}
+use Rattle.work_store.proofs.OpenStore.{only_room}
 use Rattle.work_case.proofs.see_tariff.Goals as goal
 
 pub show_tariff-requires : goal.show_tariff-requires
-show_tariff-requires c = opened _ _ _ (sym c.open_store.ensures ∙ c.in-Held.is)
+show_tariff-requires c = opened _ _ _ (sym c.in_ok-layout.ensures)
 
-pub returns-in-Closed : goal.returns-in-Closed
-returns-in-Closed c = tariff_closed _ _ _ _ (sym c.open_store.ensures ∙ c.in-Closed.is)
+pub returns-in_err-layout : goal.returns-in_err-layout
+returns-in_err-layout c =
+    let r = err_from_is_err_and c.from_residual.result c.from_residual.ensures.1 in
+    let e = only_room c.args.store.now _ (sym c.in_err-layout.ensures) in
+    rw (r.1, r.2, e.0) (tariff_closed _ _ _ _ e.1)
 
-pub returns-in-Held : goal.returns-in-Held
-returns-in-Held c =
-    tariff_work _ _ _ (sym c.open_store.ensures ∙ c.in-Held.is) _ _ _ _ _ _ _ c.show_tariff.ensures.told
+pub returns : goal.returns
+returns c =
+    tariff_work _ _ _ (sym c.in_ok-layout.ensures) _ _ _ _ _ _ _ c.show_tariff.ensures.told
     c.show_tariff.ensures.costs c.show_tariff.ensures.supplies c.show_tariff.ensures.demands

@@ -1,18 +1,23 @@
 -- What the functions on an open store ask and keep. Assumes nothing.
-use Rattle.std.specs.Prelude.{◌≡◌, cond, ◌⊎◌, List, ℕ, ◌+◌, ◌*◌, ◌≤◌, ◌<◌, eqb, length, get_or}
+use Rattle.std.specs.Prelude.{◌≡◌, cond, ◌⊎◌, List, ℕ, ◌+◌, ◌*◌, ◌≤◌, ◌<◌, eqb, length, get_or, Result, Ok, Err}
 use Rattle.std.proofs.Math.Option.{Option}
 use Rattle.problem.specs.Range.{AllInside}
 use Rattle.problem.specs.Outcome.{Outcome}
-use Rattle.work_store.specs.declared.opened.Opened.{Opened}
-use Rattle.work_store.specs.declared.opened.Opened.TheVariants.{Held, Closed}
+use Rattle.refusal.specs.declared.Cause.{Cause}
+use Rattle.refusal.specs.declared.Cause.TheVariants.{Room}
+use Rattle.work_store.specs.declared.layout.Layout.{Layout}
 use Rattle.work_store.specs.State.{Draft}
 use Rattle.work_store.specs.Calls.{Call, refusal_in}
 use Rattle.work_store.specs.Store.{cells_for, table_at, state_at, sources, terminals, opens, in_case, writes}
 use Rattle.work_store.specs.Promise.{cells_unless}
 
--- the size of the working case in the store, if there is one
-unfoldable pub opened_of : List ℕ → Opened
-opened_of cells = cond (opens cells) (Held (sources cells) (terminals cells)) Closed
+-- the layout of a size
+abbrev pub laid : ℕ → ℕ → Layout
+laid m n = record { m = m; n = n }
+
+-- the layout of the working case in the store, if there is one
+unfoldable pub opened_of : List ℕ → Result Layout Cause
+opened_of cells = cond (opens cells) (Ok (laid (sources cells) (terminals cells))) (Err Room)
 
 -- an open store of a size
 pub record Open (m n : ℕ) (cells : List ℕ) : Type 0 where

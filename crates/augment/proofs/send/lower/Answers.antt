@@ -11,7 +11,7 @@ pub overflow_sub-dist : goal.overflow_sub-dist
 overflow_sub-dist c = c.requires.above _ (omega arith)
 
 pub loop-v-preserved : goal.loop-v-preserved
-loop-v-preserved c = (omega arith, lower_next c.loop-v.invariant.1 (omega arith) c.smaller.ensures)
+loop-v-preserved c = (omega arith, lower_next c.loop-v.invariant.1 (omega arith) c.min.ensures)
 
 pub returns : goal.returns
 returns c = lower_end c.loop-v.invariant.1 (omega arith) (omega arith)

@@ -28,7 +28,7 @@ loop-v-smaller c =
     omega (arith, measure_few c.loop-v.invariant c.loop-v-test.true c.requires)
 
 pub loop-v-preserved : goal.loop-v-preserved
-loop-v-preserved c = measure_next c.loop-v.invariant c.loop-v-test.true c.residual.ensures c.smaller-amount.ensures
+loop-v-preserved c = measure_next c.loop-v.invariant c.loop-v-test.true c.residual.ensures c.min-amount.ensures
 
 pub returns : goal.returns
 returns c = measure_end c.loop-v.invariant c.loop-v-test.false

@@ -1,6 +1,6 @@
 -- `augment::send::push` meets its contract. Assumes nothing.
 use mathlib.Core.List.{List}
-use Prim.Native.Nat.{ℕ}
+use Prim.Native.Nat.{ℕ, ◌-◌}
 use Rattle.augment.specs.inner.PathWalk.{Walkable, Walked}
 use Rattle.augment.specs.inner.LaneMarks.{Trail, Marks}
 use Rattle.augment.proofs.send.push.Given as goal
@@ -12,8 +12,5 @@ pub record Going (prev : List ℕ) (amount count goal : ℕ) (x₀ serves₀ : L
   pub trail : Trail 32 prev left v
   pub marked : (z : List ℕ) → Marks prev left v serves z → Marks prev count goal serves₀ z
 
-abbrev pub invariant-loop-left : goal.invariant-loop-left
-invariant-loop-left l = Going l.prev l.amount l.count l.goal l.initial.x l.initial.serves l.x l.serves l.v l.left
-
-abbrev pub decreases-loop-left : goal.decreases-loop-left
-decreases-loop-left l = l.left
+abbrev pub invariant-loop : goal.invariant-loop
+invariant-loop l = Going l.prev l.amount l.count l.goal l.initial.x l.initial.serves l.x l.serves l.v (l.count - l.counter)

@@ -25,8 +25,6 @@ bounds-to-0 c = omega (arith, c.requires.1)
 pub loop-k-init : goal.loop-k-init
 loop-k-init c =
     let e : c.height_of-level.result ≡ height (get_or c.args.freights.now 0 (pos 0)) = c.height_of-level.ensures ∙ ap height (read_back _ c.height_of-arg-1.given) in (
-      omega arith,
-      c.requires.0.some,
       refl,
       e,
       refl,
@@ -55,16 +53,9 @@ pub draw_stretch-requires : goal.draw_stretch-requires
 draw_stretch-requires c =
     let i = c.loop-k.invariant in
     let k = c.loop-k.k in
-    stretch_at c.requires.0 k c.loop-k.last c.loop-k.level c.height_of-rise.result i.0 c.loop-k-test.true i.2 i.3
+    stretch_at c.requires.0 k c.loop-k.last c.loop-k.level c.height_of-rise.result c.loop-k.auto.k c.loop-k-test.true i.0 i.1
     (c.height_of-rise.ensures ∙ ap height (read_back _ c.height_of-arg-in-loop-k-1.given)) (length c.loop-k.to)
-    (omega (arith, i.4, length-set c.args.to.now 0 c.height_of-level.result, c.requires.1))
-
-pub overflow_add-k : goal.overflow_add-k
-overflow_add-k c =
-    omega (arith, c.loop-k-test.true, c.requires.0.in_splits)
-
-pub loop-k-smaller : goal.loop-k-smaller
-loop-k-smaller c = omega (arith, c.loop-k-test.true)
+    (omega (arith, i.2, length-set c.args.to.now 0 c.height_of-level.result, c.requires.1))
 
 pub loop-k-preserved : goal.loop-k-preserved
 loop-k-preserved c =
@@ -75,28 +66,26 @@ loop-k-preserved c =
     let w = c.draw_stretch.ensures in
     let e : c.height_of-rise.result ≡ height (get_or c.args.freights.now k (pos 0)) =
     c.height_of-rise.ensures ∙ ap height (read_back _ c.height_of-arg-in-loop-k-1.given) in
-    let st = stretch_at c.requires.0 k c.loop-k.last c.loop-k.level c.height_of-rise.result i.0 t i.2 i.3 e 4001 (omega arith) in (
-      omega arith,
-      omega arith,
+    let st = stretch_at c.requires.0 k c.loop-k.last c.loop-k.level c.height_of-rise.result c.loop-k.auto.k t i.0 i.1 e 4001 (omega arith) in (
       ap (λ (j : ℕ). get_or c.args.splits.now j 0) q,
       e ∙ ap (λ (j : ℕ). height (get_or c.args.freights.now j (pos 0))) q,
-      w.long ∙ i.4,
-      λ d. drawn_on d.curve _ _ w st.from (line_at d k c.loop-k.last c.loop-k.level c.height_of-rise.result i.0 t i.2 i.3 e) (i.5 d),
-      λ j h. w.kept j (λ a b. omega arith) ∙ i.6 j (omega (arith, st.rises)),
+      w.long ∙ i.2,
+      λ d. drawn_on d.curve _ _ w st.from (line_at d k c.loop-k.last c.loop-k.level c.height_of-rise.result c.loop-k.auto.k t i.0 i.1 e) (i.3 d),
+      λ j h. w.kept j (λ a b. omega arith) ∙ i.4 j (omega (arith, st.rises)),
     )
 
 pub shape_of-to : goal.shape_of-to
-shape_of-to c = c.loop-k.invariant.4 ∙ length-set c.args.to.now 0 c.height_of-level.result
+shape_of-to c = c.loop-k.invariant.2 ∙ length-set c.args.to.now 0 c.height_of-level.result
 
 pub returns : goal.returns
 returns c =
     let i = c.loop-k.invariant in
-    let e : c.loop-k.k - 1 ≡ c.args.count - 1 = omega (arith, i.1, c.loop-k-test.false) in
-    let l : c.loop-k.last ≡ get_or c.args.splits.now (c.args.count - 1) 0 = i.2 ∙ ap (λ (j : ℕ). get_or c.args.splits.now j 0) e in
+    let e : c.loop-k.k - 1 ≡ c.args.count - 1 = omega (arith, c.requires.0.some, c.loop-k-test.false) in
+    let l : c.loop-k.last ≡ get_or c.args.splits.now (c.args.count - 1) 0 = i.0 ∙ ap (λ (j : ℕ). get_or c.args.splits.now j 0) e in
     record {
-      long = i.4 ∙ length-set c.args.to.now 0 c.height_of-level.result;
-      drawn = λ d z a h. i.5 d z a (omega arith);
+      long = i.2 ∙ length-set c.args.to.now 0 c.height_of-level.result;
+      drawn = λ d z a h. i.3 d z a (omega arith);
       kept = λ j h.
-          i.6 j (omega arith)
+          i.4 j (omega arith)
           ∙ get_or-set_other c.args.to.now 0 j c.height_of-level.result 0 (λ z. omega (arith, c.requires.0.lowest (c.args.count - 1) (omega (arith, c.requires.0.some))));
     }

@@ -1,6 +1,6 @@
--- `bounds_problem::curve::least_sum` meets its contract. The invariant: the least of the first k sums. Assumes nothing.
+-- `bounds_problem::curve::least_sum` meets its contract. Assumes nothing.
 use mathlib.Core.Path.{ap, ◌∙◌}
-use Prim.Native.Nat.{ℕ, min, ◌+◌, ◌-◌}
+use Prim.Native.Nat.{ℕ, min, ◌+◌}
 use native.Mathlib.Omega.{arith}
 use lib.ListN.{get_or}
 use Rattle.bounds_problem.specs.inner.Heights.{least_up_to, least_sum}
@@ -17,20 +17,10 @@ pub overflow_add-least : goal.overflow_add-least
 overflow_add-least c = let p = c.requires in omega (arith, p.heights 0 p.some, p.entries 0 p.some)
 
 pub loop-k-init : goal.loop-k-init
-loop-k-init c =
-    (omega arith, c.requires.some, least_start (λ j. get_or c.args.curve.now j 0 + get_or c.args.table.now j 0))
-
-pub offset_bounds-curve-k : goal.offset_bounds-curve-k
-offset_bounds-curve-k c = omega arith
+loop-k-init c = least_start (λ j. get_or c.args.curve.now j 0 + get_or c.args.table.now j 0)
 
 pub bounds-curve-k : goal.bounds-curve-k
 bounds-curve-k c = let p = c.requires in omega (arith, p.long, c.loop-k-test.true)
-
-pub offset_bounds-table-k : goal.offset_bounds-table-k
-offset_bounds-table-k c = omega arith
-
-pub bounds-table-k : goal.bounds-table-k
-bounds-table-k c = omega arith
 
 pub overflow_add-curve : goal.overflow_add-curve
 overflow_add-curve c =
@@ -39,25 +29,14 @@ overflow_add-curve c =
     let h = c.loop-k-test.true in
     omega (arith, p.heights k h, p.entries k h)
 
-pub smaller-least-requires : goal.smaller-least-requires
-smaller-least-requires c = tt
-
-pub overflow_add-k : goal.overflow_add-k
-overflow_add-k c = omega arith
-
-pub loop-k-smaller : goal.loop-k-smaller
-loop-k-smaller c = omega arith
-
 pub loop-k-preserved : goal.loop-k-preserved
 loop-k-preserved c =
-    let i = c.loop-k.invariant in
     let k = c.loop-k.k in
-    let h = c.loop-k-test.true in
     let f : ℕ → ℕ = λ j. get_or c.args.curve.now j 0 + get_or c.args.table.now j 0 in
-    (omega arith, omega arith, least_next f k c.smaller-least.result i.0 (c.smaller-least.ensures ∙ ap (λ (v : ℕ). min v (f k)) i.2))
+    least_next f k c.min-least.result c.loop-k.auto.k (c.min-least.ensures ∙ ap (λ (v : ℕ). min v (f k)) c.loop-k.invariant)
 
 pub returns : goal.returns
 unfolding least_sum
 returns c =
-    let i = c.loop-k.invariant in
-    i.2 ∙ ap (least_up_to (λ j. get_or c.args.curve.now j 0 + get_or c.args.table.now j 0)) (omega (arith, i.1, c.loop-k-test.false))
+    c.loop-k.invariant
+    ∙ ap (least_up_to (λ j. get_or c.args.curve.now j 0 + get_or c.args.table.now j 0)) (omega (arith, c.requires.some, c.loop-k-test.false))

@@ -23,7 +23,7 @@ bounds-splits-count c =
 
 pub returns-then-high-low : goal.returns-then-high-low
 returns-then-high-low c =
-    λ q l. wrong_long l c.args.high.now c.args.answers.now c.if-high-low.true
+    λ q l. rw (c.at.ensures.cause, c.at.ensures.place) (wrong_long l c.args.high.now c.args.answers.now c.if-high-low.true)
 
 pub overflow_add-end : goal.overflow_add-end
 overflow_add-end c =
@@ -61,25 +61,25 @@ pub slice_bounds-highs-end : goal.slice_bounds-highs-end
 slice_bounds-highs-end c =
     omega (arith, in_high c.requires.listed c.args.high.now c.if-high-low.false)
 
-pub overflow_add-place : goal.overflow_add-place
-overflow_add-place c =
+pub overflow_add-lo : goal.overflow_add-lo
+overflow_add-lo c =
     let same = c.if-high-low.false in
     omega (
       arith,
-      bad_in c.requires.listed c.args.high.now same c.in-At.k (sym c.first_bad.ensures ∙ ap found c.in-At.is),
+      bad_in c.requires.listed c.args.high.now same c.in-Some.k (sym c.first_bad.ensures ∙ ap found c.in-Some.is),
       at_most c.requires.listed c.args.high.now,
       in_order c.requires.listed c.args.high.now,
       first_cell c.requires.listed,
       last_cell c.requires.listed,
     )
 
-pub returns-in-At : goal.returns-in-At
-returns-in-At c =
-    λ q l. bad_place l c.args.high.now c.if-high-low.false c.args.answers.now c.in-At.k (sym c.first_bad.ensures ∙ ap found c.in-At.is)
+pub returns-in-Some : goal.returns-in-Some
+returns-in-Some c =
+    λ q l. rw (c.at-in-Some.ensures.cause, c.at-in-Some.ensures.place) (bad_place l c.args.high.now c.if-high-low.false c.args.answers.now c.in-Some.k (sym c.first_bad.ensures ∙ ap found c.in-Some.is))
 
 pub returns-then-answers-lows : goal.returns-then-answers-lows
 returns-then-answers-lows c =
-    λ q l. too_short l c.args.high.now c.if-high-low.false (sym c.first_bad.ensures ∙ ap found c.in_default.is) c.args.answers.now c.if-answers-lows.true
+    λ q l. rw (c.at-then-answers-lows.ensures.cause, c.at-then-answers-lows.ensures.place) (too_short l c.args.high.now c.if-high-low.false (sym c.first_bad.ensures ∙ ap found c.in_default.is) c.args.answers.now c.if-answers-lows.true)
 
 pub draw-requires : goal.draw-requires
 draw-requires c = (drawing c.requires.listed, omega arith)

@@ -6,7 +6,7 @@ use Rattle.canonical.proofs.canon.part.Given as goal
 
 abbrev pub invariant-loop-i : goal.invariant-loop-i
 invariant-loop-i l =
-    (l.i ≤ l.m) × PartedTo (bare l.m l.n (cells l.cost) (cells l.cap)) l.pot (l.i * 64) l.plan l.free l.x l.serves l.ways l.doors × Kept l.initial.plan l.initial.x l.plan l.x
+    (l.i ≤ l.lanes.m) × PartedTo (bare l.lanes.m l.lanes.n (cells l.lanes.cost.now) (cells l.lanes.cap.now)) l.pot (l.i * 64) l.plan l.free.cap l.load.x l.load.serves l.free.ways l.free.doors × Kept l.initial.plan l.initial.load.x l.plan l.load.x
 
 abbrev pub decreases-loop-i : goal.decreases-loop-i
-decreases-loop-i l = l.m - l.i
+decreases-loop-i l = l.lanes.m - l.i

@@ -8,11 +8,11 @@ use Rattle.canonical.proofs.canon.part_row.Goals as goal
 pub tight_lanes-all-requires : goal.tight_lanes-all-requires
 tight_lanes-all-requires c = record { i_lt_m = c.requires.i_lt_m; part_ready = part_priced c.requires.part_ready }
 
-pub offset_bounds-ways-i : goal.offset_bounds-ways-i
-offset_bounds-ways-i c = let s = c.requires in omega (arith, s.i_lt_m, s.part_ready.sources)
+pub offset_bounds-free-i : goal.offset_bounds-free-i
+offset_bounds-free-i c = let s = c.requires in omega (arith, s.i_lt_m, s.part_ready.sources)
 
-pub bounds-ways-i : goal.bounds-ways-i
-bounds-ways-i c = let s = c.requires in omega (arith, s.i_lt_m, s.part_ready.sources)
+pub bounds-free-i : goal.bounds-free-i
+bounds-free-i c = let s = c.requires in omega (arith, s.i_lt_m, s.part_ready.sources)
 
 pub loop-rest-init : goal.loop-rest-init
 loop-rest-init c =
@@ -44,7 +44,7 @@ loop-rest-preserved c =
     let s = c.requires in
     let r = s.part_ready in
     let d = c.free_lane.ensures in
-    free_next r.terminals r.sources s.i_lt_m c.tight_lanes-all.ensures c.loop-rest.invariant c.loop-rest-test.true d.lane_freed d.covers_2 d.doors_2
+    rw d.same_ways (free_next r.terminals r.sources s.i_lt_m c.tight_lanes-all.ensures c.loop-rest.invariant c.loop-rest-test.true d.lane_freed d.covers_2 d.doors_2)
 
 pub returns : goal.returns
 returns c =

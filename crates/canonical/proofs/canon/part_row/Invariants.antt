@@ -7,7 +7,7 @@ use Rattle.canonical.proofs.canon.part_row.Given as goal
 
 abbrev pub invariant-loop-rest : goal.invariant-loop-rest
 invariant-loop-rest l =
-    Freeing (bare l.m l.n (cells l.cost) (cells l.cap)) l.pot l.i l.initial.plan l.initial.x l.plan l.free l.x l.serves l.ways l.doors l.all l.rest
+    Freeing (bare l.lanes.m l.lanes.n (cells l.lanes.cost.now) (cells l.lanes.cap.now)) l.pot l.i l.initial.plan l.initial.load.x l.plan l.free.cap l.load.x l.load.serves l.free.ways l.free.doors l.all l.rest
 
 abbrev pub decreases-loop-rest : goal.decreases-loop-rest
 decreases-loop-rest l = l.rest

@@ -6,7 +6,7 @@ use Rattle.canonical.proofs.canon.settle.Given as goal
 
 abbrev pub invariant-loop-i : goal.invariant-loop-i
 invariant-loop-i l =
-    (l.i ≤ l.m) × Onward l.m l.n 0 (l.i * 64) l.initial.aside l.initial.free l.initial.x l.aside l.free l.x × Open l.m l.n l.aside l.free l.x l.serves l.ways l.doors × Supplied l.m l.n 32 l.x l.supplied
+    (l.i ≤ l.lanes.m) × Onward l.lanes.m l.lanes.n 0 (l.i * 64) l.initial.aside l.initial.free.cap l.initial.load.x l.aside l.free.cap l.load.x × Open l.lanes.m l.lanes.n l.aside l.free.cap l.load.x l.load.serves l.free.ways l.free.doors × Supplied l.lanes.m l.lanes.n 32 l.load.x l.supplied
 
 abbrev pub decreases-loop-i : goal.decreases-loop-i
-decreases-loop-i l = l.m - l.i
+decreases-loop-i l = l.lanes.m - l.i

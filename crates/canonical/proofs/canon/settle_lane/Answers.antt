@@ -1,4 +1,5 @@
 -- `canonical::canon::settle_lane` meets its contract. Assumes nothing.
+use mathlib.Core.Path.{refl}
 use Prim.Native.Nat.{◌+◌, ◌*◌, ◌<◌}
 use native.Mathlib.Omega.{arith}
 use Rattle.reachability.proofs.MaskBits.{power_fits_long}
@@ -11,7 +12,7 @@ use Rattle.canonical.proofs.canon.settle_lane.Goals as goal
 pub returns-then-amount-eq0 : goal.returns-then-amount-eq0
 returns-then-amount-eq0 c =
     let q = c.requires.fact in let l = q.longs in
-    let d = lane_empty (free_ready c.requires.i_lt_m.0 c.requires.i_lt_m.1 q) l.long_f (omega (arith, c.if-amount-eq0.true)) in record { lane_settled = d; fact_2 = open_next c.requires.i_lt_m.0 c.requires.i_lt_m.1 q d (longs_closed (c.args.i * 64 + c.args.j) l) q.covers (door_closed c.requires.i_lt_m.0 c.requires.i_lt_m.1 q); supplied_2 = c.requires.supplied }
+    let d = lane_empty (free_ready c.requires.i_lt_m.0 c.requires.i_lt_m.1 q) l.long_f (omega (arith, c.if-amount-eq0.true)) in record { lane_settled = d; fact_2 = open_next c.requires.i_lt_m.0 c.requires.i_lt_m.1 q d (longs_closed (c.args.i * 64 + c.args.j) l) q.covers (door_closed c.requires.i_lt_m.0 c.requires.i_lt_m.1 q); same_ways = refl; supplied_2 = c.requires.supplied }
 
 short : (s : Start) → s.args.j < 64
 short s = omega (arith, s.requires.i_lt_m.1, s.requires.fact.terminals)
@@ -39,4 +40,4 @@ overflow_add-aside c =
 pub returns : goal.returns
 returns c =
     let q = c.requires.fact in let l = q.longs in let w = c.resend-left.ensures in
-    let d = lane_settled (free_ready c.requires.i_lt_m.0 c.requires.i_lt_m.1 q) l.long_f l.long_o w.resent in record { lane_settled = d; fact_2 = open_next c.requires.i_lt_m.0 c.requires.i_lt_m.1 q d (longs_settled (c.args.i * 64 + c.args.j) _ l w.resent.long_x) w.covers_2 (door_closed c.requires.i_lt_m.0 c.requires.i_lt_m.1 q); supplied_2 = w.supplied }
+    let d = lane_settled (free_ready c.requires.i_lt_m.0 c.requires.i_lt_m.1 q) l.long_f l.long_o w.resent in record { lane_settled = d; fact_2 = open_next c.requires.i_lt_m.0 c.requires.i_lt_m.1 q d (longs_settled (c.args.i * 64 + c.args.j) _ l w.resent.long_x) w.covers_2 (door_closed c.requires.i_lt_m.0 c.requires.i_lt_m.1 q); same_ways = refl; supplied_2 = w.supplied }

@@ -5,11 +5,11 @@ use lib.Bits.{and_le_r}
 use Rattle.canonical.proofs.LaneStores.{row_start, row_terminal, row_next, row_end, row_supplied}
 use Rattle.canonical.proofs.canon.settle_row.Goals as goal
 
-pub offset_bounds-ways-i : goal.offset_bounds-ways-i
-offset_bounds-ways-i c = omega (arith, c.requires.i_lt_m, c.requires.fact.sources)
+pub offset_bounds-free-i : goal.offset_bounds-free-i
+offset_bounds-free-i c = omega (arith, c.requires.i_lt_m, c.requires.fact.sources)
 
-pub bounds-ways-i : goal.bounds-ways-i
-bounds-ways-i c = omega (arith, c.requires.i_lt_m, c.requires.fact.sources)
+pub bounds-free-i : goal.bounds-free-i
+bounds-free-i c = omega (arith, c.requires.i_lt_m, c.requires.fact.sources)
 
 pub loop-rest-init : goal.loop-rest-init
 loop-rest-init c = row_start c.requires.fact c.requires.supplied
@@ -24,11 +24,11 @@ settle_lane-requires c =
 pub overflow_sub-rest : goal.overflow_sub-rest
 overflow_sub-rest c = omega (arith, c.loop-rest-test.true)
 
-pub offset_bounds-ways-i-in-loop-rest : goal.offset_bounds-ways-i-in-loop-rest
-offset_bounds-ways-i-in-loop-rest c = let s = c.requires in omega (arith, s.i_lt_m, s.fact.sources)
+pub offset_bounds-free-i-in-loop-rest : goal.offset_bounds-free-i-in-loop-rest
+offset_bounds-free-i-in-loop-rest c = let s = c.requires in omega (arith, s.i_lt_m, s.fact.sources)
 
-pub bounds-ways-i-in-loop-rest : goal.bounds-ways-i-in-loop-rest
-bounds-ways-i-in-loop-rest c = let s = c.requires in omega (arith, s.i_lt_m, s.fact.sources)
+pub bounds-free-i-in-loop-rest : goal.bounds-free-i-in-loop-rest
+bounds-free-i-in-loop-rest c = let s = c.requires in omega (arith, s.i_lt_m, s.fact.sources)
 
 pub loop-rest-smaller : goal.loop-rest-smaller
 loop-rest-smaller c =
@@ -37,7 +37,7 @@ loop-rest-smaller c =
 pub loop-rest-preserved : goal.loop-rest-preserved
 loop-rest-preserved c =
     let s = c.requires in let d = c.settle_lane.ensures in
-    row_next s.i_lt_m c.loop-rest.invariant c.loop-rest-test.true d.lane_settled d.fact_2 d.supplied_2
+    rw d.same_ways (row_next s.i_lt_m c.loop-rest.invariant c.loop-rest-test.true d.lane_settled d.fact_2 d.supplied_2)
 
 pub returns : goal.returns
 returns c =

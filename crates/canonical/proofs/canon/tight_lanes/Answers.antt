@@ -29,5 +29,5 @@ loop-j-preserved c =
 pub returns : goal.returns
 returns c =
     let q = c.loop-j.invariant in
-    let e : c.args.n ≡ c.loop-j.j = omega (arith, q.0, c.loop-j-test.false) in
+    let e : c.args.lanes.now.n ≡ c.loop-j.j = omega (arith, q.0, c.loop-j-test.false) in
     rw e q.1

@@ -18,8 +18,8 @@ pub overflow_mul-m : goal.overflow_mul-m
 overflow_mul-m c =
     let a = c.args in record { fits = omega (arith, share_room a.m a.n c.if-m-gt32.false c.if-n-gt64.false) }
 
-pub copy_sizes-requires : goal.copy_sizes-requires
-copy_sizes-requires c =
+pub copy_fields-requires : goal.copy_fields-requires
+copy_fields-requires c =
     let a = c.args in record { count_in_bounds = omega (arith, c.requires, c.if-n-gt64.false, share_room a.m a.n c.if-m-gt32.false c.if-n-gt64.false); count_bound = omega (arith, c.if-n-gt64.false) }
 
 pub returns : goal.returns

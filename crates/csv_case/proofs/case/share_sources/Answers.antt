@@ -3,8 +3,9 @@ use mathlib.Core.Path.{ap, ◌∙◌}
 use Prim.Native.Nat.{◌+◌, ◌≤◌}
 use native.Mathlib.Omega.{arith}
 use lib.IntN.{pos, nat_abs}
-use lib.ListN.{length, get_or}
-use Rattle.csv_case.proofs.RecordShares.{sharing_start, source_within, sharing_next, sharing_end}
+use lib.ListN.{length, get_or, take, drop}
+use lib.Seq.{sets}
+use Rattle.csv_case.proofs.RecordShares.{map_same, sharing_start, source_within, sharing_next, sharing_end}
 use Rattle.csv_print.proofs.PrintedSigns.{read_back}
 use Rattle.csv_case.proofs.case.share_sources.Goals.{In-loop-i}
 use Rattle.csv_case.proofs.case.share_sources.Goals as goal
@@ -18,8 +19,8 @@ within c = (source_within _ _ _ _ _ _ _ _ _ _ c.requires.n_in_bounds c.loop-i.in
 pub loop-i-init : goal.loop-i-init
 loop-i-init c = sharing_start _ _ _ _ _
 
-pub copy_signed-requires : goal.copy_signed-requires
-copy_signed-requires c = record { count_in_bounds = omega (arith, within (goal.at.copy_signed-requires c).In-loop-i); count_bound = omega (arith, within (goal.at.copy_signed-requires c).In-loop-i) }
+pub copy_fields-requires : goal.copy_fields-requires
+copy_fields-requires c = record { count_in_bounds = omega (arith, within (goal.at.copy_fields-requires c).In-loop-i); count_bound = omega (arith, within (goal.at.copy_fields-requires c).In-loop-i) }
 
 pub overflow_add-start : goal.overflow_add-start
 overflow_add-start c = omega (arith, within (goal.at.overflow_add-start c).In-loop-i)
@@ -43,7 +44,7 @@ pub loop-i-preserved : goal.loop-i-preserved
 loop-i-preserved c =
     let a = c.args in
     sharing_next _ _ _ _ _ _ _ _ _ _ c.requires.n_in_bounds c.loop-i.invariant _ _ c.magnitude.result c.loop-i-test.true
-    c.copy_signed.ensures c.put.ensures
+    (c.copy_fields.ensures ∙ ap (λ l. sets c.loop-i.costs c.loop-i.at l) (map_same (take a.n (drop c.loop-i.start a.cells.now)))) c.put.ensures
     (c.magnitude.ensures ∙ ap nat_abs (read_back (get_or a.cells.now (c.loop-i.start + a.n) (pos 0)) c.magnitude-arg-1.given))
 
 pub shape_of-costs : goal.shape_of-costs

@@ -4,8 +4,8 @@ use lib.ListN.{length}
 use Rattle.csv_table.proofs.FieldLoop.{Along}
 use Rattle.csv_table.proofs.table.scan.Given as goal
 
-abbrev pub invariant-loop-value : goal.invariant-loop-value
-invariant-loop-value l = Along l.kind l.s l.initial.cells l.cells l.t l.at
+abbrev pub invariant-loop-f : goal.invariant-loop-f
+invariant-loop-f l = Along l.kind l.s l.initial.cells l.cells l.t l.at
 
-abbrev pub decreases-loop-value : goal.decreases-loop-value
-decreases-loop-value l = length l.s - l.at
+abbrev pub decreases-loop-f : goal.decreases-loop-f
+decreases-loop-f l = length l.s - l.at

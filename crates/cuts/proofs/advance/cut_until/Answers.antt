@@ -1,32 +1,48 @@
 -- `cuts::advance::cut_until` meets its contract. Assumes nothing.
-use native.Mathlib.Omega.{arith}
-use Rattle.cuts.proofs.Advancing.{advance_start, advance_next, advance_ready, follow_ready}
+use mathlib.Core.Path.{refl}
+use Rattle.cuts.proofs.Advancing.{advance_start, advance_on, advance_ready, follow_ready}
 use Rattle.cuts.proofs.advance.cut_until.Goals as goal
 
-pub returns-then-parent-ge-NONE : goal.returns-then-parent-ge-NONE
-returns-then-parent-ge-NONE c = let r = c.requires in record { advanced = advance_start r.cut_ready; prev_len = r.lt_m.1; followed = λ e. absurd (omega arith) }
+pub returns-then-tree-ge-NONE-clause-advanced : goal.returns-then-tree-ge-NONE-clause-advanced
+returns-then-tree-ge-NONE-clause-advanced c = advance_start c.requires.cut_ready
 
-pub loop-left-init : goal.loop-left-init
-loop-left-init c = let r = c.requires in (omega arith, r.lt_m.1, advance_start r.cut_ready)
+pub loop-init : goal.loop-init
+loop-init c = let r = c.requires in (r.lt_m.1, advance_start r.cut_ready, refl)
 
-pub step-made-requires : goal.step-made-requires
-step-made-requires c = record { cut_ready = advance_ready c.requires.cut_ready c.loop-left.invariant.2; priced = c.requires.priced }
+pub step-requires : goal.step-requires
+step-requires c = record { cut_ready = advance_ready c.requires.cut_ready c.loop.invariant.1; priced = c.requires.priced }
 
-pub returns-then-not-made : goal.returns-then-not-made
-returns-then-not-made c =
-    let i = c.loop-left.invariant in record { advanced = advance_next i.2 c.step-made.ensures; prev_len = i.1; followed = λ e. absurd (omega arith) }
+pub returns-in_err-flat-clause-advanced : goal.returns-in_err-flat-clause-advanced
+returns-in_err-flat-clause-advanced c = advance_on c.loop.invariant.2 c.loop.invariant.1 c.step.ensures
 
-pub follow-traced-requires : goal.follow-traced-requires
-follow-traced-requires c =
-    let r = c.requires in record { follow_ready = follow_ready r.cut_ready r.priced (advance_next c.loop-left.invariant.2 c.step-made.ensures); lt_m = r.lt_m.0; prev_len = c.loop-left.invariant.1 }
+pub returns-in_err-flat-clause-prev_len : goal.returns-in_err-flat-clause-prev_len
+returns-in_err-flat-clause-prev_len c = c.loop.invariant.0
 
-pub returns-then-traced-gt0 : goal.returns-then-traced-gt0
-returns-then-traced-gt0 c = record { advanced = advance_next c.loop-left.invariant.2 c.step-made.ensures; prev_len = c.follow-traced.ensures.prev_len_2; followed = c.follow-traced.ensures.followed }
+pub follow-requires : goal.follow-requires
+follow-requires c =
+    let r = c.requires in
+    record { follow_ready = follow_ready r.cut_ready r.priced (advance_on c.loop.invariant.2 c.loop.invariant.1 c.step.ensures); lt_m = r.lt_m.0; prev_len = c.loop.invariant.0 }
 
-pub loop-left-preserved : goal.loop-left-preserved
-loop-left-preserved c =
-    let i = c.loop-left.invariant in
-    (omega (arith, i.0), c.follow-traced.ensures.prev_len_2, advance_next i.2 c.step-made.ensures)
+pub returns-in-Ok-clause-advanced : goal.returns-in-Ok-clause-advanced
+returns-in-Ok-clause-advanced c = advance_on c.loop.invariant.2 c.loop.invariant.1 c.step.ensures
 
-pub returns : goal.returns
-returns c = let i = c.loop-left.invariant in record { advanced = i.2; prev_len = i.1; followed = λ e. absurd (omega arith) }
+pub loop-preserved : goal.loop-preserved
+loop-preserved c = (c.follow.ensures.prev_len_2, advance_on c.loop.invariant.2 c.loop.invariant.1 c.step.ensures, c.loop.invariant.2)
+
+pub returns-clause-advanced : goal.returns-clause-advanced
+returns-clause-advanced c = c.loop.invariant.1
+
+pub returns-clause-prev_len : goal.returns-clause-prev_len
+returns-clause-prev_len c = c.loop.invariant.0
+
+pub returns-in_err-flat-clause-same : goal.returns-in_err-flat-clause-same
+returns-in_err-flat-clause-same c = c.loop.invariant.2
+
+pub returns-in-Ok-clause-same : goal.returns-in-Ok-clause-same
+returns-in-Ok-clause-same c = c.loop.invariant.2
+
+pub returns-in-Ok-clause-followed : goal.returns-in-Ok-clause-followed
+returns-in-Ok-clause-followed c = rw (← c.loop.invariant.2) c.in-Ok.ensures.followed
+
+pub returns-clause-same : goal.returns-clause-same
+returns-clause-same c = c.loop.invariant.2

@@ -1,5 +1,4 @@
 -- `cuts::columns::by_terminal` meets its contract. Assumes nothing.
-use Prim.Native.Nat.{◌-◌}
 use native.Mathlib.Omega.{arith}
 use Rattle.cuts.proofs.ByTerminal.{transpose_fewer, fill_end}
 use Rattle.cuts.proofs.columns.by_terminal.Goals as goal

@@ -1,5 +1,4 @@
 -- `cuts::columns::transpose_column` meets its contract. Assumes nothing.
-use Prim.Native.Nat.{◌-◌}
 use native.Mathlib.Omega.{arith}
 use mathlib.Core.Path.{refl}
 use Rattle.cuts.proofs.ByTerminal.{fill_next, fill_column}

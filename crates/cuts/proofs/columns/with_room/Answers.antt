@@ -1,5 +1,4 @@
 -- `cuts::columns::with_room` meets its contract. Assumes nothing.
-use Prim.Native.Nat.{◌-◌}
 use mathlib.Core.Path.{◌≡◌}
 use native.Mathlib.Omega.{arith}
 use Rattle.cuts.proofs.TablesKept.{roomy_start, roomy_next}

@@ -4,7 +4,7 @@ use Rattle.cuts.specs.inner.Tables.{Roomy}
 use Rattle.cuts.proofs.columns.with_room.Given as goal
 
 abbrev pub invariant-loop-k : goal.invariant-loop-k
-invariant-loop-k l = (l.k ≤ 2048) × Roomy l.cost l.cap l.x l.k l.to
+invariant-loop-k l = (l.k ≤ 2048) × Roomy l.lanes.cost.now l.lanes.cap.now l.x l.k l.to
 
 abbrev pub decreases-loop-k : goal.decreases-loop-k
 decreases-loop-k l = 2048 - l.k

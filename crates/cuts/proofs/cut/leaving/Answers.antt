@@ -14,8 +14,8 @@ fits : (c : In-loop-left) → c.loop-left.left < 2 ^ 64
 fits c = omega (arith, c.loop-left.invariant.1, pow_mono c.requires.exit_ready.terminals)
 
 -- the bit that a turn takes
-place : (c : In-loop-left) → count_trailing_zeros 64 c.loop-left.left < c.args.n
-place c = low_place 64 c.loop-left-test.true (fits c) c.args.n c.loop-left.invariant.1
+place : (c : In-loop-left) → count_trailing_zeros 64 c.loop-left.left < c.args.lanes.now.n
+place c = low_place 64 c.loop-left-test.true (fits c) c.args.lanes.now.n c.loop-left.invariant.1
 
 pub others-left-requires : goal.others-left-requires
 others-left-requires c = c.requires.exit_ready.terminals
@@ -45,7 +45,7 @@ least_out-far-requires c =
     record {
       terminal = omega (arith, place (goal.at.least_out-far-requires c).In-loop-left, s.exit_ready.terminals);
       few = and_few {k = 2 ^ 32} w c.args.inside (omega (arith, s.inside_bound, pow_mono s.exit_ready.sources));
-      costs = λ i e. s.exit_ready.costs i j (bit_place c.args.m c.args.inside i s.inside_bound (and_in w c.args.inside i e)) (place (goal.at.least_out-far-requires c).In-loop-left);
+      costs = λ i e. s.exit_ready.costs i j (bit_place c.args.lanes.now.m c.args.inside i s.inside_bound (and_in w c.args.inside i e)) (place (goal.at.least_out-far-requires c).In-loop-left);
       high = s.exit_ready.high;
     }
 

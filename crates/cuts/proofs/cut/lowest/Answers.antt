@@ -1,5 +1,5 @@
 -- `cuts::cut::lowest` meets its contract. Assumes nothing.
-use Prim.Native.Nat.{◌+◌, ◌-◌}
+use Prim.Native.Nat.{◌+◌}
 use native.Mathlib.Omega.{arith}
 use mathlib.Core.Path.{◌≡◌}
 use Rattle.cuts.proofs.CutSteps.{low_start, low_next}

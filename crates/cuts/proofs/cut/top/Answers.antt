@@ -1,5 +1,4 @@
 -- `cuts::cut::top` meets its contract. Assumes nothing.
-use Prim.Native.Nat.{◌-◌}
 use native.Mathlib.Omega.{arith}
 use mathlib.Core.Path.{◌≡◌}
 use Rattle.cuts.proofs.CutSteps.{top_next}

@@ -16,7 +16,7 @@ pub overflow_cast-inside : goal.overflow_cast-inside
 overflow_cast-inside c = omega (arith, c.others.ensures.within, pow_mono c.requires.sources)
 
 pub leaving-requires : goal.leaving-requires
-leaving-requires c = record { exit_ready = c.requires; inside_bound = and_few {k = 2 ^ c.args.m} c.args.rows _ c.others.ensures.within }
+leaving-requires c = record { exit_ready = c.requires; inside_bound = and_few {k = 2 ^ c.args.lanes.now.m} c.args.rows _ c.others.ensures.within }
 
 pub returns : goal.returns
 returns c = exit_inside c.others.ensures c.leaving.ensures

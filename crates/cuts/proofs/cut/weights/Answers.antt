@@ -1,5 +1,4 @@
 -- `cuts::cut::weights` meets its contract. Assumes nothing.
-use Prim.Native.Nat.{◌-◌}
 use native.Mathlib.Omega.{arith}
 use mathlib.Core.Path.{◌≡◌, refl}
 use Rattle.cuts.proofs.CutSteps.{weigh_start, weigh_next}

@@ -1,14 +1,9 @@
 -- `dimacs::line::after_min` meets its contract. Assumes nothing.
-use native.Mathlib.Omega.{arith}
 use Rattle.dimacs.proofs.LineParts.{min_none, min_1, min_2, min_3, min_read}
-use Rattle.dimacs.proofs.LineOffsets.{there}
 use Rattle.dimacs.proofs.line.after_min.Goals as goal
 
 pub returns-then-byte_at-ne32 : goal.returns-then-byte_at-ne32
 returns-then-byte_at-ne32 c = min_none _ _ _ c.byte_at.ensures c.if-byte_at-ne32.true
-
-pub skip_spaces-m-requires : goal.skip_spaces-m-requires
-skip_spaces-m-requires c = let a = c.args in omega (arith, there a.s.now a.at _ c.byte_at.ensures (λ q. omega (arith, c.if-byte_at-ne32.false)))
 
 pub returns-then-byte_at-ne109 : goal.returns-then-byte_at-ne109
 returns-then-byte_at-ne109 c =

@@ -1,30 +1,29 @@
 -- `dimacs::store::bad_arc` meets its contract. Assumes nothing.
-use Rattle.dimacs.proofs.NodeAndArcLines.{bad_1, bad_2, bad_3, bad_4, bad_5, bad_6, bad_7, bad_8}
+use mathlib.Core.Path.{sym, ap, ◌∙◌}
+use Prim.Native.Nat.{ℕ}
+use lib.Dec.{ltb}
+use lib.IntN.{nat_abs}
+use Rattle.dimacs.proofs.LineParts.{signed_stored}
+use Rattle.dimacs.proofs.NodeAndArcLines.{bad_start, bad_end, bad_loop, bad_low, bad_ceiling, bad_cost}
 use Rattle.dimacs.proofs.store.bad_arc.Goals as goal
 
-pub returns-then-start-lt1 : goal.returns-then-start-lt1
-returns-then-start-lt1 c minus = let a = c.args in bad_1 a.nodes a.start a.end a.low a.ceiling minus a.cost c.if-start-lt1.true
+pub returns-then-no_node : goal.returns-then-no_node
+returns-then-no_node c = bad_start _ c.args.a (sym c.no_node.ensures ∙ c.if-no_node.true)
 
-pub returns-then-nodes-start : goal.returns-then-nodes-start
-returns-then-nodes-start c minus = let a = c.args in bad_2 a.nodes a.start a.end a.low a.ceiling minus a.cost c.if-nodes-start.true
+pub returns-then-no_node-2 : goal.returns-then-no_node-2
+returns-then-no_node-2 c = bad_end _ c.args.a (sym c.no_node-2.ensures ∙ c.if-no_node-2.true)
 
-pub returns-then-end-lt1 : goal.returns-then-end-lt1
-returns-then-end-lt1 c minus = let a = c.args in bad_3 a.nodes a.start a.end a.low a.ceiling minus a.cost c.if-end-lt1.true
+pub returns-then-a : goal.returns-then-a
+returns-then-a c = bad_loop _ c.args.a c.if-a.true
 
-pub returns-then-nodes-end : goal.returns-then-nodes-end
-returns-then-nodes-end c minus = let a = c.args in bad_4 a.nodes a.start a.end a.low a.ceiling minus a.cost c.if-nodes-end.true
+pub returns-then-a-gt0 : goal.returns-then-a-gt0
+returns-then-a-gt0 c = bad_low _ c.args.a c.if-a-gt0.true
 
-pub returns-then-start-end : goal.returns-then-start-end
-returns-then-start-end c minus = let a = c.args in bad_5 a.nodes a.start a.end a.low a.ceiling minus a.cost c.if-start-end.true
-
-pub returns-then-low-gt0 : goal.returns-then-low-gt0
-returns-then-low-gt0 c minus = let a = c.args in bad_6 a.nodes a.start a.end a.low a.ceiling minus a.cost c.if-low-gt0.true
-
-pub returns-then-ceiling-gt4000 : goal.returns-then-ceiling-gt4000
-returns-then-ceiling-gt4000 c minus = let a = c.args in bad_7 a.nodes a.start a.end a.low a.ceiling minus a.cost c.if-ceiling-gt4000.true
+pub returns-then-a-gt4000 : goal.returns-then-a-gt4000
+returns-then-a-gt4000 c = bad_ceiling _ c.args.a c.if-a-gt4000.true
 
 pub returns : goal.returns
-returns c minus =
-    let a = c.args in
-    bad_8 a.nodes a.start a.end a.low a.ceiling minus a.cost c.if-start-lt1.false c.if-nodes-start.false c.if-end-lt1.false
-    c.if-nodes-end.false c.if-start-end.false c.if-low-gt0.false c.if-ceiling-gt4000.false
+returns c =
+    let a = c.args.a in
+    ap (λ (n : ℕ). ltb 1000000 n) (c.magnitude.ensures ∙ ap nat_abs (signed_stored a.cost c.requires))
+    ∙ bad_cost _ a (sym c.no_node.ensures ∙ c.if-no_node.false) (sym c.no_node-2.ensures ∙ c.if-no_node-2.false) c.if-a.false c.if-a-gt0.false c.if-a-gt4000.false

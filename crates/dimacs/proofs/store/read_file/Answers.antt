@@ -1,18 +1,22 @@
 -- `dimacs::store::read_file` meets its contract. Assumes nothing.
-use mathlib.Core.Path.{sym, ap, subst, ◌∙◌}
+use mathlib.Core.Path.{◌≡◌, sym, ap, subst, ◌∙◌}
 use native.Mathlib.Omega.{arith}
-use Rattle.dimacs.specs.declared.form.Form.{Form}
-use Rattle.dimacs.specs.declared.store.Reading.{Reading}
-use Rattle.dimacs.specs.inner.Stored.{flagged, ReadAs}
+use Rattle.std.proofs.Common.{Result, Option, Some, None, take, drop, ◌-◌}
+use Rattle.dimacs.specs.declared.line.Line.{Line}
+use Rattle.dimacs.specs.inner.FormReader.{next_of}
+use Rattle.dimacs.specs.inner.LineReader.{WholeLine}
+use Rattle.std.proofs.lemmas.Result.{err_from_is_err_and}
+use Rattle.refusal.specs.declared.Refusal.{Refusal}
+use Rattle.dimacs.specs.Form.{broken}
+use Rattle.dimacs.specs.declared.form.Counts.{Counts}
+use Rattle.dimacs.specs.inner.Stored.{ReadAs}
 use Rattle.dimacs.proofs.FileLines.{no_lf, form_ends, stage_ends, form_wrong, stage_wrong, form_on}
-use Rattle.dimacs.proofs.StoredLines.{kept_start, kept_before, kept_ends, kept_on}
+use Rattle.dimacs.proofs.StoredLines.{with_flags, kept_start, kept_before, kept_ends, kept_on}
+use Rattle.dimacs.proofs.store.read_file.Goals.{After-at_end}
 use Rattle.dimacs.proofs.store.read_file.Goals as goal
 
 pub loop-t-init : goal.loop-t-init
 loop-t-init c = kept_start _ _ _ _ _ _ _ _ c.requires.arcs_read c.requires.nodes_read
-
-pub line_end-e-requires : goal.line_end-e-requires
-line_end-e-requires c = c.loop-t.invariant.so_far.upto
 
 pub returns-then-at-e : goal.returns-then-at-e
 returns-then-at-e c =
@@ -20,60 +24,82 @@ returns-then-at-e c =
     let e = c.line_end-e.ensures in
     record {
       reads = (
-        no_lf _ _ _ _ _ k.so_far e c.if-s-e.true c.if-at-e.true,
+        no_lf _ _ _ _ _ k.so_far e c.if-s-e.true c.if-at-e.true ∙ ap broken (sym c.at-wrong.ensures.place),
         kept_before _ _ _ _ _ _ _ _ (stage_ends _ _ _ _ _ k.so_far e c.if-s-e.true) k.arc_lines k.node_lines,
+        c.at-wrong.ensures.cause,
       );
     }
 
+-- the lines end
+ended : (c : After-at_end) → ReadAs c.args.s.now (with_flags c.loop-t.odd c.loop-t.bad c.at_end.result) c.loop-t.starts c.loop-t.ends c.loop-t.ceilings
+    c.loop-t.costs c.loop-t.gives c.loop-t.takes c.loop-t.marks
+ended c =
+    let k = c.loop-t in
+    kept_ends _ _ _ _ _ _ _ _ k.t k.line k.odd k.bad k.invariant.so_far.stage c.at_end.result c.at_end.ensures k.invariant.so_far.stands
+    (form_ends _ _ _ _ _ k.invariant.so_far c.line_end-e.ensures c.if-s-e.true c.if-at-e.false)
+    (stage_ends _ _ _ _ _ k.invariant.so_far c.line_end-e.ensures c.if-s-e.true) k.invariant.arc_lines k.invariant.node_lines
+
+pub returns-in_err-c : goal.returns-in_err-c
+returns-in_err-c c =
+    let k = c.loop-t in
+    let p = err_from_is_err_and c.from_residual.result c.from_residual.ensures.1 in
+    rw (p.1, p.2)
+    (record {
+      reads = subst (λ (z : Result Counts Refusal). ReadAs c.args.s.now (with_flags k.odd k.bad z) k.starts k.ends k.ceilings k.costs k.gives k.takes k.marks)
+          c.in_err-c.was (ended (goal.at.returns-in_err-c c).After-at_end);
+    })
+
 pub returns-then-s-e : goal.returns-then-s-e
 returns-then-s-e c =
+    let k = c.loop-t in
     record {
-      reads = let k = c.loop-t in
-          subst (λ (z : Reading). ReadAs c.args.s.now z k.starts k.ends k.ceilings k.costs k.gives k.takes k.marks)
-          (sym (c.with_flags.ensures ∙ ap (λ (z : Form). flagged z k.odd k.bad) c.at_end.ensures))
-          (kept_ends _ _ _ _ _ _ _ _ k.t k.line k.odd k.bad k.invariant.so_far.stage k.invariant.so_far.stands
-          (form_ends _ _ _ _ _ k.invariant.so_far c.line_end-e.ensures c.if-s-e.true c.if-at-e.false)
-          (stage_ends _ _ _ _ _ k.invariant.so_far c.line_end-e.ensures c.if-s-e.true) k.invariant.arc_lines k.invariant.node_lines);
+      reads = subst (λ (z : Result Counts Refusal). ReadAs c.args.s.now (with_flags k.odd k.bad z) k.starts k.ends k.ceilings k.costs k.gives k.takes k.marks)
+          c.in_ok-c.was (ended (goal.at.returns-then-s-e c).After-at_end);
     }
 
-pub slice_bounds-read_line-count : goal.slice_bounds-read_line-count
-slice_bounds-read_line-count c = omega (arith, c.line_end-e.ensures.from)
-
-pub slice_bounds-read_line-start : goal.slice_bounds-read_line-start
-slice_bounds-read_line-start c = omega (arith, c.line_end-e.ensures.from)
-
-pub slice_bounds-read_line-end : goal.slice_bounds-read_line-end
-slice_bounds-read_line-end c = omega (arith, c.line_end-e.ensures.upto)
-
-pub returns-in_default : goal.returns-in_default
-returns-in_default c =
+pub returns-in_err-l : goal.returns-in_err-l
+returns-in_err-l c =
     let k = c.loop-t.invariant in
     let e = c.line_end-e.ensures in
     let l = c.if-s-e.false in
-    let w = c.read_line-l.ensures in
-    let q = sym c.with_line-n.ensures ∙ c.in_default.is in
-    record { reads = (form_wrong _ _ _ _ _ k.so_far e l _ w q, kept_before _ _ _ _ _ _ _ _ (stage_wrong _ _ _ _ _ k.so_far e l _ w q) k.arc_lines k.node_lines) }
+    let w = c.read_line.ensures in
+    let p = err_from_is_err_and c.from_residual-in_err-l.result c.from_residual-in_err-l.ensures.1 in
+    let none : c.read_line.result ≡ None = grind (arith, c.in_err-l.was, c.ok_or.ensures) in
+    let why : c.in_err-l.field-0.0 ≡ c.at-wrong.result = grind (arith, c.in_err-l.was, c.ok_or.ensures) in
+    let q = ap (next_of c.loop-t.t) none in
+    rw (p.1, p.2, why)
+    (record {
+      reads = (
+        form_wrong _ _ _ _ _ k.so_far e l _ w q ∙ ap broken (sym c.at-wrong.ensures.place),
+        kept_before _ _ _ _ _ _ _ _ (stage_wrong _ _ _ _ _ k.so_far e l _ w q) k.arc_lines k.node_lines,
+        c.at-wrong.ensures.cause,
+      );
+    })
 
-pub store_node-odd-requires : goal.store_node-odd-requires
-store_node-odd-requires c = c.read_line-l.ensures.small
-
-pub store_arc-bad-requires : goal.store_arc-bad-requires
-store_arc-bad-requires c = c.read_line-l.ensures.small
-
-pub overflow_add-at : goal.overflow_add-at
-overflow_add-at c =
-    omega (arith, c.well_formed.0.0, c.well_formed.0.1, c.if-s-e.false)
-
-pub overflow_add-line : goal.overflow_add-line
-overflow_add-line c =
-    omega (arith, c.well_formed.0.0, c.well_formed.0.1, c.loop-t.invariant.so_far.numbered, c.line_end-e.ensures.from, c.if-s-e.false)
-
-pub loop-t-smaller : goal.loop-t-smaller
-loop-t-smaller c =
-    omega (arith, c.line_end-e.ensures.from, c.if-s-e.false)
+pub returns-in_err-tally : goal.returns-in_err-tally
+returns-in_err-tally c =
+    let k = c.loop-t.invariant in
+    let e = c.line_end-e.ensures in
+    let l = c.if-s-e.false in
+    let w = c.read_line.ensures in
+    let p = err_from_is_err_and c.from_residual-in_err-tally.result c.from_residual-in_err-tally.ensures.1 in
+    let some : c.read_line.result ≡ Some c.in_ok-l.l = grind (arith, c.in_ok-l.was, c.ok_or.ensures) in
+    let none : c.with_line.result ≡ None = grind (arith, c.in_err-tally.was, c.ok_or-in-loop-t.ensures) in
+    let why : c.in_err-tally.field-0.0 ≡ c.at-wrong.result = grind (arith, c.in_err-tally.was, c.ok_or-in-loop-t.ensures) in
+    let q = ap (next_of c.loop-t.t) some ∙ sym c.with_line.ensures ∙ none in
+    rw (p.1, p.2, why)
+    (record {
+      reads = (
+        form_wrong _ _ _ _ _ k.so_far e l _ w q ∙ ap broken (sym c.at-wrong.ensures.place),
+        kept_before _ _ _ _ _ _ _ _ (stage_wrong _ _ _ _ _ k.so_far e l _ w q) k.arc_lines k.node_lines,
+        c.at-wrong.ensures.cause,
+      );
+    })
 
 pub loop-t-preserved : goal.loop-t-preserved
 loop-t-preserved c =
-    let f = form_on _ _ _ _ _ c.loop-t.invariant.so_far c.line_end-e.ensures c.if-s-e.false _ c.read_line-l.ensures _
-    (sym c.with_line-n.ensures ∙ c.in-On.is) in
-    kept_on c.loop-t.invariant f.0 c.read_line-l.result f.1 c.store_node-odd.ensures c.store_arc-bad.ensures
+    let some : c.read_line.result ≡ Some c.in_ok-l.l = grind (arith, c.in_ok-l.was, c.ok_or.ensures) in
+    let on : c.with_line.result ≡ Some c.in_ok-tally.tally = grind (arith, c.in_ok-tally.was, c.ok_or-in-loop-t.ensures) in
+    let w = subst (λ (z : Option Line). WholeLine (take (c.line_end-e.result - c.loop-t.at) (drop c.loop-t.at c.args.s.now)) z) some c.read_line.ensures in
+    let f = form_on _ _ _ _ _ c.loop-t.invariant.so_far c.line_end-e.ensures c.if-s-e.false _ w _ (sym c.with_line.ensures ∙ on) in
+    kept_on c.loop-t.invariant f.0 (Some c.in_ok-l.l) f.1 c.store_node-odd.ensures c.store_arc-bad.ensures

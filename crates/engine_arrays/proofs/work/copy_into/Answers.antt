@@ -7,29 +7,11 @@ use Rattle.engine_arrays.proofs.work.copy_into.Goals as goal
 pub loop-k-init : goal.loop-k-init
 loop-k-init c = copy_start _ _ _
 
-pub offset_bounds-source-k : goal.offset_bounds-source-k
-offset_bounds-source-k c = omega arith
-
-pub bounds-source-k : goal.bounds-source-k
-bounds-source-k c = omega arith
-
 pub overflow_cast-to : goal.overflow_cast-to
 overflow_cast-to c = omega (arith, c.requires.1 c.loop-k.k c.loop-k-test.true)
 
-pub overflow_add-to : goal.overflow_add-to
-overflow_add-to c = omega arith
-
-pub offset_bounds-to-at : goal.offset_bounds-to-at
-offset_bounds-to-at c = omega arith
-
 pub bounds-to-at : goal.bounds-to-at
 bounds-to-at c = omega (arith, c.loop-k.invariant.long)
-
-pub overflow_add-k : goal.overflow_add-k
-overflow_add-k c = omega arith
-
-pub loop-k-smaller : goal.loop-k-smaller
-loop-k-smaller c = omega arith
 
 pub loop-k-preserved : goal.loop-k-preserved
 loop-k-preserved c = copy_next c.loop-k.invariant c.loop-k-test.true (omega arith)

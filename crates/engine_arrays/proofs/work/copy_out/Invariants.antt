@@ -6,6 +6,3 @@ use Rattle.engine_arrays.proofs.work.copy_out.Given as goal
 
 abbrev pub invariant-loop-k : goal.invariant-loop-k
 invariant-loop-k l = Copying l.cells l.at l.k l.initial.to l.to
-
-abbrev pub decreases-loop-k : goal.decreases-loop-k
-decreases-loop-k l = length l.cells - l.k

@@ -4,45 +4,26 @@ use mathlib.Core.List.{map}
 use Prim.Native.Nat.{◌-◌}
 use native.Mathlib.Omega.{arith}
 use lib.ListN.{get_or, length-map}
-use Rattle.problem.proofs.MachineIntegers.{read_back}
 use Rattle.problem.specs.Range.{outside, raised_of}
-use Rattle.engine_arrays.proofs.CellCopies.{copy_start, copy_next, copy_end}
+use Rattle.engine_arrays.proofs.CellCopies.{copy_start, copy_next, copy_end, cost_back}
 use Rattle.problem.proofs.RaisedLists.{map_at}
 use Rattle.engine_arrays.proofs.work.raise_into.Goals as goal
 
 pub loop-k-init : goal.loop-k-init
 loop-k-init c = (copy_start _ _ _, omega arith)
 
-pub offset_bounds-source-k : goal.offset_bounds-source-k
-offset_bounds-source-k c = omega arith
-
-pub bounds-source-k : goal.bounds-source-k
-bounds-source-k c = omega arith
-
 pub raised-requires : goal.raised-requires
-raised-requires c = ap outside (read_back _ c.raised-arg-1.given) ∙ c.requires.1 _ c.loop-k-test.true
-
-pub overflow_add-to : goal.overflow_add-to
-overflow_add-to c = omega arith
-
-pub offset_bounds-to-at : goal.offset_bounds-to-at
-offset_bounds-to-at c = omega arith
+raised-requires c = let e = c.requires.1 _ c.loop-k-test.true in ap outside (cost_back _ e) ∙ e
 
 pub bounds-to-at : goal.bounds-to-at
 bounds-to-at c = omega (arith, c.loop-k.invariant.0.long)
-
-pub overflow_add-k : goal.overflow_add-k
-overflow_add-k c = omega arith
-
-pub loop-k-smaller : goal.loop-k-smaller
-loop-k-smaller c = omega arith
 
 pub loop-k-preserved : goal.loop-k-preserved
 loop-k-preserved c =
     let a = c.args in
     let k = c.loop-k.k in
     let e : c.raised.result ≡ get_or (map raised_of a.source.now) k 0 =
-    c.raised.ensures ∙ ap raised_of (read_back _ c.raised-arg-1.given) ∙ sym (map_at raised_of a.source.now k c.loop-k-test.true) in (
+    c.raised.ensures ∙ ap raised_of (cost_back _ (c.requires.1 k c.loop-k-test.true)) ∙ sym (map_at raised_of a.source.now k c.loop-k-test.true) in (
       rw e (copy_next c.loop-k.invariant.0 (omega (arith, length-map a.source.now raised_of)) (omega arith)),
       omega arith,
     )

@@ -8,6 +8,3 @@ use Rattle.engine_arrays.proofs.work.raise_into.Given as goal
 
 abbrev pub invariant-loop-k : goal.invariant-loop-k
 invariant-loop-k l = Copying (map raised_of l.source) l.at l.k l.initial.to l.to × (l.k ≤ length l.source)
-
-abbrev pub decreases-loop-k : goal.decreases-loop-k
-decreases-loop-k l = length l.source - l.k

@@ -1,18 +1,16 @@
+-- `export_files::reading::judged_entries` meets its contract. Assumes nothing.
+use Rattle.std.proofs.lemmas.Result.{err_from_is_err_and}
 use Rattle.export_files.proofs.Readings.{entries_faulty, entries_short, entries_roomy}
 use Rattle.export_files.proofs.reading.judged_entries.Goals as goal
 
--- src/reading.rt:220:17
-pub returns-then-table-smaller : goal.returns-then-table-smaller
-returns-then-table-smaller c =
-    entries_short _ _ _ _ _ c.read_entries-found.ensures.answered
-    c.in-Read.is c.smaller.ensures c.if-table-smaller.true
+pub returns-in_err-count : goal.returns-in_err-count
+returns-in_err-count c =
+    let p = err_from_is_err_and c.from_residual.result c.from_residual.ensures.1 in
+    rw (p.1, p.2) (entries_faulty _ _ _ _ c.read_entries.ensures.answered c.in_err-count.was)
 
--- src/reading.rt:211:1
-pub returns-in-Refused : goal.returns-in-Refused
-returns-in-Refused c = entries_faulty _ _ _ _ _ c.read_entries-found.ensures.answered c.in-Refused.is
+pub returns-then-table-min : goal.returns-then-table-min
+returns-then-table-min c =
+    rw (c.at.ensures.cause, c.at.ensures.place) (entries_short _ _ _ _ _ c.read_entries.ensures.answered c.in_ok-count.was c.min.ensures c.if-table-min.true)
 
--- src/reading.rt:211:1
-pub returns-else-table-smaller : goal.returns-else-table-smaller
-returns-else-table-smaller c =
-    entries_roomy _ _ _ _ _ c.read_entries-found.ensures.answered
-    c.in-Read.is c.smaller.ensures c.if-table-smaller.false
+pub returns : goal.returns
+returns c = entries_roomy _ _ _ _ _ c.read_entries.ensures.answered c.in_ok-count.was c.min.ensures c.if-table-min.false

@@ -5,12 +5,12 @@ use Rattle.export_files.proofs.reading.sized.Goals as goal
 
 -- src/reading.rt:99:29
 pub roomy-requires : goal.roomy-requires
-roomy-requires c = let h = in_limits _ _ _ (sym c.checked-size.ensures ∙ c.in-Fits.is) in (h.sources, h.terminals)
+roomy-requires c = let h = in_limits _ _ _ (sym c.checked-size.ensures ∙ c.in-Ok.is) in (h.sources, h.terminals)
 
 -- src/reading.rt:81:1
-pub returns-in-Refused : goal.returns-in-Refused
-returns-in-Refused c = size_refused _ _ _ _ _ _ _ _ (sym c.checked-size.ensures ∙ c.in-Refused.is)
+pub returns-in-Err : goal.returns-in-Err
+returns-in-Err c = rw c.number.ensures (size_refused _ _ _ _ _ _ _ _ (sym c.checked-size.ensures ∙ c.in-Err.is))
 
 -- src/reading.rt:81:1
-pub returns-in-Fits : goal.returns-in-Fits
-returns-in-Fits c = size_fits _ _ _ _ _ _ _ _ _ (sym c.checked-size.ensures ∙ c.in-Fits.is) c.roomy.ensures
+pub returns-in-Ok : goal.returns-in-Ok
+returns-in-Ok c = size_fits _ _ _ _ _ _ _ _ _ (sym c.checked-size.ensures ∙ c.in-Ok.is) c.roomy.ensures

@@ -21,4 +21,4 @@ returns-then-demands-n c = few_demands _ _ _ _ _ _ _ c.if-costs-m.false c.if-sup
 
 -- src/reading.rt:33:1
 pub returns : goal.returns
-returns c = by_table _ _ _ _ _ _ _ _ c.if-costs-m.false c.if-supplies-m.false c.if-demands-n.false c.smaller.ensures
+returns c = by_table _ _ _ _ _ _ _ _ c.if-costs-m.false c.if-supplies-m.false c.if-demands-n.false c.min.ensures

@@ -12,7 +12,7 @@ send_plants-requires c =
 
 pub returns-then-send_depots : goal.returns-then-send_depots
 returns-then-send_depots c =
-    let q = c.send_plants.ensures in record { first_plan = record { unmet = _; done = first_again _ q.first_done }; covers_2 = q.covers_2 }
+    let q = c.send_plants.ensures in record { first_plan = record { unmet = _; done = first_again _ _ q.first_done }; covers_2 = q.covers_2 }
 
 pub returns : goal.returns
 returns c =

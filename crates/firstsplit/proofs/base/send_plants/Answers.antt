@@ -26,7 +26,7 @@ returns-then-most-short c =
     let b0 = c.requires.sending in
     let s1 = c.ship.ensures.ship_done in
     let b1 = run_sent two r b0 s1 c.if-ship-gt0.false in
-    let em = c.smaller-most.ensures in
+    let em = c.min-most.ensures in
     let s2 = c.ship-short.ensures.ship_done in record { first_done = second_stops two r b1 em s2 c.if-most-short.true; covers_2 = c.ship-short.ensures.covers_2 }
 
 pub returns-then-supply-split : goal.returns-then-supply-split
@@ -36,7 +36,7 @@ returns-then-supply-split c =
     let b0 = c.requires.sending in
     let s1 = c.ship.ensures.ship_done in
     let b1 = run_sent two r b0 s1 c.if-ship-gt0.false in
-    let em = c.smaller-most.ensures in
+    let em = c.min-most.ensures in
     let s2 = c.ship-short.ensures.ship_done in record { first_done = first_over two r b1 em s2 c.if-supply-split.true; covers_2 = c.ship-short.ensures.covers_2 }
 
 pub overflow_sub-split-3 : goal.overflow_sub-split-3
@@ -46,7 +46,7 @@ overflow_sub-split-3 c =
     let b0 = c.requires.sending in
     let s1 = c.ship.ensures.ship_done in
     let b1 = run_sent two r b0 s1 c.if-ship-gt0.false in
-    let em = c.smaller-most.ensures in
+    let em = c.min-most.ensures in
     let s2 = c.ship-short.ensures.ship_done in
     rest_fits two r b1 em s2
 
@@ -57,7 +57,7 @@ ship-requires-2 c =
     let b0 = c.requires.sending in
     let s1 = c.ship.ensures.ship_done in
     let b1 = run_sent two r b0 s1 c.if-ship-gt0.false in
-    let em = c.smaller-most.ensures in
+    let em = c.min-most.ensures in
     let s2 = c.ship-short.ensures.ship_done in
     let b2 = second_sent two r b1 em s2 in record { start_lt_m = omega (arith, two); stocked = b2.stocked; short = λ j h. omega (arith, b2.cols j h); covers = c.ship-short.ensures.covers_2 }
 
@@ -68,7 +68,7 @@ returns-then-ship-gt0-2 c =
     let b0 = c.requires.sending in
     let s1 = c.ship.ensures.ship_done in
     let b1 = run_sent two r b0 s1 c.if-ship-gt0.false in
-    let em = c.smaller-most.ensures in
+    let em = c.min-most.ensures in
     let s2 = c.ship-short.ensures.ship_done in record { first_done = rest_stuck two r b1 em s2 refl c.ship-2.ensures.ship_done c.if-ship-gt0-2.true; covers_2 = c.ship-2.ensures.covers_2 }
 
 pub returns : goal.returns
@@ -78,5 +78,5 @@ returns c =
     let b0 = c.requires.sending in
     let s1 = c.ship.ensures.ship_done in
     let b1 = run_sent two r b0 s1 c.if-ship-gt0.false in
-    let em = c.smaller-most.ensures in
+    let em = c.min-most.ensures in
     let s2 = c.ship-short.ensures.ship_done in record { first_done = first_done two r b1 em s2 refl c.ship-2.ensures.ship_done c.if-ship-gt0-2.false c.if-most-short.false c.if-supply-split.false; covers_2 = c.ship-2.ensures.covers_2 }

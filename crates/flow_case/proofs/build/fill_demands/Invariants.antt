@@ -1,11 +1,6 @@
 -- `flow_case::build::fill_demands` meets its contract. Assumes nothing.
-use Prim.Native.Nat.{◌-◌, ◌≤◌}
-use lib.ListN.{length}
 use Rattle.flow_case.specs.inner.Build.{want_in, Filled}
 use Rattle.flow_case.proofs.build.fill_demands.Given as goal
 
 abbrev pub invariant-loop-j : goal.invariant-loop-j
-invariant-loop-j l = Filled (want_in l.ceilings l.named) l.j l.initial.demands l.demands × (l.j ≤ length l.ceilings)
-
-abbrev pub decreases-loop-j : goal.decreases-loop-j
-decreases-loop-j l = length l.ceilings - l.j
+invariant-loop-j l = Filled (want_in l.ceilings l.named) l.j l.initial.demands l.demands

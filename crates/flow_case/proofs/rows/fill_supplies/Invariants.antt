@@ -1,11 +1,6 @@
 -- `flow_case::rows::fill_supplies` meets its contract. Assumes nothing.
-use Prim.Native.Nat.{◌-◌, ◌≤◌}
-use lib.ListN.{length}
 use Rattle.flow_case.specs.inner.Build.{Put, stock_in}
 use Rattle.flow_case.proofs.rows.fill_supplies.Given as goal
 
 abbrev pub invariant-loop-s : goal.invariant-loop-s
-invariant-loop-s l = Put 0 (stock_in l.haves l.takes l.w l.v) 0 l.s l.initial.supplies l.supplies × (l.s ≤ length l.haves)
-
-abbrev pub decreases-loop-s : goal.decreases-loop-s
-decreases-loop-s l = length l.haves - l.s
+invariant-loop-s l = Put 0 (stock_in l.haves l.takes l.w l.v) 0 l.s l.initial.supplies l.supplies

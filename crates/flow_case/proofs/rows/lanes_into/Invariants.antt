@@ -1,11 +1,6 @@
 -- `flow_case::rows::lanes_into` meets its contract. Assumes nothing.
-use Prim.Native.Nat.{◌-◌, ◌≤◌}
-use lib.ListN.{length}
 use Rattle.flow_case.specs.inner.Build.{Put, lane_in}
 use Rattle.flow_case.proofs.rows.lanes_into.Given as goal
 
 abbrev pub invariant-loop-j : goal.invariant-loop-j
-invariant-loop-j l = Put 0 (lane_in l.starts l.ends l.id) l.at l.j l.initial.to l.to × (l.j ≤ length l.starts)
-
-abbrev pub decreases-loop-j : goal.decreases-loop-j
-decreases-loop-j l = length l.starts - l.j
+invariant-loop-j l = Put 0 (lane_in l.starts l.ends l.id) l.at l.j l.initial.to l.to

@@ -117,24 +117,24 @@ overflow_add-last c =
           c.requires.named),
     )
 
-pub slice_bounds-plan_case-end : goal.slice_bounds-plan_case-end
-slice_bounds-plan_case-end c =
+pub slice_bounds-case-end : goal.slice_bounds-case-end
+slice_bounds-case-end c =
     omega (arith, mul-le-mul c.requires.amounts.few c.requires.arcs.few, c.cost_rows.ensures.1)
 
-pub slice_bounds-plan_case-end-2 : goal.slice_bounds-plan_case-end-2
-slice_bounds-plan_case-end-2 c =
+pub slice_bounds-case-end-2 : goal.slice_bounds-case-end-2
+slice_bounds-case-end-2 c =
     omega (arith, c.requires.amounts.few, c.fill_supplies.ensures.long, length-replicate {A = ℕ} 32 0)
 
-pub slice_bounds-plan_case-end-3 : goal.slice_bounds-plan_case-end-3
-slice_bounds-plan_case-end-3 c =
+pub slice_bounds-case-end-3 : goal.slice_bounds-case-end-3
+slice_bounds-case-end-3 c =
     omega (arith, c.requires.arcs.few, c.fill_demands.ensures.long, length-replicate {A = ℕ} 64 0)
 
-pub slice_bounds-plan_case-end-4 : goal.slice_bounds-plan_case-end-4
-slice_bounds-plan_case-end-4 c =
+pub slice_bounds-case-end-4 : goal.slice_bounds-case-end-4
+slice_bounds-case-end-4 c =
     omega (arith, mul-le-mul c.requires.amounts.few c.requires.arcs.few, c.lane_rows.ensures.1)
 
-pub slice_bounds-plan_case-end-5 : goal.slice_bounds-plan_case-end-5
-slice_bounds-plan_case-end-5 c =
+pub slice_bounds-case-end-5 : goal.slice_bounds-case-end-5
+slice_bounds-case-end-5 c =
     omega (
       arith,
       c.requires.amounts.most _
@@ -144,17 +144,17 @@ slice_bounds-plan_case-end-5 c =
       length-replicate {A = ℕ} 4001 0,
     )
 
-pub plan_case-found-requires : goal.plan_case-found-requires
-plan_case-found-requires c = length-replicate {A = ℕ} 2048 0
+pub plan_case-requires : goal.plan_case-requires
+plan_case-requires c = length-replicate {A = ℕ} 2048 0
 
-pub overflow_add-split : goal.overflow_add-split
-overflow_add-split c =
+pub overflow_add-found : goal.overflow_add-found
+overflow_add-found c =
     let h = found_split
     (case_is _ _ _ _ _ _ _ c.args.named c.args.table.now c.requires.arcs c.requires.amounts
-    c.requires.named _ _ _ _ _ _ _ _ _ c.excess.ensures c.cost_rows.ensures.0 c.cost_rows.ensures.1
+    c.requires.named _ _ _ _ _ _ _ _ _ c.saturating_sub.ensures c.cost_rows.ensures.0 c.cost_rows.ensures.1
     c.fill_supplies.ensures (length-replicate {A = ℕ} 32 0) c.fill_demands.ensures (length-replicate {A = ℕ} 64 0)
     c.lane_rows.ensures.0 c.lane_rows.ensures.1 c.fill_table.ensures (length-replicate {A = ℕ} 4001 0))
-    c.plan_case-found.ensures c.in-Split.is in
+    c.plan_case.ensures c.in_ok-found.was in
     omega (
       arith,
       (split_fits _ _ _ _ _ _ _ c.args.named c.args.table.now c.requires.arcs
@@ -165,14 +165,14 @@ overflow_add-split c =
       c.requires.arcs.ceiling_most c.args.named c.requires.named.place,
     )
 
-pub overflow_sub-split : goal.overflow_sub-split
-overflow_sub-split c =
+pub overflow_sub-found : goal.overflow_sub-found
+overflow_sub-found c =
     let h = found_split
     (case_is _ _ _ _ _ _ _ c.args.named c.args.table.now c.requires.arcs c.requires.amounts
-    c.requires.named _ _ _ _ _ _ _ _ _ c.excess.ensures c.cost_rows.ensures.0 c.cost_rows.ensures.1
+    c.requires.named _ _ _ _ _ _ _ _ _ c.saturating_sub.ensures c.cost_rows.ensures.0 c.cost_rows.ensures.1
     c.fill_supplies.ensures (length-replicate {A = ℕ} 32 0) c.fill_demands.ensures (length-replicate {A = ℕ} 64 0)
     c.lane_rows.ensures.0 c.lane_rows.ensures.1 c.fill_table.ensures (length-replicate {A = ℕ} 4001 0))
-    c.plan_case-found.ensures c.in-Split.is in
+    c.plan_case.ensures c.in_ok-found.was in
     omega (
       arith,
       (split_fits _ _ _ _ _ _ _ c.args.named c.args.table.now c.requires.arcs
@@ -181,7 +181,7 @@ overflow_sub-split c =
 
 pub fill_flow-requires : goal.fill_flow-requires
 fill_flow-requires c = record {
-  starts_len_bound = (c.requires.arcs.few, c.requires.starts_in_bounds, omega (arith, c.plan_case-found.auto, length-replicate {A = ℕ} 2048 0));
+  starts_len_bound = (c.requires.arcs.few, c.requires.starts_in_bounds, omega (arith, c.plan_case.auto, length-replicate {A = ℕ} 2048 0));
   by_index = λ j l. (
     c.requires.arcs.start_low j l,
     omega (
@@ -193,33 +193,33 @@ fill_flow-requires c = record {
   );
 }
 
-pub returns-in-Split : goal.returns-in-Split
-returns-in-Split c =
+pub returns : goal.returns
+returns c =
     let h = found_split
     (case_is _ _ _ _ _ _ _ c.args.named c.args.table.now c.requires.arcs c.requires.amounts
-    c.requires.named _ _ _ _ _ _ _ _ _ c.excess.ensures c.cost_rows.ensures.0 c.cost_rows.ensures.1
+    c.requires.named _ _ _ _ _ _ _ _ _ c.saturating_sub.ensures c.cost_rows.ensures.0 c.cost_rows.ensures.1
     c.fill_supplies.ensures (length-replicate {A = ℕ} 32 0) c.fill_demands.ensures (length-replicate {A = ℕ} 64 0)
     c.lane_rows.ensures.0 c.lane_rows.ensures.1 c.fill_table.ensures (length-replicate {A = ℕ} 4001 0))
-    c.plan_case-found.ensures c.in-Split.is in
+    c.plan_case.ensures c.in_ok-found.was in
     record {
       told = flow_total _ _ _ _ _ _ h.2
           (flow_told _ _ _ _ _ _ _ c.args.named c.args.table.now c.requires.arcs
           c.requires.amounts c.requires.named _ _ _ _ h.0 h.1 _ _ c.requires.starts_in_bounds c.fill_flow.ensures h.2);
     }
 
-pub returns-in-Nothing : goal.returns-in-Nothing
-returns-in-Nothing c =
-    record {
+pub returns-in_err-found : goal.returns-in_err-found
+returns-in_err-found c =
+    rw c.from_residual.ensures (record {
       told = (
         nothing_told _ _ _ _ _ _ _ c.args.named c.args.table.now c.requires.arcs
             c.requires.amounts c.requires.named _ _
             (found_nothing
             (case_is _ _ _ _ _ _ _ c.args.named c.args.table.now c.requires.arcs
-            c.requires.amounts c.requires.named _ _ _ _ _ _ _ _ _ c.excess.ensures c.cost_rows.ensures.0
+            c.requires.amounts c.requires.named _ _ _ _ _ _ _ _ _ c.saturating_sub.ensures c.cost_rows.ensures.0
             c.cost_rows.ensures.1 c.fill_supplies.ensures (length-replicate {A = ℕ} 32 0)
             c.fill_demands.ensures (length-replicate {A = ℕ} 64 0) c.lane_rows.ensures.0 c.lane_rows.ensures.1
             c.fill_table.ensures (length-replicate {A = ℕ} 4001 0))
-            c.plan_case-found.ensures c.in-Nothing.is),
+            c.plan_case.ensures c.in_err-found.was),
         refl,
       );
-    }
+    })

@@ -2,19 +2,12 @@
 use Prim.Native.Nat.{ℕ}
 use lib.IntN.{ℤ, pos}
 use lib.ListN.{length-replicate}
-use Rattle.flow_network.proofs.CarryLaws.{found_some, found_none}
+use Rattle.flow_network.proofs.CarryLaws.{ok_of, found_some}
 use Rattle.flow_network.proofs.carry.plan_case.Goals as goal
 
-pub returns-in-Planned : goal.returns-in-Planned
-returns-in-Planned c =
+pub returns : goal.returns
+returns c =
     record {
-      found = found_some _ _ _ _ _ _ _ _ _ _ _ c.requires (length-replicate {A = ℕ} 4001 0) (length-replicate {A = ℤ} 4001 (pos 0))
-          c.plan-answer.result _ _ c.plan-answer.ensures _ _ _ _ c.in-Planned.is;
-    }
-
-pub returns-in-Refused : goal.returns-in-Refused
-returns-in-Refused c =
-    record {
-      found = found_none _ _ _ _ _ _ _ _ _ _ _ c.requires (length-replicate {A = ℕ} 4001 0) (length-replicate {A = ℤ} 4001 (pos 0))
-          c.plan-answer.result _ _ c.plan-answer.ensures _ _ c.in-Refused.is;
+      found = found_some c.args.case.now _ _ _ c.requires (length-replicate {A = ℕ} 4001 0) (length-replicate {A = ℤ} 4001 (pos 0))
+          c.plan.result _ _ c.plan.ensures _ (ok_of c.plan.result _ c.in_ok-planned.ensures.value);
     }

@@ -7,43 +7,27 @@ use Rattle.flow_network.specs.Answer.{slices_of}
 use Rattle.flow_network.proofs.CarryCase.{carried_flow, carried_nothing}
 use Rattle.flow_network.proofs.JudgeLaws.{by_over, by_name, by_room, by_uneven, by_nothing, by_flow, place_low, named_there, amounts_there}
 use Rattle.flow_network.proofs.JudgeLaws.{told_there, flow_room, starts_room, ends_room, ceilings_room, costs_room}
+use Rattle.flow_network.proofs.judge.judge_by.Goals.{then-over-via-then-over, then-over-via-else-over+then-bad_name, then-over-via-else-over+else-bad_name+then-too_short}
 use Rattle.flow_network.proofs.judge.judge_by.Goals as goal
 
 pub over-requires : goal.over-requires
-over-requires c =
-    (c.requires.holding.long ∙ sym c.requires.given.takes_long, c.requires.given.takes_small)
-
-pub returns-then-over : goal.returns-then-over
-returns-then-over c =
-    rw c.refused.ensures (
-      by_over _ _ _ _ _ _ _ c.args.place c.args.table.now c.requires.arcs c.requires.given
-          c.requires.holding
-          (slices_of c.args.flow.now c.args.starts.now c.args.ends.now c.args.ceilings.now c.args.costs.now)
-          (sym c.if-over.true ∙ c.over.ensures),
-      refl,
-    )
+over-requires c = c.requires.holding.long ∙ sym c.requires.given.takes_long
 
 pub bad_name-requires : goal.bad_name-requires
 bad_name-requires c =
     λ k l. c.requires.arcs.ceiling_most k (omega (arith, l, c.requires.arcs.ceilings_long))
 
-pub returns-then-bad_name : goal.returns-then-bad_name
-returns-then-bad_name c =
-    rw c.refused-then-bad_name.ensures (
-      by_name _ _ _ _ _ _ _ c.args.place c.args.table.now c.requires.arcs c.requires.given
-          c.requires.holding
-          (slices_of c.args.flow.now c.args.starts.now c.args.ends.now c.args.ceilings.now c.args.costs.now)
-          (sym c.if-bad_name.true ∙ c.bad_name.ensures),
-      refl,
-    )
-
-pub returns-then-too_short : goal.returns-then-too_short
-returns-then-too_short c =
-    rw c.refused-then-too_short.ensures (
-      by_room _ _ _ _ _ _ _ c.args.place c.args.table.now c.requires.arcs c.requires.given
-          c.requires.holding
-          (slices_of c.args.flow.now c.args.starts.now c.args.ends.now c.args.ceilings.now c.args.costs.now)
-          (sym c.if-too_short.true ∙ c.too_short.ensures),
+pub returns-then-over : goal.returns-then-over
+returns-then-over c =
+    rw (c.at.ensures.cause, c.at.ensures.place) (
+      elim c.then-over.branch [
+        | then-over-via-then-over w ↦ by_over _ _ _ _ _ _ _ c.args.place c.args.table.now c.requires.arcs c.requires.given c.requires.holding
+            (slices_of c.args.flow.now c.args.starts.now c.args.ends.now c.args.ceilings.now c.args.costs.now) (sym w.if-over.true ∙ c.over.ensures)
+        | then-over-via-else-over+then-bad_name w ↦ by_name _ _ _ _ _ _ _ c.args.place c.args.table.now c.requires.arcs c.requires.given c.requires.holding
+            (slices_of c.args.flow.now c.args.starts.now c.args.ends.now c.args.ceilings.now c.args.costs.now) (sym w.if-bad_name.true ∙ w.bad_name.ensures)
+        | then-over-via-else-over+else-bad_name+then-too_short w ↦ by_room _ _ _ _ _ _ _ c.args.place c.args.table.now c.requires.arcs c.requires.given c.requires.holding
+            (slices_of c.args.flow.now c.args.starts.now c.args.ends.now c.args.ceilings.now c.args.costs.now) (sym w.if-too_short.true ∙ w.too_short.ensures)
+      ],
       refl,
     )
 
@@ -53,7 +37,7 @@ uneven-requires c =
 
 pub returns-then-uneven : goal.returns-then-uneven
 returns-then-uneven c =
-    rw c.refused-then-uneven.ensures (
+    rw (c.at-then-uneven.ensures.cause, c.at-then-uneven.ensures.place) (
       by_uneven _ _ _ _ _ _ _ c.args.place c.args.table.now c.requires.arcs c.requires.given
           c.requires.holding
           (slices_of c.args.flow.now c.args.starts.now c.args.ends.now c.args.ceilings.now c.args.costs.now)
@@ -70,8 +54,8 @@ overflow_sub-place c =
     (sym c.if-over.false ∙ c.over.ensures) (sym c.if-bad_name.false ∙ c.bad_name.ensures)
     (sym c.if-too_short.false ∙ c.too_short.ensures)
 
-pub carry-c-requires : goal.carry-c-requires
-carry-c-requires c = record {
+pub carry-requires : goal.carry-requires
+carry-requires c = record {
   arcs = c.requires.arcs;
   amounts = amounts_there _ _ _ _ _ _ _ c.args.place c.args.table.now
       c.requires.arcs c.requires.given c.requires.holding
@@ -92,8 +76,8 @@ carry-c-requires c = record {
 
 pub returns-in_default : goal.returns-in_default
 returns-in_default c =
-    let h = carried_nothing c.carry-c.ensures c.in_default.is in
-    rw c.refused-in_default.ensures (
+    let h = carried_nothing c.carry.ensures c.in_default.is in
+    rw (c.at-in_default.ensures.cause, c.at-in_default.ensures.place) (
       by_nothing _ _ _ _ _ _ _ c.args.place c.args.table.now
           c.requires.arcs c.requires.given c.requires.holding
           (slices_of c.args.flow.now c.args.starts.now c.args.ends.now c.args.ceilings.now c.args.costs.now)
@@ -104,8 +88,8 @@ returns-in_default c =
       refl,
     )
 
-pub copy_numbers-requires : goal.copy_numbers-requires
-copy_numbers-requires c =
+pub copy_front-requires : goal.copy_front-requires
+copy_front-requires c =
     omega (
       arith,
       starts_room _ _ _ _ _ _ _ c.args.place c.args.table.now
@@ -116,24 +100,24 @@ copy_numbers-requires c =
       c.requires.arcs.ends_long,
     )
 
-pub copy_numbers-requires-2 : goal.copy_numbers-requires-2
-copy_numbers-requires-2 c =
+pub copy_front-requires-2 : goal.copy_front-requires-2
+copy_front-requires-2 c =
     ends_room _ _ _ _ _ _ _ c.args.place c.args.table.now c.requires.arcs c.requires.given
     c.requires.holding
     (slices_of c.args.flow.now c.args.starts.now c.args.ends.now c.args.ceilings.now c.args.costs.now)
     (sym c.if-over.false ∙ c.over.ensures) (sym c.if-bad_name.false ∙ c.bad_name.ensures)
     (sym c.if-too_short.false ∙ c.too_short.ensures)
 
-pub copy_numbers-requires-3 : goal.copy_numbers-requires-3
-copy_numbers-requires-3 c =
+pub copy_front-requires-3 : goal.copy_front-requires-3
+copy_front-requires-3 c =
     ceilings_room _ _ _ _ _ _ _ c.args.place c.args.table.now
     c.requires.arcs c.requires.given c.requires.holding
     (slices_of c.args.flow.now c.args.starts.now c.args.ends.now c.args.ceilings.now c.args.costs.now)
     (sym c.if-over.false ∙ c.over.ensures) (sym c.if-bad_name.false ∙ c.bad_name.ensures)
     (sym c.if-too_short.false ∙ c.too_short.ensures)
 
-pub copy_costs-requires : goal.copy_costs-requires
-copy_costs-requires c =
+pub copy_front-requires-4 : goal.copy_front-requires-4
+copy_front-requires-4 c =
     costs_room _ _ _ _ _ _ _ c.args.place c.args.table.now c.requires.arcs c.requires.given
     c.requires.holding
     (slices_of c.args.flow.now c.args.starts.now c.args.ends.now c.args.ceilings.now c.args.costs.now)
@@ -142,7 +126,7 @@ copy_costs-requires c =
 
 pub returns : goal.returns
 returns c =
-    let h = carried_flow c.carry-c.ensures c.in-Flow.is in (
+    let h = carried_flow c.carry.ensures c.in-Some.is in (
       by_flow _ _ _ _ _ _ _ c.args.place c.args.table.now c.requires.arcs c.requires.given
           c.requires.holding
           (slices_of c.args.flow.now c.args.starts.now c.args.ends.now c.args.ceilings.now c.args.costs.now)
@@ -152,7 +136,7 @@ returns c =
           c.requires.arcs c.requires.given c.requires.holding
           (slices_of c.args.flow.now c.args.starts.now c.args.ends.now c.args.ceilings.now c.args.costs.now)
           (sym c.if-over.false ∙ c.over.ensures) (sym c.if-bad_name.false ∙ c.bad_name.ensures)
-          (sym c.if-too_short.false ∙ c.too_short.ensures) _ _ h c.copy_numbers.ensures
-          c.copy_numbers-2.ensures c.copy_numbers-3.ensures c.copy_costs.ensures),
+          (sym c.if-too_short.false ∙ c.too_short.ensures) _ _ h c.copy_front.ensures
+          c.copy_front-2.ensures c.copy_front-3.ensures c.copy_front-4.ensures),
       refl,
     )

@@ -31,4 +31,4 @@ pub returns : goal.returns
 returns c =
     four_is c.requires c.total_of-a.ensures
     c.total_of-b.ensures c.total_of-c.ensures
-    c.total_of-d.ensures c.smaller.ensures c.smaller-2.ensures c.smaller-3.ensures
+    c.total_of-d.ensures c.min.ensures c.min-2.ensures c.min-3.ensures

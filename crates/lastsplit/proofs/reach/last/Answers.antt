@@ -14,7 +14,7 @@ returns-then-wide c =
 pub reach-requires : goal.reach-requires
 reach-requires c =
     let r = c.requires.last_ready in record {
-      reach_ready = free_ready c.args.cap.now (replicate {A = ℕ} 2048 0) r (λ k h. get_or-replicate {A = ℕ} 2048 k 0 0 h) (length-replicate {A = ℕ} 96 800000000)
+      reach_ready = free_ready c.args.lanes.now.cap.now (replicate {A = ℕ} 2048 0) r (λ k h. get_or-replicate {A = ℕ} 2048 k 0 0 h) (length-replicate {A = ℕ} 96 800000000)
           (λ v h. get_or-replicate {A = ℕ} 96 v 800000000 0 h);
       wanted = c.requires.wanted;
       covers = c.requires.covers;

@@ -7,7 +7,7 @@ use Rattle.lastsplit.proofs.reach.reach.Given as goal
 
 abbrev pub invariant-loop-gone : goal.invariant-loop-gone
 invariant-loop-gone l =
-    Reaching (net l.m l.n l.cost l.cap l.initial.x) l.limit l.pot l.x l.gone × Covers l.m l.n l.x l.serves
+    Reaching (net l.lanes.m l.lanes.n l.lanes.cost.now l.lanes.cap.now l.initial.flow.x) l.limit l.flow.pot l.flow.x l.gone × Covers l.lanes.m l.lanes.n l.flow.x l.flow.serves
 
 abbrev pub decreases-loop-gone : goal.decreases-loop-gone
 decreases-loop-gone l = l.limit - l.gone

@@ -3,9 +3,9 @@ use Rattle.std.proofs.Common.{ℕ, sym, ap, ◌∙◌, eqb}
 use Rattle.file_io.proofs.OverBytes.{over_next, over_done}
 use Rattle.network_causes.proofs.words.has_zero.Goals as goal
 
-pub loop-i-preserved : goal.loop-i-preserved
-loop-i-preserved c = c.loop-i.invariant ∙ over_next _ _ _ _ _ c.loop-i-test.true c.zero_after-state.ensures
+pub loop-byte-preserved : goal.loop-byte-preserved
+loop-byte-preserved c = c.loop-byte.invariant ∙ over_next _ _ _ _ _ c.loop-byte-test.true c.zero_after-state.ensures
 
 pub returns : goal.returns
 returns c =
-    ap (λ (x : ℕ). eqb x 4) (sym (c.loop-i.invariant ∙ over_done _ _ _ _ c.loop-i-test.false))
+    ap (λ (x : ℕ). eqb x 4) (sym (c.loop-byte.invariant ∙ over_done _ _ _ _ c.loop-byte-test.false))

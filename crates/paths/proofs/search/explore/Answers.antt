@@ -1,4 +1,5 @@
 -- `paths::search::explore` meets its contract. Assumes nothing.
+use mathlib.Core.Path.{◌≡◌}
 use Prim.Native.Nat.{ℕ, ◌-◌, ◌<◌}
 use native.Mathlib.Omega.{arith}
 use lib.ListN.{replicate, length-set, length-replicate, get_or-replicate}
@@ -15,14 +16,16 @@ loop-pass-init c limit o =
     (length-replicate {A = ℕ} 96 shut) (λ v h. get_or-replicate {A = ℕ} 96 v shut 0 h)
 
 pub returns-then-v-eq96 : goal.returns-then-v-eq96
-returns-then-v-eq96 c limit o =
-    record {
-      hops = (c.loop-pass.invariant limit o).hops;
-      widths = (c.loop-pass.invariant limit o).widths;
-      searched =
-          search_stuck c.requires.search_ready.sound (c.loop-pass.invariant limit o).exploring.searching
-          (explore_near c.requires.search_ready.sound (c.loop-pass.invariant limit o).exploring c.choose-v.ensures) c.if-v-eq96.true;
-    }
+returns-then-v-eq96 c = record {
+  answered = λ limit o. record {
+    hops = (c.loop-pass.invariant limit o).hops;
+    widths = (c.loop-pass.invariant limit o).widths;
+    searched =
+        rw c.if-v-eq96.true at (search_stuck c.requires.search_ready.sound (c.loop-pass.invariant limit o).exploring.searching
+        (explore_near c.requires.search_ready.sound (c.loop-pass.invariant limit o).exploring c.choose-v.ensures) c.if-v-eq96.true);
+  };
+  goal = λ g e. cc;
+}
 
 pub offset_bounds-room-v : goal.offset_bounds-room-v
 offset_bounds-room-v c =
@@ -37,13 +40,16 @@ bounds-room-v c =
     search rules
 
 pub returns-then-room-v-gt0 : goal.returns-then-room-v-gt0
-returns-then-room-v-gt0 c limit o =
-    let near = explore_near c.requires.search_ready.sound (c.loop-pass.invariant limit o).exploring c.choose-v.ensures in
-    let hv : c.choose-v.result < 96 = omega (arith, near.bound, c.if-v-eq96.false) in
+returns-then-room-v-gt0 c =
+    let near = λ (limit : ℕ) (o : 0 < limit). explore_near c.requires.search_ready.sound (c.loop-pass.invariant limit o).exploring c.choose-v.ensures in
+    let hv : c.choose-v.result < 96 = omega (arith, (near 1 (omega arith)).bound, c.if-v-eq96.false) in
     record {
-      hops = (c.loop-pass.invariant limit o).hops;
-      widths = (c.loop-pass.invariant limit o).widths;
-      searched = search_found c.requires.search_ready.sound (c.loop-pass.invariant limit o).exploring.searching near hv c.if-room-v-gt0.true;
+      answered = λ limit o. record {
+        hops = (c.loop-pass.invariant limit o).hops;
+        widths = (c.loop-pass.invariant limit o).widths;
+        searched = search_found c.requires.search_ready.sound (c.loop-pass.invariant limit o).exploring.searching (near limit o) hv c.if-room-v-gt0.true;
+      };
+      goal = λ g e. let same : c.choose-v.result ≡ g = cc in omega arith;
     }
 
 pub offset_bounds-key-v : goal.offset_bounds-key-v
@@ -101,9 +107,11 @@ loop-pass-preserved c limit o =
     (omega (arith, c.if-room-v-gt0.false)) (c.relax-next.ensures.by_index _ at) (c.relax-next.ensures.by_index_2 _ at) c.relax-next.ensures.next
 
 pub returns : goal.returns
-returns c limit o =
-    record {
-      hops = (c.loop-pass.invariant limit o).hops;
-      widths = (c.loop-pass.invariant limit o).widths;
-      searched = explore_end c.requires.search_ready.sound (c.loop-pass.invariant limit o).exploring c.loop-pass-test.false;
-    }
+returns c = record {
+  answered = λ limit o. record {
+    hops = (c.loop-pass.invariant limit o).hops;
+    widths = (c.loop-pass.invariant limit o).widths;
+    searched = explore_end c.requires.search_ready.sound (c.loop-pass.invariant limit o).exploring c.loop-pass-test.false;
+  };
+  goal = λ g e. cc;
+}

@@ -8,7 +8,7 @@ pub loop-v-init : goal.loop-v-init
 loop-v-init c = (omega arith, omega (arith, c.requires), least_start _ _)
 
 pub loop-v-preserved : goal.loop-v-preserved
-loop-v-preserved c = let inv = c.loop-v.invariant in (omega (arith, inv.0), omega (arith, c.loop-v-test.true), least_next inv.2 inv.0 c.smaller-least.ensures)
+loop-v-preserved c = let inv = c.loop-v.invariant in (omega (arith, inv.0), omega (arith, c.loop-v-test.true), least_next inv.2 inv.0 c.min-least.ensures)
 
 pub returns : goal.returns
 returns c = least_end c.loop-v.invariant.2 c.loop-v-test.false c.loop-v.invariant.1

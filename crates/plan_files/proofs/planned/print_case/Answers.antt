@@ -1,5 +1,7 @@
 -- `plan_files::planned::print_case` meets its contract. Assumes nothing.
-use mathlib.Core.Path.{◌≡◌, ap}
+use mathlib.Core.Path.{◌≡◌, ap, sym, ◌∙◌}
+use Prim.Native.Nat.{ℕ}
+use Rattle.problem.specs.Outcome.{refused}
 use lib.ListN.{length}
 use native.Mathlib.Omega.{arith}
 use Rattle.planner.specs.Answer.{outcome}
@@ -19,20 +21,20 @@ freights : (c : After-freight_cells-freights) → length c.freight_cells-freight
 freights c = search (rules, c.freight_cells-freights.type_inv)
 
 pub offset_bounds-table-at : goal.offset_bounds-table-at
-offset_bounds-table-at c = record { fits = omega (arith, small_split c.plan-answer.ensures (ap outcome c.in-Planned.is)) }
+offset_bounds-table-at c = record { fits = omega (arith, small_split c.plan-answer.ensures (ap outcome c.in-Ok.is)) }
 
 pub bounds-table-at : goal.bounds-table-at
-bounds-table-at c = within c.plan-answer.ensures (ap outcome c.in-Planned.is)
+bounds-table-at c = within c.plan-answer.ensures (ap outcome c.in-Ok.is)
 
 pub print_plan-requires : goal.print_plan-requires
-print_plan-requires c = let the-whole = ready c.plan-answer.ensures (ap outcome c.in-Planned.is) in record { n_in_bounds = the-whole.0; fits = the-whole.1 }
+print_plan-requires c = let the-whole = ready c.plan-answer.ensures (ap outcome c.in-Ok.is) in record { n_in_bounds = the-whole.0; fits = the-whole.1 }
 
-pub returns-in-Refused : goal.returns-in-Refused
-returns-in-Refused c =
-    by_refusal c.plan-answer.ensures (lanes (goal.at.returns-in-Refused c).After-freight_cells-freights) (splits (goal.at.returns-in-Refused c).After-freight_cells-freights) (freights (goal.at.returns-in-Refused c).After-freight_cells-freights)
-    (ap outcome c.in-Refused.is) c.print_refusal.ensures
+pub returns-in-Err : goal.returns-in-Err
+returns-in-Err c =
+    by_refusal c.plan-answer.ensures (lanes (goal.at.returns-in-Err c).After-freight_cells-freights) (splits (goal.at.returns-in-Err c).After-freight_cells-freights) (freights (goal.at.returns-in-Err c).After-freight_cells-freights)
+    (ap outcome c.in-Err.is ∙ ap (λ (k : ℕ). refused k c.in-Err.r.place) (sym c.number.ensures)) c.print_refusal.ensures
 
-pub returns-in-Planned : goal.returns-in-Planned
-returns-in-Planned c =
-    by_plan c.plan-answer.ensures (lanes (goal.at.returns-in-Planned c).After-freight_cells-freights) (splits (goal.at.returns-in-Planned c).After-freight_cells-freights) (freights (goal.at.returns-in-Planned c).After-freight_cells-freights)
-    (ap outcome c.in-Planned.is) c.print_plan.ensures
+pub returns-in-Ok : goal.returns-in-Ok
+returns-in-Ok c =
+    by_plan c.plan-answer.ensures (lanes (goal.at.returns-in-Ok c).After-freight_cells-freights) (splits (goal.at.returns-in-Ok c).After-freight_cells-freights) (freights (goal.at.returns-in-Ok c).After-freight_cells-freights)
+    (ap outcome c.in-Ok.is) c.print_plan.ensures

@@ -13,4 +13,4 @@ pub relax_column-requires : goal.relax_column-requires
 relax_column-requires c = record { column_ready = c.requires.relax_ready.column c.if-v-lt32.false; bits = c.requires.tags.bits }
 
 pub returns : goal.returns
-returns c = record { by_index = λ m a. c.relax_column.ensures.by_index m _ c.args.cap.now a; by_index_2 = λ m a. c.relax_column.ensures.rekeyed _ _; next = c.relax_column.ensures.next }
+returns c = record { by_index = λ m a. c.relax_column.ensures.by_index m _ c.args.lanes.now.cap.now a; by_index_2 = λ m a. c.relax_column.ensures.rekeyed _ _; next = c.relax_column.ensures.next }

@@ -24,13 +24,13 @@ positive : (c : In-loop-rest) → 0 < c.loop-rest.rest
 positive c = omega (arith, c.loop-rest-test.true)
 
 -- the bit that it takes is a source's
-source : (c : In-loop-rest) (m : ℕ) → get c.args.serves.now (c.args.v - 32) < 2 ^ m
+source : (c : In-loop-rest) (m : ℕ) → get c.args.flow.now.serves (c.args.v - 32) < 2 ^ m
     → count_trailing_zeros 32 c.loop-rest.rest < m
 source c m h = let i = c.loop-rest.invariant in next_source h i.left (positive c) i.word
 
 -- a source of every such network
 own : (c : In-loop-rest) (m n : ℕ)
-    → AtNode m n c.args.x.now c.args.serves.now c.args.v
+    → AtNode m n c.args.flow.now.x c.args.flow.now.serves c.args.v
     → count_trailing_zeros 32 c.loop-rest.rest < m
 own c m n a = let s = c.requires.column_ready in source c m (a.covers.within _ (omega (arith, s.low, a.terminal s.low)))
 
@@ -47,9 +47,9 @@ passed : (c : In-loop-rest) → c.loop-rest.invariant.hi ≤ count_trailing_zero
 passed c = left_low 32 c.loop-rest.invariant.left (positive c) c.loop-rest.invariant.word
 
 skipped : (c : In-loop-rest) (m n : ℕ) (cap : List ℕ)
-    → AtNode m n c.args.x.now c.args.serves.now c.args.v
+    → AtNode m n c.args.flow.now.x c.args.flow.now.serves c.args.v
     → Relabelling
-    (net m n c.args.cost.now cap c.args.x.now) c.args.v
+    (net m n c.args.cost.now cap c.args.flow.now.x) c.args.v
     c.args.base 0 (count_trailing_zeros 32 c.loop-rest.rest) c.args.dist.now
     c.args.prev.now c.loop-rest.dist c.loop-rest.prev
 skipped c m n cap a =
@@ -60,19 +60,19 @@ skipped c m n cap a =
 
 -- where it serves the terminal, its new label has a key
 low : (c : Then-x-k-gt0)
-    → get c.args.pot.now (count_trailing_zeros 32 c.loop-rest.rest)
+    → get c.args.flow.now.pot (count_trailing_zeros 32 c.loop-rest.rest)
     + get c.args.cost.now
     (count_trailing_zeros 32 c.loop-rest.rest * 64 + (c.args.v - 32))
     ≤ c.args.base
 low c =
     let i = c.loop-rest.invariant in
-    c.requires.column_ready.back _ (left_set 32 i.left (positive (record { before = c.before.before.before.before; type_inv = record { serves = c.before.before.before.before.way_told-1.given } })) i.word) c.if-x-k-gt0.true
+    c.requires.column_ready.back _ (left_set 32 i.left (omega (arith, c.loop-rest-test.true)) i.word) c.if-x-k-gt0.true
 
-pub offset_bounds-serves-j : goal.offset_bounds-serves-j
-offset_bounds-serves-j c = omega (arith, c.requires.column_ready.high)
+pub offset_bounds-flow-j : goal.offset_bounds-flow-j
+offset_bounds-flow-j c = omega (arith, c.requires.column_ready.high)
 
-pub bounds-serves-j : goal.bounds-serves-j
-bounds-serves-j c = omega (arith, c.requires.column_ready.low, c.requires.column_ready.high)
+pub bounds-flow-j : goal.bounds-flow-j
+bounds-flow-j c = omega (arith, c.requires.column_ready.low, c.requires.column_ready.high)
 
 pub loop-rest-init : goal.loop-rest-init
 loop-rest-init c =

@@ -23,7 +23,7 @@ pub record Passing (cost x serves pot dist₀ prev₀ key₀ : List ℕ) (v base
 
 abbrev pub invariant-loop-rest : goal.invariant-loop-rest
 invariant-loop-rest l =
-    Passing l.cost l.x l.serves l.pot l.initial.dist l.initial.prev l.initial.key l.v l.base l.level l.dist l.prev l.key l.next l.rest
+    Passing l.cost l.flow.x l.flow.serves l.flow.pot l.initial.dist l.initial.prev l.initial.key l.v l.base l.level l.dist l.prev l.key l.next l.rest
 
 abbrev pub decreases-loop-rest : goal.decreases-loop-rest
 decreases-loop-rest l = l.rest

@@ -7,7 +7,7 @@ use Rattle.residual.proofs.relax.relax_row.Given as goal
 
 abbrev pub invariant-loop-j : goal.invariant-loop-j
 invariant-loop-j l =
-    (l.j ≤ l.n) × ((m : ℕ) → l.i < m → m ≤ 32 → Relabelling (net m l.n l.cost l.cap l.x) l.i l.base 32 (32 + l.j) l.initial.dist l.initial.prev l.dist l.prev × Rekeyed (net m l.n l.cost l.cap l.x) l.want l.i l.pot l.initial.dist l.dist l.initial.key l.key)
+    (l.j ≤ l.lanes.n) × ((m : ℕ) → l.i < m → m ≤ 32 → Relabelling (net m l.lanes.n l.lanes.cost.now l.lanes.cap.now l.flow.x) l.i l.base 32 (32 + l.j) l.initial.dist l.initial.prev l.dist l.prev × Rekeyed (net m l.lanes.n l.lanes.cost.now l.lanes.cap.now l.flow.x) l.want l.i l.flow.pot l.initial.dist l.dist l.initial.key l.key)
 
 abbrev pub decreases-loop-j : goal.decreases-loop-j
-decreases-loop-j l = l.n - l.j
+decreases-loop-j l = l.lanes.n - l.j

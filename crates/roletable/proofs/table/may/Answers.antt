@@ -1,13 +1,11 @@
 -- `roletable::table::may` meets its contract. Assumes nothing.
+use mathlib.Core.Logic.{inl, inr}
 use native.Mathlib.Omega.{arith}
 use Rattle.roletable.proofs.RoleLaws.{none_low, none_high, some_role, no_role_lem, by_table}
 use Rattle.roletable.proofs.table.may.Goals as goal
 
 pub returns-then-role-lt1 : goal.returns-then-role-lt1
-returns-then-role-lt1 c = no_role_lem _ _ (none_low _ c.if-role-lt1.true)
-
-pub returns-then-role-gt4 : goal.returns-then-role-gt4
-returns-then-role-gt4 c = no_role_lem _ _ (none_high _ c.if-role-gt4.true)
+returns-then-role-lt1 c = no_role_lem _ _ (elim c.then-role-lt1.either [ inl h ↦ none_low _ h | inr h ↦ none_high _ h.1 ])
 
 pub returns : goal.returns
-returns c = by_table _ _ (some_role _ (omega arith) (omega arith))
+returns c = rw (← c.column-b.ensures.number) (by_table _ _ (some_role _ (omega arith) (omega arith)))

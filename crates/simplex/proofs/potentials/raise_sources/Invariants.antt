@@ -1,5 +1,5 @@
 -- `simplex::potentials::raise_sources` is safe and ends. Assumes nothing.
-use Rattle.std.proofs.Common.{◌-◌, ◌^◌, ◌<◌}
+use Rattle.std.proofs.Common.{◌^◌, ◌<◌}
 use Rattle.simplex.proofs.potentials.raise_sources.Given as goal
 
 abbrev pub invariant-loop-rest : goal.invariant-loop-rest

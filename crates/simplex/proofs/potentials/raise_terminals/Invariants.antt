@@ -1,5 +1,5 @@
 -- `simplex::potentials::raise_terminals` is safe and ends. Assumes nothing.
-use Rattle.std.proofs.Common.{◌-◌, ◌^◌, ◌<◌}
+use Rattle.std.proofs.Common.{◌^◌, ◌<◌}
 use Rattle.simplex.proofs.potentials.raise_terminals.Given as goal
 
 abbrev pub invariant-loop-rest : goal.invariant-loop-rest

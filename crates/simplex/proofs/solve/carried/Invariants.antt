@@ -1,9 +1,6 @@
--- `simplex::solve::carried` is safe and ends. Assumes nothing.
-use Rattle.std.proofs.Common.{◌≡◌, ◌-◌, ◌≤◌, length}
+-- `simplex::solve::carried` meets its contract. Assumes nothing.
+use Rattle.std.proofs.Common.{◌≡◌, length}
 use Rattle.simplex.proofs.solve.carried.Given as goal
 
 abbrev pub invariant-loop-v : goal.invariant-loop-v
-invariant-loop-v l = (l.v ≤ 96) × (length l.x ≡ 2048)
-
-abbrev pub decreases-loop-v : goal.decreases-loop-v
-decreases-loop-v l = 96 - l.v
+invariant-loop-v l = length l.x ≡ 2048

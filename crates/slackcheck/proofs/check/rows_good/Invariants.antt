@@ -7,7 +7,7 @@ use Rattle.slackcheck.specs.inner.Checked.{RowsChecked}
 use Rattle.slackcheck.proofs.check.rows_good.Given as goal
 
 abbrev pub invariant-loop-i : goal.invariant-loop-i
-invariant-loop-i l = (l.i ≤ l.m) × RowsChecked l.n (cells l.cost) (cells l.cap) (cells l.x) l.pot (amounts_at l.made (λ k. get l.supply k) l.split) l.i
+invariant-loop-i l = (l.i ≤ l.lanes.m) × RowsChecked l.lanes.n (cells l.lanes.cost.now) (cells l.lanes.cap.now) (cells l.flow.x) l.flow.pot (amounts_at l.made (λ k. get l.supply k) l.split) l.i
 
 abbrev pub decreases-loop-i : goal.decreases-loop-i
-decreases-loop-i l = l.m - l.i
+decreases-loop-i l = l.lanes.m - l.i

@@ -1,5 +1,5 @@
 -- `spanningtree::entering::enter` is safe and ends. Assumes nothing.
-use Rattle.std.proofs.Common.{◌-◌, ◌^◌, ◌<◌}
+use Rattle.std.proofs.Common.{◌^◌, ◌<◌}
 use Rattle.spanningtree.proofs.entering.enter.Given as goal
 
 abbrev pub invariant-loop-left : goal.invariant-loop-left

@@ -6,9 +6,8 @@ use Rattle.split_range.proofs.SplitRange.{plants_ready, base_ready}
 use Rattle.firstsplit.proofs.FirstSplit.{first_again}
 use Rattle.split_range.proofs.quick.cheapest_first.Goals as goal
 
-pub returns-then-first : goal.returns-then-first
-returns-then-first c =
-    let q = c.quick_plan-first.ensures in record { first_plan = rw c.if-first.true (q.plan c.if-first.true _ c.requires); covers = q.covers c.if-first.true }
+pub returns-in-Some : goal.returns-in-Some
+returns-in-Some c = let q = c.quick_plan.ensures in record { first_plan = q.plan _ c.in-Some.is _ c.requires; covers = q.covers _ c.in-Some.is }
 
 pub first_plan-requires : goal.first_plan-requires
 first_plan-requires c =
@@ -22,4 +21,4 @@ first_plan-requires c =
     }
 
 pub returns : goal.returns
-returns c = let q = c.first_plan.ensures in record { first_plan = record { unmet = q.first_plan.unmet; done = first_again _ q.first_plan.done }; covers = q.covers_2 }
+returns c = let q = c.first_plan.ensures in record { first_plan = record { unmet = q.first_plan.unmet; done = first_again _ _ q.first_plan.done }; covers = q.covers_2 }

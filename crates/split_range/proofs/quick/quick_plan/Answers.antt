@@ -1,12 +1,11 @@
 -- `split_range::quick::quick_plan` meets its contract. Assumes nothing.
-use Rattle.std.proofs.Common.{ℕ, sym, true≢false}
+use Rattle.std.proofs.Common.{◌≡◌, ℕ}
 use lib.ListN.{length-replicate}
-use Rattle.slackcheck.proofs.Checking.{not_false}
 use Rattle.split_range.proofs.CheckedPlan.{checked_first}
 use Rattle.split_range.proofs.quick.quick_plan.Goals as goal
 
 pub returns-then-not-good : goal.returns-then-not-good
-returns-then-not-good c = record { plan = λ e. absurd (true≢false (sym e)); covers = λ e. absurd (true≢false (sym e)) }
+returns-then-not-good c = record { plan = λ y e. cc; covers = λ y e. cc }
 
 pub all_servers-requires : goal.all_servers-requires
 all_servers-requires c =
@@ -15,8 +14,8 @@ all_servers-requires c =
 pub returns : goal.returns
 returns c =
     record {
-      plan =
-          λ e run1 r. checked_first r c.first_split-split.ensures c.spoil_plan.ensures
-          c.simplex_at.ensures.1 (c.good.ensures c.if-not-good.false) _;
-      covers = λ e. c.all_servers.ensures;
+      plan = λ y e run1 r.
+          let same : c.first_split-split.result ≡ y = cc in
+          rw (← same) (checked_first r c.first_split-split.ensures c.spoil_plan.ensures c.simplex_at.ensures.1 (c.good.ensures c.if-not-good.false) _);
+      covers = λ y e. c.all_servers.ensures;
     }

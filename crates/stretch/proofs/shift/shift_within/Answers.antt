@@ -1,5 +1,4 @@
 -- `stretch::shift::shift_within` meets its contract. Assumes nothing.
-use mathlib.Core.Bool.{false}
 use native.Mathlib.Omega.{arith}
 use Rattle.augment.proofs.PathWalk.{pass_node, pass_prev, pass_able, pass_back, walked_none}
 use Rattle.augment.proofs.LaneMarks.{trail_node, trail_next, marks_back, marks_none}

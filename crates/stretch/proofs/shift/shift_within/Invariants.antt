@@ -18,7 +18,4 @@ pub record Going (prev : List ℕ) (amount count goal : ℕ) (cost cap x₀ serv
 
 abbrev pub invariant-loop-left : goal.invariant-loop-left
 invariant-loop-left l =
-    Going l.prev l.amount l.count l.goal l.cost l.cap l.initial.x l.initial.serves l.initial.ahead l.initial.columns l.x l.serves l.ahead l.columns l.v l.left
-
-abbrev pub decreases-loop-left : goal.decreases-loop-left
-decreases-loop-left l = l.left
+    Going l.prev l.amount l.count l.goal l.lanes.cost.now l.lanes.cap.now l.initial.x l.initial.serves l.initial.tables.ahead l.initial.tables.columns l.x l.serves l.tables.ahead l.tables.columns l.v l.left

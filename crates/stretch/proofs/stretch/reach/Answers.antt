@@ -8,4 +8,4 @@ search-requires c =
     let r = c.requires in record { search_ready = record { sound = r.shift_ready.plant_slack.sound; ceilings = r.shift_ready.plant_slack.ceilings; start = omega (arith, r.shift_ready.plant_slack.plants) }; wanted = r.wanted; covers = r.covers }
 
 pub returns : goal.returns
-returns c = let r = c.requires.shift_ready in reached_by r (c.search.ensures _ r.some)
+returns c = let r = c.requires.shift_ready in reached_by r (c.search.ensures.answered _ r.some)

@@ -11,7 +11,7 @@ reach-found-requires c = record { shift_ready = c.requires.shift_ready; wanted =
 
 pub measure-way-requires : goal.measure-way-requires
 measure-way-requires c =
-    route c.args.m c.args.n c.args.cost.now c.requires.shift_ready.plant_slack.sound.sources (omega arith) c.reach-found.ensures.searched
+    route c.args.lanes.now.m c.args.lanes.now.n c.args.lanes.now.cost.now c.requires.shift_ready.plant_slack.sound.sources (omega arith) c.reach-found.ensures.searched
 
 pub overflow_sub-gap : goal.overflow_sub-gap
 overflow_sub-gap c =
@@ -25,5 +25,5 @@ pub returns : goal.returns
 returns c =
     let q = c.reach-found.ensures.searched in
     let w = c.measure-way.ensures in
-    let r = route c.args.m c.args.n c.args.cost.now c.requires.shift_ready.plant_slack.sound.sources (omega arith) q in
-    search_taken (search_found c.requires.shift_ready q refl refl (w.arcs r) (w.width r)) c.lower.ensures q.long.prevs
+    let r = route c.args.lanes.now.m c.args.lanes.now.n c.args.lanes.now.cost.now c.requires.shift_ready.plant_slack.sound.sources (omega arith) q in
+    record { path_taken = search_taken (search_found c.requires.shift_ready q refl refl (w.arcs r) (w.width r)) c.lower.ensures q.long.prevs; same = (refl, refl) }

@@ -1,5 +1,5 @@
 -- `sweep::curve::climb` meets its contract. Assumes nothing.
-use Rattle.std.proofs.Common.{ℕ, ◌-◌, refl, ◌∙◌, arith}
+use Rattle.std.proofs.Common.{ℕ, refl, ◌∙◌, arith}
 use lib.ListN.{length-replicate}
 use Rattle.cuts.proofs.ByTerminal.{fill_start}
 use Rattle.sweep.proofs.ClimbState.{stand_start, start_most, stretch_ready, last_ready, stand_next, most, gain_most, loss_most}

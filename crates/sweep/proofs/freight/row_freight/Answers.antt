@@ -1,5 +1,5 @@
 -- `sweep::freight::row_freight` meets its contract. Assumes nothing.
-use Rattle.std.proofs.Common.{◌≡◌, ◌-◌, sym, arith}
+use Rattle.std.proofs.Common.{◌≡◌, sym, arith}
 use Rattle.transport.proofs.Sums.{sum_zero, sum_more}
 use Rattle.sweep.proofs.FreightSum.{lane_most, row_most}
 use Rattle.sweep.proofs.freight.row_freight.Goals as goal

@@ -1,6 +1,5 @@
 -- `validation::tests::all_bits` meets its contract. Assumes nothing.
 use mathlib.Core.Path.{◌≡◌}
-use Prim.Native.Nat.{◌-◌}
 use native.Mathlib.Omega.{arith}
 use Rattle.validation.proofs.NoneAbove.{above_start, above_bits}
 use Rattle.validation.proofs.tests.all_bits.Goals as goal

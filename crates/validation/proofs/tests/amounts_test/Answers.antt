@@ -1,42 +1,25 @@
 -- `validation::tests::amounts_test` meets its contract. Assumes nothing.
-use mathlib.Core.Path.{◌≡◌, sym, ap, ◌∙◌}
-use mathlib.Core.Option.{some, none}
+use mathlib.Core.Path.{sym}
 use native.Mathlib.Omega.{arith}
-use Rattle.problem.specs.inner.LentTests.{first_above}
-use Rattle.validation.specs.Verdict.{found}
 use Rattle.problem.proofs.TestParts.{amounts_supply, amounts_demand, amounts_pass, above_within}
 use Rattle.validation.proofs.tests.amounts_test.Goals as goal
 
-pub overflow_add-result : goal.overflow_add-result
-overflow_add-result c =
-    let at : first_above 4000 c.args.supplies.now ≡
-    some c.in-At.k = sym c.first_above.ensures ∙ ap found c.in-At.is in
-    omega (arith, above_within 4000 _ _ at)
+pub overflow_add-k : goal.overflow_add-k
+overflow_add-k c = omega (arith, above_within 4000 _ _ (sym c.in-Some.ensures))
 
-pub returns-in-At : goal.returns-in-At
-returns-in-At c =
-    let at : first_above 4000 c.args.supplies.now ≡
-    some c.in-At.k = sym c.first_above.ensures ∙ ap found c.in-At.is in
-    sym (amounts_supply _ _ _ at)
+pub returns-in-Some : goal.returns-in-Some
+returns-in-Some c = rw (c.at.ensures.cause, c.at.ensures.place) (sym (amounts_supply _ _ _ (sym c.in-Some.ensures)))
 
-pub overflow_add-result-in-At-first_above : goal.overflow_add-result-in-At-first_above
-overflow_add-result-in-At-first_above c =
-    let at : first_above 4000 c.args.demands.now ≡ some c.in-At-first_above.k = sym c.first_above-2.ensures ∙ ap found c.in-At-first_above.is in
-    omega (arith, above_within 4000 _ _ at)
+pub overflow_add-supplies : goal.overflow_add-supplies
+overflow_add-supplies c = omega (arith, above_within 4000 _ _ (sym c.in-Some-first_above.ensures))
 
-pub overflow_add-result-in-At-first_above-2 : goal.overflow_add-result-in-At-first_above-2
-overflow_add-result-in-At-first_above-2 c =
-    let at : first_above 4000 c.args.demands.now ≡ some c.in-At-first_above.k = sym c.first_above-2.ensures ∙ ap found c.in-At-first_above.is in
-    omega (arith, above_within 4000 _ _ at)
+pub overflow_add-supplies-in-Some-first_above : goal.overflow_add-supplies-in-Some-first_above
+overflow_add-supplies-in-Some-first_above c = omega (arith, above_within 4000 _ _ (sym c.in-Some-first_above.ensures))
 
-pub returns-in-At-first_above : goal.returns-in-At-first_above
-returns-in-At-first_above c =
-    let at : first_above 4000 c.args.demands.now ≡ some c.in-At-first_above.k = sym c.first_above-2.ensures ∙ ap found c.in-At-first_above.is in
-    let no : first_above 4000 c.args.supplies.now ≡ none = sym c.first_above.ensures ∙ ap found c.in_default.is in
-    sym (amounts_demand _ _ _ no at)
+pub returns-in-Some-first_above : goal.returns-in-Some-first_above
+returns-in-Some-first_above c =
+    let e = c.at-in-Some-first_above.ensures in
+    rw (e.cause, e.place) (sym (amounts_demand _ _ _ (sym c.in_default.ensures) (sym c.in-Some-first_above.ensures)))
 
 pub returns : goal.returns
-returns c =
-    let at : first_above 4000 c.args.demands.now ≡ none = sym c.first_above-2.ensures ∙ ap found c.in_default-first_above.is in
-    let no : first_above 4000 c.args.supplies.now ≡ none = sym c.first_above.ensures ∙ ap found c.in_default.is in
-    sym (amounts_pass _ _ no at)
+returns c = sym (amounts_pass _ _ (sym c.in_default.ensures) (sym c.in_default-first_above.ensures))

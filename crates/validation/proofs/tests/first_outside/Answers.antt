@@ -1,9 +1,8 @@
 -- `validation::tests::first_outside` meets its contract. Assumes nothing.
-use mathlib.Core.Path.{◌≡◌, ◌∙◌, ap, subst, sym}
-use Prim.Native.Nat.{ℕ, ◌+◌, ◌-◌, ◌≤◌, ◌<◌}
-use native.Mathlib.Nat.{zero-mul, suc-mul, not-suc-le-zero}
+use mathlib.Core.Path.{◌≡◌, ◌∙◌, ap, sym}
+use Prim.Native.Nat.{◌+◌, ◌≤◌}
+use native.Mathlib.Nat.{zero-mul, suc-mul}
 use native.Mathlib.Numerals.{add-one}
-use mathlib.Core.Bool.{false}
 use lib.IntN.{pos}
 use native.Mathlib.Omega.{arith}
 use lib.ListN.{length, get_or, length-take, length-drop}
@@ -19,10 +18,10 @@ use Rattle.validation.proofs.tests.first_outside.Goals as goal
 row_fits : (c : In-loop-i) → c.loop-i.start + c.args.n ≤ length c.args.costs.now
 row_fits c =
     row_end c.args.m c.args.n c.loop-i.i c.loop-i.start _
-    c.loop-i-test.true c.loop-i.invariant.1 c.requires
+    c.loop-i-test.true c.loop-i.invariant.0 c.requires
 
 pub loop-i-init : goal.loop-i-init
-loop-i-init c = (omega arith, omega (arith, zero-mul c.args.n), λ k h. absurd (not-suc-le-zero (subst (λ (s : ℕ). k < s) c.lanes.invariant h)))
+loop-i-init c = (omega (arith, zero-mul c.args.n), λ k h. absurd (omega arith))
 
 pub overflow_add-end : goal.overflow_add-end
 overflow_add-end c = omega (arith, row_fits (goal.at.overflow_add-end c).In-loop-i)
@@ -34,7 +33,7 @@ pub slice_bounds-row-end : goal.slice_bounds-row-end
 slice_bounds-row-end c = omega (arith, row_fits (goal.at.slice_bounds-row-end c).In-loop-i)
 
 pub loop-j-init : goal.loop-j-init
-loop-j-init c = (omega arith, λ k h. c.loop-i.invariant.2 k (omega arith))
+loop-j-init c = λ k h. c.loop-i.invariant.1 k (omega arith)
 
 pub offset_bounds-row-j : goal.offset_bounds-row-j
 offset_bounds-row-j c = omega (arith, row_fits (goal.at.offset_bounds-row-j c).In-loop-i)
@@ -50,17 +49,16 @@ lane : (c : After-out_of_range)
 lane c =
     c.out_of_range.ensures ∙ ap outside (read_back _ c.out_of_range-arg-1.given ∙ rate_at _ _ _ _ c.loop-j-test.true)
 
-pub overflow_add-lane : goal.overflow_add-lane
-overflow_add-lane c = omega (arith, row_fits (goal.at.overflow_add-lane c).In-loop-i)
+pub overflow_add-result : goal.overflow_add-result
+overflow_add-result c = omega (arith, row_fits (goal.at.overflow_add-result c).In-loop-i)
 
 pub loop-j-preserved : goal.loop-j-preserved
-loop-j-preserved c = (omega arith, more _ _ _ c.loop-j.invariant.1 (sym (lane (goal.at.loop-j-preserved c).After-out_of_range) ∙ c.if-out_of_range.false))
+loop-j-preserved c = more _ _ _ c.loop-j.invariant (sym (lane (goal.at.loop-j-preserved c).After-out_of_range) ∙ c.if-out_of_range.false)
 
 pub loop-i-preserved : goal.loop-i-preserved
 loop-i-preserved c = (
-  omega arith,
   omega (arith, suc-mul c.loop-i.i c.args.n, add-one c.loop-i.i),
-  λ k h. c.loop-j.invariant.1 k (omega arith),
+  λ k h. c.loop-j.invariant k (omega arith),
 )
 
 pub returns-then-out_of_range : goal.returns-then-out_of_range
@@ -68,10 +66,10 @@ returns-then-out_of_range c =
     sym
     (outside_some _ (c.loop-i.start + c.loop-j.j)
     (omega (arith, row_fits (goal.at.returns-then-out_of_range c).In-loop-i))
-    c.loop-j.invariant.1
+    c.loop-j.invariant
     (sym (lane (goal.at.returns-then-out_of_range c).After-out_of_range) ∙ c.if-out_of_range.true))
 
 pub returns-after-loop-i : goal.returns-after-loop-i
 returns-after-loop-i c =
-    let all = rows_end c.args.m _ c.loop-i.i _ _ c.loop-i-test.false c.loop-i.invariant.1 c.requires
-    in sym (outside_none _ (λ k h. c.loop-i.invariant.2 k (omega arith)))
+    let all = rows_end c.args.m _ c.loop-i.i _ _ c.loop-i-test.false c.loop-i.invariant.0 c.requires
+    in sym (outside_none _ (λ k h. c.loop-i.invariant.1 k (omega arith)))

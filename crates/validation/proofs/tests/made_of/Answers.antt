@@ -30,8 +30,8 @@ small c =
       omega (arith, p.run2, p.supplies 1 (omega (arith, p.two))),
     )
 
-pub sum_of-stock-requires : goal.sum_of-stock-requires
-sum_of-stock-requires c = record { few = let z = depots_length c.args.supplies.now c.requires.two in omega (arith, c.requires.sources); small = depots_most c.args.supplies.now c.requires.two c.requires.supplies }
+pub sum_of-stock-requires-clause-small : goal.sum_of-stock-requires-clause-small
+sum_of-stock-requires-clause-small c = depots_most c.args.supplies.now c.requires.two c.requires.supplies
 
 pub overflow_add-stock : goal.overflow_add-stock
 overflow_add-stock c = omega (arith, small (goal.at.overflow_add-stock c).After-sum_of-stock)
@@ -43,19 +43,12 @@ pub returns-then-all-stock : goal.returns-then-all-stock
 returns-then-all-stock c =
     sym (made_below c.args.run1 c.args.run2 c.args.supplies.now c.args.demands.now _ _ c.sum_of-all.ensures (stock_is (goal.at.returns-then-all-stock c).After-sum_of-stock) c.if-all-stock.true)
 
-pub overflow_sub-made : goal.overflow_sub-made
-overflow_sub-made c = omega arith
-
-pub overflow_add-first : goal.overflow_add-first
-overflow_add-first c =
-    omega (arith, c.requires.supplies 0 (omega (arith, c.requires.two)), c.requires.supplies 1 (omega (arith, c.requires.two)))
-
-pub returns-then-first-second : goal.returns-then-first-second
-returns-then-first-second c =
+pub returns-then-supplies-made : goal.returns-then-supplies-made
+returns-then-supplies-made c =
     sym (made_above c.args.run1 c.args.run2 c.args.supplies.now c.args.demands.now _ _
-    c.sum_of-all.ensures (stock_is (goal.at.returns-then-first-second c).After-sum_of-stock) c.if-all-stock.false c.if-first-second.true)
+    c.sum_of-all.ensures (stock_is (goal.at.returns-then-supplies-made c).After-sum_of-stock) c.if-all-stock.false c.if-supplies-made.true)
 
 pub returns : goal.returns
 returns c =
     sym (made_drums c.args.run1 c.args.run2 c.args.supplies.now c.args.demands.now _ _
-    c.sum_of-all.ensures (stock_is (goal.at.returns c).After-sum_of-stock) c.if-all-stock.false c.if-first-second.false)
+    c.sum_of-all.ensures (stock_is (goal.at.returns c).After-sum_of-stock) c.if-all-stock.false c.if-supplies-made.false)

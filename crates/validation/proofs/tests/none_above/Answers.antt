@@ -1,7 +1,5 @@
 -- `validation::tests::none_above` meets its contract. Assumes nothing.
-use Prim.Native.Nat.{◌-◌}
 use native.Mathlib.Omega.{arith}
-use borrow.Author.Tests.{not-false}
 use Rattle.validation.proofs.NoneAbove.{above_joined}
 use Rattle.validation.proofs.tests.none_above.Goals as goal
 

@@ -13,11 +13,11 @@ unfolding outside
 returns-then-cost-ltminus1000000 c =
     let x = c.args.cost in
     let q : lt_z x (neg_ℤ (pos 1000000)) ≡ true = ap (λ (z : ℤ). lt_z z (neg_ℤ (pos 1000000))) (sym (to_z-of_z w64 x c.ranges.cost)) ∙ c.if-cost-ltminus1000000.true in
-    sym (ap (λ (t : Bool). t || lt_z (pos 1000000) x) q)
+    c.if-cost-ltminus1000000.true ∙ sym (ap (λ (t : Bool). t || lt_z (pos 1000000) x) q)
 
-pub returns : goal.returns
+pub returns-else-cost-ltminus1000000 : goal.returns-else-cost-ltminus1000000
 unfolding outside
-returns c =
+returns-else-cost-ltminus1000000 c =
     let x = c.args.cost in
     let b = to_z-of_z w64 x c.ranges.cost in
     let q : lt_z x (neg_ℤ (pos 1000000)) ≡ false = ap (λ (z : ℤ). lt_z z (neg_ℤ (pos 1000000))) (sym b) ∙ c.if-cost-ltminus1000000.false in

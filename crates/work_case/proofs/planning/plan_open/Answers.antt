@@ -50,88 +50,88 @@ costs_of-costs-requires c =
       c.requires.few,
       c.requires.many,
       few_entries c.args.store.now,
-      lanes_long c.args.m c.args.n c.args.store.now c.requires _ _ _ _ _ c.demands_at-a.ensures
+      lanes_long c.args.layout.m c.args.layout.n c.args.store.now c.requires _ _ _ _ _ c.demands_at-a.ensures
           c.costs_at-b.ensures c.ceilings_at-c.ensures c.table_at-d.ensures c.entries.ensures,
     )
 
-pub slice_bounds-plan-count : goal.slice_bounds-plan-count
-slice_bounds-plan-count c =
+pub slice_bounds-case-count : goal.slice_bounds-case-count
+slice_bounds-case-count c =
     omega (arith, front_room _ _ _ c.requires, front_lanes _ _ _ c.requires, few_entries c.args.store.now)
 
-pub slice_bounds-plan-start : goal.slice_bounds-plan-start
-slice_bounds-plan-start c =
+pub slice_bounds-case-start : goal.slice_bounds-case-start
+slice_bounds-case-start c =
     omega (arith, front_room _ _ _ c.requires, front_lanes _ _ _ c.requires, few_entries c.args.store.now, c)
 
-pub slice_bounds-plan-end : goal.slice_bounds-plan-end
-slice_bounds-plan-end c =
+pub slice_bounds-case-end : goal.slice_bounds-case-end
+slice_bounds-case-end c =
     omega (arith, front_room _ _ _ c.requires, front_lanes _ _ _ c.requires, few_entries c.args.store.now, c)
 
 pub offset_bounds-store-s : goal.offset_bounds-store-s
 offset_bounds-store-s c =
     omega (arith, front_room _ _ _ c.requires, front_lanes _ _ _ c.requires, few_entries c.args.store.now, c)
 
-pub slice_bounds-plan-count-2 : goal.slice_bounds-plan-count-2
-slice_bounds-plan-count-2 c =
+pub slice_bounds-case-count-2 : goal.slice_bounds-case-count-2
+slice_bounds-case-count-2 c =
     omega (arith, front_room _ _ _ c.requires, front_lanes _ _ _ c.requires, few_entries c.args.store.now, c)
 
-pub slice_bounds-plan-start-2 : goal.slice_bounds-plan-start-2
-slice_bounds-plan-start-2 c =
+pub slice_bounds-case-start-2 : goal.slice_bounds-case-start-2
+slice_bounds-case-start-2 c =
     omega (arith, front_room _ _ _ c.requires, front_lanes _ _ _ c.requires, few_entries c.args.store.now, c)
 
-pub slice_bounds-plan-end-2 : goal.slice_bounds-plan-end-2
-slice_bounds-plan-end-2 c =
+pub slice_bounds-case-end-2 : goal.slice_bounds-case-end-2
+slice_bounds-case-end-2 c =
     omega (arith, front_room _ _ _ c.requires, front_lanes _ _ _ c.requires, few_entries c.args.store.now, c)
 
 pub offset_bounds-store-a : goal.offset_bounds-store-a
 offset_bounds-store-a c =
     omega (arith, front_room _ _ _ c.requires, front_lanes _ _ _ c.requires, few_entries c.args.store.now, c)
 
-pub slice_bounds-plan-count-3 : goal.slice_bounds-plan-count-3
-slice_bounds-plan-count-3 c =
+pub slice_bounds-case-count-3 : goal.slice_bounds-case-count-3
+slice_bounds-case-count-3 c =
     omega (arith, front_room _ _ _ c.requires, front_lanes _ _ _ c.requires, few_entries c.args.store.now, c)
 
-pub slice_bounds-plan-start-3 : goal.slice_bounds-plan-start-3
-slice_bounds-plan-start-3 c =
+pub slice_bounds-case-start-3 : goal.slice_bounds-case-start-3
+slice_bounds-case-start-3 c =
     omega (arith, front_room _ _ _ c.requires, front_lanes _ _ _ c.requires, few_entries c.args.store.now, c)
 
-pub slice_bounds-plan-end-3 : goal.slice_bounds-plan-end-3
-slice_bounds-plan-end-3 c =
+pub slice_bounds-case-end-3 : goal.slice_bounds-case-end-3
+slice_bounds-case-end-3 c =
     omega (arith, front_room _ _ _ c.requires, front_lanes _ _ _ c.requires, few_entries c.args.store.now, c)
 
 pub offset_bounds-store-c : goal.offset_bounds-store-c
 offset_bounds-store-c c =
     omega (arith, front_room _ _ _ c.requires, front_lanes _ _ _ c.requires, few_entries c.args.store.now, c)
 
-pub slice_bounds-plan-count-4 : goal.slice_bounds-plan-count-4
-slice_bounds-plan-count-4 c =
+pub slice_bounds-case-count-4 : goal.slice_bounds-case-count-4
+slice_bounds-case-count-4 c =
     omega (arith, front_room _ _ _ c.requires, front_lanes _ _ _ c.requires, few_entries c.args.store.now, c)
 
-pub slice_bounds-plan-start-4 : goal.slice_bounds-plan-start-4
-slice_bounds-plan-start-4 c =
+pub slice_bounds-case-start-4 : goal.slice_bounds-case-start-4
+slice_bounds-case-start-4 c =
     omega (arith, front_room _ _ _ c.requires, front_lanes _ _ _ c.requires, few_entries c.args.store.now, c)
 
-pub slice_bounds-plan-end-4 : goal.slice_bounds-plan-end-4
-slice_bounds-plan-end-4 c =
+pub slice_bounds-case-end-4 : goal.slice_bounds-case-end-4
+slice_bounds-case-end-4 c =
     omega (arith, front_room _ _ _ c.requires, front_lanes _ _ _ c.requires, few_entries c.args.store.now, c)
 
 pub offset_bounds-store-d : goal.offset_bounds-store-d
 offset_bounds-store-d c =
     omega (arith, front_room _ _ _ c.requires, front_lanes _ _ _ c.requires, few_entries c.args.store.now, c)
 
-pub slice_bounds-plan-count-5 : goal.slice_bounds-plan-count-5
-slice_bounds-plan-count-5 c =
+pub slice_bounds-case-count-5 : goal.slice_bounds-case-count-5
+slice_bounds-case-count-5 c =
     omega (arith, front_room _ _ _ c.requires, front_lanes _ _ _ c.requires, few_entries c.args.store.now, c)
 
-pub slice_bounds-plan-start-5 : goal.slice_bounds-plan-start-5
-slice_bounds-plan-start-5 c =
+pub slice_bounds-case-start-5 : goal.slice_bounds-case-start-5
+slice_bounds-case-start-5 c =
     omega (arith, front_room _ _ _ c.requires, front_lanes _ _ _ c.requires, few_entries c.args.store.now, c)
 
-pub slice_bounds-plan-end-5 : goal.slice_bounds-plan-end-5
-slice_bounds-plan-end-5 c =
+pub slice_bounds-case-end-5 : goal.slice_bounds-case-end-5
+slice_bounds-case-end-5 c =
     omega (arith, front_room _ _ _ c.requires, front_lanes _ _ _ c.requires, few_entries c.args.store.now, c)
 
 pub returns : goal.returns
 returns c =
-    planned_cells c.args.m c.args.n c.args.store.now c.requires _ _ _ _ _ c.demands_at-a.ensures
+    planned_cells c.args.layout.m c.args.layout.n c.args.store.now c.requires _ _ _ _ _ c.demands_at-a.ensures
     c.costs_at-b.ensures c.ceilings_at-c.ensures c.table_at-d.ensures c.entries.ensures _ _ _ _ _ _ _
     _ refl c.costs_of-costs.ensures.1 c.plan.ensures

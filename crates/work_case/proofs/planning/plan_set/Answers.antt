@@ -2,6 +2,7 @@
 use mathlib.Core.Path.{◌≡◌, sym, ap, ◌∙◌, subst}
 use mathlib.Core.List.{List}
 use Prim.Native.Nat.{ℕ, ◌-◌, ◌*◌, ◌≤◌}
+use mathlib.Core.Logic.{inl, inr}
 use native.Mathlib.Omega.{arith}
 use lib.ListN.{length, take, drop, length-drop}
 use lib.Seq.{take_all}
@@ -29,44 +30,44 @@ fits : (m n k w : ℕ) (cells : List ℕ) → Open m n cells → k ≤ 8 → w �
 fits m n k w cells o h e = subst (Front m n) (sym (after k w cells ∙ ap (λ (x : ℕ). drop (k * x) cells) e)) (slot_fits m n cells o k h)
 
 pub returns-then-k-lt1 : goal.returns-then-k-lt1
-returns-then-k-lt1 c = refused_before _ _ _ _ _ _ _ _ (back_24 _ _ (out_low _ _ c.if-k-lt1.true))
-
-pub returns-then-k-gt8 : goal.returns-then-k-gt8
-returns-then-k-gt8 c = refused_before _ _ _ _ _ _ _ _ (back_24 _ _ (out_high _ _ c.if-k-gt8.true))
+returns-then-k-lt1 c =
+    rw (c.at.ensures.cause, c.at.ensures.place)
+    (refused_before _ _ _ _ _ _ _ _ (elim c.then-k-lt1.either [ inl h ↦ back_24 _ _ (out_low _ _ h) | inr h ↦ back_24 _ _ (out_high _ _ h.1) ]))
 
 pub bounds-store-k : goal.bounds-store-k
 bounds-store-k c =
-    omega (arith, c.requires.room, large c.args.m c.args.n, c.if-k-gt8.false)
+    omega (arith, c.requires.room, large c.args.layout.m c.args.layout.n, c.if-k-gt8.false)
 
-pub returns-then-set-eq0 : goal.returns-then-set-eq0
-returns-then-set-eq0 c =
+pub returns-then-store-k-eq0 : goal.returns-then-store-k-eq0
+returns-then-store-k-eq0 c =
     let i = within _ _ c.if-k-lt1.false c.if-k-gt8.false in
-    refused_before _ _ _ _ _ _ _ _ (back_25 _ _ i (flag_unset _ _ _ _ i c.if-set-eq0.true))
+    let e = c.at-then-store-k-eq0.ensures in
+    rw (e.cause, e.place) (refused_before _ _ _ _ _ _ _ _ (back_25 _ _ i (flag_unset _ _ _ _ i c.if-store-k-eq0.true)))
 
 pub overflow_mul-at : goal.overflow_mul-at
 overflow_mul-at c =
-    omega (arith, small c.args.m c.args.n c.args.k c.slot_width.result _ c.requires c.if-k-gt8.false c.slot_width.ensures)
+    omega (arith, small c.args.layout.m c.args.layout.n c.args.k c.slot_width.result _ c.requires c.if-k-gt8.false c.slot_width.ensures)
 
 pub offset_bounds-store-at : goal.offset_bounds-store-at
 offset_bounds-store-at c =
-    omega (arith, small c.args.m c.args.n c.args.k c.slot_width.result _ c.requires c.if-k-gt8.false c.slot_width.ensures)
+    omega (arith, small c.args.layout.m c.args.layout.n c.args.k c.slot_width.result _ c.requires c.if-k-gt8.false c.slot_width.ensures)
 
 pub slice_bounds-plan_open-count : goal.slice_bounds-plan_open-count
 slice_bounds-plan_open-count c =
-    inside c.args.m c.args.n c.args.k c.slot_width.result _ c.requires c.if-k-gt8.false c.slot_width.ensures
+    inside c.args.layout.m c.args.layout.n c.args.k c.slot_width.result _ c.requires c.if-k-gt8.false c.slot_width.ensures
 
 pub slice_bounds-plan_open-start : goal.slice_bounds-plan_open-start
 slice_bounds-plan_open-start c =
-    inside c.args.m c.args.n c.args.k c.slot_width.result _ c.requires c.if-k-gt8.false c.slot_width.ensures
+    inside c.args.layout.m c.args.layout.n c.args.k c.slot_width.result _ c.requires c.if-k-gt8.false c.slot_width.ensures
 
 pub plan_open-requires : goal.plan_open-requires
 plan_open-requires c =
-    fits c.args.m c.args.n c.args.k c.slot_width.result c.args.store.now c.requires c.if-k-gt8.false c.slot_width.ensures
+    fits c.args.layout.m c.args.layout.n c.args.k c.slot_width.result c.args.store.now c.requires c.if-k-gt8.false c.slot_width.ensures
 
 pub returns : goal.returns
 returns c =
     let w = c.slot_width in
     let i = within _ _ c.if-k-lt1.false c.if-k-gt8.false in
-    mark_planned c.args.m c.args.n c.args.k c.args.store.now _ _ _ w.result _ _ _ _ w.ensures
-    (after c.args.k w.result c.args.store.now) (back_none _ _ i (flag_set _ _ _ _ i c.if-set-eq0.false))
-    (flag_set _ _ _ _ i c.if-set-eq0.false) c.plan_open.ensures
+    mark_planned c.args.layout.m c.args.layout.n c.args.k c.args.store.now _ _ _ w.result _ _ _ _ w.ensures
+    (after c.args.k w.result c.args.store.now) (back_none _ _ i (flag_set _ _ _ _ i c.if-store-k-eq0.false))
+    (flag_set _ _ _ _ i c.if-store-k-eq0.false) c.plan_open.ensures

@@ -15,7 +15,7 @@ overflow_add-e c =
     omega (arith, room_0 _ _ _ c.requires, lanes_few _ _ _ c.requires, few_entries c.args.store.now)
 
 pub returns-then-table-count : goal.returns-then-table-count
-returns-then-table-count c = record { told = short_table c.args.m c.args.n c.args.store.now c.requires _ _ c.entries-count.ensures c.table_at-d.ensures _ c.if-table-count.true; table = refl }
+returns-then-table-count c = record { told = rw (c.at.ensures.cause, c.at.ensures.place) (short_table c.args.layout.m c.args.layout.n c.args.store.now c.requires _ _ c.entries-count.ensures c.table_at-d.ensures _ c.if-table-count.true); table = refl }
 
 pub offset_bounds-store-d : goal.offset_bounds-store-d
 offset_bounds-store-d c =
@@ -57,7 +57,7 @@ put_cells-requires c =
 
 pub returns : goal.returns
 returns c = record {
-  told = long_table c.args.m c.args.n c.args.store.now c.requires _ _ c.entries-count.ensures c.table_at-d.ensures _ c.if-table-count.false;
-  table = table_shown c.args.m c.args.n c.args.store.now c.requires _ _ c.entries-count.ensures
+  told = long_table c.args.layout.m c.args.layout.n c.args.store.now c.requires _ _ c.entries-count.ensures c.table_at-d.ensures _ c.if-table-count.false;
+  table = table_shown c.args.layout.m c.args.layout.n c.args.store.now c.requires _ _ c.entries-count.ensures
       c.table_at-d.ensures _ _ c.put_cells.ensures;
 }

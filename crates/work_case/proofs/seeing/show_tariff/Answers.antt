@@ -1,24 +1,28 @@
 -- `work_case::seeing::show_tariff` meets its contract. Assumes nothing.
 use mathlib.Core.Path.{refl}
 use Prim.Native.Nat.{◌-◌}
+use mathlib.Core.Logic.{inl, inr}
 use native.Mathlib.Omega.{arith}
 use Rattle.work_store.proofs.ListParts.{part_length}
 use Rattle.work_store.proofs.CaseCells.{room_0, lanes_few}
 use Rattle.work_store.proofs.SeeLaws.{short_costs, short_supplies, short_demands, long_enough, costs_shown, supplies_shown, demands_shown}
 use Rattle.work_case.proofs.seeing.show_tariff.Goals as goal
 
-pub overflow_mul-m : goal.overflow_mul-m
-overflow_mul-m c =
+pub overflow_mul-lanes : goal.overflow_mul-lanes
+overflow_mul-lanes c =
     omega (arith, room_0 _ _ _ c.requires, lanes_few _ _ _ c.requires)
 
-pub returns-then-costs-m : goal.returns-then-costs-m
-returns-then-costs-m c = record { told = short_costs c.args.m c.args.n c.args.store.now c.requires _ _ _ c.if-costs-m.true; costs = refl; supplies = refl; demands = refl }
-
-pub returns-then-supplies-m : goal.returns-then-supplies-m
-returns-then-supplies-m c = record { told = short_supplies c.args.m c.args.n c.args.store.now c.requires _ _ _ c.if-supplies-m.true; costs = refl; supplies = refl; demands = refl }
-
-pub returns-then-demands-n : goal.returns-then-demands-n
-returns-then-demands-n c = record { told = short_demands c.args.m c.args.n c.args.store.now c.requires _ _ _ c.if-demands-n.true; costs = refl; supplies = refl; demands = refl }
+pub returns-then-costs-lanes : goal.returns-then-costs-lanes
+returns-then-costs-lanes c = record {
+  told = rw (c.at.ensures.cause, c.at.ensures.place) (elim c.then-costs-lanes.either [
+    | inl h ↦ short_costs c.args.layout.m c.args.layout.n c.args.store.now c.requires _ _ _ h
+    | inr (inl h) ↦ short_supplies c.args.layout.m c.args.layout.n c.args.store.now c.requires _ _ _ h.1
+    | inr (inr h) ↦ short_demands c.args.layout.m c.args.layout.n c.args.store.now c.requires _ _ _ h.2
+  ]);
+  costs = refl;
+  supplies = refl;
+  demands = refl;
+}
 
 pub offset_bounds-store-b : goal.offset_bounds-store-b
 offset_bounds-store-b c =
@@ -103,11 +107,11 @@ put_cells-requires-2 c =
 
 pub returns : goal.returns
 returns c = record {
-  told = long_enough c.args.m c.args.n c.args.store.now c.requires _ _ _ c.if-costs-m.false c.if-supplies-m.false c.if-demands-n.false;
-  costs = costs_shown c.args.m c.args.n c.args.store.now c.requires _ _ _ c.demands_at-a.ensures
+  told = long_enough c.args.layout.m c.args.layout.n c.args.store.now c.requires _ _ _ c.if-costs-lanes.false c.if-supplies-layout.false c.if-demands-layout.false;
+  costs = costs_shown c.args.layout.m c.args.layout.n c.args.store.now c.requires _ _ _ c.demands_at-a.ensures
       c.costs_at-b.ensures c.ceilings_at-c.ensures _ _ c.lower_cells.ensures;
-  supplies = supplies_shown c.args.m c.args.n c.args.store.now c.requires _ _ _ c.demands_at-a.ensures
+  supplies = supplies_shown c.args.layout.m c.args.layout.n c.args.store.now c.requires _ _ _ c.demands_at-a.ensures
       c.costs_at-b.ensures c.ceilings_at-c.ensures _ _ c.put_cells.ensures;
-  demands = demands_shown c.args.m c.args.n c.args.store.now c.requires _ _ _ c.demands_at-a.ensures
+  demands = demands_shown c.args.layout.m c.args.layout.n c.args.store.now c.requires _ _ _ c.demands_at-a.ensures
       c.costs_at-b.ensures c.ceilings_at-c.ensures _ _ c.put_cells-2.ensures;
 }

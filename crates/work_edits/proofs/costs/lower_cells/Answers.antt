@@ -7,33 +7,21 @@ use Rattle.work_store.proofs.CostLaws.{lower_next, lower_fits, lower_end}
 use Rattle.work_edits.proofs.costs.lower_cells.Goals as goal
 
 pub loop-k-init : goal.loop-k-init
-loop-k-init c = (filling_start _ _ _ (lower_fits c.args.source.now _ c.requires), omega arith)
-
-pub offset_bounds-source-k : goal.offset_bounds-source-k
-offset_bounds-source-k c = omega arith
-
-pub bounds-source-k : goal.bounds-source-k
-bounds-source-k c = omega arith
+loop-k-init c = filling_start _ _ _ (lower_fits c.args.source.now _ c.requires)
 
 pub offset_bounds-to-k : goal.offset_bounds-to-k
 offset_bounds-to-k c = omega arith
 
 pub bounds-to-k : goal.bounds-to-k
 bounds-to-k c =
-    omega (arith, c.requires, filling_length _ _ _ (lower_fits c.args.source.now _ c.requires) _ _ c.loop-k.invariant.0)
-
-pub overflow_add-k : goal.overflow_add-k
-overflow_add-k c = omega arith
-
-pub loop-k-smaller : goal.loop-k-smaller
-loop-k-smaller c = omega arith
+    omega (arith, c.requires, filling_length _ _ _ (lower_fits c.args.source.now _ c.requires) _ _ c.loop-k.invariant)
 
 pub loop-k-preserved : goal.loop-k-preserved
 loop-k-preserved c =
-    (lower_next c.args.source.now _ _ _ _ c.loop-k.invariant.0 c.requires c.loop-k-test.true (read_back _ c.cost_in.type_inv ∙ c.cost_in.ensures), omega arith)
+    lower_next c.args.source.now _ _ _ _ c.loop-k.invariant c.requires c.loop-k-test.true (read_back _ c.cost_in.type_inv ∙ c.cost_in.ensures)
 
 pub shape_of-to : goal.shape_of-to
-shape_of-to c = filling_length _ _ _ (lower_fits c.args.source.now _ c.requires) _ _ c.loop-k.invariant.0
+shape_of-to c = filling_length _ _ _ (lower_fits c.args.source.now _ c.requires) _ _ c.loop-k.invariant
 
 pub returns : goal.returns
-returns c = lower_end c.args.source.now _ _ _ c.loop-k.invariant.0 c.requires c.loop-k-test.false
+returns c = lower_end c.args.source.now _ _ _ c.loop-k.invariant c.requires c.loop-k-test.false

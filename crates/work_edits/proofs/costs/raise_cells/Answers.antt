@@ -9,13 +9,7 @@ use Rattle.work_store.proofs.CostLaws.{raise_next, raise_fits}
 use Rattle.work_edits.proofs.costs.raise_cells.Goals as goal
 
 pub loop-k-init : goal.loop-k-init
-loop-k-init c = (filling_start _ _ _ (raise_fits c.args.source.now _ _ c.requires.0), omega arith)
-
-pub offset_bounds-source-k : goal.offset_bounds-source-k
-offset_bounds-source-k c = omega arith
-
-pub bounds-source-k : goal.bounds-source-k
-bounds-source-k c = omega arith
+loop-k-init c = filling_start _ _ _ (raise_fits c.args.source.now _ _ c.requires.0)
 
 pub raised-requires : goal.raised-requires
 raised-requires c = ap outside (read_back _ c.raised-arg-1.given) ∙ c.requires.1 _ c.loop-k-test.true
@@ -28,24 +22,16 @@ offset_bounds-store-at c = omega (arith, c.requires.0)
 
 pub bounds-store-at : goal.bounds-store-at
 bounds-store-at c =
-    omega (arith, c.requires.0, filling_length _ _ _ (raise_fits c.args.source.now _ _ c.requires.0) _ _ c.loop-k.invariant.0)
-
-pub overflow_add-k : goal.overflow_add-k
-overflow_add-k c = omega arith
-
-pub loop-k-smaller : goal.loop-k-smaller
-loop-k-smaller c = omega arith
+    omega (arith, c.requires.0, filling_length _ _ _ (raise_fits c.args.source.now _ _ c.requires.0) _ _ c.loop-k.invariant)
 
 pub loop-k-preserved : goal.loop-k-preserved
-loop-k-preserved c = (
-  raise_next c.args.source.now _ _ _ _ _ c.loop-k.invariant.0 c.requires.0 c.loop-k-test.true
-      (c.raised.ensures ∙ ap raised_of (read_back _ c.raised-arg-1.given)),
-  omega arith,
-)
+loop-k-preserved c =
+    raise_next c.args.source.now _ _ _ _ _ c.loop-k.invariant c.requires.0 c.loop-k-test.true
+    (c.raised.ensures ∙ ap raised_of (read_back _ c.raised-arg-1.given))
 
 pub shape_of-store : goal.shape_of-store
-shape_of-store c = filling_length _ _ _ (raise_fits c.args.source.now _ _ c.requires.0) _ _ c.loop-k.invariant.0
+shape_of-store c = filling_length _ _ _ (raise_fits c.args.source.now _ _ c.requires.0) _ _ c.loop-k.invariant
 
 pub returns : goal.returns
 returns c =
-    filling_end _ _ _ (raise_fits c.args.source.now _ _ c.requires.0) _ _ c.loop-k.invariant.0 (omega (arith, length-map c.args.source.now raised_of, c.loop-k-test.false))
+    filling_end _ _ _ (raise_fits c.args.source.now _ _ c.requires.0) _ _ c.loop-k.invariant (omega (arith, length-map c.args.source.now raised_of, c.loop-k-test.false))

@@ -12,6 +12,6 @@ unfolding run_in
 returns-then-i-eq2 c =
     simp (ne_eqb c.args.i 1 c.if-i-eq1.false, eq-eqb c.args.i 2 c.if-i-eq2.true)
 
-pub returns : goal.returns
+pub returns-else-i-eq2 : goal.returns-else-i-eq2
 unfolding run_in
-returns c = simp (ne_eqb c.args.i 1 c.if-i-eq1.false, ne_eqb c.args.i 2 c.if-i-eq2.false)
+returns-else-i-eq2 c = simp (ne_eqb c.args.i 1 c.if-i-eq1.false, ne_eqb c.args.i 2 c.if-i-eq2.false)

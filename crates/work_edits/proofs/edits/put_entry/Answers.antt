@@ -11,7 +11,8 @@ pub entries-count-requires : goal.entries-count-requires
 entries-count-requires c = omega (arith, room_0 _ _ _ c.requires, lanes_few _ _ _ c.requires, c.requires.few, c.requires.many)
 
 pub returns-then-count-y : goal.returns-then-count-y
-returns-then-count-y c = refuses _ _ _ _ _ (entry_24 _ _ _ c.requires _ _ _ c.entries-count.ensures c.if-count-y.true)
+returns-then-count-y c =
+    rw (c.at.ensures.cause, c.at.ensures.place) (refuses _ _ _ _ _ (entry_24 _ _ _ c.requires _ _ _ c.entries-count.ensures c.if-count-y.true))
 
 pub overflow_add-at : goal.overflow_add-at
 overflow_add-at c =
@@ -29,4 +30,4 @@ pub returns : goal.returns
 unfolding writes
 returns c =
     works _ _ _ _ _ (entry_none _ _ _ c.requires _ _ _ c.entries-count.ensures c.if-count-y.false)
-    (placed c.args.store.now c.table_at.result c.args.y (table_at c.args.m c.args.n) _ c.table_at.ensures)
+    (placed c.args.store.now c.table_at.result c.args.y (table_at c.args.layout.m c.args.layout.n) _ c.table_at.ensures)

@@ -22,4 +22,4 @@ bounds-store-13 c =
 
 pub returns : goal.returns
 returns c =
-    first_set _ _ _ _ _ _ _ _ c.zero_cells.ensures c.table_at-at.ensures c.entries-old.ensures c.excess.ensures
+    first_set _ _ _ _ _ _ _ _ c.zero_cells.ensures c.table_at-at.ensures c.entries-old.ensures c.saturating_sub.ensures

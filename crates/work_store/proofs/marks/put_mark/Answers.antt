@@ -1,6 +1,6 @@
 -- `work_store::marks::put_mark` meets its contract. Assumes nothing.
 use mathlib.Core.Path.{ap}
-use mathlib.Core.Logic.{inl}
+use mathlib.Core.Logic.{inl, inr}
 use mathlib.Core.List.{List}
 use Prim.Native.Nat.{ℕ, ◌+◌}
 use native.Mathlib.Omega.{arith}
@@ -10,24 +10,17 @@ use Rattle.work_store.proofs.StateAfterWrites.{within, large}
 use Rattle.work_store.proofs.CallRefusals.{refuses, works, out_low, out_high, mark_24, mark_none}
 use Rattle.work_store.proofs.marks.put_mark.Goals as goal
 
--- src/marks.rt:56:9
 pub returns-then-k-lt1 : goal.returns-then-k-lt1
-returns-then-k-lt1 c = refuses _ _ _ _ _ (mark_24 _ _ (out_low _ _ c.if-k-lt1.true))
+returns-then-k-lt1 c =
+    rw (c.at.ensures.cause, c.at.ensures.place) (refuses _ _ _ _ _ (elim c.then-k-lt1.either [ inl h ↦ mark_24 _ _ (out_low _ _ h) | inr h ↦ mark_24 _ _ (out_high _ _ h.1) ]))
 
--- src/marks.rt:59:9
-pub returns-then-k-gt8 : goal.returns-then-k-gt8
-returns-then-k-gt8 c = refuses _ _ _ _ _ (mark_24 _ _ (out_high _ _ c.if-k-gt8.true))
-
--- src/marks.rt:61:5
 pub copy_slot-requires : goal.copy_slot-requires
 copy_slot-requires c = record { fact = c.requires; slots = record { from_slot = omega arith; to_slot = c.if-k-gt8.false; differ = inl c.if-k-lt1.false } }
 
--- src/marks.rt:62:5
 pub bounds-store-k : goal.bounds-store-k
 bounds-store-k c =
-    omega (arith, c.copy_slot.auto, c.requires.room, large c.args.m c.args.n, c.if-k-gt8.false)
+    omega (arith, c.copy_slot.auto, c.requires.room, large c.args.layout.m c.args.layout.n, c.if-k-gt8.false)
 
--- src/marks.rt:51:1
 pub returns : goal.returns
 unfolding writes
 returns c =

@@ -1,28 +1,28 @@
 -- `work_store::opened::open_store` meets its contract. Assumes nothing.
+use mathlib.Core.Logic.{inl, inr}
 use native.Mathlib.Omega.{arith}
 use Rattle.work_store.proofs.OpenStore.{shut_small, shut_unsigned, shut_two, shut_few, shut_one, shut_many, shut_room, found}
+use Rattle.work_store.proofs.opened.open_store.Goals.{then-store-lt11-via-then-store-lt11, then-store-lt11-via-else-store-lt11+then-store-ne-SIGNATURE}
 use Rattle.work_store.proofs.opened.open_store.Goals as goal
 
 pub returns-then-store-lt11 : goal.returns-then-store-lt11
-returns-then-store-lt11 c = shut_small _ c.if-store-lt11.true
-
-pub returns-then-store-ne-SIGNATURE : goal.returns-then-store-ne-SIGNATURE
-returns-then-store-ne-SIGNATURE c = shut_unsigned _ c.if-store-ne-SIGNATURE.true
+returns-then-store-lt11 c =
+    elim c.then-store-lt11.branch [
+      | then-store-lt11-via-then-store-lt11 w ↦ shut_small _ w.if-store-lt11.true
+      | then-store-lt11-via-else-store-lt11+then-store-ne-SIGNATURE w ↦ shut_unsigned _ w.if-store-ne-SIGNATURE.true
+    ]
 
 pub returns-then-a-lt2 : goal.returns-then-a-lt2
-returns-then-a-lt2 c = shut_two _ c.if-a-lt2.true
-
-pub returns-then-a-gt32 : goal.returns-then-a-gt32
-returns-then-a-gt32 c = shut_few _ c.if-a-gt32.true
-
-pub returns-then-b-lt1 : goal.returns-then-b-lt1
-returns-then-b-lt1 c = shut_one _ c.if-b-lt1.true
-
-pub returns-then-b-gt64 : goal.returns-then-b-gt64
-returns-then-b-gt64 c = shut_many _ c.if-b-gt64.true
+returns-then-a-lt2 c =
+    elim c.then-a-lt2.either [
+      | inl h ↦ shut_two _ h
+      | inr (inl h) ↦ shut_few _ h.1
+      | inr (inr (inl h)) ↦ shut_one _ h.2
+      | inr (inr (inr h)) ↦ shut_many _ h.3
+    ]
 
 pub cells_for-requires : goal.cells_for-requires
-cells_for-requires c = (c.if-a-gt32.false, c.if-b-gt64.false)
+cells_for-requires c = record { few = c.if-a-gt32.false; many = c.if-b-gt64.false }
 
 pub returns-then-store-cells_for : goal.returns-then-store-cells_for
 returns-then-store-cells_for c = shut_room _ (omega (arith, c.if-store-cells_for.true, c.cells_for.ensures))

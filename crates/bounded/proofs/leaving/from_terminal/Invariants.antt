@@ -1,9 +1,0 @@
--- `bounded::leaving::from_terminal` is safe and ends. Assumes nothing.
-use Rattle.std.proofs.Common.{◌≤◌}
-use Rattle.bounded.proofs.leaving.from_terminal.Given as goal
-
-abbrev pub invariant-loop-left : goal.invariant-loop-left
-invariant-loop-left l = l.left ≤ 48
-
-abbrev pub decreases-loop-left : goal.decreases-loop-left
-decreases-loop-left l = l.left

@@ -1,9 +1,0 @@
--- `bounded::solve::exceeds` is safe and ends. Assumes nothing.
-use Rattle.std.proofs.Common.{◌-◌, ◌≤◌}
-use Rattle.bounded.proofs.solve.exceeds.Given as goal
-
-abbrev pub invariant-loop-v : goal.invariant-loop-v
-invariant-loop-v l = l.v ≤ 96
-
-abbrev pub decreases-loop-v : goal.decreases-loop-v
-decreases-loop-v l = 96 - l.v

@@ -1,9 +1,0 @@
--- `simplex::start::places` is safe and ends. Assumes nothing.
-use Rattle.std.proofs.Common.{◌≤◌}
-use Rattle.simplex.proofs.start.places.Given as goal
-
-abbrev pub invariant-loop-left : goal.invariant-loop-left
-invariant-loop-left l = l.left ≤ 128
-
-abbrev pub decreases-loop-left : goal.decreases-loop-left
-decreases-loop-left l = l.left

@@ -1,6 +1,0 @@
--- `test_bounds::case::levels` is safe and ends. The slice keeps its length; the measure is what is left of it. Assumes nothing.
-use Rattle.std.proofs.Common.{length, ◌-◌}
-use Rattle.test_bounds.proofs.case.levels.Given as goal
-
-abbrev pub decreases-loop-y : goal.decreases-loop-y
-decreases-loop-y l = length l.initial.to - l.y

@@ -1,6 +1,0 @@
--- `test_flow::brute::next_amounts` is safe and ends. The slice keeps its length; the measure is what is left of it. Assumes nothing.
-use Rattle.std.proofs.Common.{length, ◌-◌}
-use Rattle.test_flow.proofs.brute.next_amounts.Given as goal
-
-abbrev pub decreases-loop-k : goal.decreases-loop-k
-decreases-loop-k l = length l.initial.amounts - l.k

@@ -1,6 +1,0 @@
--- `test_flow::trial::within` is safe and ends. The measure is what is left of the arcs. Assumes nothing.
-use Rattle.std.proofs.Common.{length, ◌-◌}
-use Rattle.test_flow.proofs.trial.within.Given as goal
-
-abbrev pub decreases-loop-k : goal.decreases-loop-k
-decreases-loop-k l = length l.ceilings - l.k

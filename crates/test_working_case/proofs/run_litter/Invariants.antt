@@ -1,6 +1,0 @@
--- `test_working_case::run_litter` is safe and ends. The store keeps its length; the measure is what is left of the stores. Assumes nothing.
-use Rattle.std.proofs.Common.{◌-◌}
-use Rattle.test_working_case.proofs.run_litter.Given as goal
-
-abbrev pub decreases-loop-k : goal.decreases-loop-k
-decreases-loop-k l = 100 - l.k
