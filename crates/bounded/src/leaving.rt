@@ -6,7 +6,7 @@ use spanningtree::tree::Tree;
 
 // The node whose lane to its parent leaves the tree, NONE where the entering lane itself bears least, and what can go round; whether the node is on the
 // way up from the source; top is where the ways up from both ends meet.
-// Stays: NONE is a number as a node is; an Option is a second word in each turn of the walks.
+// Stays: an Option is no plainer: whatever number stands for a node is taken modulo 128, NONE as any other, and it is asked once, at the end.
 #[derive(Drop)]
 pub struct Leave {
     pub node: u32,

@@ -102,7 +102,7 @@ fn lows(
 }
 
 // The least reduced cost into the part, and 800,000,000 more; and one end of a lane that has it.
-// Stays: a key above all others stands for no lane, so that the least of many is taken without a test; an Option would be tested at each of them.
+// Stays: a key above all others stands for no lane; an Option is no plainer, since both sides would be opened wherever two are compared.
 #[derive(Drop)]
 pub struct Entry {
     pub key: u32,

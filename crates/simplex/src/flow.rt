@@ -5,7 +5,7 @@ use spanningtree::flows::Gain;
 use spanningtree::tree::Tree;
 
 // The node whose lane to the node above leaves the tree, and what that carries; top is where the ways up from i and from j meet.
-// Stays: NONE is a cell of the arrays as a node is, so that neither walk nor pivot tests for it; an Option is a second word in each turn of the walks.
+// Stays: an Option is no plainer: whatever number stands for a node is taken modulo 128, NONE as any other, and it is asked once, at the end.
 #[derive(Drop)]
 struct Leave {
     node: u32,

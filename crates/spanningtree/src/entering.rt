@@ -10,7 +10,8 @@ pub struct Lane {
 
 // The first terminal of the part to which source i has a tight lane; 64 where there is none.
 // Stays: no index is counted; the bits of a word are taken off one by one.
-// Stays: 64 and no Option: with it plans over many equal unit costs took 1.9 % more instructions.
+// Stays: 64 and no Option: tried beside other forms, plans over many equal unit costs took 1.9 % more instructions than before all of them; as it
+// stands 0.6 %.
 fn enter(i: usize, cols: u64, columns: &[u32; 2048], pot: &[u32; 96]) -> u32 {
     let s = i % 32;
     let p = pot[s] % 1_073_741_824;

@@ -1,5 +1,5 @@
 // A tree whose lanes carry drums, as the simplex has it: loads[v] is what the lane between v and the node above it carries.
-ghost use Rattle.std.specs.Prelude.{◌<◌};
+ghost use Rattle.std.specs.Prelude.{◌≡◌, ◌<◌};
 
 use super::tree::{Part, Tree};
 
@@ -29,7 +29,10 @@ pub struct Gain<L> {
 
 impl<L: Load> Gain<L> {
     // The same the other way round.
-    pub fn turned(self) -> Gain<L> {
+    pub fn turned(self) -> Gain<L>
+        ensures source { result.source ≡ self.terminal }
+        ensures terminal { result.terminal ≡ self.source }
+    {
         Gain {
             source: self.terminal,
             terminal: self.source,
@@ -70,7 +73,9 @@ impl Tree {
         part: Part,
         gain: Gain<L>,
         loads: &mut [L; 128],
-    ) {
+    )
+        ensures { self.new.parent ≡ self.old.parent }
+    {
         let mut a = from;
         for _ in 0..96 {
             if a == stop {

@@ -1,4 +1,6 @@
 // The tree in its arrays, and the parts that hang from its nodes.
+ghost use Rattle.std.specs.Prelude.{◌≡◌, replicate};
+
 use crate::NONE;
 
 // The nodes of a part, a bit for each source and a bit for each terminal.
@@ -18,7 +20,9 @@ pub struct Tree {
 
 impl Tree {
     // The tree of no nodes.
-    pub fn new() -> Tree {
+    pub fn new() -> Tree
+        ensures { result.parent ≡ replicate 128 96 }
+    {
         Tree {
             parent: [NONE; 128],
             sources_below: [0u32; 128],
@@ -27,14 +31,18 @@ impl Tree {
     }
 
     // No node hangs from another, and none has a part.
-    pub fn clear(&mut self) {
+    pub fn clear(&mut self)
+        ensures { self.new.parent ≡ replicate 128 96 }
+    {
         self.parent = [NONE; 128];
         self.sources_below = [0u32; 128];
         self.terminals_below = [0u64; 128];
     }
 
     // Each node is a part by itself.
-    pub fn separate(&mut self) {
+    pub fn separate(&mut self)
+        ensures { self.new.parent ≡ self.old.parent }
+    {
         for j in 0..64 {
             if j < 32 {
                 self.sources_below[j] = 1u32 << j % 32;
