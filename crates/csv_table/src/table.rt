@@ -2,13 +2,13 @@
 ghost use Rattle.std.specs.Prelude.{◌≡◌};
 ghost use Rattle.csv_table.specs.Files.{judged, table_of, stands};
 ghost use Rattle.csv_form.specs.declared.Kind.TheVariants as kinds;
-ghost use Rattle.csv_table.specs.inner.Tallies.{start_tally, field_tally, record_tally, source_tally, Countable};
+ghost use Rattle.csv_table.specs.inner.Tallies.{start_tally, field_tally, record_tally, source_tally, Countable, handed_on};
 ghost use Rattle.csv_table.specs.inner.Tallies.{Scanned, TableRead};
 
 use crate::store::put;
-use csv_form::Kind;
 use csv_form::after::{After, read_after};
-use csv_form::field::{read_field, with_sign};
+use csv_form::field::{Field, read_field, with_sign};
+use csv_form::{Kind, Misfit};
 use refusal::{Cause, Refusal};
 
 // The whole file's count of records and of each record's fields.
@@ -109,6 +109,16 @@ impl Tally {
     }
 }
 
+// The refusal of a field that was not read.
+fn handed_on(read: Result<Field, Misfit>) -> Result<Shape, Refusal>
+    ensures { result ≡ handed_on read }
+{
+    match read {
+        Ok(f) => Err(Cause::Form.at(f.next as u64)),
+        Err(m) => Err(m.into()),
+    }
+}
+
 // Goes through a file, and stores its fields in file order as far as there are cells, also those before a fault.
 fn scan(kind: Kind, s: &[u8], cells: &mut [i64]) -> Result<Shape, Refusal>
     ensures { Scanned kind s.now cells.old cells.new result }
@@ -119,7 +129,11 @@ fn scan(kind: Kind, s: &[u8], cells: &mut [i64]) -> Result<Shape, Refusal>
     let mut t = Tally::start(kind);
     let mut at: usize = 0;
     loop {
-        let f = read_field(kind, s, at)?;
+        // No `?`, which would do the same: the scope names `let .. else` here, with the refusal handed on from the other branch.
+        let read = read_field(kind, s, at);
+        let Ok(f) = read else {
+            return handed_on(read);
+        };
         let k = t.values;
         put(cells, k, with_sign(f.minus, f.value));
         t = t.with_field(f.minus);

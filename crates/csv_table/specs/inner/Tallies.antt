@@ -1,10 +1,13 @@
 -- What is counted on the way through a file: contracts of private functions. Assumes nothing.
-use Rattle.std.specs.Prelude.{◌≡◌, Bool, false, ◌||◌, List, [], ℕ, ◌+◌, ◌≤◌, ◌<◌, ◌^◌, eqb, ℤ, length}
+use Rattle.std.specs.Prelude.{◌≡◌, Bool, false, ◌||◌, List, [], ℕ, ◌+◌, ◌≤◌, ◌<◌, ◌^◌, eqb, ℤ, length, Result, Ok, Err}
 use Rattle.std.proofs.lemmas.List.Edits.{sets}
 use Rattle.csv_form.specs.declared.Kind.{Kind}
+use Rattle.csv_form.specs.declared.Misfit.{Misfit}
+use Rattle.csv_form.specs.declared.field.Field.{Field}
 use Rattle.csv_table.specs.declared.table.Tally.{Tally}
 use Rattle.csv_form.specs.Records.{whole, form_of}
-use Rattle.csv_table.specs.Files.{Table, shaped, pick, wanted, table_of, in_order, fields_stored}
+use Rattle.refusal.specs.declared.Cause.TheVariants as causes
+use Rattle.csv_table.specs.Files.{Table, shaped, refused, pick, wanted, table_of, in_order, fields_stored}
 
 abbrev pub start_tally : Kind → Tally
 start_tally kind = record { records = 0; fields = 0; width = wanted kind []; odd = 0; values = 0; rebate = false }
@@ -37,6 +40,11 @@ pub record Countable (t : Tally) : Type 0 where
   pub records : t.records + 1 < 2 ^ 64
   pub fields : t.fields + 1 < 2 ^ 64
   pub values : t.values + 1 < 2 ^ 64
+
+-- the refusal of a field that was not read
+abbrev pub handed_on : Result Field Misfit → Table
+handed_on (Ok f) = refused causes.Form f.next
+handed_on (Err m) = refused causes.Form m.place
 
 -- a file is gone through: the answer, and the fields in file order in the cells, where the file has the form
 pub record Scanned (kind : Kind) (s : List ℕ) (cells cells' : List ℤ) (answer : Table) : Type 0 where

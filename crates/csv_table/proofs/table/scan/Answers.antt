@@ -23,15 +23,15 @@ short c = c.if-s-gt65536.false
 -- a field is read, stored and counted
 valued :
     (c : After-source-source) →
-    Valued c.args.kind c.args.s.now c.args.cells.now c.put.new.cells c.with_field-t.result c.in_ok-f.f.minus c.in_ok-f.f.value c.in_ok-f.f.next
+    Valued c.args.kind c.args.s.now c.args.cells.now c.put.new.cells c.with_field-t.result c.in-Ok.f.minus c.in-Ok.f.value c.in-Ok.f.next
 valued c =
-    field_valued _ _ _ _ _ _ c.loop-f.invariant _ c.read_field.ensures _ _ _ _ _
-    (to_z w64 (of_z w64 c.with_sign.result)) c.in_ok-f.was c.with_field-t.ensures
+    field_valued _ _ _ _ _ _ c.loop-f.invariant _ c.read_field-read.ensures _ _ _ _ _
+    (to_z w64 (of_z w64 c.with_sign.result)) c.in-Ok.is c.with_field-t.ensures
     c.put.ensures (read_back c.with_sign.result c.with_sign.type_inv ∙ c.with_sign.ensures)
 
 -- each field takes the offset on
-ahead : (c : After-source-source) → c.loop-f.at < c.in_ok-f.f.next
-ahead c = field_ahead _ _ _ _ _ _ c.loop-f.invariant _ c.read_field.ensures _ _ _ c.in_ok-f.was
+ahead : (c : After-source-source) → c.loop-f.at < c.in-Ok.f.next
+ahead c = field_ahead _ _ _ _ _ _ c.loop-f.invariant _ c.read_field-read.ensures _ _ _ c.in-Ok.is
 
 pub returns-then-s-gt65536 : goal.returns-then-s-gt65536
 returns-then-s-gt65536 c = let a = c.args in rw (c.at.ensures.cause, c.at.ensures.place) (long_table a.kind a.s.now a.cells.now c.if-s-gt65536.true)
@@ -41,20 +41,20 @@ loop-f-init c =
     let a = c.args in
     subst (λ (t : Tally). Along a.kind a.s.now a.cells.now a.cells.now t 0) (sym c.start-t.ensures) (along_start a.kind a.s.now a.cells.now)
 
-pub returns-in_err-f : goal.returns-in_err-f
-returns-in_err-f c =
-    let p = err_from_is_err_and c.from_residual.result c.from_residual.ensures.1 in
-    rw (p.1, p.2) (field_refused _ _ _ _ _ _ c.loop-f.invariant _ c.read_field.ensures _ _ (short (goal.at.returns-in_err-f c).At-loop-f) c.in_err-f.was)
+pub returns-in_default : goal.returns-in_default
+returns-in_default c =
+    rw (c.handed_on.ensures, c.in_default.is)
+    (field_refused _ _ _ _ _ _ c.loop-f.invariant _ c.read_field-read.ensures _ _ (short (goal.at.returns-in_default c).At-loop-f) c.in_default.is)
 
 pub with_sign-requires : goal.with_sign-requires
-with_sign-requires c = field_small _ _ _ _ _ _ c.loop-f.invariant _ c.read_field.ensures _ _ _ c.in_ok-f.was
+with_sign-requires c = field_small _ _ _ _ _ _ c.loop-f.invariant _ c.read_field-read.ensures _ _ _ c.in-Ok.is
 
 pub read_after-requires : goal.read_after-requires
 read_after-requires c = (valued (goal.at.read_after-requires c).After-source-source).upto
 
 pub returns-in_err-a : goal.returns-in_err-a
 returns-in_err-a c =
-    let p = err_from_is_err_and c.from_residual-in_err-a.result c.from_residual-in_err-a.ensures.1 in
+    let p = err_from_is_err_and c.from_residual.result c.from_residual.ensures.1 in
     rw (p.1, p.2)
     (on_refused _ _ _ _ _ _ _ _ (valued (goal.at.returns-in_err-a c).After-source-source) _ c.source-source.ensures _ c.read_after.ensures _
     (short (goal.at.returns-in_err-a c).At-loop-f) c.in_err-a.was)
