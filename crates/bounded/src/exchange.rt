@@ -1,5 +1,5 @@
 // One pivot: a lane comes into the tree, and one on the cycle that it closes leaves; or the lane goes over from empty to full or back, and the tree stays.
-ghost use Rattle.std.specs.Prelude.{◌<◌};
+ghost use Rattle.std.specs.Prelude.{◌≡◌, ◌<◌};
 
 use super::leaving::{Leave, from_source, from_terminal};
 use super::prices::Lanes;
@@ -10,7 +10,9 @@ use spanningtree::flows::{Gain, lane};
 use spanningtree::tree::{Part, Tree};
 
 // The lane between v and u, source and terminal, is full, if it is one.
-fn fill_between(v: u32, u: u32, cost: &[u32; 2048], cap: &[u32; 2048], lanes: &mut Lanes) {
+fn fill_between(v: u32, u: u32, cost: &[u32; 2048], cap: &[u32; 2048], lanes: &mut Lanes)
+    ensures { lanes.new.fine ≡ lanes.old.fine }
+{
     if (v < 32) ^ (u < 32) {
         lanes.fill(lane(v, u), cost, cap);
     }
@@ -36,14 +38,9 @@ fn move_part(
 }
 
 // The entering lane goes over from empty to full, or back: what its cycle's lanes carry changes, and nothing else.
-fn go_round(
-    i: u32,
-    j: u32,
-    top: u32,
-    change: Gain<u64>,
-    tree: &mut Tree,
-    residual: &mut [u64; 128],
-) {
+fn go_round(i: u32, j: u32, top: u32, change: Gain<u64>, tree: &mut Tree, residual: &mut [u64; 128])
+    ensures { tree.new.parent ≡ tree.old.parent }
+{
     let none = Part {
         sources: 0,
         terminals: 0,
@@ -68,6 +65,7 @@ fn own_pair(ceiling: u32, amount: u32, less: bool, over: bool) -> u64 {
 // The entering lane k is in the tree: it is full no longer; above its ceiling its price keeps the fine.
 fn enter(k: usize, less: bool, cost: &[u32; 2048], lanes: &mut Lanes)
     requires { k < 2048 }
+    ensures { lanes.new.fine ≡ lanes.old.fine }
 {
     if less {
         lanes.empty(k, cost);
@@ -85,7 +83,9 @@ fn leave(
     lanes: &mut Lanes,
     tree: &Tree,
     residual: &[u64; 128],
-) {
+)
+    ensures { lanes.new.fine ≡ lanes.old.fine }
+{
     let gains = (node < 32) ^ here;
     if gains | above(residual[(node % 128) as usize]) {
         fill_between(node, tree.above(node), cost, cap, lanes);
@@ -162,7 +162,9 @@ pub fn pivot(
     tree: &mut Tree,
     residual: &mut [u64; 128],
     potentials: &mut Potentials,
-) {
+)
+    ensures { lanes.new.fine ≡ lanes.old.fine }
+{
     let k = ((i % 32) * 64 + (j % 128 + 32) % 64) as usize;
     let over = !less & (lanes.price[k] != cost[k]);
     let far = ratio_test(i, j, cap[k], less, over, tree, residual);

@@ -87,6 +87,8 @@ impl Lanes {
     // The closed lanes cost the fine.
     pub fn close(&mut self, m: usize, n: usize, cap: &[u32; 2048])
         requires { (m ≤ 32) × (n ≤ 64) }
+        ensures fine { self.new.fine ≡ self.old.fine }
+        ensures full { self.new.full ≡ self.old.full }
     {
         close_lanes(m, n, self.fine, cap, &mut self.price);
     }
@@ -94,6 +96,7 @@ impl Lanes {
     // Lane k is full from now on.
     pub fn fill(&mut self, k: usize, cost: &[u32; 2048], cap: &[u32; 2048])
         requires { k < 2048 }
+        ensures { self.new.fine ≡ self.old.fine }
     {
         let i = k / 64;
         self.price[k] = cost[k].wrapping_add(self.fine);
@@ -105,6 +108,8 @@ impl Lanes {
     // Lane k is no longer noted as full; its price stays.
     pub fn unfill(&mut self, k: usize)
         requires { k < 2048 }
+        ensures fine { self.new.fine ≡ self.old.fine }
+        ensures price { self.new.price ≡ self.old.price }
     {
         let i = k / 64;
         self.full[i] = self.full[i] & (u64::MAX ^ (1u64 << k % 64));
@@ -113,13 +118,16 @@ impl Lanes {
     // Lane k is no longer full: its price is its unit cost.
     pub fn empty(&mut self, k: usize, cost: &[u32; 2048])
         requires { k < 2048 }
+        ensures { self.new.fine ≡ self.old.fine }
     {
         self.price[k] = cost[k];
         self.unfill(k);
     }
 
     // The fine grows, and the prices with it.
-    pub fn raise_fine(&mut self, more: u32, cost: &[u32; 2048]) {
+    pub fn raise_fine(&mut self, more: u32, cost: &[u32; 2048])
+        ensures { self.new.full ≡ self.old.full }
+    {
         self.fine = self.fine.wrapping_add(more);
         grow(more, cost, &mut self.price);
     }

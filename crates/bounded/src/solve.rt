@@ -92,7 +92,9 @@ fn step(
     tree: &mut Tree,
     residual: &mut [u64; 128],
     potentials: &mut Potentials,
-) -> Pricing {
+) -> Pricing
+    ensures { lanes.new.fine ≡ lanes.old.fine }
+{
     let row = now.row;
     let lane = entering(n, row, cost, lanes, potentials);
     if lane.gap == 0 {
@@ -127,7 +129,9 @@ fn simplex(
     tree: &mut Tree,
     residual: &mut [u64; 128],
     potentials: &mut Potentials,
-) {
+)
+    ensures { lanes.new.fine ≡ lanes.old.fine }
+{
     let mut now = Pricing { row: 0, clean: 0 };
     for _ in 0..passes {
         if m <= now.clean {
@@ -257,7 +261,8 @@ pub fn solve(
 )
     ensures { (length x.new ≡ 2048) × (length pot.new ≡ 96) }
 {
-    tree.clear();
+    tree.sources_below = [0u32; 128];
+    tree.terminals_below = [0u64; 128];
     places(x);
     let sources = usize::min(m, 32);
     let terminals = usize::min(n, 64);

@@ -2,6 +2,8 @@
 // is attached to the other, or the lane is full and stays out of the tree. A lane may go above its ceiling, at a fine, where a source has no other.
 // The terminals that are left are attached to source 0.
 // Stays: place, places and rest are no twins of those of `simplex`: there sources take turns and no lane is filled or fined.
+ghost use Rattle.std.specs.Prelude.{◌≡◌};
+
 use super::prices::Lanes;
 use super::residuals::{VAST, pair};
 use simplex::book::{Book, attach_spent, open_tree};
@@ -24,7 +26,9 @@ fn place(
     key: &mut [u32; 64],
     tree: &mut Tree,
     residual: &mut [u64; 128],
-) {
+)
+    ensures { lanes.new.fine ≡ lanes.old.fine }
+{
     let j = least(i, n, &lanes.price, key) % 64;
     let s = (i % 32) as usize;
     let k = s * 64 + j as usize;
@@ -64,7 +68,9 @@ fn places(
     key: &mut [u32; 64],
     tree: &mut Tree,
     residual: &mut [u64; 128],
-) {
+)
+    ensures { lanes.new.fine ≡ lanes.old.fine }
+{
     for _ in 0..2_200 {
         if book.open == 0 {
             return;
@@ -92,7 +98,11 @@ fn rest(
     book: &mut Book,
     tree: &mut Tree,
     residual: &mut [u64; 128],
-) {
+)
+    ensures fine { lanes.new.fine ≡ lanes.old.fine }
+    ensures full { lanes.new.full ≡ lanes.old.full }
+{
+    book.count = book.count % 128;
     for j in 0..64 {
         if j < n {
             if tree.parent[32 + j] == NONE {
@@ -119,7 +129,9 @@ pub fn start(
     tree: &mut Tree,
     residual: &mut [u64; 128],
     potentials: &mut Potentials,
-) {
+)
+    ensures { lanes.new.fine ≡ lanes.old.fine }
+{
     open_tree(n, tree, potentials);
     let mut book = Book::new(m, amounts, demand);
     places(

@@ -46,6 +46,7 @@ fn places(
 
 // The terminals below n that are attached to no source are attached to source 0.
 fn rest(n: usize, book: &mut Book, tree: &mut Tree, flow: &mut [u32; 128]) {
+    book.count = book.count % 128;
     for j in 0..64 {
         if j < n {
             if tree.parent[32 + j] == NONE {

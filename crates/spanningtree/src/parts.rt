@@ -1,10 +1,14 @@
 // A tree without the drums on its lanes, as the climb has it: parts that hang over from one node to another.
 // Stays: these two walks are no twins of those with loads. They stop where a node is found below, not at a node, and keep parts within the one that moves:
 // the climb's tree may have been spoiled.
+ghost use Rattle.std.specs.Prelude.{◌≡◌};
+
 use super::tree::{Part, Tree};
 
 // A part is taken off the nodes from one on upwards, or put on them, as far as node stop hangs from none of them.
-fn toggle_part(from: u32, stop: u32, moved: Part, tree: &mut Tree) {
+fn toggle_part(from: u32, stop: u32, moved: Part, tree: &mut Tree)
+    ensures { tree.new.parent ≡ tree.old.parent }
+{
     let source = if stop < 32 { 1u32 << stop } else { 0 };
     let terminal = if stop < 32 {
         0
