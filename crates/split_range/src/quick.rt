@@ -43,7 +43,8 @@ fn simplex_at(
     tree: &mut Tree,
 )
     requires { split ≤ made }
-    ensures { (length flow.new.x ≡ 2048) × (length flow.new.pot ≡ 96) }
+    ensures lengths { (length flow.new.x ≡ 2048) × (length flow.new.pot ≡ 96) }
+    ensures serves { flow.new.serves ≡ flow.old.serves }
 {
     let mut amounts = *supply;
     amounts[0] = split;
@@ -87,7 +88,9 @@ fn spoil_plan(lane: Option<usize>, x: &mut [u32; 2048])
 }
 
 // A node that is attached to plant 1.
-fn spoil_tree(node: Option<usize>, tree: &mut Tree) {
+fn spoil_tree(node: Option<usize>, tree: &mut Tree)
+    ensures { (tree.new.sources_below ≡ tree.old.sources_below) × (tree.new.terminals_below ≡ tree.old.terminals_below) }
+{
     if let Some(v) = node {
         if v < 128 {
             tree.parent[v] = 0;

@@ -35,7 +35,8 @@ fn reach(lanes: &Lanes<'_>, limit: u32, demand: &[u32; 96], flow: &Flow, tree: &
     requires shift_ready { ShiftReady (net lanes.now.m lanes.now.n lanes.now.cost.now lanes.now.cap.now flow.now.x) flow.now.pot flow.now.x limit }
     requires wanted { Wanted (net lanes.now.m lanes.now.n lanes.now.cost.now lanes.now.cap.now flow.now.x) demand.now }
     requires covers { Covers lanes.now.m lanes.now.n flow.now.x flow.now.serves }
-    ensures { Reached (net lanes.now.m lanes.now.n lanes.now.cost.now lanes.now.cap.now flow.now.x) flow.now.pot limit result.dist result.prev }
+    ensures reached { Reached (net lanes.now.m lanes.now.n lanes.now.cost.now lanes.now.cap.now flow.now.x) flow.now.pot limit result.dist result.prev }
+    ensures below { (tree.new.sources_below ≡ tree.old.sources_below) × (tree.new.terminals_below ≡ tree.old.terminals_below) }
 {
     tree.parent[1] = NONE;
     let mut room = [0u32; 96];
@@ -58,6 +59,7 @@ fn search_path(
     ensures path_taken { PathTaken (net lanes.now.m lanes.now.n lanes.now.cost.now lanes.now.cap.now flow.old.x) flow.new.pot flow.old.x limit
         prev.new result.count result.delta }
     ensures same { (flow.new.x ≡ flow.old.x) × (flow.new.serves ≡ flow.old.serves) }
+    ensures below { (tree.new.sources_below ≡ tree.old.sources_below) × (tree.new.terminals_below ≡ tree.old.terminals_below) }
 {
     let found = reach(lanes, limit, demand, flow, tree);
     let dist = found.dist;

@@ -16,6 +16,6 @@ returns c =
     record {
       plan = λ y e run1 r.
           let same : c.first_split-split.result ≡ y = cc in
-          rw (← same) (checked_first r c.first_split-split.ensures c.spoil_plan.ensures c.simplex_at.ensures.1 (c.good.ensures c.if-not-good.false) _);
+          rw (← same) (checked_first r c.first_split-split.ensures c.spoil_plan.ensures c.simplex_at.ensures.lengths.1 (c.good.ensures c.if-not-good.false) _);
       covers = λ y e. c.all_servers.ensures;
     }

@@ -11,19 +11,19 @@ reach-found-requires c = record { shift_ready = c.requires.shift_ready; wanted =
 
 pub measure-way-requires : goal.measure-way-requires
 measure-way-requires c =
-    route c.args.lanes.now.m c.args.lanes.now.n c.args.lanes.now.cost.now c.requires.shift_ready.plant_slack.sound.sources (omega arith) c.reach-found.ensures.searched
+    route c.args.lanes.now.m c.args.lanes.now.n c.args.lanes.now.cost.now c.requires.shift_ready.plant_slack.sound.sources (omega arith) c.reach-found.ensures.reached.searched
 
 pub overflow_sub-gap : goal.overflow_sub-gap
 overflow_sub-gap c =
-    path_low c.requires.shift_ready (only c.args.limit) c.reach-found.ensures.searched
+    path_low c.requires.shift_ready (only c.args.limit) c.reach-found.ensures.reached.searched
 
 pub lower-requires : goal.lower-requires
 lower-requires c =
-    search_lower c.requires.shift_ready c.reach-found.ensures.searched
+    search_lower c.requires.shift_ready c.reach-found.ensures.reached.searched
 
 pub returns : goal.returns
 returns c =
-    let q = c.reach-found.ensures.searched in
+    let q = c.reach-found.ensures.reached.searched in
     let w = c.measure-way.ensures in
     let r = route c.args.lanes.now.m c.args.lanes.now.n c.args.lanes.now.cost.now c.requires.shift_ready.plant_slack.sound.sources (omega arith) q in
-    record { path_taken = search_taken (search_found c.requires.shift_ready q refl refl (w.arcs r) (w.width r)) c.lower.ensures q.long.prevs; same = (refl, refl) }
+    record { path_taken = search_taken (search_found c.requires.shift_ready q refl refl (w.arcs r) (w.width r)) c.lower.ensures q.long.prevs; same = (refl, refl); below = c.reach-found.ensures.below }
