@@ -2,15 +2,11 @@
 use mathlib.Core.Logic.{inl, inr}
 use native.Mathlib.Omega.{arith}
 use Rattle.work_store.proofs.OpenStore.{shut_small, shut_unsigned, shut_two, shut_few, shut_one, shut_many, shut_room, found}
-use Rattle.work_store.proofs.opened.open_store.Goals.{then-store-lt11-via-then-store-lt11, then-store-lt11-via-else-store-lt11+then-store-ne-SIGNATURE}
 use Rattle.work_store.proofs.opened.open_store.Goals as goal
 
 pub returns-then-store-lt11 : goal.returns-then-store-lt11
 returns-then-store-lt11 c =
-    elim c.then-store-lt11.branch [
-      | then-store-lt11-via-then-store-lt11 w ↦ shut_small _ w.if-store-lt11.true
-      | then-store-lt11-via-else-store-lt11+then-store-ne-SIGNATURE w ↦ shut_unsigned _ w.if-store-ne-SIGNATURE.true
-    ]
+    grind (arith, shut_small, shut_unsigned)
 
 pub returns-then-a-lt2 : goal.returns-then-a-lt2
 returns-then-a-lt2 c =
@@ -35,4 +31,4 @@ returns c =
       one = c.if-b-lt1.false;
       many = c.if-b-gt64.false;
       room = omega (arith, c.if-store-cells_for.false, c.cells_for.ensures);
-    }) c.if-store-ne-SIGNATURE.false
+    }) (omega arith)
