@@ -114,8 +114,8 @@ fn run_all(rt: &impl Print, a: &mut [u64], b: &mut [u64]) -> io::Result<()> {
     for _ in 0..HISTORIES {
         let first = prepare(seed, a);
         let second = prepare(after(seed), b);
-        ready.count(Met::by(true, first).place());
-        ready.count(Met::by(true, second).place());
+        ready.count(Met::of(first.is_ok()).place());
+        ready.count(Met::of(second.is_ok()).place());
         planner.count(plan_both(1, a, b).place());
         seed = run_history(after(seed), a, b, &mut heard);
     }

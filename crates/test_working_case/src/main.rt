@@ -64,8 +64,8 @@ struct Tallies {
 fn run_history(from: u64, store: &mut [u64], t: &mut Tallies) -> u64 {
     let mut seed = from;
     let mut model = Model::new(first_case(seed));
-    t.calls
-        .count(Met::by(true, enter(&model.case, store)).place());
+    let entered = enter(&model.case, store);
+    t.calls.count(Met::of(entered.is_ok()).place());
     for _ in 0..CALLS {
         seed = after(seed);
         let r = next_request(seed);
@@ -149,7 +149,7 @@ fn run_garbage(rt: &impl Print, store: &mut [u64]) -> io::Result<()> {
         table: &ones,
     };
     let entered = roles::enter(&case, store);
-    tally.count(Met::by(true, entered).place());
+    tally.count(Met::of(entered.is_ok()).place());
     run_litter(store, &mut tally);
     say(rt, "garbage as it is shown: ", tally.of(0))?;
     say(rt, "garbage otherwise:      ", tally.of(100))
