@@ -10,7 +10,7 @@ ghost use Rattle.work_plans.specs.Planning.{MarkPlanned};
 use lent_case::Case;
 use planner::Planned;
 use refusal::{Cause, Refusal};
-use work_edits::costs::costs_of;
+use work_edits::costs::lower_cells;
 use work_edits::edits::entries;
 use work_store::layout::{FLAGS, Layout, RUN1, RUN2, SUPPLIES};
 
@@ -35,7 +35,9 @@ pub fn plan_open(
     let d = layout.table_at();
     let e = d + entries(store);
     let lanes = layout.m * layout.n;
-    let costs = costs_of(&store[b..c]);
+    // Lowered where they are lent from: an array handed back by value would stand twice on the stack.
+    let mut costs = [0i64; 2048];
+    lower_cells(&store[b..c], &mut costs);
     let case = Case {
         m: layout.m,
         n: layout.n,

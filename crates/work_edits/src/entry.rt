@@ -11,12 +11,14 @@ use lent_case::Case;
 use work_store::layout::{Layout, SIGNATURE, SUPPLIES};
 
 // Copies a slice into the store from cell `at` on.
+// Stays: by the index. With `copy_from_slice` of a part the archive wants `memmove` of the C library.
 pub fn put_cells(source: &[u64], at: usize, store: &mut [u64])
     requires { at + length source.now ≤ length store.old }
     ensures { store.new ≡ paste store.old at source.now (length source.now) }
 {
-    let end = at + source.len();
-    store[at..end].copy_from_slice(source);
+    for k in 0..source.len() {
+        store[at + k] = source[k];
+    }
 }
 
 // Writes a case from the first cell on, with no mark set.

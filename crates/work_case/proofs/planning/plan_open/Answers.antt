@@ -2,6 +2,7 @@
 use mathlib.Core.Path.{refl}
 use native.Mathlib.Omega.{arith}
 use Rattle.work_store.proofs.CaseCells.{front_room, front_lanes, few_entries}
+use Rattle.work_store.proofs.CostLaws.{front_taken}
 use Rattle.work_plans.proofs.PlanLaws.{lanes_long, planned_cells}
 use Rattle.work_case.proofs.planning.plan_open.Goals as goal
 
@@ -29,20 +30,20 @@ pub offset_bounds-store-b : goal.offset_bounds-store-b
 offset_bounds-store-b c =
     omega (arith, front_room _ _ _ c.requires, front_lanes _ _ _ c.requires, few_entries c.args.store.now, c)
 
-pub slice_bounds-costs_of-count : goal.slice_bounds-costs_of-count
-slice_bounds-costs_of-count c =
+pub slice_bounds-lower_cells-count : goal.slice_bounds-lower_cells-count
+slice_bounds-lower_cells-count c =
     omega (arith, front_room _ _ _ c.requires, front_lanes _ _ _ c.requires, few_entries c.args.store.now, c)
 
-pub slice_bounds-costs_of-start : goal.slice_bounds-costs_of-start
-slice_bounds-costs_of-start c =
+pub slice_bounds-lower_cells-start : goal.slice_bounds-lower_cells-start
+slice_bounds-lower_cells-start c =
     omega (arith, front_room _ _ _ c.requires, front_lanes _ _ _ c.requires, few_entries c.args.store.now, c)
 
-pub slice_bounds-costs_of-end : goal.slice_bounds-costs_of-end
-slice_bounds-costs_of-end c =
+pub slice_bounds-lower_cells-end : goal.slice_bounds-lower_cells-end
+slice_bounds-lower_cells-end c =
     omega (arith, front_room _ _ _ c.requires, front_lanes _ _ _ c.requires, few_entries c.args.store.now, c)
 
-pub costs_of-costs-requires : goal.costs_of-costs-requires
-costs_of-costs-requires c =
+pub lower_cells-requires : goal.lower_cells-requires
+lower_cells-requires c =
     omega (
       arith,
       front_room _ _ _ c.requires,
@@ -134,4 +135,4 @@ pub returns : goal.returns
 returns c =
     planned_cells c.args.layout.m c.args.layout.n c.args.store.now c.requires _ _ _ _ _ c.demands_at-a.ensures
     c.costs_at-b.ensures c.ceilings_at-c.ensures c.table_at-d.ensures c.entries.ensures _ _ _ _ _ _ _
-    _ refl c.costs_of-costs.ensures.1 c.plan.ensures
+    _ refl (front_taken _ _ _ c.lower_cells.ensures) c.plan.ensures
