@@ -24,24 +24,22 @@ fn cost_in(cell: u64) -> i64
 }
 
 // Writes the cells of unit costs into the store from cell `at` on.
-// Stays: by the index. Over `iter().enumerate()` it goes cell by cell, and entering a case takes 1.8 times the instructions.
 pub fn raise_cells(source: &[i64], at: usize, store: &mut [u64])
     requires { (at + length source.now ≤ length store.old) × AllInside source.now }
     ensures { store.new ≡ paste store.old at (map raised_of source.now) (length (map raised_of source.now)) }
 {
-    for k in 0..source.len() {
-        store[at + k] = raised(source[k]);
+    for (k, cost) in source.iter().enumerate() {
+        store[at + k] = raised(*cost);
     }
 }
 
 // Writes the unit costs of cells into a slice; later cells of it are left as they are.
-// Stays: by the index, as above; seeing the tariff takes 2.2 times the instructions else.
 pub fn lower_cells(source: &[u64], to: &mut [i64])
     requires { length source.now ≤ length to.old }
     ensures { to.new ≡ written (map cost_in source.now) to.old }
 {
-    for k in 0..source.len() {
-        to[k] = cost_in(source[k]);
+    for (k, cell) in source.iter().enumerate() {
+        to[k] = cost_in(*cell);
     }
 }
 
