@@ -199,8 +199,12 @@ pub fn read_file(
                 bad,
             });
         }
-        let l = read_line(&s[at..e]).ok_or(wrong)?;
-        let tally = with_line(t, l).ok_or(wrong)?;
+        let Some(l) = read_line(&s[at..e]) else {
+            return Err(wrong);
+        };
+        let Some(tally) = with_line(t, l) else {
+            return Err(wrong);
+        };
         odd = store_node(l, t.nodes, odd, gives, takes, marks);
         bad = store_arc(l, t.nodes, t.arcs, bad, starts, ends, ceilings, costs);
         t = tally;

@@ -57,49 +57,38 @@ returns-then-s-e c =
           c.in_ok-c.was (ended (goal.at.returns-then-s-e c).After-at_end);
     }
 
-pub returns-in_err-l : goal.returns-in_err-l
-returns-in_err-l c =
+pub returns-in_default : goal.returns-in_default
+returns-in_default c =
     let k = c.loop-t.invariant in
     let e = c.line_end-e.ensures in
     let l = c.if-s-e.false in
     let w = c.read_line.ensures in
-    let p = err_from_is_err_and c.from_residual-in_err-l.result c.from_residual-in_err-l.ensures.1 in
-    let none : c.read_line.result ≡ None = grind (arith, c.in_err-l.was, c.ok_or.ensures) in
-    let why : c.in_err-l.field-0.0 ≡ c.at-wrong.result = grind (arith, c.in_err-l.was, c.ok_or.ensures) in
-    let q = ap (next_of c.loop-t.t) none in
-    rw (p.1, p.2, why)
-    (record {
+    let q = ap (next_of c.loop-t.t) c.in_default.is in
+    record {
       reads = (
         form_wrong _ _ _ _ _ k.so_far e l _ w q ∙ ap broken (sym c.at-wrong.ensures.place),
         kept_before _ _ _ _ _ _ _ _ (stage_wrong _ _ _ _ _ k.so_far e l _ w q) k.arc_lines k.node_lines,
         c.at-wrong.ensures.cause,
       );
-    })
+    }
 
-pub returns-in_err-tally : goal.returns-in_err-tally
-returns-in_err-tally c =
+pub returns-in_default-with_line : goal.returns-in_default-with_line
+returns-in_default-with_line c =
     let k = c.loop-t.invariant in
     let e = c.line_end-e.ensures in
     let l = c.if-s-e.false in
     let w = c.read_line.ensures in
-    let p = err_from_is_err_and c.from_residual-in_err-tally.result c.from_residual-in_err-tally.ensures.1 in
-    let some : c.read_line.result ≡ Some c.in_ok-l.l = grind (arith, c.in_ok-l.was, c.ok_or.ensures) in
-    let none : c.with_line.result ≡ None = grind (arith, c.in_err-tally.was, c.ok_or-in-loop-t.ensures) in
-    let why : c.in_err-tally.field-0.0 ≡ c.at-wrong.result = grind (arith, c.in_err-tally.was, c.ok_or-in-loop-t.ensures) in
-    let q = ap (next_of c.loop-t.t) some ∙ sym c.with_line.ensures ∙ none in
-    rw (p.1, p.2, why)
-    (record {
+    let q = ap (next_of c.loop-t.t) c.in-Some.is ∙ sym c.with_line.ensures ∙ c.in_default-with_line.is in
+    record {
       reads = (
         form_wrong _ _ _ _ _ k.so_far e l _ w q ∙ ap broken (sym c.at-wrong.ensures.place),
         kept_before _ _ _ _ _ _ _ _ (stage_wrong _ _ _ _ _ k.so_far e l _ w q) k.arc_lines k.node_lines,
         c.at-wrong.ensures.cause,
       );
-    })
+    }
 
 pub loop-t-preserved : goal.loop-t-preserved
 loop-t-preserved c =
-    let some : c.read_line.result ≡ Some c.in_ok-l.l = grind (arith, c.in_ok-l.was, c.ok_or.ensures) in
-    let on : c.with_line.result ≡ Some c.in_ok-tally.tally = grind (arith, c.in_ok-tally.was, c.ok_or-in-loop-t.ensures) in
-    let w = subst (λ (z : Option Line). WholeLine (take (c.line_end-e.result - c.loop-t.at) (drop c.loop-t.at c.args.s.now)) z) some c.read_line.ensures in
-    let f = form_on _ _ _ _ _ c.loop-t.invariant.so_far c.line_end-e.ensures c.if-s-e.false _ w _ (sym c.with_line.ensures ∙ on) in
-    kept_on c.loop-t.invariant f.0 (Some c.in_ok-l.l) f.1 c.store_node-odd.ensures c.store_arc-bad.ensures
+    let w = subst (λ (z : Option Line). WholeLine (take (c.line_end-e.result - c.loop-t.at) (drop c.loop-t.at c.args.s.now)) z) c.in-Some.is c.read_line.ensures in
+    let f = form_on _ _ _ _ _ c.loop-t.invariant.so_far c.line_end-e.ensures c.if-s-e.false _ w _ (sym c.with_line.ensures ∙ c.in-Some-with_line.is) in
+    kept_on c.loop-t.invariant f.0 (Some c.in-Some.l) f.1 c.store_node-odd.ensures c.store_arc-bad.ensures
