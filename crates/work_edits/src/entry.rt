@@ -11,7 +11,7 @@ use lent_case::Case;
 use work_store::layout::{Layout, SIGNATURE, SUPPLIES};
 
 // Copies a slice into the store from cell `at` on.
-// No `copy_from_slice`: of a part, it has the archive want `memmove` of the C library, and takes three times the instructions.
+// No `copy_from_slice`: of a part, it has the archive want `memmove` of the C library.
 pub fn put_cells(source: &[u64], at: usize, store: &mut [u64])
     requires { at + length source.now ≤ length store.old }
     ensures { store.new ≡ paste store.old at source.now (length source.now) }
